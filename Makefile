@@ -1,0 +1,20 @@
+# make test   the whole gate: proofs from nothing, must-fail edits, tests, programs
+# make build  proves and builds the program, and prints where it is
+# make demo   runs the first example, in seconds, and says whether what ran was the proved build
+# make clean  removes what was built
+
+.PHONY: test build demo clean
+
+PROGRAM = crates/mplsnet/out/mplsnet
+
+test:
+	rt ci
+
+build:
+	@sh scripts/build
+
+demo:
+	@sh scripts/demo
+
+clean:
+	rm -rf crates/*/out demo

@@ -1,0 +1,93 @@
+// The two devices, and how a call on one goes wrong.
+ghost use Rattle.std.specs.Prelude.{◌≡◌, ◌≤◌, ◌++◌, [], List, ℕ, Option, Some, length, take, IfOk, OnOk, OnErr};
+ghost use Rattle.std.specs.Option.{ForSome};
+ghost use Rattle.mn_edge.specs.declared.device.DeviceBad.TheVariants.{NoMemory};
+ghost use Rattle.mn_edge.specs.Faults.{Counted};
+ghost use Rattle.mn_edge.specs.Files.{Fetched, Files, Grows, MayBegin, MayGrow, with_file};
+
+use std::alloc::{AllocError, AllocFailed};
+
+/// Why a device did not do what was asked of it.
+#[derive(Clone, Copy, Debug, PartialEq, Eq)]
+pub enum DeviceBad {
+    /// The device failed. Its count of such faults has risen.
+    Failed,
+    /// Memory ran out. Every count is as it was.
+    NoMemory,
+}
+
+impl From<AllocError> for DeviceBad {
+    ghost from_gives = { λ _ e. e ≡ NoMemory };
+
+    fn from(_: AllocError) -> Self {
+        DeviceBad::NoMemory
+    }
+}
+
+impl<T: Drop> From<AllocFailed<T>> for DeviceBad {
+    ghost from_gives = { λ _ e. e ≡ NoMemory };
+
+    fn from(_: AllocFailed<T>) -> Self {
+        DeviceBad::NoMemory
+    }
+}
+
+/// Files by name.
+pub trait Shelf {
+    /// The files and their bytes, where the shelf tells them.
+    ghost files: { Self → Option Files };
+
+    /// How often a fetch has failed, up to 2^64 - 1.
+    ghost read_faults: { Self → ℕ };
+
+    /// How often a begin or an append has failed, up to 2^64 - 1.
+    ghost write_faults: { Self → ℕ };
+
+    /// Puts bytes of the file, from byte `at` on, at the front of the buffer, and answers their number.
+    /// There may be fewer than the buffer takes, but none only at the file's end. A file that isn't there is
+    /// a fault. No file changes.
+    fn fetch(&mut self, name: &str, at: u64, buf: &mut [u8]) -> Result<usize, DeviceBad>
+        ensures room { IfOk result (λ n. n ≤ length buf.new) }
+        ensures content { IfOk result (λ n.
+            ForSome (files self.old) (λ m. Fetched m name.now at n buf.new)) }
+        ensures same { files self.new ≡ files self.old }
+        ensures reads { Counted (read_faults self.old) (read_faults self.new) result }
+        ensures writes { write_faults self.new ≡ write_faults self.old };
+
+    /// Makes the file, or empties it where it is there. After a refusal it is as it was, or empty. Other files
+    /// stay.
+    fn begin(&mut self, name: &str) -> Result<(), DeviceBad>
+        ensures made { OnOk result (
+            ForSome (files self.old) (λ m. files self.new ≡ Some (with_file m name.now []))) }
+        ensures refused { OnErr result (
+            ForSome (files self.old) (λ m. MayBegin m name.now (files self.new))) }
+        ensures writes { Counted (write_faults self.old) (write_faults self.new) result }
+        ensures reads { read_faults self.new ≡ read_faults self.old };
+
+    /// Puts a piece behind the file's bytes. A refusal may have put a first part of it there. A file that isn't
+    /// there is a fault. Other files stay.
+    fn append(&mut self, name: &str, piece: &[u8]) -> Result<(), DeviceBad>
+        ensures grown { OnOk result (
+            ForSome (files self.old) (λ m. Grows m name.now piece.now (files self.new))) }
+        ensures refused { OnErr result (
+            ForSome (files self.old) (λ m. MayGrow m name.now piece.now (files self.new))) }
+        ensures writes { Counted (write_faults self.old) (write_faults self.new) result }
+        ensures reads { read_faults self.new ≡ read_faults self.old };
+}
+
+/// Where bytes go in order, as standard output.
+pub trait Sink {
+    /// All bytes that were put, where the sink tells them.
+    ghost written: { Self → Option (List ℕ) };
+
+    /// How often a put has failed, up to 2^64 - 1.
+    ghost faults: { Self → ℕ };
+
+    /// Puts a piece behind all bytes so far. A refusal may have put a first part of it there.
+    fn put(&mut self, piece: &[u8]) -> Result<(), DeviceBad>
+        ensures put { OnOk result (
+            ForSome (written self.old) (λ t. written self.new ≡ Some (t ++ piece.now))) }
+        ensures refused { OnErr result (ForSome (written self.old) (λ t.
+            (n : ℕ) × (written self.new ≡ Some (t ++ take n piece.now)))) }
+        ensures cause { Counted (faults self.old) (faults self.new) result };
+}

@@ -1,0 +1,26 @@
+//! The outside of a program: a shelf of named files, and a sink that takes bytes in order.
+//!
+//! A program reads and writes through the traits [`Shelf`] and [`Sink`], so that contracts can speak of what
+//! it read and wrote. A device may tell what it holds: then `files` is a finite map from names to bytes, and
+//! `written` the bytes so far. One over a real disk tells nothing, and promises nothing of content.
+//!
+//! Every device counts its faults. It answers `Failed` only where the count rose in that call, and no other
+//! answer touches a count. So a program that ends well, with all counts as they were, met no fault.
+//!
+//! Whole files are read by [`read_all`], and written in pieces by [`write_all`] and [`append_all`], which say
+//! of a file that was cut short how it begins.
+#![tactic(auto)]
+
+mod device;
+mod memory;
+mod named;
+mod read;
+mod write;
+
+pub use device::{DeviceBad, Shelf, Sink};
+pub use memory::{MemShelf, MemSink};
+pub use read::{Content, read_all};
+pub use write::{append_all, write_all};
+
+#[cfg(test)]
+mod tests;

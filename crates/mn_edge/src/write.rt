@@ -1,0 +1,51 @@
+// Files, written in pieces.
+ghost use Rattle.std.specs.Prelude.{◌≡◌, ◌++◌, List, ℕ, Some, OnOk, OnErr, IsTrue};
+ghost use Rattle.std.specs.Option.{ForSome};
+ghost use Rattle.mn_edge.specs.Faults.{Counted};
+ghost use Rattle.mn_edge.specs.Files.{Files};
+ghost use Rattle.mn_edge.specs.Written.{PartWritten, Stands, all_known, laid, pairs, texts, written};
+
+use crate::{DeviceBad, Shelf};
+
+/// Begins the files of these names in order, and then appends the pieces in order, each to the file that it
+/// names. It ends at the first refusal.
+pub fn write_all<S: Shelf>(
+    shelf: &mut S,
+    names: &[String],
+    pieces: &[(String, Vec<u8>)],
+) -> Result<(), DeviceBad>
+    requires { IsTrue (all_known (texts names.now) (pairs pieces.now)) }
+    ensures whole { OnOk result (ForSome (S.files shelf.old) (λ m.
+        S.files shelf.new ≡ Some (laid (written (texts names.now) (pairs pieces.now)) m))) }
+    ensures part { OnErr result (ForSome (S.files shelf.old) (λ m.
+        PartWritten (written (texts names.now) (pairs pieces.now)) m (S.files shelf.new))) }
+    ensures writes { Counted (S.write_faults shelf.old) (S.write_faults shelf.new) result }
+    ensures reads { S.read_faults shelf.new ≡ S.read_faults shelf.old }
+{
+    for name in names {
+        shelf.begin(name.as_str())?;
+    }
+    append_all(shelf, pieces)
+}
+
+/// Appends the pieces in order, each to the file that it names. It ends at the first refusal.
+///
+/// The contract holds for every way to see the shelf's files as a base with some names laid over it, each
+/// with its pieces `done` so far. So one call goes on where the last one ended.
+pub fn append_all<S: Shelf>(shelf: &mut S, pieces: &[(String, Vec<u8>)]) -> Result<(), DeviceBad>
+    ensures whole { OnOk result (
+        (base : Files) (names : List (List ℕ)) (done : List (List ℕ × List ℕ)) →
+        Stands names done base (S.files shelf.old) → IsTrue (all_known names (pairs pieces.now)) →
+        Stands names (done ++ pairs pieces.now) base (S.files shelf.new)) }
+    ensures part { OnErr result (
+        (base : Files) (names : List (List ℕ)) (done : List (List ℕ × List ℕ)) →
+        Stands names done base (S.files shelf.old) → IsTrue (all_known names (pairs pieces.now)) →
+        PartWritten (written names (done ++ pairs pieces.now)) base (S.files shelf.new)) }
+    ensures writes { Counted (S.write_faults shelf.old) (S.write_faults shelf.new) result }
+    ensures reads { S.read_faults shelf.new ≡ S.read_faults shelf.old }
+{
+    for piece in pieces {
+        shelf.append(piece.0.as_str(), &piece.1)?;
+    }
+    Ok(())
+}
