@@ -1,0 +1,4 @@
+pub mod Numbers
+pub mod Wiring
+pub mod Paths
+pub mod Square

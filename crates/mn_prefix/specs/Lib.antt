@@ -1,0 +1,4 @@
+pub mod Prefix
+pub mod Longest
+pub mod Table
+pub mod Places

@@ -1,0 +1,4 @@
+pub mod Numbers
+pub mod Addresses
+pub mod Pairs
+pub mod Words
