@@ -1,0 +1,4 @@
+pub mod Routes
+pub mod Entry
+pub mod Deliveries
+pub mod Accounts

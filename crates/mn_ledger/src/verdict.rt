@@ -1,0 +1,12 @@
+use mn_base::{Dir, LinkNo, NodeNo, Rule, SiteNo};
+
+/// What became of a packet.
+#[derive(Clone, Copy, Debug, PartialEq, Eq)]
+pub enum Verdict {
+    /// It reached a site with this time to live. `copy` counts the deliveries up to this one.
+    Delivered { site: SiteNo, ttl: u8, copy: u32 },
+    /// It was dropped at a node.
+    Dropped { rule: Rule, node: NodeNo },
+    /// It is on its way over a link.
+    Flying { link: LinkNo, dir: Dir },
+}

@@ -1,0 +1,118 @@
+-- The promise of a run, from the definition of its answer.
+use Rattle.std.proofs.Common.{◌≡◌, ℕ, Bool, true, false, nat_lt, if◌then◌else◌, List, [], ◌∷◌, ◌++◌, map, length, Option, Some, None, IsSomeAnd, refl, ap, sym, ◌∙◌}
+use Rattle.std.specs.Prelude.{option_and_then}
+use Rattle.std.specs.Ordering.{is_eq}
+use Rattle.std.proofs.lemmas.List.{length-map}
+use Rattle.mn_edge.specs.Files.{Files, file, with_file}
+use Rattle.mn_edge.specs.Written.{laid, bytes_for}
+use Rattle.mn_pcap.specs.Format.{header}
+use Rattle.mn_ledger.specs.Deliveries.{verdicts_after, delivered_packets}
+use Rattle.mn_ledger.proofs.Accounted.{accounted}
+use Rattle.mn_report.specs.declared.lines.Sent.{Sent}
+use Rattle.mn_report.specs.Lines.{total_line}
+use Rattle.mn_run.specs.declared.outcome.Input.{Input}
+use Rattle.mn_run.specs.declared.outcome.Input.TheVariants.{Topology, Script, Capture}
+use Rattle.mn_run.specs.declared.outcome.Outcome.{Outcome}
+use Rattle.mn_run.specs.declared.outcome.Outcome.TheVariants.{Done, Usage, NotBuilt, ReadFault, WriteFault, NoMemory}
+use Rattle.mn_run.specs.Words.{word, is_run}
+use Rattle.mn_run.specs.Network.{NetworkView}
+use Rattle.mn_run.specs.Topology.{topology_of}
+use Rattle.mn_run.specs.Script.{script_of}
+use Rattle.mn_run.specs.Capture.{capture_of}
+use Rattle.mn_run.specs.Service.{the_node, packets_of, delivered_records}
+use Rattle.mn_run.specs.Answer.{Answer, joined, refusal, with_input, if_built, from_capture, from_script, run_answer, answer_of, done_answer, sends, misses, refused_lines, packet_lines, names_of, totals_of, delivered_name, raw_ipv4, most_bytes}
+use Rattle.mn_run.specs.Endings.{OutcomeIs, FilesAre, TextIs}
+use Rattle.mn_run.specs.Headline.{KeepsItsPromise, HeadlineIs}
+use Rattle.mn_run.proofs.Planning.{name_same}
+
+-- the answer of a run that is done, with what was read for it
+record IsDone (words : List (List ℕ)) (files : Files) (answer : Answer) : Type 0 where
+  pub network : NetworkView
+  pub script : List Sent
+  pub packets : List (List ℕ)
+  pub topology_read : option_and_then topology_of (file files (word words 1)) ≡ Some network
+  pub script_read : option_and_then (script_of network.sites) (file files (word words 2)) ≡ Some script
+  pub capture_read : option_and_then capture_of (file files (word words 3)) ≡ Some packets
+  pub is : answer ≡ done_answer (word words 4) network script packets
+
+-- an input that leads to a run that is done was there and could be run
+record Passed {A : Type 0} (input : Option (List ℕ)) (read : List ℕ → Option A) (next : A → Option Answer) (answer : Answer) : Type 0 where
+  pub value : A
+  pub was_read : option_and_then read input ≡ Some value
+  pub goes_on : next value ≡ Some answer
+
+not_refused : (what : Input) (answer : Answer) → Some (refusal (NotBuilt what)) ≡ Some answer → answer.outcome ≡ Done → ⊥
+not_refused what answer e done = let same : refusal (NotBuilt what) ≡ answer = cc in let other : NotBuilt what ≡ Done = ap (λ (a : Answer). a.outcome) same ∙ done in cc
+
+built : {A : Type 0} (o : Option A) (what : Input) (next : A → Option Answer) (answer : Answer) → if_built o what next ≡ Some answer → answer.outcome ≡ Done → (x : A) × (o ≡ Some x) × (next x ≡ Some answer)
+built None what next answer e done = absurd (not_refused what answer e done)
+built (Some x) what next answer e done = (x, refl, e)
+
+within : {A : Type 0} (bytes : List ℕ) (what : Input) (read : List ℕ → Option A) (next : A → Option Answer) (answer : Answer) (b : Bool) →
+    (if b then Some (refusal (NotBuilt what)) else if_built (read bytes) what next) ≡ Some answer → answer.outcome ≡ Done → Passed (Some bytes) read next answer
+within bytes what read next answer true e done = absurd (not_refused what answer e done)
+within bytes what read next answer false e done = let x = built (read bytes) what next answer e done in record { value = x.0; was_read = x.1; goes_on = x.2 }
+
+passed : {A : Type 0} (input : Option (List ℕ)) (what : Input) (read : List ℕ → Option A) (next : A → Option Answer) (answer : Answer) →
+    with_input input what (λ bytes. if_built (read bytes) what next) ≡ Some answer → answer.outcome ≡ Done → Passed input read next answer
+passed None what read next answer e done = absurd cc
+passed (Some bytes) what read next answer e done = within bytes what read next answer (nat_lt most_bytes (length bytes)) e done
+
+same_some : {A : Type 0} (x y : A) → Some x ≡ Some y → x ≡ y
+same_some x y h = cc
+
+run_done : (words : List (List ℕ)) (files : Files) (answer : Answer) → run_answer words files ≡ Some answer → answer.outcome ≡ Done → IsDone words files answer
+run_done words files answer e done =
+    let t = passed (file files (word words 1)) Topology topology_of (from_script words files) answer e done in
+    let s = passed (file files (word words 2)) Script (script_of t.value.sites) (from_capture words files t.value) answer t.goes_on done in
+    let c = passed (file files (word words 3)) Capture capture_of (λ packets. Some (done_answer (word words 4) t.value s.value packets)) answer s.goes_on done in
+    record { network = t.value; script = s.value; packets = c.value; topology_read = t.was_read; script_read = s.was_read; capture_read = c.was_read; is = sym (same_some _ _ c.goes_on) }
+
+usage_or_run : (words : List (List ℕ)) (files : Files) (answer : Answer) (b : Bool) → (if b then run_answer words files else Some (refusal Usage)) ≡ Some answer → answer.outcome ≡ Done → IsDone words files answer
+usage_or_run words files answer true e done = run_done words files answer e done
+usage_or_run words files answer false e done = let same : refusal Usage ≡ answer = cc in let other : Usage ≡ Done = ap (λ (a : Answer). a.outcome) same ∙ done in absurd cc
+
+is_done : (words : List (List ℕ)) (files : Files) (answer : Answer) → answer_of words files ≡ Some answer → answer.outcome ≡ Done → IsDone words files answer
+is_done words files answer e done = usage_or_run words files answer (is_run words) e done
+
+-- the pieces of one file are its bytes
+one_file : (name : List ℕ) (pieces : List (List ℕ)) → bytes_for (map (λ bytes. (name, bytes)) pieces) name ≡ joined pieces
+one_file name [] = refl
+one_file name (p ∷ ps) = ap (λ r. (if is_eq r then p else []) ++ bytes_for (map (λ bytes. (name, bytes)) ps) name) (name_same name) ∙ ap (λ rest. p ++ rest) (one_file name ps)
+
+promise : (words : List (List ℕ)) (files : Files) (before : List ℕ) (after : Option Files) (written_now : Option (List ℕ)) (answer : Answer) → IsDone words files answer →
+    after ≡ Some (laid answer.files files) → written_now ≡ Some (before ++ answer.text) → KeepsItsPromise words files before after written_now
+promise words files before after written_now answer d f t =
+    let sent : List Sent = sends (length d.packets) d.script in
+    let inputs : List (List ℕ) = packets_of d.packets sent in
+    let arrived : List (List ℕ) = delivered_packets d.network.routes inputs in
+    let count : length (delivered_records d.network.routes inputs) ≡ length arrived = simp length-map in
+    record {
+      network = d.network;
+      script = d.script;
+      packets = d.packets;
+      verdicts = verdicts_after the_node d.network.routes 0 inputs;
+      arrived = arrived;
+      topology_read = d.topology_read;
+      script_read = d.script_read;
+      capture_read = d.capture_read;
+      accounts = accounted d.network.routes the_node 0 inputs;
+      lines = t ∙ ap (λ (a : Answer). Some (before ++ a.text)) d.is ∙ ap (λ n. Some (before ++ joined (refused_lines (length d.packets) d.script ++ packet_lines (names_of d.network) 1 sent (verdicts_after the_node d.network.routes 0 inputs) ++ total_line (totals_of (length sent) n (length (misses (length d.packets) d.script))) ∷ []))) count;
+      delivered = f ∙ ap (λ (a : Answer). Some (laid a.files files)) d.is ∙ ap (λ bytes. Some (with_file files (delivered_name (word words 4)) bytes)) (one_file (delivered_name (word words 4)) (header raw_ipv4 ∷ delivered_records d.network.routes inputs));
+    }
+
+given : (a : Option Answer) (P : Answer → Type 0) (Q : Answer → Type 0) (R : Answer → Type 0) → IsSomeAnd a P → IsSomeAnd a Q → IsSomeAnd a R → (x : Answer) × (a ≡ Some x) × P x × Q x × R x
+given None P Q R p q r = absurd p
+given (Some x) P Q R p q r = (x, refl, p, q, r)
+
+-- where all was done the promise is kept
+pub headline : (words : List (List ℕ)) (files : Files) (before : List ℕ) (after : Option Files) (written_now : Option (List ℕ)) (outcome : Outcome) →
+    OutcomeIs (answer_of words files) outcome → FilesAre (answer_of words files) files after outcome → TextIs (answer_of words files) before written_now outcome → HeadlineIs words files before after written_now outcome
+headline words files before after written_now Done o f t =
+    let x = given (answer_of words files) (λ a. a.outcome ≡ Done) (λ a. after ≡ Some (laid a.files files)) (λ a. written_now ≡ Some (before ++ a.text)) o f t in
+    promise words files before after written_now x.0 (is_done words files x.0 x.1 x.2) x.3 x.4
+headline words files before after written_now Usage o f t = tt
+headline words files before after written_now ReadFault o f t = tt
+headline words files before after written_now WriteFault o f t = tt
+headline words files before after written_now NoMemory o f t = tt
+headline words files before after written_now (NotBuilt what) o f t = tt

@@ -1,0 +1,10 @@
+pub mod Results
+pub mod Arrivals
+pub mod Serving
+pub mod Planning
+pub mod Keys
+pub mod Wording
+pub mod Records
+pub mod Ending
+pub mod Loading
+pub mod Accounting

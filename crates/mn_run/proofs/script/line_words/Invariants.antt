@@ -1,0 +1,10 @@
+use Rattle.std.proofs.Common.{◌≡◌, ◌++◌, length}
+use Rattle.mn_run.specs.Tables.{texts_now}
+use Rattle.mn_run.specs.Script.{line_words}
+use Rattle.mn_run.proofs.script.line_words.Given as goal
+
+abbrev pub invariant-words : goal.invariant-words
+invariant-words l = texts_now l.found.items ++ line_words l.rest ≡ line_words l.line
+
+abbrev pub decreases-words : goal.decreases-words
+decreases-words l = length l.rest

@@ -1,0 +1,70 @@
+-- How a call may end, beside the answer that is to be given.
+use Rattle.std.specs.Prelude.{◌≡◌, ◌⊎◌, ◌≤◌, ℕ, Bool, true, false, List, ◌++◌, Option, Some, MatchOption, IsSomeAnd, ⊤}
+use Rattle.mn_run.specs.declared.outcome.Outcome.{Outcome}
+use Rattle.mn_run.specs.declared.outcome.Outcome.TheVariants.{Usage, ReadFault, WriteFault, NoMemory}
+use Rattle.mn_edge.specs.Files.{Files}
+use Rattle.mn_edge.specs.Faults.{Rose}
+use Rattle.mn_edge.specs.Written.{laid, IsPrefix, PartWritten}
+use Rattle.mn_run.specs.Answer.{Answer}
+
+-- a first part of the text was put
+abbrev pub PartPut : List ℕ → List ℕ → Option (List ℕ) → Type 0
+PartPut text before after = (part : List ℕ) × IsPrefix part text × (after ≡ Some (before ++ part))
+
+-- the call was cut off: the answer's files stand in part, or nothing was begun where there is no answer
+abbrev pub PartFiles : Option Answer → Files → Option Files → Type 0
+PartFiles answer files after = MatchOption answer (after ≡ Some files) (λ a. PartWritten a.files files after)
+
+-- the call was cut off: the answer's text was put in part, or nothing where there is no answer
+abbrev pub PartText : Option Answer → List ℕ → Option (List ℕ) → Type 0
+PartText answer before after = MatchOption answer (after ≡ Some before) (λ a. PartPut a.text before after)
+
+-- the outcome is the answer's, but for faults and want of memory
+abbrev pub OutcomeIs : Option Answer → Outcome → Type 0
+OutcomeIs answer ReadFault = ⊤
+OutcomeIs answer WriteFault = ⊤
+OutcomeIs answer NoMemory = ⊤
+OutcomeIs answer outcome = IsSomeAnd answer (λ a. a.outcome ≡ outcome)
+
+-- the files are the answer's laid over those of before
+abbrev pub FilesAre : Option Answer → Files → Option Files → Outcome → Type 0
+FilesAre answer files after ReadFault = PartFiles answer files after
+FilesAre answer files after WriteFault = PartFiles answer files after
+FilesAre answer files after NoMemory = PartFiles answer files after
+FilesAre answer files after outcome = IsSomeAnd answer (λ a. after ≡ Some (laid a.files files))
+
+-- what was put is the answer's text
+abbrev pub TextIs : Option Answer → List ℕ → Option (List ℕ) → Outcome → Type 0
+TextIs answer before after ReadFault = PartText answer before after
+TextIs answer before after WriteFault = PartText answer before after
+TextIs answer before after NoMemory = PartText answer before after
+TextIs answer before after outcome = IsSomeAnd answer (λ a. after ≡ Some (before ++ a.text))
+
+-- the counts of faults: of the shelf's reads, of its writes, of the sink
+abbrev pub Counts : Type 0
+Counts = ℕ × ℕ × ℕ
+
+-- the count rose, and didn't fall
+abbrev pub Grew : ℕ → ℕ → Type 0
+Grew before now = (before ≤ now) × Rose before now
+
+-- a fault is answered only where its count rose, and every other count is as it was
+abbrev pub CausedBy : Counts → Counts → Outcome → Type 0
+CausedBy old new ReadFault = Grew old.0 new.0 × (new.1 ≡ old.1) × (new.2 ≡ old.2)
+CausedBy old new WriteFault = (new.0 ≡ old.0) × ((Grew old.1 new.1 × (new.2 ≡ old.2)) ⊎ (Grew old.2 new.2 × (new.1 ≡ old.1)))
+CausedBy old new outcome = (new.0 ≡ old.0) × (new.1 ≡ old.1) × (new.2 ≡ old.2)
+
+-- usage is answered exactly where the words are no run; the sink's fault and want of memory may come in its place
+abbrev pub UsageIff : Bool → Outcome → Type 0
+UsageIff is_good Usage = is_good ≡ false
+UsageIff is_good WriteFault = ⊤
+UsageIff is_good NoMemory = ⊤
+UsageIff is_good outcome = is_good ≡ true
+
+-- no count rose
+abbrev pub NoRise : Counts → Counts → Type 0
+NoRise old new = (Rose old.0 new.0 → ⊥) × (Rose old.1 new.1 → ⊥) × (Rose old.2 new.2 → ⊥)
+
+-- where there is an answer and no count rose, it comes, or want of memory
+abbrev pub Completes : Option Answer → Counts → Counts → Outcome → Type 0
+Completes answer old new outcome = (a : Answer) → answer ≡ Some a → NoRise old new → (outcome ≡ a.outcome) ⊎ (outcome ≡ NoMemory)

@@ -1,0 +1,12 @@
+pub mod Words
+pub mod Network
+pub mod Service
+pub mod Answer
+pub mod Jobs
+pub mod Tables
+pub mod Topology
+pub mod Script
+pub mod Capture
+pub mod Endings
+pub mod Status
+pub mod Headline

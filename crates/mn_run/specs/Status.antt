@@ -1,0 +1,13 @@
+-- The status of the program.
+use Rattle.std.specs.Prelude.{ℕ}
+use Rattle.mn_run.specs.declared.outcome.Outcome.{Outcome}
+use Rattle.mn_run.specs.declared.outcome.Outcome.TheVariants.{Done, Usage, ReadFault, WriteFault, NoMemory, NotBuilt}
+
+-- each outcome has a status of its own
+abbrev pub status_of : Outcome → ℕ
+status_of Done = 0
+status_of Usage = 2
+status_of ReadFault = 6
+status_of WriteFault = 7
+status_of NoMemory = 8
+status_of (NotBuilt what) = 10

@@ -1,0 +1,17 @@
+-- The words of the command line.
+use Rattle.std.specs.Prelude.{ℕ, Bool, not, ◌&&◌, ◌||◌, ◌==◌, nat_lt, nat_eq, List, [], length, take, slice_index_or, codes}
+use lib.Pointwise.{pointwise}
+
+-- the word at this place, which is there where there are enough words
+abbrev pub word : List (List ℕ) → ℕ → List ℕ
+word words k = slice_index_or words k []
+
+-- the name begins with the folder's name and a slash
+abbrev pub is_inside : List ℕ → List ℕ → Bool
+is_inside name folder = nat_lt (length folder) (length name) && (pointwise nat_eq (take (length folder) name) folder && (slice_index_or name (length folder) 0 == 47))
+
+-- `run`, a topology, a script, a capture and a folder in which none of the three lies
+abbrev pub is_run : List (List ℕ) → Bool
+is_run words =
+    (length words == 5) && (pointwise nat_eq (word words 0) (codes "run")
+    && not (is_inside (word words 1) (word words 4) || (is_inside (word words 2) (word words 4) || is_inside (word words 3) (word words 4))))

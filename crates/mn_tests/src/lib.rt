@@ -1,0 +1,7 @@
+//! Tests of the whole program, over devices in memory.
+//!
+//! Expected reports and bytes were worked by hand from RFC 791 and the file formats of docs/FORMATS.md.
+#![tactic(auto)]
+
+#[cfg(test)]
+mod one_node;

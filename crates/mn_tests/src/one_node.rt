@@ -1,0 +1,387 @@
+// One node with one VRF: packets from site to site.
+use mn_edge::{MemShelf, MemSink};
+use mn_run::{Outcome, command};
+use std::alloc::{AllocError, Global};
+use std::test::Fail;
+
+/// A node with sites a (10.1.0.0/16) and b (10.2.0.0/16).
+const TWO_SITES: &str =
+    "[[node]]\nname = \"pe1\"\nloopback = \"192.0.2.1\"\n\n[[vrf]]\nname = \"red\"\nnode = \"pe1\"\nrd = \"65000:1\"\nimport = [\"65000:100\"]\nexport = [\"65000:100\"]\n\n[[site]]\nname = \"a\"\nvrf = \"red\"\nprefixes = [\"10.1.0.0/16\"]\n\n[[site]]\nname = \"b\"\nvrf = \"red\"\nprefixes = [\"10.2.0.0/16\"]\n";
+
+/// The same node with sites a (0.0.0.0/0), b (10.2.0.0/24) and c (10.2.0.1/32).
+const NESTED_SITES: &str =
+    "[[node]]\nname = \"pe1\"\nloopback = \"192.0.2.1\"\n[[vrf]]\nname = \"red\"\nnode = \"pe1\"\nrd = \"65000:1\"\n[[site]]\nname = \"a\"\nvrf = \"red\"\nprefixes = [\"0.0.0.0/0\"]\n[[site]]\nname = \"b\"\nvrf = \"red\"\nprefixes = [\"10.2.0.0/24\"]\n[[site]]\nname = \"c\"\nvrf = \"red\"\nprefixes = [\"10.2.0.1/32\"]\n";
+
+/// Without site c.
+const TWO_NESTED_SITES: &str =
+    "[[node]]\nname = \"pe1\"\nloopback = \"192.0.2.1\"\n[[vrf]]\nname = \"red\"\nnode = \"pe1\"\nrd = \"65000:1\"\n[[site]]\nname = \"a\"\nvrf = \"red\"\nprefixes = [\"0.0.0.0/0\"]\n[[site]]\nname = \"b\"\nvrf = \"red\"\nprefixes = [\"10.2.0.0/24\"]\n";
+
+/// With site a alone.
+const ONE_SITE: &str =
+    "[[node]]\nname = \"pe1\"\nloopback = \"192.0.2.1\"\n[[vrf]]\nname = \"red\"\nnode = \"pe1\"\nrd = \"65000:1\"\n[[site]]\nname = \"a\"\nvrf = \"red\"\nprefixes = [\"0.0.0.0/0\"]\n";
+
+/// A capture of IPv4 packets: link type 228.
+const CAPTURE_HEADER: [u8; 24] = [
+    0xD4, 0xC3, 0xB2, 0xA1, 0x02, 0x00, 0x04, 0x00, 0x00, 0x00, 0x00, 0x00, 0x00, 0x00, 0x00, 0x00,
+    0x00, 0x00, 0x04, 0x00, 0xE4, 0x00, 0x00, 0x00,
+];
+
+/// The header of a record of 28 bytes at tick 0.
+const RECORD_HEADER: [u8; 16] = [
+    0x00, 0x00, 0x00, 0x00, 0x00, 0x00, 0x00, 0x00, 0x1C, 0x00, 0x00, 0x00, 0x1C, 0x00, 0x00, 0x00,
+];
+
+/// A UDP packet of 28 bytes from 10.1.0.1 to 10.2.0.1 with TTL 64.
+const PACKET: [u8; 28] = [
+    0x45, 0x00, 0x00, 0x1C, 0x00, 0x00, 0x00, 0x00, 0x40, 0x11, 0x66, 0xCD, 0x0A, 0x01, 0x00, 0x01,
+    0x0A, 0x02, 0x00, 0x01, 0x00, 0x35, 0x00, 0x35, 0x00, 0x08, 0x00, 0x00,
+];
+
+/// The packet as it arrives: TTL 63, and the checksum 67 CD.
+const ARRIVED: [u8; 28] = [
+    0x45, 0x00, 0x00, 0x1C, 0x00, 0x00, 0x00, 0x00, 0x3F, 0x11, 0x67, 0xCD, 0x0A, 0x01, 0x00, 0x01,
+    0x0A, 0x02, 0x00, 0x01, 0x00, 0x35, 0x00, 0x35, 0x00, 0x08, 0x00, 0x00,
+];
+
+/// The first packet, with a checksum one too great.
+const BAD_CHECKSUM: [u8; 28] = [
+    0x45, 0x00, 0x00, 0x1C, 0x00, 0x00, 0x00, 0x00, 0x40, 0x11, 0x66, 0xCE, 0x0A, 0x01, 0x00, 0x01,
+    0x0A, 0x02, 0x00, 0x01, 0x00, 0x35, 0x00, 0x35, 0x00, 0x08, 0x00, 0x00,
+];
+
+/// The first packet, said to have 29 bytes.
+const TRUNCATED: [u8; 28] = [
+    0x45, 0x00, 0x00, 0x1D, 0x00, 0x00, 0x00, 0x00, 0x40, 0x11, 0x66, 0xCD, 0x0A, 0x01, 0x00, 0x01,
+    0x0A, 0x02, 0x00, 0x01, 0x00, 0x35, 0x00, 0x35, 0x00, 0x08, 0x00, 0x00,
+];
+
+/// The first packet, said to have a header of four words.
+const MALFORMED: [u8; 28] = [
+    0x44, 0x00, 0x00, 0x1C, 0x00, 0x00, 0x00, 0x00, 0x40, 0x11, 0x66, 0xCD, 0x0A, 0x01, 0x00, 0x01,
+    0x0A, 0x02, 0x00, 0x01, 0x00, 0x35, 0x00, 0x35, 0x00, 0x08, 0x00, 0x00,
+];
+
+/// The first packet, of version 6.
+const NOT_IPV4: [u8; 28] = [
+    0x65, 0x00, 0x00, 0x1C, 0x00, 0x00, 0x00, 0x00, 0x40, 0x11, 0x66, 0xCD, 0x0A, 0x01, 0x00, 0x01,
+    0x0A, 0x02, 0x00, 0x01, 0x00, 0x35, 0x00, 0x35, 0x00, 0x08, 0x00, 0x00,
+];
+
+/// The first packet, to 224.0.0.5.
+const NOT_UNICAST: [u8; 28] = [
+    0x45, 0x00, 0x00, 0x1C, 0x00, 0x00, 0x00, 0x00, 0x40, 0x11, 0x90, 0xCA, 0x0A, 0x01, 0x00, 0x01,
+    0xE0, 0x00, 0x00, 0x05, 0x00, 0x35, 0x00, 0x35, 0x00, 0x08, 0x00, 0x00,
+];
+
+/// The first packet, with TTL 1.
+const TTL_EXPIRED: [u8; 28] = [
+    0x45, 0x00, 0x00, 0x1C, 0x00, 0x00, 0x00, 0x00, 0x01, 0x11, 0xA5, 0xCD, 0x0A, 0x01, 0x00, 0x01,
+    0x0A, 0x02, 0x00, 0x01, 0x00, 0x35, 0x00, 0x35, 0x00, 0x08, 0x00, 0x00,
+];
+
+/// The first packet, to 10.9.0.1.
+const NO_ROUTE: [u8; 28] = [
+    0x45, 0x00, 0x00, 0x1C, 0x00, 0x00, 0x00, 0x00, 0x40, 0x11, 0x66, 0xC6, 0x0A, 0x01, 0x00, 0x01,
+    0x0A, 0x09, 0x00, 0x01, 0x00, 0x35, 0x00, 0x35, 0x00, 0x08, 0x00, 0x00,
+];
+
+fn words(alloc: Global, texts: &[&str]) -> Result<Vec<String>, AllocError> {
+    let mut words = Vec::new(alloc);
+    for text in texts {
+        words.push(String::from_str(alloc, text)?)?;
+    }
+    Ok(words)
+}
+
+fn run_words(alloc: Global) -> Result<Vec<String>, AllocError> {
+    words(alloc, &["run", "t", "s", "c", "out"])
+}
+
+/// A capture of packets of 28 bytes.
+fn capture(alloc: Global, packets: &[&[u8]]) -> Result<Vec<u8>, AllocError> {
+    let mut bytes = Vec::from_slice(alloc, &CAPTURE_HEADER)?;
+    for packet in packets {
+        bytes.extend_from_slice(&RECORD_HEADER)?;
+        bytes.extend_from_slice(packet)?;
+    }
+    Ok(bytes)
+}
+
+/// A shelf with the three inputs, on which the calls of these numbers fail.
+fn shelf(
+    alloc: Global,
+    topology: &str,
+    script: &str,
+    capture: Vec<u8>,
+    failing: Vec<u64>,
+) -> Result<MemShelf, AllocError> {
+    let mut files = Vec::new(alloc);
+    files.push((
+        String::from_str(alloc, "t")?,
+        Vec::from_slice(alloc, topology.as_bytes())?,
+    ))?;
+    files.push((
+        String::from_str(alloc, "s")?,
+        Vec::from_slice(alloc, script.as_bytes())?,
+    ))?;
+    files.push((String::from_str(alloc, "c")?, capture))?;
+    Ok(MemShelf::new(alloc, files, failing))
+}
+
+#[test]
+fn a_packet_reaches_the_other_site(rt: HostRuntime) -> Result<(), Fail> {
+    let alloc = rt.alloc();
+    let capture = capture(alloc, &[PACKET.as_slice()])?;
+    let mut shelf = shelf(alloc, TWO_SITES, "inject a 1\n", capture, Vec::new(alloc))?;
+    let mut out = MemSink::new(alloc, Vec::new(alloc));
+    let outcome = command(alloc, &run_words(alloc)?, &mut shelf, &mut out);
+    assert!(rt; outcome == Outcome::Done);
+    assert_eq!(rt; outcome.status(), 0);
+    let report =
+        "packet 1 line 1 site a record 1 delivered b ttl 63 copy 1 path pe1\ntotal packets 1 delivered 1 dropped 0 flying 0 steps 1 refused 0 tick 0\n";
+    assert!(rt; out.bytes() == report.as_bytes());
+    let mut delivered = Vec::from_slice(alloc, &CAPTURE_HEADER)?;
+    delivered.extend_from_slice(&RECORD_HEADER)?;
+    delivered.extend_from_slice(&ARRIVED)?;
+    assert!(rt; shelf.file("out/delivered.pcap") == Some(delivered.as_slice()));
+    Ok(())
+}
+
+#[test]
+fn bytes_past_the_total_length_are_cut(rt: HostRuntime) -> Result<(), Fail> {
+    let alloc = rt.alloc();
+    let mut capture = Vec::from_slice(alloc, &CAPTURE_HEADER)?;
+    capture.extend_from_slice(&[0, 0, 0, 0, 0, 0, 0, 0, 30, 0, 0, 0, 30, 0, 0, 0])?;
+    capture.extend_from_slice(&PACKET)?;
+    capture.extend_from_slice(&[0xAA, 0xBB])?;
+    let mut shelf = shelf(alloc, TWO_SITES, "inject a 1", capture, Vec::new(alloc))?;
+    let mut out = MemSink::new(alloc, Vec::new(alloc));
+    let outcome = command(alloc, &run_words(alloc)?, &mut shelf, &mut out);
+    assert!(rt; outcome == Outcome::Done);
+    let mut delivered = Vec::from_slice(alloc, &CAPTURE_HEADER)?;
+    delivered.extend_from_slice(&RECORD_HEADER)?;
+    delivered.extend_from_slice(&ARRIVED)?;
+    assert!(rt; shelf.file("out/delivered.pcap") == Some(delivered.as_slice()));
+    Ok(())
+}
+
+#[test]
+fn each_rule_drops_its_packet(rt: HostRuntime) -> Result<(), Fail> {
+    let alloc = rt.alloc();
+    let capture = capture(
+        alloc,
+        &[
+            BAD_CHECKSUM.as_slice(),
+            TRUNCATED.as_slice(),
+            MALFORMED.as_slice(),
+            NOT_IPV4.as_slice(),
+            NOT_UNICAST.as_slice(),
+            TTL_EXPIRED.as_slice(),
+            NO_ROUTE.as_slice(),
+        ],
+    )?;
+    let script =
+        "inject a 1\ninject a 2\ninject a 3\ninject a 4\ninject a 5\ninject a 6\ninject a 7\n";
+    let mut shelf = shelf(alloc, TWO_SITES, script, capture, Vec::new(alloc))?;
+    let mut out = MemSink::new(alloc, Vec::new(alloc));
+    let outcome = command(alloc, &run_words(alloc)?, &mut shelf, &mut out);
+    assert!(rt; outcome == Outcome::Done);
+    let report =
+        "packet 1 line 1 site a record 1 dropped BadChecksum at pe1 path pe1\npacket 2 line 2 site a record 2 dropped Truncated at pe1 path pe1\npacket 3 line 3 site a record 3 dropped Malformed at pe1 path pe1\npacket 4 line 4 site a record 4 dropped NotIpv4 at pe1 path pe1\npacket 5 line 5 site a record 5 dropped NotUnicast at pe1 path pe1\npacket 6 line 6 site a record 6 dropped TtlExpired at pe1 path pe1\npacket 7 line 7 site a record 7 dropped NoRoute at pe1 path pe1\ntotal packets 7 delivered 0 dropped 7 flying 0 steps 7 refused 0 tick 0\n";
+    assert!(rt; out.bytes() == report.as_bytes());
+    assert!(rt; shelf.file("out/delivered.pcap") == Some(CAPTURE_HEADER.as_slice()));
+    Ok(())
+}
+
+/// Whether the packet, sent at site a, is reported in these lines.
+fn reports(alloc: Global, topology: &str, report: &str) -> Result<bool, AllocError> {
+    let capture = capture(alloc, &[PACKET.as_slice()])?;
+    let mut shelf = shelf(alloc, topology, "inject a 1\n", capture, Vec::new(alloc))?;
+    let mut out = MemSink::new(alloc, Vec::new(alloc));
+    let outcome = command(alloc, &run_words(alloc)?, &mut shelf, &mut out);
+    Ok(outcome == Outcome::Done && out.bytes() == report.as_bytes())
+}
+
+#[test]
+fn the_longest_prefix_decides(rt: HostRuntime) -> Result<(), Fail> {
+    let alloc = rt.alloc();
+    let to_c =
+        "packet 1 line 1 site a record 1 delivered c ttl 63 copy 1 path pe1\ntotal packets 1 delivered 1 dropped 0 flying 0 steps 1 refused 0 tick 0\n";
+    assert!(rt; reports(alloc, NESTED_SITES, to_c)?);
+    let to_b =
+        "packet 1 line 1 site a record 1 delivered b ttl 63 copy 1 path pe1\ntotal packets 1 delivered 1 dropped 0 flying 0 steps 1 refused 0 tick 0\n";
+    assert!(rt; reports(alloc, TWO_NESTED_SITES, to_b)?);
+    let back_to_a =
+        "packet 1 line 1 site a record 1 delivered a ttl 63 copy 1 path pe1\ntotal packets 1 delivered 1 dropped 0 flying 0 steps 1 refused 0 tick 0\n";
+    assert!(rt; reports(alloc, ONE_SITE, back_to_a)?);
+    Ok(())
+}
+
+#[test]
+fn a_record_past_the_capture_is_refused_and_the_run_goes_on(rt: HostRuntime) -> Result<(), Fail> {
+    let alloc = rt.alloc();
+    let capture = capture(alloc, &[PACKET.as_slice()])?;
+    let script = "inject a 2\r\n\n  # nothing\n\tinject b 1 # back\ninject a 1";
+    let mut shelf = shelf(alloc, TWO_SITES, script, capture, Vec::new(alloc))?;
+    let mut out = MemSink::new(alloc, Vec::new(alloc));
+    let outcome = command(alloc, &run_words(alloc)?, &mut shelf, &mut out);
+    assert!(rt; outcome == Outcome::Done);
+    let report =
+        "line 1 refused NoRecord\npacket 1 line 4 site b record 1 delivered b ttl 63 copy 1 path pe1\npacket 2 line 5 site a record 1 delivered b ttl 63 copy 2 path pe1\ntotal packets 2 delivered 2 dropped 0 flying 0 steps 2 refused 1 tick 0\n";
+    assert!(rt; out.bytes() == report.as_bytes());
+    Ok(())
+}
+
+#[test]
+fn an_empty_script_writes_the_header_alone(rt: HostRuntime) -> Result<(), Fail> {
+    let alloc = rt.alloc();
+    let capture = capture(alloc, &[])?;
+    let mut shelf = shelf(alloc, TWO_SITES, "", capture, Vec::new(alloc))?;
+    let mut out = MemSink::new(alloc, Vec::new(alloc));
+    let outcome = command(alloc, &run_words(alloc)?, &mut shelf, &mut out);
+    assert!(rt; outcome == Outcome::Done);
+    let report = "total packets 0 delivered 0 dropped 0 flying 0 steps 0 refused 0 tick 0\n";
+    assert!(rt; out.bytes() == report.as_bytes());
+    assert!(rt; shelf.file("out/delivered.pcap") == Some(CAPTURE_HEADER.as_slice()));
+    Ok(())
+}
+
+/// Whether the words are answered by the line on usage, and nothing is written.
+fn is_usage(alloc: Global, texts: &[&str]) -> Result<bool, AllocError> {
+    let capture = capture(alloc, &[PACKET.as_slice()])?;
+    let mut shelf = shelf(alloc, TWO_SITES, "inject a 1\n", capture, Vec::new(alloc))?;
+    let mut out = MemSink::new(alloc, Vec::new(alloc));
+    let outcome = command(alloc, &words(alloc, texts)?, &mut shelf, &mut out);
+    let line =
+        "usage: mplsnet run TOPOLOGY SCRIPT CAPTURE FOLDER | check TOPOLOGY | generate NUMBER\n";
+    Ok(
+        outcome == Outcome::Usage
+            && outcome.status() == 2
+            && out.bytes() == line.as_bytes()
+            && shelf.file("out/delivered.pcap").is_none(),
+    )
+}
+
+#[test]
+fn other_words_are_usage(rt: HostRuntime) -> Result<(), Fail> {
+    let alloc = rt.alloc();
+    assert!(rt; is_usage(alloc, &[])?);
+    assert!(rt; is_usage(alloc, &["--help"])?);
+    assert!(rt; is_usage(alloc, &["run", "t", "s", "c"])?);
+    assert!(rt; is_usage(alloc, &["run", "out/t", "s", "c", "out"])?);
+    assert!(rt; is_usage(alloc, &["check", "t"])?);
+    assert!(rt; is_usage(alloc, &["generate", "0"])?);
+    Ok(())
+}
+
+/// Whether the inputs are refused in this line, with nothing written.
+fn is_refused(
+    alloc: Global,
+    topology: &str,
+    script: &str,
+    capture: Vec<u8>,
+    line: &str,
+) -> Result<bool, AllocError> {
+    let mut shelf = shelf(alloc, topology, script, capture, Vec::new(alloc))?;
+    let mut out = MemSink::new(alloc, Vec::new(alloc));
+    let outcome = command(alloc, &run_words(alloc)?, &mut shelf, &mut out);
+    Ok(
+        outcome.status() == 10
+            && out.bytes() == line.as_bytes()
+            && shelf.file("out/delivered.pcap").is_none(),
+    )
+}
+
+#[test]
+fn an_input_that_cannot_be_run_yet_is_named(rt: HostRuntime) -> Result<(), Fail> {
+    let alloc = rt.alloc();
+    let two_nodes =
+        "[[node]]\nname = \"a\"\nloopback = \"192.0.2.1\"\n[[node]]\nname = \"b\"\nloopback = \"192.0.2.2\"\n";
+    let whole = capture(alloc, &[PACKET.as_slice()])?;
+    assert!(rt; is_refused(alloc, two_nodes, "", whole, "not built topology\n")?);
+    let whole = capture(alloc, &[PACKET.as_slice()])?;
+    assert!(rt; is_refused(alloc, TWO_SITES, "link up a b", whole, "not built script\n")?);
+    let whole = capture(alloc, &[PACKET.as_slice()])?;
+    assert!(rt; is_refused(alloc, TWO_SITES, "inject z 1", whole, "not built script\n")?);
+    let mut cut = capture(alloc, &[PACKET.as_slice()])?;
+    cut.truncate(50);
+    assert!(rt; is_refused(alloc, TWO_SITES, "inject a 1", cut, "not built capture\n")?);
+    Ok(())
+}
+
+#[test]
+fn a_failing_read_ends_the_run_before_a_file_is_begun(rt: HostRuntime) -> Result<(), Fail> {
+    // Each input takes two fetches: its bytes, and its end.
+    for call in 1..7u64 {
+        let alloc = rt.alloc();
+        let capture = capture(alloc, &[PACKET.as_slice()])?;
+        let failing = vec![in alloc; call]?;
+        let mut shelf = shelf(alloc, TWO_SITES, "inject a 1\n", capture, failing)?;
+        let mut out = MemSink::new(alloc, Vec::new(alloc));
+        let outcome = command(alloc, &run_words(alloc)?, &mut shelf, &mut out);
+        assert!(rt; outcome == Outcome::ReadFault);
+        assert_eq!(rt; outcome.status(), 6);
+        assert!(rt; shelf.file("out/delivered.pcap").is_none());
+        assert!(rt; out.bytes().is_empty());
+    }
+    Ok(())
+}
+
+#[test]
+fn a_missing_input_is_a_read_fault(rt: HostRuntime) -> Result<(), Fail> {
+    let alloc = rt.alloc();
+    let capture = capture(alloc, &[PACKET.as_slice()])?;
+    let mut shelf = shelf(alloc, TWO_SITES, "inject a 1\n", capture, Vec::new(alloc))?;
+    let mut out = MemSink::new(alloc, Vec::new(alloc));
+    let words = words(alloc, &["run", "t", "s", "nowhere", "out"])?;
+    let outcome = command(alloc, &words, &mut shelf, &mut out);
+    assert!(rt; outcome == Outcome::ReadFault);
+    assert!(rt; shelf.file("out/delivered.pcap").is_none());
+    Ok(())
+}
+
+#[test]
+fn a_failing_begin_leaves_no_file(rt: HostRuntime) -> Result<(), Fail> {
+    let alloc = rt.alloc();
+    let capture = capture(alloc, &[PACKET.as_slice()])?;
+    let failing = vec![in alloc; 7u64]?;
+    let mut shelf = shelf(alloc, TWO_SITES, "inject a 1\n", capture, failing)?;
+    let mut out = MemSink::new(alloc, Vec::new(alloc));
+    let outcome = command(alloc, &run_words(alloc)?, &mut shelf, &mut out);
+    assert!(rt; outcome == Outcome::WriteFault);
+    assert_eq!(rt; outcome.status(), 7);
+    assert!(rt; shelf.file("out/delivered.pcap").is_none());
+    assert!(rt; out.bytes().is_empty());
+    Ok(())
+}
+
+#[test]
+fn a_failing_append_leaves_a_first_part(rt: HostRuntime) -> Result<(), Fail> {
+    // The header is appended by call 8, the record by call 9, whose first half stays.
+    let alloc = rt.alloc();
+    let capture = capture(alloc, &[PACKET.as_slice()])?;
+    let failing = vec![in alloc; 9u64]?;
+    let mut shelf = shelf(alloc, TWO_SITES, "inject a 1\n", capture, failing)?;
+    let mut out = MemSink::new(alloc, Vec::new(alloc));
+    let outcome = command(alloc, &run_words(alloc)?, &mut shelf, &mut out);
+    assert!(rt; outcome == Outcome::WriteFault);
+    let mut part = Vec::from_slice(alloc, &CAPTURE_HEADER)?;
+    part.extend_from_slice(&RECORD_HEADER)?;
+    part.extend_from_slice(&[0x45, 0, 0, 0x1C, 0, 0])?;
+    assert!(rt; shelf.file("out/delivered.pcap") == Some(part.as_slice()));
+    assert!(rt; out.bytes().is_empty());
+    Ok(())
+}
+
+#[test]
+fn a_failing_put_leaves_a_first_part_of_the_report(rt: HostRuntime) -> Result<(), Fail> {
+    let alloc = rt.alloc();
+    let capture = capture(alloc, &[PACKET.as_slice()])?;
+    let mut shelf = shelf(alloc, TWO_SITES, "inject a 1\n", capture, Vec::new(alloc))?;
+    let mut out = MemSink::new(alloc, vec![in alloc; 1u64]?);
+    let outcome = command(alloc, &run_words(alloc)?, &mut shelf, &mut out);
+    assert!(rt; outcome == Outcome::WriteFault);
+    // Half of the first line.
+    assert!(rt; out.bytes() == "packet 1 line 1 site a record 1 d".as_bytes());
+    Ok(())
+}
