@@ -1,1 +1,3 @@
 pub mod Format
+pub mod Grammar
+pub mod Reading

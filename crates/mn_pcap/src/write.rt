@@ -2,21 +2,9 @@
 ghost use Rattle.std.specs.Prelude.{◌≡◌, ◌<◌, ◌^◌, ◌++◌, length, OnOk, OnErr};
 ghost use Rattle.mn_pcap.specs.Format.{header, record_header, record_of, seconds};
 
+use crate::message::{FILE_HEADER, MAGIC, MAJOR, MINOR, RECORD_HEADER, SNAPLEN};
 use byteorder::{ByteOrder, LittleEndian};
 use std::alloc::AllocError;
-
-/// Times are in microseconds.
-const MAGIC: u32 = 0xA1B2_C3D4;
-
-const MAJOR: u16 = 2;
-
-const MINOR: u16 = 4;
-
-const SNAPLEN: u32 = 262_144;
-
-const FILE_HEADER: usize = 24;
-
-const RECORD_HEADER: usize = 16;
 
 /// Appends the header of a file whose records are of this link type, as 228 for IPv4 packets.
 pub fn put_header(out: &mut Vec<u8>, link: u32) -> Result<(), AllocError>

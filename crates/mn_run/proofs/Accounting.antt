@@ -1,5 +1,5 @@
 -- The promise of a run, from the definition of its answer.
-use Rattle.std.proofs.Common.{◌≡◌, ℕ, Bool, true, false, nat_lt, if◌then◌else◌, List, [], ◌∷◌, ◌++◌, map, length, Option, Some, None, IsSomeAnd, refl, ap, sym, ◌∙◌}
+use Rattle.std.proofs.Common.{◌≡◌, ℕ, Bool, true, false, nat_lt, if◌then◌else◌, List, [], ◌∷◌, ◌++◌, map, length, Option, Some, None, Result, Ok, Err, option_map, IsSomeAnd, refl, ap, sym, ◌∙◌}
 use Rattle.std.specs.Prelude.{option_and_then}
 use Rattle.std.specs.Ordering.{is_eq}
 use Rattle.std.proofs.lemmas.List.{length-map}
@@ -11,16 +11,20 @@ use Rattle.mn_ledger.proofs.Accounted.{accounted}
 use Rattle.mn_report.specs.declared.lines.Sent.{Sent}
 use Rattle.mn_report.specs.Lines.{total_line}
 use Rattle.mn_run.specs.declared.outcome.Input.{Input}
-use Rattle.mn_run.specs.declared.outcome.Input.TheVariants.{Topology, Script, Capture}
+use Rattle.mn_run.specs.declared.outcome.Input.TheVariants.{Topology, Script}
 use Rattle.mn_run.specs.declared.outcome.Outcome.{Outcome}
-use Rattle.mn_run.specs.declared.outcome.Outcome.TheVariants.{Done, Usage, NotBuilt, ReadFault, WriteFault, NoMemory}
+use Rattle.mn_run.specs.declared.outcome.Outcome.TheVariants.{Done, Usage, NotBuilt, BadCapture, TooLarge, ReadFault, WriteFault, NoMemory}
 use Rattle.mn_run.specs.Words.{word, is_run}
 use Rattle.mn_run.specs.Network.{NetworkView}
 use Rattle.mn_run.specs.Topology.{topology_of}
 use Rattle.mn_run.specs.Script.{script_of}
-use Rattle.mn_run.specs.Capture.{capture_of}
+use Rattle.mn_pcap.specs.Reading as pcap
+use Rattle.mn_pcap.specs.Reading.{count_of}
+use Rattle.mn_pcap.specs.declared.refusal.PcapBad.{PcapBad}
+use Rattle.mn_pcap.specs.declared.refusal.PcapBad.TheVariants as bad
+use Rattle.mn_run.specs.declared.outcome.Limit.TheVariants.{CaptureBytes, CaptureRecords}
 use Rattle.mn_run.specs.Service.{the_node, packets_of, delivered_records}
-use Rattle.mn_run.specs.Answer.{Answer, joined, refusal, with_input, if_built, from_capture, from_script, run_answer, answer_of, done_answer, sends, misses, refused_lines, packet_lines, names_of, totals_of, delivered_name, raw_ipv4, most_bytes}
+use Rattle.mn_run.specs.Answer.{Answer, joined, refusal, with_input, if_built, if_captured, with_records, with_capture, most_capture_bytes, most_capture_records, from_capture, from_script, run_answer, answer_of, done_answer, sends, misses, refused_lines, packet_lines, names_of, totals_of, delivered_name, raw_ipv4, most_bytes}
 use Rattle.mn_run.specs.Endings.{OutcomeIs, FilesAre, TextIs}
 use Rattle.mn_run.specs.Headline.{KeepsItsPromise, HeadlineIs}
 use Rattle.mn_run.proofs.Planning.{name_same}
@@ -32,7 +36,7 @@ record IsDone (words : List (List ℕ)) (files : Files) (answer : Answer) : Type
   pub packets : List (List ℕ)
   pub topology_read : option_and_then topology_of (file files (word words 1)) ≡ Some network
   pub script_read : option_and_then (script_of network.sites) (file files (word words 2)) ≡ Some script
-  pub capture_read : option_and_then capture_of (file files (word words 3)) ≡ Some packets
+  pub capture_read : option_map pcap.packets_of (file files (word words 3)) ≡ Some (Ok packets)
   pub is : answer ≡ done_answer (word words 4) network script packets
 
 -- an input that leads to a run that is done was there and could be run
@@ -58,6 +62,27 @@ passed : {A : Type 0} (input : Option (List ℕ)) (what : Input) (read : List �
 passed None what read next answer e done = absurd cc
 passed (Some bytes) what read next answer e done = within bytes what read next answer (nat_lt most_bytes (length bytes)) e done
 
+-- a refusal is no answer of a run that is done
+no_refusal : (o : Outcome) (answer : Answer) → (o ≡ Done → ⊥) → Some (refusal o) ≡ Some answer → answer.outcome ≡ Done → ⊥
+no_refusal o answer other e done = let same : refusal o ≡ answer = cc in other (ap (λ (a : Answer). a.outcome) same ∙ done)
+
+captured : (found : Result (List (List ℕ)) PcapBad) (next : List (List ℕ) → Option Answer) (answer : Answer) → if_captured found next ≡ Some answer → answer.outcome ≡ Done → (ps : List (List ℕ)) × (found ≡ Ok ps) × (next ps ≡ Some answer)
+captured (Ok ps) next answer e done = (ps, refl, e)
+captured (Err (bad.Refused rule place)) next answer e done = absurd (no_refusal (BadCapture rule place) answer (λ h. cc) e done)
+captured (Err bad.NoMemory) next answer e done = absurd (no_refusal NoMemory answer (λ h. cc) e done)
+
+counted : (bytes : List ℕ) (next : List (List ℕ) → Option Answer) (answer : Answer) (b : Bool) → (if b then Some (refusal (TooLarge CaptureRecords most_capture_records)) else if_captured (pcap.packets_of bytes) next) ≡ Some answer → answer.outcome ≡ Done → (ps : List (List ℕ)) × (pcap.packets_of bytes ≡ Ok ps) × (next ps ≡ Some answer)
+counted bytes next answer true e done = absurd (no_refusal (TooLarge CaptureRecords most_capture_records) answer (λ h. cc) e done)
+counted bytes next answer false e done = captured (pcap.packets_of bytes) next answer e done
+
+sized : (bytes : List ℕ) (next : List (List ℕ) → Option Answer) (answer : Answer) (b : Bool) → (if b then Some (refusal (TooLarge CaptureBytes most_capture_bytes)) else with_records bytes next) ≡ Some answer → answer.outcome ≡ Done → (ps : List (List ℕ)) × (pcap.packets_of bytes ≡ Ok ps) × (next ps ≡ Some answer)
+sized bytes next answer true e done = absurd (no_refusal (TooLarge CaptureBytes most_capture_bytes) answer (λ h. cc) e done)
+sized bytes next answer false e done = counted bytes next answer (nat_lt most_capture_records (count_of bytes)) e done
+
+capture_passed : (input : Option (List ℕ)) (next : List (List ℕ) → Option Answer) (answer : Answer) → with_capture input next ≡ Some answer → answer.outcome ≡ Done → (ps : List (List ℕ)) × (option_map pcap.packets_of input ≡ Some (Ok ps)) × (next ps ≡ Some answer)
+capture_passed None next answer e done = absurd cc
+capture_passed (Some bytes) next answer e done = let x = sized bytes next answer (nat_lt most_capture_bytes (length bytes)) e done in (x.0, ap Some x.1, x.2)
+
 same_some : {A : Type 0} (x y : A) → Some x ≡ Some y → x ≡ y
 same_some x y h = cc
 
@@ -65,8 +90,8 @@ run_done : (words : List (List ℕ)) (files : Files) (answer : Answer) → run_a
 run_done words files answer e done =
     let t = passed (file files (word words 1)) Topology topology_of (from_script words files) answer e done in
     let s = passed (file files (word words 2)) Script (script_of t.value.sites) (from_capture words files t.value) answer t.goes_on done in
-    let c = passed (file files (word words 3)) Capture capture_of (λ packets. Some (done_answer (word words 4) t.value s.value packets)) answer s.goes_on done in
-    record { network = t.value; script = s.value; packets = c.value; topology_read = t.was_read; script_read = s.was_read; capture_read = c.was_read; is = sym (same_some _ _ c.goes_on) }
+    let c = capture_passed (file files (word words 3)) (λ packets. Some (done_answer (word words 4) t.value s.value packets)) answer s.goes_on done in
+    record { network = t.value; script = s.value; packets = c.0; topology_read = t.was_read; script_read = s.was_read; capture_read = c.1; is = sym (same_some _ _ c.2) }
 
 usage_or_run : (words : List (List ℕ)) (files : Files) (answer : Answer) (b : Bool) → (if b then run_answer words files else Some (refusal Usage)) ≡ Some answer → answer.outcome ≡ Done → IsDone words files answer
 usage_or_run words files answer true e done = run_done words files answer e done
@@ -116,3 +141,5 @@ headline words files before after written_now ReadFault o f t = tt
 headline words files before after written_now WriteFault o f t = tt
 headline words files before after written_now NoMemory o f t = tt
 headline words files before after written_now (NotBuilt what) o f t = tt
+headline words files before after written_now (BadCapture rule place) o f t = tt
+headline words files before after written_now (TooLarge which limit) o f t = tt

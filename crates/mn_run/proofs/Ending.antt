@@ -6,7 +6,7 @@ use Rattle.std.proofs.lemmas.Grind.{flat_map-append}
 use Rattle.mn_edge.specs.Files.{Files}
 use Rattle.mn_edge.specs.Written.{texts, laid, IsPart, PartWritten}
 use Rattle.mn_run.specs.declared.outcome.Outcome.{Outcome}
-use Rattle.mn_run.specs.declared.outcome.Outcome.TheVariants.{Done, Usage, ReadFault, WriteFault, NoMemory, NotBuilt}
+use Rattle.mn_run.specs.declared.outcome.Outcome.TheVariants.{Done, Usage, ReadFault, WriteFault, NoMemory, NotBuilt, BadCapture, TooLarge}
 use Rattle.mn_run.specs.Answer.{Answer, joined, refusal}
 use Rattle.mn_run.specs.Endings.{PartPut, PartText, PartFiles, OutcomeIs, CausedBy, Completes, Counts, UsageIff}
 
@@ -59,6 +59,8 @@ completes a old new NoMemory h c x e none = inr refl
 completes a old new Done h c x e none = inl (given a Done h x e)
 completes a old new Usage h c x e none = inl (given a Usage h x e)
 completes a old new (NotBuilt what) h c x e none = inl (given a (NotBuilt what) h x e)
+completes a old new (BadCapture rule place) h c x e none = inl (given a (BadCapture rule place) h x e)
+completes a old new (TooLarge which limit) h c x e none = inl (given a (TooLarge which limit) h x e)
 
 -- a refusal of an input is no usage
 pub of_input : (good : Bool) (o r : Outcome) → good ≡ true → (o ≡ Usage → ⊥) → OutcomeIs (Some (refusal o)) r → UsageIff good r
@@ -68,6 +70,8 @@ of_input good o NoMemory e i h = tt
 of_input good o ReadFault e i h = e
 of_input good o Done e i h = e
 of_input good o (NotBuilt what) e i h = e
+of_input good o (BadCapture rule place) e i h = e
+of_input good o (TooLarge which limit) e i h = e
 
 -- lines before one of them, that line, and those after it
 joined_at : (lines : List (String Global)) (i : ℕ) (default : String Global) → i < length lines → joined (texts lines) ≡ joined (texts (take i lines)) ++ (string_bytes (get_or lines i default) ++ joined (texts (drop (suc i) lines)))

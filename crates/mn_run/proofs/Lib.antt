@@ -4,7 +4,7 @@ pub mod Serving
 pub mod Planning
 pub mod Keys
 pub mod Wording
-pub mod Records
 pub mod Ending
 pub mod Loading
 pub mod Accounting
+pub mod Capturing

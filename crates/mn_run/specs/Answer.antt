@@ -1,24 +1,31 @@
 -- What a run is to answer: how it ends, which files it writes, and what it puts.
-use Rattle.std.specs.Prelude.{ℕ, ◌+◌, ◌-◌, ◌^◌, nat_le, nat_lt, Bool, not, if◌then◌else◌, List, [], ◌∷◌, ◌++◌, map, filter, length, Option, Some, None, codes}
+use Rattle.std.specs.Prelude.{ℕ, ◌+◌, ◌-◌, ◌^◌, nat_le, nat_lt, Bool, not, if◌then◌else◌, List, [], ◌∷◌, ◌++◌, map, filter, length, Option, Some, None, Result, Ok, Err, codes}
 use Rattle.std.specs.List.{flat_map}
 use Rattle.mn_edge.specs.Files.{Files, file}
 use Rattle.mn_edge.specs.Written.{written}
+use Rattle.std.specs.Fmt.{decimal}
 use Rattle.mn_pcap.specs.Format.{header}
+use Rattle.mn_pcap.specs.Reading.{count_of}
+use Rattle.mn_pcap.specs.Reading as pcap
+use Rattle.mn_pcap.specs.declared.refusal.PcapRule.{PcapRule}
+use Rattle.mn_pcap.specs.declared.refusal.PcapRule.TheVariants.{CutShort, IsPcapng, BadMagic, BadVersion, BadLinkType, BadRecord}
+use Rattle.mn_pcap.specs.declared.refusal.PcapBad.{PcapBad}
+use Rattle.mn_pcap.specs.declared.refusal.PcapBad.TheVariants as bad
 use Rattle.mn_ledger.specs.declared.verdict.Verdict.{Verdict}
 use Rattle.mn_ledger.specs.Deliveries.{verdicts_after}
 use Rattle.mn_report.specs.declared.lines.Sent.{Sent}
 use Rattle.mn_report.specs.declared.lines.Totals.{Totals}
 use Rattle.mn_report.specs.Names.{NameLists}
-use Rattle.mn_report.specs.Lines.{packet_line, refused_line, total_line}
+use Rattle.mn_report.specs.Lines.{text, packet_line, refused_line, total_line}
 use Rattle.mn_run.specs.declared.outcome.Input.{Input}
-use Rattle.mn_run.specs.declared.outcome.Input.TheVariants.{Topology, Script, Capture}
+use Rattle.mn_run.specs.declared.outcome.Input.TheVariants.{Topology, Script}
+use Rattle.mn_run.specs.declared.outcome.Limit.TheVariants.{CaptureBytes, CaptureRecords}
 use Rattle.mn_run.specs.declared.outcome.Outcome.{Outcome}
-use Rattle.mn_run.specs.declared.outcome.Outcome.TheVariants.{Done, Usage, NotBuilt}
+use Rattle.mn_run.specs.declared.outcome.Outcome.TheVariants.{Done, Usage, NoMemory, BadCapture, TooLarge, NotBuilt}
 use Rattle.mn_run.specs.Words.{word, is_run}
 use Rattle.mn_run.specs.Network.{NetworkView}
 use Rattle.mn_run.specs.Topology.{topology_of}
 use Rattle.mn_run.specs.Script.{script_of}
-use Rattle.mn_run.specs.Capture.{capture_of}
 use Rattle.mn_run.specs.Service.{the_node, packets_of, delivered_records}
 
 -- how the call ends, the files that it writes, and the text that it puts
@@ -31,12 +38,23 @@ pub record Answer : Type 0 where
 abbrev pub joined : List (List ℕ) → List ℕ
 joined lines = flat_map (λ line. line) lines
 
+-- a rule of captures by its name
+abbrev pub pcap_rule_name : PcapRule → List ℕ
+pcap_rule_name CutShort = codes "CutShort"
+pcap_rule_name IsPcapng = codes "IsPcapng"
+pcap_rule_name BadMagic = codes "BadMagic"
+pcap_rule_name BadVersion = codes "BadVersion"
+pcap_rule_name BadLinkType = codes "BadLinkType"
+pcap_rule_name BadRecord = codes "BadRecord"
+
 -- the line of an outcome that refuses
 abbrev pub refusal_line : Outcome → List ℕ
 refusal_line Usage = codes "usage: mplsnet run TOPOLOGY SCRIPT CAPTURE FOLDER | check TOPOLOGY | generate NUMBER\n"
 refusal_line (NotBuilt Topology) = codes "not built topology\n"
 refusal_line (NotBuilt Script) = codes "not built script\n"
-refusal_line (NotBuilt Capture) = codes "not built capture\n"
+refusal_line (BadCapture rule place) = text (codes "capture refused " ∷ pcap_rule_name rule ∷ codes " at byte " ∷ decimal place ∷ codes "\n" ∷ [])
+refusal_line (TooLarge CaptureBytes limit) = codes "too large capture bytes\n"
+refusal_line (TooLarge CaptureRecords limit) = codes "too large capture records\n"
 refusal_line outcome = []
 
 -- a refusal writes nothing and puts one line
@@ -118,9 +136,30 @@ abbrev pub if_built : {A : Type 0} → Option A → Input → (A → Option Answ
 if_built None what next = Some (refusal (NotBuilt what))
 if_built (Some x) what next = next x
 
+-- a capture has at most 64 MiB, and at most 100,000 whole records before its first refusal
+abbrev pub most_capture_bytes : ℕ
+most_capture_bytes = 2 ^ 26
+
+abbrev pub most_capture_records : ℕ
+most_capture_records = 100000
+
+-- a capture goes on with its packets, or is refused by rule and place
+abbrev pub if_captured : Result (List (List ℕ)) PcapBad → (List (List ℕ) → Option Answer) → Option Answer
+if_captured (Ok packets) next = next packets
+if_captured (Err (bad.Refused rule place)) next = Some (refusal (BadCapture rule place))
+if_captured (Err bad.NoMemory) next = Some (refusal NoMemory)
+
+-- the limits of a capture come before its own refusal
+abbrev pub with_records : List ℕ → (List (List ℕ) → Option Answer) → Option Answer
+with_records bytes next = if nat_lt most_capture_records (count_of bytes) then Some (refusal (TooLarge CaptureRecords most_capture_records)) else if_captured (pcap.packets_of bytes) next
+
+abbrev pub with_capture : Option (List ℕ) → (List (List ℕ) → Option Answer) → Option Answer
+with_capture None next = None
+with_capture (Some bytes) next = if nat_lt most_capture_bytes (length bytes) then Some (refusal (TooLarge CaptureBytes most_capture_bytes)) else with_records bytes next
+
 -- the answer once topology and script are read
 abbrev pub from_capture : List (List ℕ) → Files → NetworkView → List Sent → Option Answer
-from_capture words files network script = with_input (file files (word words 3)) Capture (λ bytes. if_built (capture_of bytes) Capture (λ packets. Some (done_answer (word words 4) network script packets)))
+from_capture words files network script = with_capture (file files (word words 3)) (λ packets. Some (done_answer (word words 4) network script packets))
 
 -- the answer once the topology is read
 abbrev pub from_script : List (List ℕ) → Files → NetworkView → Option Answer

@@ -1,7 +1,8 @@
 -- The promise of a run, in the words of a customer.
-use Rattle.std.specs.Prelude.{◌≡◌, ℕ, List, [], ◌∷◌, ◌++◌, map, length, Option, Some, option_and_then, ⊤}
+use Rattle.std.specs.Prelude.{◌≡◌, ℕ, List, [], ◌∷◌, ◌++◌, map, length, Option, Some, option_and_then, option_map, Ok, ⊤}
 use Rattle.mn_edge.specs.Files.{Files, file, with_file}
 use Rattle.mn_pcap.specs.Format.{header, record_of}
+use Rattle.mn_pcap.specs.Reading as pcap
 use Rattle.mn_ledger.specs.declared.verdict.Verdict.{Verdict}
 use Rattle.mn_ledger.specs.Accounts.{Accounts}
 use Rattle.mn_report.specs.declared.lines.Sent.{Sent}
@@ -12,7 +13,6 @@ use Rattle.mn_run.specs.Words.{word}
 use Rattle.mn_run.specs.Network.{NetworkView}
 use Rattle.mn_run.specs.Topology.{topology_of}
 use Rattle.mn_run.specs.Script.{script_of}
-use Rattle.mn_run.specs.Capture.{capture_of}
 use Rattle.mn_run.specs.Service.{the_node, packets_of}
 use Rattle.mn_run.specs.Answer.{joined, sends, misses, refused_lines, packet_lines, names_of, totals_of, delivered_name, raw_ipv4}
 
@@ -27,7 +27,7 @@ pub record KeepsItsPromise (words : List (List ℕ)) (files : Files) (before : L
   pub arrived : List (List ℕ)
   pub topology_read : option_and_then topology_of (file files (word words 1)) ≡ Some network
   pub script_read : option_and_then (script_of network.sites) (file files (word words 2)) ≡ Some script
-  pub capture_read : option_and_then capture_of (file files (word words 3)) ≡ Some packets
+  pub capture_read : option_map pcap.packets_of (file files (word words 3)) ≡ Some (Ok packets)
   pub accounts : Accounts network.routes the_node 0 (packets_of packets (sends (length packets) script)) verdicts arrived
   pub lines : written ≡ Some (before ++ joined (
       refused_lines (length packets) script

@@ -1,7 +1,7 @@
 -- What reading the inputs tells.
 use Rattle.std.specs.Prelude.{◌≡◌, true, Option, Some, ⊤}
 use Rattle.mn_run.specs.declared.outcome.Outcome.{Outcome}
-use Rattle.mn_run.specs.declared.outcome.Outcome.TheVariants.{Done, Usage, NotBuilt}
+use Rattle.mn_run.specs.declared.outcome.Outcome.TheVariants.{Done, Usage, BadCapture, TooLarge, NotBuilt}
 use Rattle.mn_run.specs.declared.job.Job.{Job}
 use Rattle.mn_run.specs.declared.job.Loaded.{Loaded}
 use Rattle.mn_run.specs.declared.job.Loaded.TheVariants.{Refused, Ready}
@@ -20,6 +20,8 @@ LoadedIs answer (Ready job) = answer ≡ Some (answer_by job)
 -- an outcome that refuses the words or an input
 abbrev pub IsRefusal : Outcome → Type 0
 IsRefusal Usage = ⊤
+IsRefusal (BadCapture rule place) = ⊤
+IsRefusal (TooLarge which limit) = ⊤
 IsRefusal (NotBuilt what) = ⊤
 IsRefusal outcome = ⊥
 
@@ -27,3 +29,8 @@ IsRefusal outcome = ⊥
 abbrev pub IsSound : Loaded → Type 0
 IsSound (Refused outcome) = IsRefusal outcome × (outcome ≡ Usage → ⊥)
 IsSound (Ready job) = all_known (texts job.names.items) (pairs job.pieces.items) ≡ true
+
+-- an outcome other than the refusal of a capture
+abbrev pub HasPlainLine : Outcome → Type 0
+HasPlainLine (BadCapture rule place) = ⊥
+HasPlainLine outcome = ⊤

@@ -6,7 +6,7 @@ pub mod Jobs
 pub mod Tables
 pub mod Topology
 pub mod Script
-pub mod Capture
 pub mod Endings
 pub mod Status
 pub mod Headline
+pub mod Captured

@@ -1,85 +1,42 @@
-//! The captures that a run can take: little-endian, times in microseconds, link type 228, whole records.
-ghost use Rattle.std.specs.Prelude.{◌≡◌, ◌+◌, ◌≤◌, ◌<◌, length, drop, option_map, true, IfOk};
+//! The packets of a capture.
+ghost use Rattle.std.specs.Prelude.{◌≡◌, ◌≤◌, length, map, All, IfOk};
+ghost use Rattle.mn_pcap.specs.Reading.{packet_of, bytes_at, end_of};
 ghost use Rattle.mn_run.specs.Service.{contents};
-ghost use Rattle.mn_run.specs.Capture.{file_header, is_header, captured_length, is_whole, packet_at_front, after_record, capture_of};
+ghost use Rattle.mn_run.specs.Captured.{ReadsPackets, OnlyMemory};
 
-use std::alloc::{AllocError, Global};
+use mn_pcap::{Form, PcapBad, Place, packet_of, read_header, records};
+use std::alloc::Global;
 
-/// The magic number of microseconds, and version 2.4.
-const BEGINNING: [u8; 8] = [0xD4, 0xC3, 0xB2, 0xA1, 2, 0, 4, 0];
-
-const FILE_HEADER: usize = 24;
-
-const RECORD_HEADER: usize = 16;
-
-const MOST_CAPTURED: usize = 262_144;
-
-const RAW_IPV4: u8 = 228;
-
-fn is_header(bytes: &[u8]) -> bool
-    ensures { result ≡ is_header bytes.now }
+/// The packets of the records, in order.
+pub(crate) fn read_capture(alloc: Global, bytes: &[u8]) -> Result<Vec<Vec<u8>>, PcapBad>
+    ensures { ReadsPackets bytes.now result }
 {
-    bytes.len() >= FILE_HEADER
-        && &bytes[..8] == BEGINNING.as_slice()
-        && bytes[20] == RAW_IPV4
-        && bytes[21] == 0
+    let form = read_header(bytes)?;
+    let places = records(alloc, bytes)?;
+    packets_at(alloc, form, bytes, &places)
 }
 
-/// The captured length of the record at the front.
-fn captured_length(bytes: &[u8]) -> usize
-    requires { 16 ≤ length bytes.now }
-    ensures { result ≡ captured_length bytes.now }
+/// The packets of records at these places.
+fn packets_at(
+    alloc: Global,
+    form: Form,
+    bytes: &[u8],
+    places: &[Place],
+) -> Result<Vec<Vec<u8>>, PcapBad>
+    requires { All (λ place. end_of place ≤ length bytes.now) places.now }
+    ensures packets { IfOk result (λ packets. contents packets.items ≡ map (λ place. packet_of form.link (bytes_at bytes.now place)) places.now) }
+    ensures memory { OnlyMemory result }
 {
-    usize::from(bytes[8])
-        + usize::from(bytes[9]) * 256
-        + usize::from(bytes[10]) * 65536
-        + usize::from(bytes[11]) * 16_777_216
-}
-
-/// Whether the record at the front is whole.
-fn is_whole(bytes: &[u8]) -> bool
-    ensures { result ≡ is_whole bytes.now }
-{
-    if bytes.len() < RECORD_HEADER {
-        return false;
-    }
-    let captured = captured_length(bytes);
-    captured <= MOST_CAPTURED && RECORD_HEADER + captured <= bytes.len()
-}
-
-/// The packet of the record at the front, and what follows the record.
-fn split_record(bytes: &[u8]) -> (&[u8], &[u8])
-    requires { is_whole bytes.now ≡ true }
-    ensures packet { result.0.now ≡ packet_at_front bytes.now }
-    ensures rest { result.1.now ≡ after_record bytes.now }
-{
-    let end = RECORD_HEADER + captured_length(bytes);
-    (&bytes[RECORD_HEADER..end], &bytes[end..])
-}
-
-fn after_header(bytes: &[u8]) -> &[u8]
-    requires { 24 ≤ length bytes.now }
-    ensures { result.now ≡ drop file_header bytes.now }
-{
-    &bytes[FILE_HEADER..]
-}
-
-/// The packets of a capture, and `None` where it isn't one that a run can take.
-pub(crate) fn read_capture(alloc: Global, bytes: &[u8]) -> Result<Option<Vec<Vec<u8>>>, AllocError>
-    ensures { IfOk result (λ packets. option_map (λ v. contents v.items) packets ≡ capture_of bytes.now) }
-{
-    if !is_header(bytes) {
-        return Ok(None);
-    }
     let mut packets = Vec::new(alloc);
-    let mut rest = after_header(bytes);
-    'records: while !rest.is_empty() {
-        if !is_whole(rest) {
-            return Ok(None);
-        }
-        let (packet, next) = split_record(rest);
-        packets.push(Vec::from_slice(alloc, packet)?)?;
-        rest = next;
+    for place in places {
+        let begin = place.at as usize;
+        let captured = &bytes[begin..begin + place.length as usize];
+        let Ok(packet) = Vec::from_slice(alloc, packet_of(form.link, captured)) else {
+            return Err(PcapBad::NoMemory);
+        };
+        let Ok(()) = packets.push(packet) else {
+            return Err(PcapBad::NoMemory);
+        };
     }
-    Ok(Some(packets))
+    Ok(packets)
 }

@@ -9,16 +9,23 @@ ghost use Rattle.mn_run.specs.Answer.{run_answer, from_script, from_capture};
 
 use crate::capture::read_capture;
 use crate::network::Network;
-use crate::outcome::{Input, Outcome};
+use crate::outcome::{Input, Limit, Outcome};
 use crate::plan::plan;
 use crate::script::read_script;
 use crate::topology::read_topology;
 use mn_edge::{Content, DeviceBad, Shelf, read_all};
+use mn_pcap::{PcapBad, PcapRule, count_records};
 use mn_report::Sent;
 use std::alloc::Global;
 
-/// The most bytes of an input: 1 MiB.
+/// The most bytes of a topology or a script: 1 MiB.
 const MOST_BYTES: u64 = 1 << 20;
+
+/// The most bytes of a capture: 64 MiB.
+const MOST_CAPTURE_BYTES: u64 = 1 << 26;
+
+/// The most whole records of a capture.
+const MOST_CAPTURE_RECORDS: u64 = 100_000;
 
 /// What a run writes and puts.
 #[derive(Drop)]
@@ -46,6 +53,18 @@ fn not_built(what: Input) -> Loaded
     ensures { result ≡ Loaded.Refused (Outcome.NotBuilt what) }
 {
     Loaded::Refused(Outcome::NotBuilt { what })
+}
+
+fn too_large(which: Limit, limit: u64) -> Loaded
+    ensures { result ≡ Loaded.Refused (Outcome.TooLarge which limit) }
+{
+    Loaded::Refused(Outcome::TooLarge { which, limit })
+}
+
+fn bad_capture(rule: PcapRule, place: u64) -> Loaded
+    ensures { result ≡ Loaded.Refused (Outcome.BadCapture rule place) }
+{
+    Loaded::Refused(Outcome::BadCapture { rule, place })
 }
 
 /// Reads the inputs of a run, the topology first.
@@ -108,14 +127,20 @@ fn load_capture<S: Shelf>(
     ensures reads { Counted (S.read_faults shelf.old) (S.read_faults shelf.new) result }
     ensures writes { S.write_faults shelf.new ≡ S.write_faults shelf.old }
 {
-    match read_all(alloc, shelf, words[3].as_str(), MOST_BYTES)? {
-        Content::TooLarge => Ok(not_built(Input::Capture)),
-        Content::Whole(bytes) => match read_capture(alloc, &bytes)? {
-            None => Ok(not_built(Input::Capture)),
-            Some(packets) => {
-                let job = plan(alloc, words[4].as_str(), network, script, &packets)?;
-                Ok(Loaded::Ready(job))
+    match read_all(alloc, shelf, words[3].as_str(), MOST_CAPTURE_BYTES)? {
+        Content::TooLarge => Ok(too_large(Limit::CaptureBytes, MOST_CAPTURE_BYTES)),
+        Content::Whole(bytes) => {
+            if count_records(&bytes) > MOST_CAPTURE_RECORDS {
+                return Ok(too_large(Limit::CaptureRecords, MOST_CAPTURE_RECORDS));
             }
-        },
+            match read_capture(alloc, &bytes) {
+                Ok(packets) => {
+                    let job = plan(alloc, words[4].as_str(), network, script, &packets)?;
+                    Ok(Loaded::Ready(job))
+                }
+                Err(PcapBad::Refused { rule, place }) => Ok(bad_capture(rule, place)),
+                Err(PcapBad::NoMemory) => Err(DeviceBad::NoMemory),
+            }
+        }
     }
 }

@@ -13,5 +13,5 @@ mod top;
 mod topology;
 mod words;
 
-pub use outcome::{Input, Outcome};
+pub use outcome::{Input, Limit, Outcome};
 pub use top::command;

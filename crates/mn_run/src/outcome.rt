@@ -1,12 +1,22 @@
 //! How a call of the program may end.
 ghost use Rattle.std.specs.Prelude.{◌≡◌};
 
+use mn_pcap::PcapRule;
+
 /// An input of `run`.
 #[derive(Clone, Copy, Debug, PartialEq, Eq)]
 pub enum Input {
     Topology,
     Script,
-    Capture,
+}
+
+/// What an input may not pass.
+#[derive(Clone, Copy, Debug, PartialEq, Eq)]
+pub enum Limit {
+    /// 64 MiB.
+    CaptureBytes,
+    /// 100,000 whole records.
+    CaptureRecords,
 }
 
 /// How `command` ends, with the status of the program at each.
@@ -16,12 +26,16 @@ pub enum Outcome {
     Done,
     /// 2: the words are no command line of the program.
     Usage,
+    /// 5: the capture is refused by this rule, at this byte of the file.
+    BadCapture { rule: PcapRule, place: u64 },
     /// 6: the shelf failed to read.
     ReadFault,
     /// 7: the shelf or the sink failed to write.
     WriteFault,
     /// 8: memory ran out.
     NoMemory,
+    /// 9: an input passes a limit, which is this number.
+    TooLarge { which: Limit, limit: u64 },
     /// 10: the input is none that the program can run yet.
     NotBuilt { what: Input },
 }
@@ -36,9 +50,11 @@ impl Outcome {
         match self {
             Outcome::Done => 0,
             Outcome::Usage => 2,
+            Outcome::BadCapture { .. } => 5,
             Outcome::ReadFault => 6,
             Outcome::WriteFault => 7,
             Outcome::NoMemory => 8,
+            Outcome::TooLarge { .. } => 9,
             Outcome::NotBuilt { .. } => 10,
         }
     }

@@ -1,19 +1,20 @@
 //! The one call that does all that the program does.
-ghost use Rattle.std.specs.Prelude.{◌≡◌, ◌++◌, true, Some, OnOk, OnErr};
+ghost use Rattle.std.specs.Prelude.{◌≡◌, ◌++◌, true, Some, OnOk, OnErr, IfOk, string_bytes};
 ghost use Rattle.std.specs.Option.{ForSome};
 ghost use Rattle.mn_edge.specs.Faults.{Counted};
 ghost use Rattle.mn_edge.specs.Written.{texts, pairs, all_known};
 ghost use Rattle.mn_run.specs.Words.{is_run};
-ghost use Rattle.mn_run.specs.Answer.{answer_of, joined, refusal, refusal_line};
+ghost use Rattle.mn_run.specs.Answer.{answer_of, joined, pcap_rule_name, refusal, refusal_line};
 ghost use Rattle.mn_run.specs.Endings.{OutcomeIs, FilesAre, TextIs, CausedBy, UsageIff, Completes, PartPut};
 ghost use Rattle.mn_run.specs.Headline.{HeadlineIs};
-ghost use Rattle.mn_run.specs.Jobs.{answer_by, IsRefusal};
+ghost use Rattle.mn_run.specs.Jobs.{answer_by, HasPlainLine, IsRefusal};
 
 use crate::job::{Job, Loaded, load};
-use crate::outcome::{Input, Outcome};
+use crate::outcome::{Input, Limit, Outcome};
 use crate::words::is_run;
 use mn_edge::{DeviceBad, Shelf, Sink, write_all};
-use std::alloc::Global;
+use mn_pcap::PcapRule;
+use std::alloc::{AllocError, Global};
 
 /// Does what the words of a command line say, over a shelf of files and a sink for the report.
 ///
@@ -59,10 +60,10 @@ fn answer<S: Shelf, O: Sink>(alloc: Global, words: &[String], shelf: &mut S, out
     ensures usage { UsageIff (is_run (texts words.now)) result }
 {
     if !is_run(words) {
-        return refuse(out, Outcome::Usage);
+        return refuse(alloc, out, Outcome::Usage);
     }
     match load(alloc, words, shelf) {
-        Ok(Loaded::Refused(outcome)) => refuse(out, outcome),
+        Ok(Loaded::Refused(outcome)) => refuse(alloc, out, outcome),
         Ok(Loaded::Ready(job)) => perform(shelf, out, &job),
         Err(DeviceBad::Failed) => Outcome::ReadFault,
         Err(DeviceBad::NoMemory) => Outcome::NoMemory,
@@ -91,36 +92,77 @@ fn perform<S: Shelf, O: Sink>(shelf: &mut S, out: &mut O, job: &Job) -> Outcome
 }
 
 /// Puts the line of a refusal.
-fn refuse<O: Sink>(out: &mut O, outcome: Outcome) -> Outcome
+fn refuse<O: Sink>(alloc: Global, out: &mut O, outcome: Outcome) -> Outcome
     requires { IsRefusal outcome }
     ensures outcome { OutcomeIs (Some (refusal outcome)) result }
     ensures text { ForSome (O.written out.old) (λ before. TextIs (Some (refusal outcome)) before (O.written out.new) result) }
     ensures cause { CausedBy (0, 0, O.faults out.old) (0, 0, O.faults out.new) result }
 {
-    match put_line(out, refusal_line(outcome)) {
+    let Ok(line) = refusal_line(alloc, outcome) else {
+        return Outcome::NoMemory;
+    };
+    match put_line(out, line.as_bytes()) {
         Ok(()) => outcome,
         Err(DeviceBad::Failed) => Outcome::WriteFault,
         Err(DeviceBad::NoMemory) => Outcome::NoMemory,
     }
 }
 
-fn refusal_line(outcome: Outcome) -> &'static [u8]
+/// A rule of captures by its name.
+fn pcap_rule_name(rule: PcapRule) -> &'static str
+    ensures { result.now ≡ pcap_rule_name rule }
+{
+    match rule {
+        PcapRule::CutShort => "CutShort",
+        PcapRule::IsPcapng => "IsPcapng",
+        PcapRule::BadMagic => "BadMagic",
+        PcapRule::BadVersion => "BadVersion",
+        PcapRule::BadLinkType => "BadLinkType",
+        PcapRule::BadRecord => "BadRecord",
+    }
+}
+
+/// The line of an outcome that refuses, and the empty text for another.
+fn refusal_line(alloc: Global, outcome: Outcome) -> Result<String, AllocError>
+    ensures { IfOk result (λ line. string_bytes line ≡ refusal_line outcome) }
+{
+    match outcome {
+        Outcome::BadCapture { rule, place } => {
+            let rule = pcap_rule_name(rule);
+            format!(in alloc; "capture refused {rule} at byte {place}\n")
+        }
+        other => String::from_str(alloc, plain_line(other)),
+    }
+}
+
+/// The line of an outcome that refuses, where it is the same for all of its kind.
+fn plain_line(outcome: Outcome) -> &'static str
+    requires { HasPlainLine outcome }
     ensures { result.now ≡ refusal_line outcome }
 {
     match outcome {
         Outcome::Usage => {
-            b"usage: mplsnet run TOPOLOGY SCRIPT CAPTURE FOLDER | check TOPOLOGY | generate NUMBER\n"
+            "usage: mplsnet run TOPOLOGY SCRIPT CAPTURE FOLDER | check TOPOLOGY | generate NUMBER\n"
         }
+        Outcome::TooLarge {
+            which: Limit::CaptureBytes,
+            ..
+        } => "too large capture bytes\n",
+        Outcome::TooLarge {
+            which: Limit::CaptureRecords,
+            ..
+        } => "too large capture records\n",
         Outcome::NotBuilt {
             what: Input::Topology,
-        } => b"not built topology\n",
+        } => "not built topology\n",
         Outcome::NotBuilt {
             what: Input::Script,
-        } => b"not built script\n",
-        Outcome::NotBuilt {
-            what: Input::Capture,
-        } => b"not built capture\n",
-        Outcome::Done | Outcome::ReadFault | Outcome::WriteFault | Outcome::NoMemory => b"",
+        } => "not built script\n",
+        Outcome::BadCapture { .. }
+        | Outcome::Done
+        | Outcome::ReadFault
+        | Outcome::WriteFault
+        | Outcome::NoMemory => "",
     }
 }
 

@@ -303,9 +303,108 @@ fn an_input_that_cannot_be_run_yet_is_named(rt: HostRuntime) -> Result<(), Fail>
     assert!(rt; is_refused(alloc, TWO_SITES, "link up a b", whole, "not built script\n")?);
     let whole = capture(alloc, &[PACKET.as_slice()])?;
     assert!(rt; is_refused(alloc, TWO_SITES, "inject z 1", whole, "not built script\n")?);
+    Ok(())
+}
+
+/// A capture of the packets, in which the byte at this place has another value.
+fn altered(
+    alloc: Global,
+    packets: &[&[u8]],
+    place: usize,
+    value: u8,
+) -> Result<Vec<u8>, AllocError> {
+    let mut bytes = capture(alloc, packets)?;
+    if let Some(byte) = bytes.get_mut(place) {
+        *byte = value;
+    }
+    Ok(bytes)
+}
+
+/// Whether the capture is refused with this status and line, with nothing written.
+fn is_refused_capture(
+    alloc: Global,
+    capture: Vec<u8>,
+    status: u8,
+    line: &str,
+) -> Result<bool, AllocError> {
+    let mut shelf = shelf(alloc, TWO_SITES, "inject a 1\n", capture, Vec::new(alloc))?;
+    let mut out = MemSink::new(alloc, Vec::new(alloc));
+    let outcome = command(alloc, &run_words(alloc)?, &mut shelf, &mut out);
+    Ok(
+        outcome.status() == status
+            && out.bytes() == line.as_bytes()
+            && shelf.file("out/delivered.pcap").is_none(),
+    )
+}
+
+#[test]
+fn a_capture_is_refused_by_rule_and_place(rt: HostRuntime) -> Result<(), Fail> {
+    let alloc = rt.alloc();
     let mut cut = capture(alloc, &[PACKET.as_slice()])?;
     cut.truncate(50);
-    assert!(rt; is_refused(alloc, TWO_SITES, "inject a 1", cut, "not built capture\n")?);
+    assert!(rt; is_refused_capture(alloc, cut, 5, "capture refused CutShort at byte 24\n")?);
+    let mut second = capture(alloc, &[PACKET.as_slice(), PACKET.as_slice()])?;
+    second.truncate(111);
+    assert!(rt; is_refused_capture(alloc, second, 5, "capture refused CutShort at byte 68\n")?);
+    let mut blocks = Vec::from_slice(alloc, &[0x0A, 0x0D, 0x0D, 0x0A])?;
+    blocks.extend_from_slice(&[0; 24])?;
+    assert!(rt; is_refused_capture(alloc, blocks, 5, "capture refused IsPcapng at byte 0\n")?);
+    let mut text = Vec::from_slice(alloc, b"mpls")?;
+    text.extend_from_slice(&[0; 24])?;
+    assert!(rt; is_refused_capture(alloc, text, 5, "capture refused BadMagic at byte 0\n")?);
+    let version = altered(alloc, &[], 6, 3)?;
+    assert!(rt; is_refused_capture(alloc, version, 5, "capture refused BadVersion at byte 4\n")?);
+    let link = altered(alloc, &[], 20, 113)?;
+    assert!(rt; is_refused_capture(alloc, link, 5, "capture refused BadLinkType at byte 20\n")?);
+    let long = altered(alloc, &[PACKET.as_slice()], 34, 5)?;
+    assert!(rt; is_refused_capture(alloc, long, 5, "capture refused BadRecord at byte 24\n")?);
+    Ok(())
+}
+
+/// A header for Ethernet (link type 1), big-endian, with times in nanoseconds.
+const ETHERNET_HEADER: [u8; 24] = [
+    0xA1, 0xB2, 0x3C, 0x4D, 0x00, 0x02, 0x00, 0x04, 0x00, 0x00, 0x00, 0x00, 0x00, 0x00, 0x00, 0x00,
+    0x00, 0x04, 0x00, 0x00, 0x00, 0x00, 0x00, 0x01,
+];
+
+/// Appends a frame of 60 bytes and of this type: the packet, and 18 bytes that fill it up.
+fn push_frame(capture: &mut Vec<u8>, frame_type: [u8; 2]) -> Result<(), AllocError> {
+    capture.extend_from_slice(&[0, 0, 0, 0, 0, 0, 0, 0, 0, 0, 0, 60, 0, 0, 0, 60])?;
+    capture.extend_from_slice(&[0; 12])?;
+    capture.extend_from_slice(&frame_type)?;
+    capture.extend_from_slice(&PACKET)?;
+    capture.extend_from_slice(&[0; 18])
+}
+
+#[test]
+fn frames_of_ethernet_carry_packets(rt: HostRuntime) -> Result<(), Fail> {
+    let alloc = rt.alloc();
+    let mut capture = Vec::from_slice(alloc, &ETHERNET_HEADER)?;
+    push_frame(&mut capture, [0x08, 0x00])?;
+    push_frame(&mut capture, [0x81, 0x00])?;
+    let script = "inject a 1\ninject a 2\n";
+    let mut shelf = shelf(alloc, TWO_SITES, script, capture, Vec::new(alloc))?;
+    let mut out = MemSink::new(alloc, Vec::new(alloc));
+    let outcome = command(alloc, &run_words(alloc)?, &mut shelf, &mut out);
+    assert!(rt; outcome == Outcome::Done);
+    let report =
+        "packet 1 line 1 site a record 1 delivered b ttl 63 copy 1 path pe1\npacket 2 line 2 site a record 2 dropped NotIpv4 at pe1 path pe1\ntotal packets 2 delivered 1 dropped 1 flying 0 steps 2 refused 0 tick 0\n";
+    assert!(rt; out.bytes() == report.as_bytes());
+    let mut delivered = Vec::from_slice(alloc, &CAPTURE_HEADER)?;
+    delivered.extend_from_slice(&RECORD_HEADER)?;
+    delivered.extend_from_slice(&ARRIVED)?;
+    assert!(rt; shelf.file("out/delivered.pcap") == Some(delivered.as_slice()));
+    Ok(())
+}
+
+#[test]
+fn a_capture_has_at_most_so_many_records(rt: HostRuntime) -> Result<(), Fail> {
+    let alloc = rt.alloc();
+    let mut many = Vec::from_slice(alloc, &CAPTURE_HEADER)?;
+    for _ in 0..100_001 {
+        many.extend_from_slice(&[0; 16])?;
+    }
+    assert!(rt; is_refused_capture(alloc, many, 9, "too large capture records\n")?);
     Ok(())
 }
 
