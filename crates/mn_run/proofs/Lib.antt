@@ -8,3 +8,4 @@ pub mod Ending
 pub mod Loading
 pub mod Accounting
 pub mod Capturing
+pub mod Naming

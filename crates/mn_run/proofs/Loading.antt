@@ -4,7 +4,7 @@ use Rattle.std.proofs.lemmas.Bool.Decides.{nat_tests}
 use Rattle.std.proofs.lemmas.List.{get_or-map, length-map}
 use Rattle.mn_edge.specs.Written.{texts}
 use Rattle.mn_run.specs.declared.outcome.Input.{Input}
-use Rattle.mn_run.specs.Words.{word, is_run}
+use Rattle.mn_run.specs.Words.{word, is_run, is_check}
 use Rattle.mn_run.specs.declared.outcome.Outcome.TheVariants.{NotBuilt}
 use Rattle.mn_run.specs.Answer.{Answer, refusal, with_input}
 
@@ -30,3 +30,10 @@ is_five n h = grind (arith, nat_tests)
 -- a run has five words
 pub run_len : (words : List (String Global)) → is_run (texts words) ≡ true → length words ≡ 5
 run_len words h = rw length-map at (is_five (length (texts words)) (first_true _ _ h))
+
+is_two : (n : ℕ) → (n == 2) ≡ true → n ≡ 2
+is_two n h = grind (arith, nat_tests)
+
+-- a check has two words
+pub check_len : (words : List (String Global)) → is_check (texts words) ≡ true → length words ≡ 2
+check_len words h = rw length-map at (is_two (length (texts words)) (first_true _ _ h))

@@ -4,8 +4,7 @@ use Rattle.std.specs.Prelude.{option_and_then, if◌then◌else◌}
 use Rattle.std.proofs.lemmas.List.{map-append, length-map}
 use Rattle.mn_text.specs.Words.{words}
 use Rattle.mn_report.specs.declared.lines.Sent.{Sent}
-use Rattle.mn_run.specs.Tables.{texts_now}
-use Rattle.mn_run.specs.Script.{is_comment, before_comment, line_words, sent_by, with_line}
+use Rattle.mn_run.specs.Script.{texts_now, is_comment, before_comment, line_words, sent_by, with_line}
 
 -- a word that is no comment goes before the others
 pub word_kept : (word next rest : List ℕ) → words rest ≡ word ∷ words next → is_comment word ≡ false → line_words rest ≡ word ∷ line_words next

@@ -7,8 +7,6 @@ use Rattle.std.specs.Fmt.{decimal}
 use Rattle.mn_pcap.specs.Format.{header}
 use Rattle.mn_pcap.specs.Reading.{count_of}
 use Rattle.mn_pcap.specs.Reading as pcap
-use Rattle.mn_pcap.specs.declared.refusal.PcapRule.{PcapRule}
-use Rattle.mn_pcap.specs.declared.refusal.PcapRule.TheVariants.{CutShort, IsPcapng, BadMagic, BadVersion, BadLinkType, BadRecord}
 use Rattle.mn_pcap.specs.declared.refusal.PcapBad.{PcapBad}
 use Rattle.mn_pcap.specs.declared.refusal.PcapBad.TheVariants as bad
 use Rattle.mn_ledger.specs.declared.verdict.Verdict.{Verdict}
@@ -17,14 +15,19 @@ use Rattle.mn_report.specs.declared.lines.Sent.{Sent}
 use Rattle.mn_report.specs.declared.lines.Totals.{Totals}
 use Rattle.mn_report.specs.Names.{NameLists}
 use Rattle.mn_report.specs.Lines.{text, packet_line, refused_line, total_line}
+use Rattle.mn_topo.specs.declared.refusal.TopoRule.{TopoRule}
+use Rattle.mn_topo.specs.declared.refusal.Place.{Place}
+use Rattle.mn_topo.specs.Network.{Network}
+use Rattle.mn_topo.specs.SiteTable.{statics_of}
+use Rattle.mn_topo.specs.Topology.{topology_of}
 use Rattle.mn_run.specs.declared.outcome.Input.{Input}
 use Rattle.mn_run.specs.declared.outcome.Input.TheVariants.{Topology, Script}
-use Rattle.mn_run.specs.declared.outcome.Limit.TheVariants.{CaptureBytes, CaptureRecords}
+use Rattle.mn_run.specs.declared.outcome.Limit.TheVariants.{TopologyBytes, CaptureBytes, CaptureRecords}
 use Rattle.mn_run.specs.declared.outcome.Outcome.{Outcome}
-use Rattle.mn_run.specs.declared.outcome.Outcome.TheVariants.{Done, Usage, NoMemory, BadCapture, TooLarge, NotBuilt}
-use Rattle.mn_run.specs.Words.{word, is_run}
-use Rattle.mn_run.specs.Network.{NetworkView}
-use Rattle.mn_run.specs.Topology.{topology_of}
+use Rattle.mn_run.specs.declared.outcome.Outcome.TheVariants.{Done, Usage, NoMemory, BadTopology, BadCapture, TooLarge, NotBuilt}
+use Rattle.mn_run.specs.Words.{word, is_run, is_check}
+use Rattle.mn_run.specs.Refusals.{refusal_line}
+use Rattle.mn_run.specs.Network.{NetworkView, view_of, is_one_node}
 use Rattle.mn_run.specs.Script.{script_of}
 use Rattle.mn_run.specs.Service.{the_node, packets_of, delivered_records}
 
@@ -37,25 +40,6 @@ pub record Answer : Type 0 where
 -- lines, one after another
 abbrev pub joined : List (List ℕ) → List ℕ
 joined lines = flat_map (λ line. line) lines
-
--- a rule of captures by its name
-abbrev pub pcap_rule_name : PcapRule → List ℕ
-pcap_rule_name CutShort = codes "CutShort"
-pcap_rule_name IsPcapng = codes "IsPcapng"
-pcap_rule_name BadMagic = codes "BadMagic"
-pcap_rule_name BadVersion = codes "BadVersion"
-pcap_rule_name BadLinkType = codes "BadLinkType"
-pcap_rule_name BadRecord = codes "BadRecord"
-
--- the line of an outcome that refuses
-abbrev pub refusal_line : Outcome → List ℕ
-refusal_line Usage = codes "usage: mplsnet run TOPOLOGY SCRIPT CAPTURE FOLDER | check TOPOLOGY | generate NUMBER\n"
-refusal_line (NotBuilt Topology) = codes "not built topology\n"
-refusal_line (NotBuilt Script) = codes "not built script\n"
-refusal_line (BadCapture rule place) = text (codes "capture refused " ∷ pcap_rule_name rule ∷ codes " at byte " ∷ decimal place ∷ codes "\n" ∷ [])
-refusal_line (TooLarge CaptureBytes limit) = codes "too large capture bytes\n"
-refusal_line (TooLarge CaptureRecords limit) = codes "too large capture records\n"
-refusal_line outcome = []
 
 -- a refusal writes nothing and puts one line
 abbrev pub refusal : Outcome → Answer
@@ -161,14 +145,44 @@ with_capture (Some bytes) next = if nat_lt most_capture_bytes (length bytes) the
 abbrev pub from_capture : List (List ℕ) → Files → NetworkView → List Sent → Option Answer
 from_capture words files network script = with_capture (file files (word words 3)) (λ packets. Some (done_answer (word words 4) network script packets))
 
--- the answer once the topology is read
+-- the answer once the network is known
 abbrev pub from_script : List (List ℕ) → Files → NetworkView → Option Answer
 from_script words files network = with_input (file files (word words 2)) Script (λ bytes. if_built (script_of network.sites bytes) Script (from_capture words files network))
 
+-- a topology has at most 1 MiB
+abbrev pub most_topology_bytes : ℕ
+most_topology_bytes = 2 ^ 20
+
+-- a topology goes on, or is refused by rule and place
+abbrev pub if_lawful : Result Network (TopoRule × Place) → (Network → Option Answer) → Option Answer
+if_lawful (Ok topology) next = next topology
+if_lawful (Err refused) next = Some (refusal (BadTopology refused.0 refused.1))
+
+-- the limit of a topology comes before its own refusal; without the file there is no answer
+abbrev pub with_topology : Option (List ℕ) → (Network → Option Answer) → Option Answer
+with_topology None next = None
+with_topology (Some bytes) next = if nat_lt most_topology_bytes (length bytes) then Some (refusal (TooLarge TopologyBytes most_topology_bytes)) else if_lawful (topology_of bytes) next
+
+-- the answer to a run once the topology is read, which has one node and one VRF at most
+abbrev pub from_topology : List (List ℕ) → Files → Network → Option Answer
+from_topology words files topology = if is_one_node topology then from_script words files (view_of topology) else Some (refusal (NotBuilt Topology))
+
 -- the answer to a run
 abbrev pub run_answer : List (List ℕ) → Files → Option Answer
-run_answer words files = with_input (file files (word words 1)) Topology (λ bytes. if_built (topology_of bytes) Topology (from_script words files))
+run_answer words files = with_topology (file files (word words 1)) (from_topology words files)
+
+-- how many nodes, links, VRFs, sites and prefixes a topology has
+unfoldable pub check_line : Network → List ℕ
+check_line topology = text (codes "topology ok nodes " ∷ decimal (length topology.loopbacks) ∷ codes " links " ∷ decimal (length topology.links) ∷ codes " vrfs " ∷ decimal (length topology.vrfs) ∷ codes " sites " ∷ decimal (length topology.sites) ∷ codes " prefixes " ∷ decimal (length (statics_of topology.sites)) ∷ codes "\n" ∷ [])
+
+-- the topology was read
+abbrev pub checked : Network → Answer
+checked topology = record { outcome = Done; files = []; text = check_line topology }
+
+-- the answer to a check
+abbrev pub check_answer : List (List ℕ) → Files → Option Answer
+check_answer words files = with_topology (file files (word words 1)) (λ topology. Some (checked topology))
 
 -- what the words are answered over these files; there is no answer where an input that is needed isn't there
 abbrev pub answer_of : List (List ℕ) → Files → Option Answer
-answer_of words files = if is_run words then run_answer words files else Some (refusal Usage)
+answer_of words files = if is_run words then run_answer words files else if is_check words then check_answer words files else Some (refusal Usage)

@@ -1,12 +1,16 @@
 -- What reading the inputs tells.
-use Rattle.std.specs.Prelude.{◌≡◌, true, Option, Some, ⊤}
+use Rattle.std.specs.Prelude.{◌≡◌, true, ℕ, List, Option, Some, ⊤}
 use Rattle.mn_run.specs.declared.outcome.Outcome.{Outcome}
-use Rattle.mn_run.specs.declared.outcome.Outcome.TheVariants.{Done, Usage, BadCapture, TooLarge, NotBuilt}
+use Rattle.mn_run.specs.declared.outcome.Outcome.TheVariants.{Done, Usage, BadTopology, BadCapture, TooLarge, NotBuilt}
 use Rattle.mn_run.specs.declared.job.Job.{Job}
 use Rattle.mn_run.specs.declared.job.Loaded.{Loaded}
 use Rattle.mn_run.specs.declared.job.Loaded.TheVariants.{Refused, Ready}
 use Rattle.mn_run.specs.Answer.{Answer, joined, refusal}
 use Rattle.mn_edge.specs.Written.{written, texts, pairs, all_known}
+use Rattle.mn_topo.specs.Network.{Network}
+use Rattle.mn_run.specs.declared.job.Taken.{Taken}
+use Rattle.mn_run.specs.declared.job.Taken.TheVariants as taken
+use Rattle.mn_run.specs.Answer.{with_topology}
 
 -- the answer that a job is for
 abbrev pub answer_by : Job → Answer
@@ -20,6 +24,7 @@ LoadedIs answer (Ready job) = answer ≡ Some (answer_by job)
 -- an outcome that refuses the words or an input
 abbrev pub IsRefusal : Outcome → Type 0
 IsRefusal Usage = ⊤
+IsRefusal (BadTopology rule place) = ⊤
 IsRefusal (BadCapture rule place) = ⊤
 IsRefusal (TooLarge which limit) = ⊤
 IsRefusal (NotBuilt what) = ⊤
@@ -30,7 +35,21 @@ abbrev pub IsSound : Loaded → Type 0
 IsSound (Refused outcome) = IsRefusal outcome × (outcome ≡ Usage → ⊥)
 IsSound (Ready job) = all_known (texts job.names.items) (pairs job.pieces.items) ≡ true
 
--- an outcome other than the refusal of a capture
+-- an outcome other than the refusal of a topology or a capture
 abbrev pub HasPlainLine : Outcome → Type 0
+HasPlainLine (BadTopology rule place) = ⊥
 HasPlainLine (BadCapture rule place) = ⊥
 HasPlainLine outcome = ⊤
+
+-- an outcome that refuses an input
+abbrev pub RefusesInput : Outcome → Type 0
+RefusesInput outcome = IsRefusal outcome × (outcome ≡ Usage → ⊥)
+
+-- what follows a topology follows this one, or its refusal is the answer
+abbrev pub TakenIs : Option (List ℕ) → Taken → Type 0
+TakenIs input (taken.Refused outcome) = (next : Network → Option Answer) → with_topology input next ≡ Some (refusal outcome)
+TakenIs input (taken.Read topology) = (next : Network → Option Answer) → with_topology input next ≡ next topology
+
+abbrev pub IsSoundTaken : Taken → Type 0
+IsSoundTaken (taken.Refused outcome) = RefusesInput outcome
+IsSoundTaken (taken.Read topology) = ⊤

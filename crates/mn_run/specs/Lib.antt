@@ -1,10 +1,9 @@
 pub mod Words
 pub mod Network
 pub mod Service
+pub mod Refusals
 pub mod Answer
 pub mod Jobs
-pub mod Tables
-pub mod Topology
 pub mod Script
 pub mod Endings
 pub mod Status

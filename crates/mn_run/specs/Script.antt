@@ -1,15 +1,24 @@
 -- The scripts that a run can take: lines `inject SITE RECORD`, lines without words, and comments.
-use Rattle.std.specs.Prelude.{ℕ, ◌+◌, ◌==◌, ◌&&◌, Bool, nat_lt, nat_le, length, slice_index, slice_index_or, position, if◌then◌else◌, List, [], ◌∷◌, ◌++◌, Option, Some, None, option_and_then, codes}
+use Rattle.std.specs.Prelude.{ℕ, ◌+◌, ◌==◌, ◌&&◌, Bool, true, false, map, nat_lt, nat_le, length, slice_index, slice_index_or, position, if◌then◌else◌, List, [], ◌∷◌, ◌++◌, Option, Some, None, option_and_then, codes}
 use Rattle.std.specs.Str.{bytes_eq}
+use Rattle.std.specs.Borrow.{Bor}
 use Rattle.std.specs.Str.Lines.{lines}
 use Rattle.mn_text.specs.Numbers.{number_up_to}
 use Rattle.mn_text.specs.Words.{words}
 use Rattle.mn_report.specs.declared.lines.Sent.{Sent}
-use Rattle.mn_run.specs.Tables.{when}
 
 infixl 10 ◌>>=◌
 abbrev ◌>>=◌ : {A B : Type 0} → Option A → (A → Option B) → Option B
 o >>= f = option_and_then f o
+
+-- the bytes of some words
+abbrev pub texts_now : List (Bor (List ℕ)) → List (List ℕ)
+texts_now words = map (λ word. word.now) words
+
+-- what is found, where the test holds
+abbrev when : {A : Type 0} → Bool → Option A → Option A
+when true found = found
+when false found = None
 
 -- the word begins with `#`
 abbrev pub is_comment : List ℕ → Bool

@@ -15,3 +15,11 @@ abbrev pub is_run : List (List ℕ) → Bool
 is_run words =
     (length words == 5) && (pointwise nat_eq (word words 0) (codes "run")
     && not (is_inside (word words 1) (word words 4) || (is_inside (word words 2) (word words 4) || is_inside (word words 3) (word words 4))))
+
+-- `check` and a topology
+abbrev pub is_check : List (List ℕ) → Bool
+is_check words = (length words == 2) && pointwise nat_eq (word words 0) (codes "check")
+
+-- a command line of the program
+abbrev pub is_command : List (List ℕ) → Bool
+is_command words = is_run words || is_check words

@@ -1,24 +1,30 @@
 //! Reading the inputs, and what is left to be done then.
-ghost use Rattle.std.specs.Prelude.{◌≡◌, ◌<◌, ◌≤◌, ◌^◌, true, length, IfOk};
+ghost use Rattle.std.specs.Prelude.{◌≡◌, ◌≢◌, Some, Err, ◌<◌, ◌≤◌, ◌^◌, true, length, IfOk};
 ghost use Rattle.std.specs.Option.{ForSome};
 ghost use Rattle.mn_edge.specs.Faults.{Counted};
+ghost use Rattle.mn_edge.specs.Files.{file};
 ghost use Rattle.mn_edge.specs.Written.{texts};
-ghost use Rattle.mn_run.specs.Words.{is_run};
+ghost use Rattle.mn_run.specs.Words.{is_run, is_check, is_command};
 ghost use Rattle.mn_run.specs.Service.{AllNumbered};
-ghost use Rattle.mn_run.specs.Answer.{run_answer, from_script, from_capture};
+ghost use Rattle.mn_run.specs.Answer.{answer_of, run_answer, check_answer, checked, from_topology, from_script, from_capture};
 
 use crate::capture::read_capture;
-use crate::network::Network;
+use crate::check::check;
+use crate::network::{Network, is_one_node, network_of};
 use crate::outcome::{Input, Limit, Outcome};
 use crate::plan::plan;
 use crate::script::read_script;
-use crate::topology::read_topology;
+use crate::words::is_run;
 use mn_edge::{Content, DeviceBad, Shelf, read_all};
 use mn_pcap::{PcapBad, PcapRule, count_records};
 use mn_report::Sent;
+use mn_topo::{TopoBad, Topology, read_topology};
 use std::alloc::Global;
 
-/// The most bytes of a topology or a script: 1 MiB.
+/// The most bytes of a topology: 1 MiB.
+const MOST_TOPOLOGY_BYTES: u64 = 1 << 20;
+
+/// The most bytes of a script: 1 MiB.
 const MOST_BYTES: u64 = 1 << 20;
 
 /// The most bytes of a capture: 64 MiB.
@@ -47,7 +53,16 @@ pub(crate) enum Loaded {
     Ready(Job),
 }
 
-ghost use Rattle.mn_run.specs.Jobs.{LoadedIs, IsSound};
+/// What reading a topology gave.
+#[derive(Drop)]
+pub(crate) enum Taken {
+    /// It was refused.
+    Refused(Outcome),
+    /// It is lawful.
+    Read(Topology),
+}
+
+ghost use Rattle.mn_run.specs.Jobs.{LoadedIs, IsSound, TakenIs, IsSoundTaken};
 
 fn not_built(what: Input) -> Loaded
     ensures { result ≡ Loaded.Refused (Outcome.NotBuilt what) }
@@ -67,12 +82,52 @@ fn bad_capture(rule: PcapRule, place: u64) -> Loaded
     Loaded::Refused(Outcome::BadCapture { rule, place })
 }
 
-/// Reads the inputs of a run, the topology first.
+/// Reads the inputs that the words name.
 pub(crate) fn load<S: Shelf>(
     alloc: Global,
     words: &[String],
     shelf: &mut S,
 ) -> Result<Loaded, DeviceBad>
+    requires { is_command (texts words.now) ≡ true }
+    ensures answer { IfOk result (λ l. ForSome (S.files shelf.old) (λ files. LoadedIs (answer_of (texts words.now) files) l)) }
+    ensures sound { IfOk result IsSound }
+    ensures same { S.files shelf.new ≡ S.files shelf.old }
+    ensures reads { Counted (S.read_faults shelf.old) (S.read_faults shelf.new) result }
+    ensures writes { S.write_faults shelf.new ≡ S.write_faults shelf.old }
+{
+    if is_run(words) {
+        load_run(alloc, words, shelf)
+    } else {
+        load_check(alloc, words, shelf)
+    }
+}
+
+/// Reads the topology that is to be checked.
+fn load_check<S: Shelf>(alloc: Global, words: &[String], shelf: &mut S) -> Result<Loaded, DeviceBad>
+    requires { is_check (texts words.now) ≡ true }
+    ensures answer { IfOk result (λ l. ForSome (S.files shelf.old) (λ files. LoadedIs (check_answer (texts words.now) files) l)) }
+    ensures sound { IfOk result IsSound }
+    ensures same { S.files shelf.new ≡ S.files shelf.old }
+    ensures reads { Counted (S.read_faults shelf.old) (S.read_faults shelf.new) result }
+    ensures writes { S.write_faults shelf.new ≡ S.write_faults shelf.old }
+{
+    match load_topology(alloc, words[1].as_str(), shelf)? {
+        Taken::Refused(outcome) => Ok(Loaded::Refused(outcome)),
+        Taken::Read(topology) => check_job(alloc, &topology),
+    }
+}
+
+/// What a check of the topology is to do.
+fn check_job(alloc: Global, topology: &Topology) -> Result<Loaded, DeviceBad>
+    ensures answer { IfOk result (LoadedIs (Some (checked topology.now))) }
+    ensures sound { IfOk result IsSound }
+    ensures memory { result ≢ Err DeviceBad.Failed }
+{
+    Ok(Loaded::Ready(check(alloc, topology)?))
+}
+
+/// Reads the inputs of a run, the topology first.
+fn load_run<S: Shelf>(alloc: Global, words: &[String], shelf: &mut S) -> Result<Loaded, DeviceBad>
     requires { is_run (texts words.now) ≡ true }
     ensures answer { IfOk result (λ l. ForSome (S.files shelf.old) (λ files. LoadedIs (run_answer (texts words.now) files) l)) }
     ensures sound { IfOk result IsSound }
@@ -80,11 +135,52 @@ pub(crate) fn load<S: Shelf>(
     ensures reads { Counted (S.read_faults shelf.old) (S.read_faults shelf.new) result }
     ensures writes { S.write_faults shelf.new ≡ S.write_faults shelf.old }
 {
-    match read_all(alloc, shelf, words[1].as_str(), MOST_BYTES)? {
-        Content::TooLarge => Ok(not_built(Input::Topology)),
-        Content::Whole(bytes) => match read_topology(alloc, &bytes)? {
-            None => Ok(not_built(Input::Topology)),
-            Some(network) => load_script(alloc, words, shelf, &network),
+    match load_topology(alloc, words[1].as_str(), shelf)? {
+        Taken::Refused(outcome) => Ok(Loaded::Refused(outcome)),
+        Taken::Read(topology) => load_over(alloc, words, shelf, &topology),
+    }
+}
+
+/// Reads the inputs of a run over a topology.
+fn load_over<S: Shelf>(
+    alloc: Global,
+    words: &[String],
+    shelf: &mut S,
+    topology: &Topology,
+) -> Result<Loaded, DeviceBad>
+    requires { is_run (texts words.now) ≡ true }
+    ensures answer { IfOk result (λ l. ForSome (S.files shelf.old) (λ files. LoadedIs (from_topology (texts words.now) files topology.now) l)) }
+    ensures sound { IfOk result IsSound }
+    ensures same { S.files shelf.new ≡ S.files shelf.old }
+    ensures reads { Counted (S.read_faults shelf.old) (S.read_faults shelf.new) result }
+    ensures writes { S.write_faults shelf.new ≡ S.write_faults shelf.old }
+{
+    if !is_one_node(topology) {
+        return Ok(not_built(Input::Topology));
+    }
+    let network = network_of(alloc, topology)?;
+    load_script(alloc, words, shelf, &network)
+}
+
+/// Reads a topology.
+fn load_topology<S: Shelf>(alloc: Global, name: &str, shelf: &mut S) -> Result<Taken, DeviceBad>
+    ensures answer { IfOk result (λ t. ForSome (S.files shelf.old) (λ files. TakenIs (file files name.now) t)) }
+    ensures sound { IfOk result IsSoundTaken }
+    ensures same { S.files shelf.new ≡ S.files shelf.old }
+    ensures reads { Counted (S.read_faults shelf.old) (S.read_faults shelf.new) result }
+    ensures writes { S.write_faults shelf.new ≡ S.write_faults shelf.old }
+{
+    match read_all(alloc, shelf, name, MOST_TOPOLOGY_BYTES)? {
+        Content::TooLarge => Ok(Taken::Refused(Outcome::TooLarge {
+            which: Limit::TopologyBytes,
+            limit: MOST_TOPOLOGY_BYTES,
+        })),
+        Content::Whole(bytes) => match read_topology(alloc, &bytes) {
+            Ok(topology) => Ok(Taken::Read(topology)),
+            Err(TopoBad::Refused { rule, place }) => {
+                Ok(Taken::Refused(Outcome::BadTopology { rule, place }))
+            }
+            Err(TopoBad::NoMemory) => Err(DeviceBad::NoMemory),
         },
     }
 }

@@ -2,15 +2,15 @@
 #![tactic(auto)]
 
 mod capture;
+mod check;
 mod job;
 mod network;
 mod outcome;
 mod plan;
+mod refusals;
 mod script;
 mod service;
-mod tables;
 mod top;
-mod topology;
 mod words;
 
 pub use outcome::{Input, Limit, Outcome};

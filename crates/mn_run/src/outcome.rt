@@ -2,6 +2,7 @@
 ghost use Rattle.std.specs.Prelude.{◌≡◌};
 
 use mn_pcap::PcapRule;
+use mn_topo::{Place, TopoRule};
 
 /// An input of `run`.
 #[derive(Clone, Copy, Debug, PartialEq, Eq)]
@@ -13,6 +14,8 @@ pub enum Input {
 /// What an input may not pass.
 #[derive(Clone, Copy, Debug, PartialEq, Eq)]
 pub enum Limit {
+    /// 1 MiB.
+    TopologyBytes,
     /// 64 MiB.
     CaptureBytes,
     /// 100,000 whole records.
@@ -26,6 +29,8 @@ pub enum Outcome {
     Done,
     /// 2: the words are no command line of the program.
     Usage,
+    /// 3: the topology is refused by this rule, at this table of the file.
+    BadTopology { rule: TopoRule, place: Place },
     /// 5: the capture is refused by this rule, at this byte of the file.
     BadCapture { rule: PcapRule, place: u64 },
     /// 6: the shelf failed to read.
@@ -50,6 +55,7 @@ impl Outcome {
         match self {
             Outcome::Done => 0,
             Outcome::Usage => 2,
+            Outcome::BadTopology { .. } => 3,
             Outcome::BadCapture { .. } => 5,
             Outcome::ReadFault => 6,
             Outcome::WriteFault => 7,

@@ -3,9 +3,8 @@ ghost use Rattle.std.specs.Prelude.{◌≡◌, ◌++◌, ◌∷◌, [], ◌<◌,
 ghost use Rattle.std.specs.Str.{bytes_eq};
 ghost use Rattle.std.specs.Prelude.{position};
 ghost use Rattle.mn_edge.specs.Written.{texts};
-ghost use Rattle.mn_run.specs.Tables.{texts_now};
 ghost use Rattle.mn_run.specs.Service.{AllNumbered};
-ghost use Rattle.mn_run.specs.Script.{is_comment, line_words, word_at, sent_by, with_line, script_of};
+ghost use Rattle.mn_run.specs.Script.{texts_now, is_comment, line_words, word_at, sent_by, with_line, script_of};
 
 use mn_base::SiteNo;
 use mn_report::Sent;

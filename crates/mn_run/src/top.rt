@@ -1,25 +1,25 @@
 //! The one call that does all that the program does.
-ghost use Rattle.std.specs.Prelude.{◌≡◌, ◌++◌, true, Some, OnOk, OnErr, IfOk, string_bytes};
+ghost use Rattle.std.specs.Prelude.{◌≡◌, ◌++◌, true, Some, OnOk, OnErr};
 ghost use Rattle.std.specs.Option.{ForSome};
 ghost use Rattle.mn_edge.specs.Faults.{Counted};
 ghost use Rattle.mn_edge.specs.Written.{texts, pairs, all_known};
-ghost use Rattle.mn_run.specs.Words.{is_run};
-ghost use Rattle.mn_run.specs.Answer.{answer_of, joined, pcap_rule_name, refusal, refusal_line};
+ghost use Rattle.mn_run.specs.Words.{is_command};
+ghost use Rattle.mn_run.specs.Answer.{answer_of, joined, refusal};
 ghost use Rattle.mn_run.specs.Endings.{OutcomeIs, FilesAre, TextIs, CausedBy, UsageIff, Completes, PartPut};
 ghost use Rattle.mn_run.specs.Headline.{HeadlineIs};
-ghost use Rattle.mn_run.specs.Jobs.{answer_by, HasPlainLine, IsRefusal};
+ghost use Rattle.mn_run.specs.Jobs.{answer_by, IsRefusal};
 
 use crate::job::{Job, Loaded, load};
-use crate::outcome::{Input, Limit, Outcome};
-use crate::words::is_run;
+use crate::outcome::Outcome;
+use crate::refusals::refusal_line;
+use crate::words::is_command;
 use mn_edge::{DeviceBad, Shelf, Sink, write_all};
-use mn_pcap::PcapRule;
-use std::alloc::{AllocError, Global};
+use std::alloc::Global;
 
 /// Does what the words of a command line say, over a shelf of files and a sink for the report.
 ///
 /// `words` doesn't hold the program's name. Nothing is read for words that are `Usage`, and no file is begun before
-/// the three inputs are read.
+/// the three inputs of a run are read.
 pub fn command<S: Shelf, O: Sink>(
     alloc: Global,
     words: &[String],
@@ -36,14 +36,15 @@ pub fn command<S: Shelf, O: Sink>(
     // A fault comes only where its count rose; every other count is as before, and no count falls.
     ensures cause { CausedBy (S.read_faults shelf.old, S.write_faults shelf.old, O.faults out.old)
         (S.read_faults shelf.new, S.write_faults shelf.new, O.faults out.new) result }
-    // Usage comes exactly where the words are no run, also over devices that tell no content.
-    ensures usage { UsageIff (is_run (texts words.now)) result }
+    // Usage comes exactly where the words are no command line of the program, also over devices that tell no content.
+    ensures usage { UsageIff (is_command (texts words.now)) result }
     // Where the inputs are there and no count of faults rises, the answer comes, or want of memory.
     ensures complete { ForSome (S.files shelf.old) (λ files. Completes (answer_of (texts words.now) files)
         (S.read_faults shelf.old, S.write_faults shelf.old, O.faults out.old)
         (S.read_faults shelf.new, S.write_faults shelf.new, O.faults out.new) result) }
-    // Where all was done, each packet that was sent has one line and is accounted for: it reached only the site of the
-    // longest route, unchanged but for TTL and checksum, or it fell to the first rule that applies.
+    // Where all was done by `run`, each packet that was sent has one line and is accounted for: it reached only the
+    // site of the longest route, unchanged but for TTL and checksum, or it fell to the first rule that applies. By
+    // `check`, the topology is lawful and its line tells how much it has.
     ensures headline { ForSome (S.files shelf.old) (λ files. ForSome (O.written out.old) (λ before.
         HeadlineIs (texts words.now) files before (S.files shelf.new) (O.written out.new) result)) }
 {
@@ -57,9 +58,9 @@ fn answer<S: Shelf, O: Sink>(alloc: Global, words: &[String], shelf: &mut S, out
         TextIs (answer_of (texts words.now) files) before (O.written out.new) result)) }
     ensures cause { CausedBy (S.read_faults shelf.old, S.write_faults shelf.old, O.faults out.old)
         (S.read_faults shelf.new, S.write_faults shelf.new, O.faults out.new) result }
-    ensures usage { UsageIff (is_run (texts words.now)) result }
+    ensures usage { UsageIff (is_command (texts words.now)) result }
 {
-    if !is_run(words) {
+    if !is_command(words) {
         return refuse(alloc, out, Outcome::Usage);
     }
     match load(alloc, words, shelf) {
@@ -105,64 +106,6 @@ fn refuse<O: Sink>(alloc: Global, out: &mut O, outcome: Outcome) -> Outcome
         Ok(()) => outcome,
         Err(DeviceBad::Failed) => Outcome::WriteFault,
         Err(DeviceBad::NoMemory) => Outcome::NoMemory,
-    }
-}
-
-/// A rule of captures by its name.
-fn pcap_rule_name(rule: PcapRule) -> &'static str
-    ensures { result.now ≡ pcap_rule_name rule }
-{
-    match rule {
-        PcapRule::CutShort => "CutShort",
-        PcapRule::IsPcapng => "IsPcapng",
-        PcapRule::BadMagic => "BadMagic",
-        PcapRule::BadVersion => "BadVersion",
-        PcapRule::BadLinkType => "BadLinkType",
-        PcapRule::BadRecord => "BadRecord",
-    }
-}
-
-/// The line of an outcome that refuses, and the empty text for another.
-fn refusal_line(alloc: Global, outcome: Outcome) -> Result<String, AllocError>
-    ensures { IfOk result (λ line. string_bytes line ≡ refusal_line outcome) }
-{
-    match outcome {
-        Outcome::BadCapture { rule, place } => {
-            let rule = pcap_rule_name(rule);
-            format!(in alloc; "capture refused {rule} at byte {place}\n")
-        }
-        other => String::from_str(alloc, plain_line(other)),
-    }
-}
-
-/// The line of an outcome that refuses, where it is the same for all of its kind.
-fn plain_line(outcome: Outcome) -> &'static str
-    requires { HasPlainLine outcome }
-    ensures { result.now ≡ refusal_line outcome }
-{
-    match outcome {
-        Outcome::Usage => {
-            "usage: mplsnet run TOPOLOGY SCRIPT CAPTURE FOLDER | check TOPOLOGY | generate NUMBER\n"
-        }
-        Outcome::TooLarge {
-            which: Limit::CaptureBytes,
-            ..
-        } => "too large capture bytes\n",
-        Outcome::TooLarge {
-            which: Limit::CaptureRecords,
-            ..
-        } => "too large capture records\n",
-        Outcome::NotBuilt {
-            what: Input::Topology,
-        } => "not built topology\n",
-        Outcome::NotBuilt {
-            what: Input::Script,
-        } => "not built script\n",
-        Outcome::BadCapture { .. }
-        | Outcome::Done
-        | Outcome::ReadFault
-        | Outcome::WriteFault
-        | Outcome::NoMemory => "",
     }
 }
 

@@ -1,7 +1,7 @@
 //! The words of the command line.
 ghost use Rattle.std.specs.Prelude.{◌≡◌};
 ghost use Rattle.mn_edge.specs.Written.{texts};
-ghost use Rattle.mn_run.specs.Words.{is_run, is_inside};
+ghost use Rattle.mn_run.specs.Words.{is_run, is_inside, is_check, is_command};
 
 /// Whether the words are `run TOPOLOGY SCRIPT CAPTURE FOLDER`, and no input lies in the folder that is written.
 pub(crate) fn is_run(words: &[String]) -> bool
@@ -17,6 +17,23 @@ pub(crate) fn is_run(words: &[String]) -> bool
     !(is_inside(topology.as_str(), folder)
         || is_inside(script.as_str(), folder)
         || is_inside(capture.as_str(), folder))
+}
+
+/// Whether the words are `check TOPOLOGY`.
+pub(crate) fn is_check(words: &[String]) -> bool
+    ensures { result ≡ is_check (texts words.now) }
+{
+    let [command, _] = words else {
+        return false;
+    };
+    command.as_str() == "check"
+}
+
+/// Whether the words are a command line of the program.
+pub(crate) fn is_command(words: &[String]) -> bool
+    ensures { result ≡ is_command (texts words.now) }
+{
+    is_run(words) || is_check(words)
 }
 
 /// Whether the name begins with the folder's and `/`.

@@ -4,4 +4,6 @@
 #![tactic(auto)]
 
 #[cfg(test)]
+mod check;
+#[cfg(test)]
 mod one_node;

@@ -85,7 +85,7 @@ const NO_ROUTE: [u8; 28] = [
     0x0A, 0x09, 0x00, 0x01, 0x00, 0x35, 0x00, 0x35, 0x00, 0x08, 0x00, 0x00,
 ];
 
-fn words(alloc: Global, texts: &[&str]) -> Result<Vec<String>, AllocError> {
+pub(crate) fn words(alloc: Global, texts: &[&str]) -> Result<Vec<String>, AllocError> {
     let mut words = Vec::new(alloc);
     for text in texts {
         words.push(String::from_str(alloc, text)?)?;
@@ -269,7 +269,8 @@ fn other_words_are_usage(rt: HostRuntime) -> Result<(), Fail> {
     assert!(rt; is_usage(alloc, &["--help"])?);
     assert!(rt; is_usage(alloc, &["run", "t", "s", "c"])?);
     assert!(rt; is_usage(alloc, &["run", "out/t", "s", "c", "out"])?);
-    assert!(rt; is_usage(alloc, &["check", "t"])?);
+    assert!(rt; is_usage(alloc, &["check"])?);
+    assert!(rt; is_usage(alloc, &["check", "t", "t"])?);
     assert!(rt; is_usage(alloc, &["generate", "0"])?);
     Ok(())
 }

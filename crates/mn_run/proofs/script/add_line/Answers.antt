@@ -1,8 +1,7 @@
 use Rattle.std.proofs.Common.{◌++◌, ◌∷◌, [], Some, sym, ap, ◌∙◌}
 use Rattle.std.specs.Prelude.{option_and_then}
 use Rattle.mn_edge.specs.Written.{texts}
-use Rattle.mn_run.specs.Tables.{texts_now}
-use Rattle.mn_run.specs.Script.{sent_by, line_words}
+use Rattle.mn_run.specs.Script.{texts_now, sent_by, line_words}
 use Rattle.mn_run.proofs.Wording.{with_words, some_words}
 use Rattle.mn_run.proofs.script.add_line.Goals as goal
 

@@ -1,6 +1,5 @@
 use Rattle.std.proofs.Common.{◌≡◌, ◌++◌, length}
-use Rattle.mn_run.specs.Tables.{texts_now}
-use Rattle.mn_run.specs.Script.{line_words}
+use Rattle.mn_run.specs.Script.{texts_now, line_words}
 use Rattle.mn_run.proofs.script.line_words.Given as goal
 
 abbrev pub invariant-words : goal.invariant-words

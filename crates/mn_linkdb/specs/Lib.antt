@@ -1,0 +1,5 @@
+pub mod Changes
+pub mod Network
+pub mod Learned
+pub mod PathTable
+pub mod Trees

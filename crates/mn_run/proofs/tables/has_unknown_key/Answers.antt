@@ -1,6 +1,0 @@
-use Rattle.std.proofs.Common.{◌∙◌, sym}
-use Rattle.mn_run.proofs.Keys.{unknown}
-use Rattle.mn_run.proofs.tables.has_unknown_key.Goals as goal
-
-pub returns : goal.returns
-returns c = c.finds_unknown.ensures ∙ sym (unknown c.args.known.now c.args.table.now.entries)

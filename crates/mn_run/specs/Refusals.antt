@@ -1,0 +1,67 @@
+-- The line of an outcome that refuses.
+use Rattle.std.specs.Prelude.{ℕ, List, [], ◌∷◌, ◌++◌, codes}
+use Rattle.std.specs.Fmt.{decimal}
+use Rattle.mn_pcap.specs.declared.refusal.PcapRule.{PcapRule}
+use Rattle.mn_pcap.specs.declared.refusal.PcapRule.TheVariants.{CutShort, IsPcapng, BadMagic, BadVersion, BadLinkType, BadRecord}
+use Rattle.mn_topo.specs.declared.refusal.TopoRule.{TopoRule}
+use Rattle.mn_topo.specs.declared.refusal.TopoRule.TheVariants.{NotToml, UnknownKey, MissingKey, WrongKind, BadName, TwiceNamed, NoSuchName, SelfLink, TwiceLinked, TwiceLoopback, BadCost, BadDelay, TwiceRd, BadTarget, PrefixTaken, TooMany}
+use Rattle.mn_topo.specs.declared.refusal.Place.{Place}
+use Rattle.mn_topo.specs.declared.refusal.Place.TheVariants.{Top, Node, Link, Vrf, Site}
+use Rattle.mn_report.specs.Lines.{text}
+use Rattle.mn_run.specs.declared.outcome.Input.TheVariants as input
+use Rattle.mn_run.specs.declared.outcome.Limit.{Limit}
+use Rattle.mn_run.specs.declared.outcome.Limit.TheVariants.{TopologyBytes, CaptureBytes, CaptureRecords}
+use Rattle.mn_run.specs.declared.outcome.Outcome.{Outcome}
+use Rattle.mn_run.specs.declared.outcome.Outcome.TheVariants.{Usage, BadTopology, BadCapture, TooLarge, NotBuilt}
+
+-- a rule of topologies by its number and name
+abbrev pub topo_rule_name : TopoRule → List ℕ
+topo_rule_name NotToml = codes "T1 NotToml"
+topo_rule_name UnknownKey = codes "T2 UnknownKey"
+topo_rule_name MissingKey = codes "T3 MissingKey"
+topo_rule_name WrongKind = codes "T4 WrongKind"
+topo_rule_name BadName = codes "T5 BadName"
+topo_rule_name TwiceNamed = codes "T6 TwiceNamed"
+topo_rule_name NoSuchName = codes "T7 NoSuchName"
+topo_rule_name SelfLink = codes "T8 SelfLink"
+topo_rule_name TwiceLinked = codes "T9 TwiceLinked"
+topo_rule_name TwiceLoopback = codes "T10 TwiceLoopback"
+topo_rule_name BadCost = codes "T11 BadCost"
+topo_rule_name BadDelay = codes "T12 BadDelay"
+topo_rule_name TwiceRd = codes "T13 TwiceRd"
+topo_rule_name BadTarget = codes "T14 BadTarget"
+topo_rule_name PrefixTaken = codes "T15 PrefixTaken"
+topo_rule_name TooMany = codes "T16 TooMany"
+
+-- the top table, or an entry by its array and its index from 0
+abbrev pub place_text : Place → List ℕ
+place_text Top = codes "top"
+place_text (Node index) = text (codes "node " ∷ decimal index ∷ [])
+place_text (Link index) = text (codes "link " ∷ decimal index ∷ [])
+place_text (Vrf index) = text (codes "vrf " ∷ decimal index ∷ [])
+place_text (Site index) = text (codes "site " ∷ decimal index ∷ [])
+
+-- a rule of captures by its name
+abbrev pub pcap_rule_name : PcapRule → List ℕ
+pcap_rule_name CutShort = codes "CutShort"
+pcap_rule_name IsPcapng = codes "IsPcapng"
+pcap_rule_name BadMagic = codes "BadMagic"
+pcap_rule_name BadVersion = codes "BadVersion"
+pcap_rule_name BadLinkType = codes "BadLinkType"
+pcap_rule_name BadRecord = codes "BadRecord"
+
+-- the line of an input that passes a limit
+abbrev pub limit_line : Limit → List ℕ
+limit_line TopologyBytes = codes "too large topology bytes\n"
+limit_line CaptureBytes = codes "too large capture bytes\n"
+limit_line CaptureRecords = codes "too large capture records\n"
+
+-- the line of an outcome that refuses
+abbrev pub refusal_line : Outcome → List ℕ
+refusal_line Usage = codes "usage: mplsnet run TOPOLOGY SCRIPT CAPTURE FOLDER | check TOPOLOGY | generate NUMBER\n"
+refusal_line (NotBuilt input.Topology) = codes "not built topology\n"
+refusal_line (NotBuilt input.Script) = codes "not built script\n"
+refusal_line (BadTopology rule place) = text (codes "topology refused " ∷ topo_rule_name rule ∷ codes " at " ∷ place_text place ∷ codes "\n" ∷ [])
+refusal_line (BadCapture rule place) = text (codes "capture refused " ∷ pcap_rule_name rule ∷ codes " at byte " ∷ decimal place ∷ codes "\n" ∷ [])
+refusal_line (TooLarge which limit) = limit_line which
+refusal_line outcome = []

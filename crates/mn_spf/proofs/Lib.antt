@@ -1,0 +1,4 @@
+pub mod Walks
+pub mod Best
+pub mod Steps
+pub mod Adjacent

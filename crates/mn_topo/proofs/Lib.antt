@@ -1,0 +1,14 @@
+pub mod Keys
+pub mod NameKeys
+pub mod Arrays
+pub mod LinkKeys
+pub mod VrfKeys
+pub mod StaticKeys
+pub mod LawfulEntries
+pub mod LawfulLinks
+pub mod LawfulVrfs
+pub mod LawfulSites
+pub mod Wirings
+pub mod LawfulNetwork
+pub mod Chain
+pub mod Ends

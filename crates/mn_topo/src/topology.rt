@@ -1,0 +1,270 @@
+//! The topology, and what it answers.
+ghost use Rattle.std.specs.Prelude.{◌≡◌, ◌<◌, Some, IfSome, is_some, length, map, slice_get};
+
+use crate::links::Links;
+use crate::nodes::{Node, Nodes};
+use crate::sites::{SiteDef, Sites};
+use crate::steps::Step;
+use crate::vrfs::{VrfDef, Vrfs};
+use mn_base::{Dir, LinkEnds, LinkNo, NodeNo, SiteNo, VrfNo};
+use std::marker::Model;
+
+/// The nodes, links, VRFs and sites of a network, numbered from 0 in the order of the file.
+pub struct Topology {
+    pub(crate) asn: u16,
+    pub(crate) notice_delay: u32,
+    pub(crate) bgp_delay: u32,
+    pub(crate) nodes: Nodes,
+    pub(crate) links: Links,
+    pub(crate) vrfs: Vrfs,
+    pub(crate) sites: Sites,
+}
+
+impl Model for Topology {
+    ghost use Rattle.mn_topo.specs.Network.{Network};
+    ghost use Rattle.mn_topo.specs.Lawful.{IsLawful};
+
+    ghost Value = { Network };
+
+    ghost view = { λ a. record {
+      asn = a.asn;
+      notice_delay = a.notice_delay;
+      bgp_delay = a.bgp_delay;
+      node_names = a.nodes.names;
+      loopbacks = a.nodes.loopbacks;
+      links = a.links;
+      vrf_names = a.vrfs.names;
+      vrfs = a.vrfs.vrfs;
+      site_names = a.sites.names;
+      sites = a.sites.sites;
+    } };
+
+    ghost invariant = { λ a. IsLawful (record {
+      asn = a.asn;
+      notice_delay = a.notice_delay;
+      bgp_delay = a.bgp_delay;
+      node_names = a.nodes.names;
+      loopbacks = a.nodes.loopbacks;
+      links = a.links;
+      vrf_names = a.vrfs.names;
+      vrfs = a.vrfs.vrfs;
+      site_names = a.sites.names;
+      sites = a.sites.sites;
+    }) };
+}
+
+/// By hand, so that whoever owns a topology drops it by one call, and not part by part.
+impl Drop for Topology {
+    fn drop(self) {
+        let Topology {
+            asn: _,
+            notice_delay: _,
+            bgp_delay: _,
+            nodes: _,
+            links: _,
+            vrfs: _,
+            sites: _,
+        } = self;
+    }
+}
+
+ghost use Rattle.mn_topo.specs.Network.{node_named, vrf_named, site_named, link_of, Leads};
+ghost use Rattle.mn_topo.specs.Links.{are_joined};
+ghost use Rattle.mn_topo.specs.Lawful.{IsLawful};
+ghost use Rattle.mn_topo.specs.VrfTable.{is_edge};
+ghost use Rattle.mn_topo.specs.Steps.{has_node, has_link, has_vrf, has_site, are_edges, are_edges_in_order, fits};
+
+impl Topology {
+    /// What holds of every topology.
+    pub fn laws(&self)
+        ensures { IsLawful self.now }
+    {
+        let _ = &self.asn;
+    }
+
+    /// The autonomous system's number: 1 to 65535.
+    pub fn asn(&self) -> u16
+        ensures { result ≡ self.now.asn }
+    {
+        self.asn
+    }
+
+    /// Ticks from a link's change until its ends learn of it: 1 to 1000.
+    pub fn notice_delay(&self) -> u32
+        ensures { result ≡ self.now.notice_delay }
+    {
+        self.notice_delay
+    }
+
+    /// Ticks from the sending of a BGP message until its arrival: 1 to 1000.
+    pub fn bgp_delay(&self) -> u32
+        ensures { result ≡ self.now.bgp_delay }
+    {
+        self.bgp_delay
+    }
+
+    /// The nodes by number.
+    pub fn nodes(&self) -> &[Node]
+        ensures { map (λ node. node.loopback) result.now ≡ self.now.loopbacks }
+    {
+        self.nodes.as_slice()
+    }
+
+    /// The links by number.
+    pub fn links(&self) -> &[LinkEnds]
+        ensures { result.now ≡ self.now.links }
+    {
+        self.links.as_slice()
+    }
+
+    /// The VRFs by number.
+    pub fn vrfs(&self) -> &[VrfDef]
+        ensures { result.now ≡ self.now.vrfs }
+    {
+        self.vrfs.as_slice()
+    }
+
+    /// The sites by number.
+    pub fn sites(&self) -> &[SiteDef]
+        ensures { result.now ≡ self.now.sites }
+    {
+        self.sites.as_slice()
+    }
+
+    /// The node with the name.
+    pub fn node_named(&self, name: &[u8]) -> Option<NodeNo>
+        ensures value { result ≡ node_named self.now name.now }
+        ensures within { IfSome result (λ no. no.0 < length self.now.loopbacks) }
+    {
+        match self.nodes.names().number_of(name) {
+            Some(number) => Some(NodeNo(number)),
+            None => None,
+        }
+    }
+
+    /// The VRF with the name.
+    pub fn vrf_named(&self, name: &[u8]) -> Option<VrfNo>
+        ensures value { result ≡ vrf_named self.now name.now }
+        ensures within { IfSome result (λ no. no.0 < length self.now.vrfs) }
+    {
+        match self.vrfs.names().number_of(name) {
+            Some(number) => Some(VrfNo(number)),
+            None => None,
+        }
+    }
+
+    /// The site with the name.
+    pub fn site_named(&self, name: &[u8]) -> Option<SiteNo>
+        ensures value { result ≡ site_named self.now name.now }
+        ensures within { IfSome result (λ no. no.0 < length self.now.sites) }
+    {
+        match self.sites.names().number_of(name) {
+            Some(number) => Some(SiteNo(number)),
+            None => None,
+        }
+    }
+
+    /// The name of the node.
+    pub fn node_name(&self, no: NodeNo) -> &[u8]
+        requires { no.0 < length self.now.loopbacks }
+        ensures { slice_get self.now.node_names no.0 ≡ Some result.now }
+    {
+        self.nodes.names().name_of(no.0)
+    }
+
+    /// The name of the VRF.
+    pub fn vrf_name(&self, no: VrfNo) -> &[u8]
+        requires { no.0 < length self.now.vrfs }
+        ensures { slice_get self.now.vrf_names no.0 ≡ Some result.now }
+    {
+        self.vrfs.names().name_of(no.0)
+    }
+
+    /// The name of the site.
+    pub fn site_name(&self, no: SiteNo) -> &[u8]
+        requires { no.0 < length self.now.sites }
+        ensures { slice_get self.now.site_names no.0 ≡ Some result.now }
+    {
+        self.sites.names().name_of(no.0)
+    }
+
+    /// The link that joins two nodes, and the direction from `a` to `b`.
+    pub fn link_of(&self, a: NodeNo, b: NodeNo) -> Option<(LinkNo, Dir)>
+        ensures value { result ≡ link_of self.now a.0 b.0 }
+        ensures leads { IfSome result (λ found. Leads self.now a.0 b.0 found.0.0 found.1) }
+        ensures found { is_some result ≡ are_joined self.now.links a.0 b.0 }
+    {
+        let number = self.links.joining(a.0, b.0)?;
+        let link = &self.links.as_slice()[number as usize];
+        let direction = if link.a.0 == a.0 {
+            Dir::Forth
+        } else {
+            Dir::Back
+        };
+        Some((LinkNo(number), direction))
+    }
+
+    /// Whether the node has a VRF.
+    pub fn is_edge(&self, no: NodeNo) -> bool
+        ensures { result ≡ is_edge self.now.vrfs no.0 }
+    {
+        self.vrfs.is_edge(no.0)
+    }
+
+    fn has_node(&self, no: NodeNo) -> bool
+        ensures { result ≡ has_node self.now no }
+    {
+        (no.0 as usize) < self.nodes().len()
+    }
+
+    fn has_link(&self, no: LinkNo) -> bool
+        ensures { result ≡ has_link self.now no }
+    {
+        (no.0 as usize) < self.links().len()
+    }
+
+    fn has_vrf(&self, no: VrfNo) -> bool
+        ensures { result ≡ has_vrf self.now no }
+    {
+        (no.0 as usize) < self.vrfs().len()
+    }
+
+    fn has_site(&self, no: SiteNo) -> bool
+        ensures { result ≡ has_site self.now no }
+    {
+        (no.0 as usize) < self.sites().len()
+    }
+
+    fn are_edges(&self, a: NodeNo, b: NodeNo) -> bool
+        ensures { result ≡ are_edges self.now a b }
+    {
+        self.is_edge(a) && self.is_edge(b) && a.0 != b.0
+    }
+
+    fn are_edges_in_order(&self, a: NodeNo, b: NodeNo) -> bool
+        ensures { result ≡ are_edges_in_order self.now a b }
+    {
+        self.is_edge(a) && self.is_edge(b) && a.0 < b.0
+    }
+
+    /// Whether the step's numbers are those of the topology, a record is from 1, a target is of one of its
+    /// two forms, and a BGP step names two different edges, which BgpUp and BgpDown do in their order.
+    pub fn fits(&self, step: &Step) -> bool
+        ensures { result ≡ fits self.now step.now }
+    {
+        match step {
+            Step::LinkUp(link) | Step::LinkDown(link) => self.has_link(*link),
+            Step::Learn(node, link) => self.has_node(*node) && self.has_link(*link),
+            Step::LdpAdmin(link, _) | Step::HearLdp(link, _) => self.has_link(*link),
+            Step::BgpUp(a, b) | Step::BgpDown(a, b) => self.are_edges_in_order(*a, *b),
+            Step::HearBgp(a, b) => self.are_edges(*a, *b),
+            Step::AddRoute(site, _) | Step::DelRoute(site, _) => self.has_site(*site),
+            Step::Import(vrf, target, _) | Step::Export(vrf, target, _) => {
+                self.has_vrf(*vrf) && target.has_form()
+            }
+            Step::Attach(site) | Step::Detach(site) => self.has_site(*site),
+            Step::Inject(site, record) => self.has_site(*site) && *record >= 1,
+            Step::Carry(link, _, _) | Step::Lose(link, _, _) => self.has_link(*link),
+        }
+    }
+}
