@@ -1,2 +1,14 @@
 pub mod Longest
 pub mod Accounted
+mod TwoLinks
+mod MoreRuns
+pub mod OnePlace
+pub mod Parts
+pub mod Talk
+pub mod Mentions
+pub mod Turning
+pub mod GoingBy
+pub mod Peers
+pub mod InTurn
+pub mod Quiet
+pub mod Nearer

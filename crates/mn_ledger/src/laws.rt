@@ -4,6 +4,26 @@ ghost use Rattle.mn_base.specs.declared.numbers.NodeNo.{NodeNo};
 ghost use Rattle.mn_ledger.specs.declared.route.Route.{Route};
 ghost use Rattle.mn_ledger.specs.Deliveries.{verdicts_after, delivered_packets};
 ghost use Rattle.mn_ledger.specs.Accounts.{Accounts};
+ghost use Rattle.std.specs.Prelude.{◌≡◌};
+ghost use Rattle.mn_topo.specs.Network.{Network};
+ghost use Rattle.mn_topo.specs.Lawful.{IsLawful};
+ghost use Rattle.mn_topo.specs.declared.steps.Step.{Step};
+ghost use Rattle.mn_topo.specs.declared.steps.JournalEntry.{JournalEntry};
+ghost use Rattle.mn_ledger.specs.World.{World};
+ghost use Rattle.mn_ledger.specs.Packets.{Packets};
+ghost use Rattle.mn_ledger.specs.Ledger.{world_of, packets_of};
+ghost use Rattle.mn_ledger.specs.Lawful.{IsLawfulJournal};
+ghost use Rattle.mn_ledger.specs.Verdicts.{injections, AreInOnePlace};
+ghost use Rattle.mn_ledger.specs.Parts.{KeepsOtherParts, IsByLastSteps};
+ghost use Rattle.mn_ledger.specs.Turns.{IsInTurn, HasRows};
+ghost use Rattle.std.specs.Prelude.{◌≢◌, ◌<◌, [], true, false, length, Some};
+ghost use Rattle.mn_base.specs.Wiring.{View};
+ghost use Rattle.mn_base.specs.Paths.{IsLeast, next};
+ghost use Rattle.mn_topo.specs.Network.{wiring_of};
+ghost use Rattle.mn_topo.specs.Steps.{fits};
+ghost use Rattle.mn_ledger.specs.Refusal.{is_unchanged};
+ghost use Rattle.mn_ledger.specs.Quiet.{known_before, known_after, said_by};
+ghost use Rattle.mn_ledger.specs.Nearer.{IsNearer};
 
 /// Each packet that is sent is accounted for: it reaches only the site of the longest route, unchanged but for TTL and
 /// checksum, or it falls to the first rule that applies.
@@ -11,4 +31,50 @@ ghost use Rattle.mn_ledger.specs.Accounts.{Accounts};
 pub fn every_packet_is_accounted_for()
     ensures { (routes : List Route) (node : NodeNo) (delivered : ℕ) (packets : List (List ℕ)) →
         Accounts routes node delivered packets (verdicts_after node routes delivered packets) (delivered_packets routes packets) }
+{}
+
+/// Each packet that was injected has one verdict and one path, and flies in exactly one place where its verdict says so,
+/// and in none otherwise. It holds of every journal, lawful or not.
+pub fn packets_are_in_one_place()
+    ensures { (topology : Network) (entries : List JournalEntry) (inputs : List (List ℕ)) →
+        AreInOnePlace (packets_of topology entries inputs) (injections entries) }
+{}
+
+/// A step leaves the parts of the world that it isn't of as they were; of packets, that nothing is delivered in it.
+pub fn a_step_keeps_other_parts()
+    ensures { (topology : Network) (world : World) (packets : Packets) (step : Step) (bytes : List ℕ) →
+        KeepsOtherParts topology world packets step bytes }
+{}
+
+/// What is configured is what the last step that named it made it, and changes, learned changes and attachments are
+/// counted over the journal.
+pub fn last_steps_decide()
+    ensures { (topology : Network) (entries : List JournalEntry) → IsByLastSteps topology entries }
+{}
+
+/// After a lawful journal nobody has heard more than was said or told, nor learned more than was changed; a session
+/// without a life has said nothing; and what each end says goes by the state tables of LDP and BGP.
+pub fn sessions_are_in_turn()
+    ensures { (topology : Network) (entries : List JournalEntry) (inputs : List (List ℕ)) →
+        IsLawful topology → IsLawfulJournal topology entries inputs → IsInTurn topology (world_of topology entries) }
+{}
+
+/// Where sessions are in turn, the table of an end's state has a row for the message that it hears next.
+pub fn every_message_has_a_row()
+    ensures { (topology : Network) (world : World) → IsLawful topology → IsInTurn topology world → HasRows topology world }
+{}
+
+/// A node that knows after a step's change of links, switches and counts what it knew before says nothing in the step.
+pub fn who_learns_nothing_says_nothing()
+    ensures { (topology : Network) (world : World) (step : Step) (node : ℕ) →
+        fits topology step ≡ true → is_unchanged world.config step ≡ false →
+        known_before topology world node ≡ known_after topology world step node → said_by topology world step node ≡ [] }
+{}
+
+/// From the next hop towards a node the least cost is less than from the node before it.
+pub fn the_next_hop_is_nearer()
+    ensures { (topology : Network) (view : View) (from to cost : ℕ) (hop : ℕ × ℕ) →
+        IsLawful topology → from < length topology.loopbacks → from ≢ to →
+        next (wiring_of topology) view from to ≡ Some hop → IsLeast (wiring_of topology) view from to cost →
+        IsNearer (wiring_of topology) view hop.0 to cost }
 {}

@@ -1,18 +1,36 @@
 //! The ledger: what becomes of every packet, by definitions over routes, packets and steps alone.
 //!
-//! The program's answers are compared with it. It knows prefixes, sites and rules, and no table of prefixes, no
-//! label and no byte of a message. Today it tells of one node: the packets that its sites send, one after another.
+//! The program's answers are compared with it. From a topology, a journal of steps and the packets' bytes alone it says
+//! what every session has said and heard, which routes each VRF holds, and where every packet is. It knows no label, no
+//! byte of a message, no tree and no table of prefixes.
 //!
-//! - `specs/Routes`: the best route for an address
-//! - `specs/Entry`: the rules by which an edge drops a packet, and the site that it reaches
-//! - `specs/Deliveries`: the verdicts on packets, and the packets as they arrive
-//! - `specs/Accounts`: what is owed to each packet, in the words of a customer; `laws` says that it is paid
+//! ```text
+//!             Config    what is switched on, the targets, statics and attachments   (a step sets them)
+//!  step --->  Views     how many changes of each link each node has learned
+//!             Sessions  LDP: what each end has said and heard          (RFC 5036)
+//!             Peerings  BGP: what each edge has told and heard         (RFC 4271, RFC 4364)
+//!             Packets   verdicts, paths and what flies                 (RFC 3031, RFC 4364, section 5)
+//! ```
+//!
+//! - `specs/World`: the records; `specs/Places`: what a topology says by number; `specs/Tables`: tables by number
+//! - `specs/Transport`: views, LDP sessions and where a node can send; `specs/Vpn`: BGP sessions, exports, held routes
+//! - `specs/Packets`: entry, hops and ends; `specs/Ledger`: the start, one step, a journal
+//! - `specs/Refusal`: which steps are refused; `specs/Lawful`: journals of which none is
+//! - `specs/Verdicts`, `specs/Parts`, `specs/Turns`: what the laws say; `specs/Settled`: settled worlds
+//! - `specs/Routes`, `specs/Entry`, `specs/Deliveries`, `specs/Accounts`: the packets of one node, sent one after another
+//! - `laws`: the laws of all these; `proofs/TwoLinks`: runs that are computed step by step
 #![tactic(auto)]
 
 mod laws;
+mod refused;
 mod route;
 mod verdict;
 
-pub use laws::every_packet_is_accounted_for;
+pub use laws::{
+    a_step_keeps_other_parts, every_message_has_a_row, every_packet_is_accounted_for,
+    last_steps_decide, packets_are_in_one_place, sessions_are_in_turn, the_next_hop_is_nearer,
+    who_learns_nothing_says_nothing,
+};
+pub use refused::Refused;
 pub use route::Route;
 pub use verdict::Verdict;

@@ -1,6 +1,5 @@
 -- The promise of a run, from the definition of its answer.
 use Rattle.std.proofs.Common.{◌≡◌, ◌==◌, ◌&&◌, arith, ℕ, Bool, true, false, nat_lt, if◌then◌else◌, List, [], ◌∷◌, ◌++◌, map, length, Option, Some, None, Result, Ok, Err, option_map, IsSomeAnd, refl, ap, sym, ◌∙◌}
-use Rattle.std.specs.Prelude.{option_and_then}
 use Rattle.std.specs.Ordering.{is_eq}
 use Rattle.std.proofs.lemmas.List.{length-map}
 use Rattle.std.proofs.lemmas.Bool.Decides.{nat_tests}
@@ -14,21 +13,25 @@ use Rattle.mn_report.specs.Lines.{total_line}
 use Rattle.mn_run.specs.declared.outcome.Input.{Input}
 use Rattle.mn_run.specs.declared.outcome.Input.TheVariants.{Topology, Script}
 use Rattle.mn_run.specs.declared.outcome.Outcome.{Outcome}
-use Rattle.mn_run.specs.declared.outcome.Outcome.TheVariants.{Done, Usage, NotBuilt, BadTopology, BadCapture, TooLarge, ReadFault, WriteFault, NoMemory}
+use Rattle.mn_run.specs.declared.outcome.Outcome.TheVariants.{Done, Usage, NotBuilt, BadTopology, BadScript, BadCapture, TooLarge, ReadFault, WriteFault, NoMemory}
 use Rattle.mn_run.specs.Words.{word, is_run, is_check}
 use Rattle.mn_topo.specs.declared.refusal.TopoRule.{TopoRule}
 use Rattle.mn_topo.specs.declared.refusal.Place.{Place}
 use Rattle.mn_topo.specs.Network.{Network}
 use Rattle.mn_topo.specs.Topology.{topology_of}
-use Rattle.mn_run.specs.Network.{NetworkView, view_of, is_one_node}
-use Rattle.mn_run.specs.Script.{script_of}
+use Rattle.mn_run.specs.Network.{view_of, is_one_node}
+use Rattle.mn_run.specs.Sending.{all_sent}
+use Rattle.std.specs.Str.Lines.{lines}
+use Rattle.mn_script.specs.declared.refusal.ScriptRule.{ScriptRule}
+use Rattle.mn_script.specs.declared.command.Line.{Line}
+use Rattle.mn_script.specs.Script.{script_of}
 use Rattle.mn_pcap.specs.Reading as pcap
 use Rattle.mn_pcap.specs.Reading.{count_of}
 use Rattle.mn_pcap.specs.declared.refusal.PcapBad.{PcapBad}
 use Rattle.mn_pcap.specs.declared.refusal.PcapBad.TheVariants as bad
-use Rattle.mn_run.specs.declared.outcome.Limit.TheVariants.{TopologyBytes, CaptureBytes, CaptureRecords}
+use Rattle.mn_run.specs.declared.outcome.Limit.TheVariants.{TopologyBytes, ScriptBytes, ScriptLines, CaptureBytes, CaptureRecords}
 use Rattle.mn_run.specs.Service.{the_node, packets_of, delivered_records}
-use Rattle.mn_run.specs.Answer.{Answer, joined, refusal, with_input, if_built, if_captured, with_records, with_capture, most_capture_bytes, most_capture_records, most_topology_bytes, if_lawful, with_topology, from_capture, from_script, from_topology, run_answer, check_answer, checked, answer_of, done_answer, sends, misses, refused_lines, packet_lines, names_of, totals_of, delivered_name, raw_ipv4, most_bytes}
+use Rattle.mn_run.specs.Answer.{Answer, joined, refusal, if_built, if_accepted, with_lines, with_script, most_script_bytes, most_script_lines, from_lines, if_captured, with_records, with_capture, most_capture_bytes, most_capture_records, most_topology_bytes, if_lawful, with_topology, from_capture, from_script, from_topology, run_answer, check_answer, checked, answer_of, done_answer, sends, misses, refused_lines, packet_lines, names_of, totals_of, delivered_name, raw_ipv4}
 use Rattle.mn_run.specs.Endings.{OutcomeIs, FilesAre, TextIs}
 use Rattle.mn_run.specs.Headline.{KeepsItsPromise, TellsTopology, HeadlineIs}
 use Rattle.mn_run.proofs.Planning.{name_same}
@@ -36,19 +39,15 @@ use Rattle.mn_run.proofs.Planning.{name_same}
 -- the answer of a run that is done, with what was read for it
 record IsDone (words : List (List ℕ)) (files : Files) (answer : Answer) : Type 0 where
   pub topology : Network
+  pub commands : List Line
   pub script : List Sent
   pub packets : List (List ℕ)
   pub topology_read : option_map topology_of (file files (word words 1)) ≡ Some (Ok topology)
   pub one_node : is_one_node topology ≡ true
-  pub script_read : option_and_then (script_of topology.site_names) (file files (word words 2)) ≡ Some script
+  pub script_read : option_map (script_of topology) (file files (word words 2)) ≡ Some (Ok commands)
+  pub each_sends : all_sent commands ≡ Some script
   pub capture_read : option_map pcap.packets_of (file files (word words 3)) ≡ Some (Ok packets)
   pub is : answer ≡ done_answer (word words 4) (view_of topology) script packets
-
--- an input that leads to a run that is done was there and could be run
-record Passed {A : Type 0} (input : Option (List ℕ)) (read : List ℕ → Option A) (next : A → Option Answer) (answer : Answer) : Type 0 where
-  pub value : A
-  pub was_read : option_and_then read input ≡ Some value
-  pub goes_on : next value ≡ Some answer
 
 not_refused : (what : Input) (answer : Answer) → Some (refusal (NotBuilt what)) ≡ Some answer → answer.outcome ≡ Done → ⊥
 not_refused what answer e done = let same : refusal (NotBuilt what) ≡ answer = cc in let other : NotBuilt what ≡ Done = ap (λ (a : Answer). a.outcome) same ∙ done in cc
@@ -56,16 +55,6 @@ not_refused what answer e done = let same : refusal (NotBuilt what) ≡ answer =
 built : {A : Type 0} (o : Option A) (what : Input) (next : A → Option Answer) (answer : Answer) → if_built o what next ≡ Some answer → answer.outcome ≡ Done → (x : A) × (o ≡ Some x) × (next x ≡ Some answer)
 built None what next answer e done = absurd (not_refused what answer e done)
 built (Some x) what next answer e done = (x, refl, e)
-
-within : {A : Type 0} (bytes : List ℕ) (what : Input) (read : List ℕ → Option A) (next : A → Option Answer) (answer : Answer) (b : Bool) →
-    (if b then Some (refusal (NotBuilt what)) else if_built (read bytes) what next) ≡ Some answer → answer.outcome ≡ Done → Passed (Some bytes) read next answer
-within bytes what read next answer true e done = absurd (not_refused what answer e done)
-within bytes what read next answer false e done = let x = built (read bytes) what next answer e done in record { value = x.0; was_read = x.1; goes_on = x.2 }
-
-passed : {A : Type 0} (input : Option (List ℕ)) (what : Input) (read : List ℕ → Option A) (next : A → Option Answer) (answer : Answer) →
-    with_input input what (λ bytes. if_built (read bytes) what next) ≡ Some answer → answer.outcome ≡ Done → Passed input read next answer
-passed None what read next answer e done = absurd cc
-passed (Some bytes) what read next answer e done = within bytes what read next answer (nat_lt most_bytes (length bytes)) e done
 
 -- a refusal is no answer of a run that is done
 no_refusal : (o : Outcome) (answer : Answer) → (o ≡ Done → ⊥) → Some (refusal o) ≡ Some answer → answer.outcome ≡ Done → ⊥
@@ -88,6 +77,22 @@ capture_passed : (input : Option (List ℕ)) (next : List (List ℕ) → Option 
 capture_passed None next answer e done = absurd cc
 capture_passed (Some bytes) next answer e done = let x = sized bytes next answer (nat_lt most_capture_bytes (length bytes)) e done in (x.0, ap Some x.1, x.2)
 
+accepted : (found : Result (List Line) (ScriptRule × ℕ)) (next : List Line → Option Answer) (answer : Answer) → if_accepted found next ≡ Some answer → answer.outcome ≡ Done → (ls : List Line) × (found ≡ Ok ls) × (next ls ≡ Some answer)
+accepted (Ok ls) next answer e done = (ls, refl, e)
+accepted (Err refused) next answer e done = absurd (no_refusal (BadScript refused.0 refused.1) answer (λ h. cc) e done)
+
+lines_counted : (t : Network) (bytes : List ℕ) (next : List Line → Option Answer) (answer : Answer) (b : Bool) → (if b then Some (refusal (TooLarge ScriptLines most_script_lines)) else if_accepted (script_of t bytes) next) ≡ Some answer → answer.outcome ≡ Done → (ls : List Line) × (script_of t bytes ≡ Ok ls) × (next ls ≡ Some answer)
+lines_counted t bytes next answer true e done = absurd (no_refusal (TooLarge ScriptLines most_script_lines) answer (λ h. cc) e done)
+lines_counted t bytes next answer false e done = accepted (script_of t bytes) next answer e done
+
+script_sized : (t : Network) (bytes : List ℕ) (next : List Line → Option Answer) (answer : Answer) (b : Bool) → (if b then Some (refusal (TooLarge ScriptBytes most_script_bytes)) else with_lines t bytes next) ≡ Some answer → answer.outcome ≡ Done → (ls : List Line) × (script_of t bytes ≡ Ok ls) × (next ls ≡ Some answer)
+script_sized t bytes next answer true e done = absurd (no_refusal (TooLarge ScriptBytes most_script_bytes) answer (λ h. cc) e done)
+script_sized t bytes next answer false e done = lines_counted t bytes next answer (nat_lt most_script_lines (length (lines bytes))) e done
+
+script_passed : (t : Network) (input : Option (List ℕ)) (next : List Line → Option Answer) (answer : Answer) → with_script t input next ≡ Some answer → answer.outcome ≡ Done → (ls : List Line) × (option_map (script_of t) input ≡ Some (Ok ls)) × (next ls ≡ Some answer)
+script_passed t None next answer e done = absurd cc
+script_passed t (Some bytes) next answer e done = let x = script_sized t bytes next answer (nat_lt most_script_bytes (length bytes)) e done in (x.0, ap Some x.1, x.2)
+
 lawful : (found : Result Network (TopoRule × Place)) (next : Network → Option Answer) (answer : Answer) → if_lawful found next ≡ Some answer → answer.outcome ≡ Done → (t : Network) × (found ≡ Ok t) × (next t ≡ Some answer)
 lawful (Ok t) next answer e done = (t, refl, e)
 lawful (Err refused) next answer e done = absurd (no_refusal (BadTopology refused.0 refused.1) answer (λ h. cc) e done)
@@ -100,7 +105,7 @@ topology_passed : (input : Option (List ℕ)) (next : Network → Option Answer)
 topology_passed None next answer e done = absurd cc
 topology_passed (Some bytes) next answer e done = let x = topology_sized bytes next answer (nat_lt most_topology_bytes (length bytes)) e done in (x.0, ap Some x.1, x.2)
 
-one_node_passed : (words : List (List ℕ)) (files : Files) (topology : Network) (answer : Answer) (b : Bool) → (if b then from_script words files (view_of topology) else Some (refusal (NotBuilt Topology))) ≡ Some answer → answer.outcome ≡ Done → (b ≡ true) × (from_script words files (view_of topology) ≡ Some answer)
+one_node_passed : (words : List (List ℕ)) (files : Files) (topology : Network) (answer : Answer) (b : Bool) → (if b then from_script words files topology else Some (refusal (NotBuilt Topology))) ≡ Some answer → answer.outcome ≡ Done → (b ≡ true) × (from_script words files topology ≡ Some answer)
 one_node_passed words files topology answer true e done = (refl, e)
 one_node_passed words files topology answer false e done = absurd (not_refused Topology answer e done)
 
@@ -111,9 +116,10 @@ run_done : (words : List (List ℕ)) (files : Files) (answer : Answer) → run_a
 run_done words files answer e done =
     let t = topology_passed (file files (word words 1)) (from_topology words files) answer e done in
     let o = one_node_passed words files t.0 answer (is_one_node t.0) t.2 done in
-    let s = passed (file files (word words 2)) Script (script_of t.0.site_names) (from_capture words files (view_of t.0)) answer o.1 done in
-    let c = capture_passed (file files (word words 3)) (λ packets. Some (done_answer (word words 4) (view_of t.0) s.value packets)) answer s.goes_on done in
-    record { topology = t.0; script = s.value; packets = c.0; topology_read = t.1; one_node = o.0; script_read = s.was_read; capture_read = c.1; is = sym (same_some _ _ c.2) }
+    let l = script_passed t.0 (file files (word words 2)) (from_lines words files t.0) answer o.1 done in
+    let s = built (all_sent l.0) Script (from_capture words files (view_of t.0)) answer l.2 done in
+    let c = capture_passed (file files (word words 3)) (λ packets. Some (done_answer (word words 4) (view_of t.0) s.0 packets)) answer s.2 done in
+    record { topology = t.0; commands = l.0; script = s.0; packets = c.0; topology_read = t.1; one_node = o.0; script_read = l.1; each_sends = s.1; capture_read = c.1; is = sym (same_some _ _ c.2) }
 
 -- a run that is done, by its words
 is_done : (words : List (List ℕ)) (files : Files) (answer : Answer) → is_run words ≡ true → answer_of words files ≡ Some answer → answer.outcome ≡ Done → IsDone words files answer
@@ -133,6 +139,7 @@ promise words files before after written_now answer d f t =
     let count : length (delivered_records (view_of d.topology).routes inputs) ≡ length arrived = simp length-map in
     record {
       topology = d.topology;
+      commands = d.commands;
       script = d.script;
       packets = d.packets;
       verdicts = verdicts_after the_node (view_of d.topology).routes 0 inputs;
@@ -140,6 +147,7 @@ promise words files before after written_now answer d f t =
       topology_read = d.topology_read;
       one_node = d.one_node;
       script_read = d.script_read;
+      each_sends = d.each_sends;
       capture_read = d.capture_read;
       accounts = accounted (view_of d.topology).routes the_node 0 inputs;
       lines = t ∙ ap (λ (a : Answer). Some (before ++ a.text)) d.is ∙ ap (λ n. Some (before ++ joined (refused_lines (length d.packets) d.script ++ packet_lines (names_of (view_of d.topology)) 1 sent (verdicts_after the_node (view_of d.topology).routes 0 inputs) ++ total_line (totals_of (length sent) n (length (misses (length d.packets) d.script))) ∷ []))) count;
@@ -192,5 +200,6 @@ headline words files before after written_now WriteFault o f t = tt
 headline words files before after written_now NoMemory o f t = tt
 headline words files before after written_now (NotBuilt what) o f t = tt
 headline words files before after written_now (BadTopology rule place) o f t = tt
+headline words files before after written_now (BadScript rule line) o f t = tt
 headline words files before after written_now (BadCapture rule place) o f t = tt
 headline words files before after written_now (TooLarge which limit) o f t = tt

@@ -6,7 +6,7 @@ use Rattle.std.proofs.lemmas.Grind.{flat_map-append}
 use Rattle.mn_edge.specs.Files.{Files}
 use Rattle.mn_edge.specs.Written.{texts, laid, IsPart, PartWritten}
 use Rattle.mn_run.specs.declared.outcome.Outcome.{Outcome}
-use Rattle.mn_run.specs.declared.outcome.Outcome.TheVariants.{Done, Usage, ReadFault, WriteFault, NoMemory, NotBuilt, BadTopology, BadCapture, TooLarge}
+use Rattle.mn_run.specs.declared.outcome.Outcome.TheVariants.{Done, Usage, ReadFault, WriteFault, NoMemory, NotBuilt, BadTopology, BadScript, BadCapture, TooLarge}
 use Rattle.mn_run.specs.Answer.{Answer, joined, refusal}
 use Rattle.mn_run.specs.Endings.{PartPut, PartText, PartFiles, OutcomeIs, CausedBy, Completes, Counts, UsageIff}
 
@@ -60,6 +60,7 @@ completes a old new Done h c x e none = inl (given a Done h x e)
 completes a old new Usage h c x e none = inl (given a Usage h x e)
 completes a old new (NotBuilt what) h c x e none = inl (given a (NotBuilt what) h x e)
 completes a old new (BadTopology rule place) h c x e none = inl (given a (BadTopology rule place) h x e)
+completes a old new (BadScript rule line) h c x e none = inl (given a (BadScript rule line) h x e)
 completes a old new (BadCapture rule place) h c x e none = inl (given a (BadCapture rule place) h x e)
 completes a old new (TooLarge which limit) h c x e none = inl (given a (TooLarge which limit) h x e)
 
@@ -72,6 +73,7 @@ of_input good o ReadFault e i h = e
 of_input good o Done e i h = e
 of_input good o (NotBuilt what) e i h = e
 of_input good o (BadTopology rule place) e i h = e
+of_input good o (BadScript rule line) e i h = e
 of_input good o (BadCapture rule place) e i h = e
 of_input good o (TooLarge which limit) e i h = e
 

@@ -2,10 +2,10 @@ pub mod Results
 pub mod Arrivals
 pub mod Serving
 pub mod Planning
-pub mod Keys
-pub mod Wording
 pub mod Ending
 pub mod Loading
 pub mod Accounting
 pub mod Capturing
 pub mod Naming
+pub mod Sends
+pub mod Scripting

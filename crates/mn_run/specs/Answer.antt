@@ -15,6 +15,10 @@ use Rattle.mn_report.specs.declared.lines.Sent.{Sent}
 use Rattle.mn_report.specs.declared.lines.Totals.{Totals}
 use Rattle.mn_report.specs.Names.{NameLists}
 use Rattle.mn_report.specs.Lines.{text, packet_line, refused_line, total_line}
+use Rattle.std.specs.Str.Lines.{lines}
+use Rattle.mn_script.specs.declared.refusal.ScriptRule.{ScriptRule}
+use Rattle.mn_script.specs.declared.command.Line.{Line}
+use Rattle.mn_script.specs.Script.{script_of}
 use Rattle.mn_topo.specs.declared.refusal.TopoRule.{TopoRule}
 use Rattle.mn_topo.specs.declared.refusal.Place.{Place}
 use Rattle.mn_topo.specs.Network.{Network}
@@ -22,13 +26,13 @@ use Rattle.mn_topo.specs.SiteTable.{statics_of}
 use Rattle.mn_topo.specs.Topology.{topology_of}
 use Rattle.mn_run.specs.declared.outcome.Input.{Input}
 use Rattle.mn_run.specs.declared.outcome.Input.TheVariants.{Topology, Script}
-use Rattle.mn_run.specs.declared.outcome.Limit.TheVariants.{TopologyBytes, CaptureBytes, CaptureRecords}
+use Rattle.mn_run.specs.declared.outcome.Limit.TheVariants.{TopologyBytes, ScriptBytes, ScriptLines, CaptureBytes, CaptureRecords}
 use Rattle.mn_run.specs.declared.outcome.Outcome.{Outcome}
-use Rattle.mn_run.specs.declared.outcome.Outcome.TheVariants.{Done, Usage, NoMemory, BadTopology, BadCapture, TooLarge, NotBuilt}
+use Rattle.mn_run.specs.declared.outcome.Outcome.TheVariants.{Done, Usage, NoMemory, BadTopology, BadScript, BadCapture, TooLarge, NotBuilt}
 use Rattle.mn_run.specs.Words.{word, is_run, is_check}
 use Rattle.mn_run.specs.Refusals.{refusal_line}
 use Rattle.mn_run.specs.Network.{NetworkView, view_of, is_one_node}
-use Rattle.mn_run.specs.Script.{script_of}
+use Rattle.mn_run.specs.Sending.{all_sent}
 use Rattle.mn_run.specs.Service.{the_node, packets_of, delivered_records}
 
 -- how the call ends, the files that it writes, and the text that it puts
@@ -102,19 +106,6 @@ done_answer folder network script packets = record {
   text = joined (report_lines network packets script);
 }
 
--- an input has at most 1 MiB
-abbrev pub most_bytes : ℕ
-most_bytes = 2 ^ 20
-
--- the bytes of an input, which goes on where it isn't longer than the limit
-abbrev pub with_bytes : List ℕ → Input → (List ℕ → Option Answer) → Option Answer
-with_bytes bytes what next = if nat_lt most_bytes (length bytes) then Some (refusal (NotBuilt what)) else next bytes
-
--- an input that is there goes on; without it there is no answer
-abbrev pub with_input : Option (List ℕ) → Input → (List ℕ → Option Answer) → Option Answer
-with_input None what next = None
-with_input (Some bytes) what next = with_bytes bytes what next
-
 -- an input that a run can take goes on; another is refused
 abbrev pub if_built : {A : Type 0} → Option A → Input → (A → Option Answer) → Option Answer
 if_built None what next = Some (refusal (NotBuilt what))
@@ -145,9 +136,33 @@ with_capture (Some bytes) next = if nat_lt most_capture_bytes (length bytes) the
 abbrev pub from_capture : List (List ℕ) → Files → NetworkView → List Sent → Option Answer
 from_capture words files network script = with_capture (file files (word words 3)) (λ packets. Some (done_answer (word words 4) network script packets))
 
--- the answer once the network is known
-abbrev pub from_script : List (List ℕ) → Files → NetworkView → Option Answer
-from_script words files network = with_input (file files (word words 2)) Script (λ bytes. if_built (script_of network.sites bytes) Script (from_capture words files network))
+-- a script has at most 64 MiB, and at most 3,000,000 lines
+abbrev pub most_script_bytes : ℕ
+most_script_bytes = 2 ^ 26
+
+abbrev pub most_script_lines : ℕ
+most_script_lines = 3000000
+
+-- a script goes on with its lines, or is refused by rule and line
+abbrev pub if_accepted : Result (List Line) (ScriptRule × ℕ) → (List Line → Option Answer) → Option Answer
+if_accepted (Ok script) next = next script
+if_accepted (Err refused) next = Some (refusal (BadScript refused.0 refused.1))
+
+-- the limits of a script come before its own refusal: its lines are counted before any is looked at
+abbrev pub with_lines : Network → List ℕ → (List Line → Option Answer) → Option Answer
+with_lines topology bytes next = if nat_lt most_script_lines (length (lines bytes)) then Some (refusal (TooLarge ScriptLines most_script_lines)) else if_accepted (script_of topology bytes) next
+
+abbrev pub with_script : Network → Option (List ℕ) → (List Line → Option Answer) → Option Answer
+with_script topology None next = None
+with_script topology (Some bytes) next = if nat_lt most_script_bytes (length bytes) then Some (refusal (TooLarge ScriptBytes most_script_bytes)) else with_lines topology bytes next
+
+-- the answer once topology and script are read: each line sends a packet
+abbrev pub from_lines : List (List ℕ) → Files → Network → List Line → Option Answer
+from_lines words files topology script = if_built (all_sent script) Script (from_capture words files (view_of topology))
+
+-- the answer once the topology is read
+abbrev pub from_script : List (List ℕ) → Files → Network → Option Answer
+from_script words files topology = with_script topology (file files (word words 2)) (from_lines words files topology)
 
 -- a topology has at most 1 MiB
 abbrev pub most_topology_bytes : ℕ
@@ -165,7 +180,7 @@ with_topology (Some bytes) next = if nat_lt most_topology_bytes (length bytes) t
 
 -- the answer to a run once the topology is read, which has one node and one VRF at most
 abbrev pub from_topology : List (List ℕ) → Files → Network → Option Answer
-from_topology words files topology = if is_one_node topology then from_script words files (view_of topology) else Some (refusal (NotBuilt Topology))
+from_topology words files topology = if is_one_node topology then from_script words files topology else Some (refusal (NotBuilt Topology))
 
 -- the answer to a run
 abbrev pub run_answer : List (List ℕ) → Files → Option Answer

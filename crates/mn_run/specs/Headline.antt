@@ -1,8 +1,10 @@
 -- The promise of a run, in the words of a customer.
-use Rattle.std.specs.Prelude.{◌≡◌, true, ℕ, List, [], ◌∷◌, ◌++◌, map, length, Option, Some, option_and_then, option_map, Ok, ⊤}
+use Rattle.std.specs.Prelude.{◌≡◌, true, ℕ, List, [], ◌∷◌, ◌++◌, map, length, Option, Some, option_map, Ok, ⊤}
 use Rattle.mn_edge.specs.Files.{Files, file, with_file}
 use Rattle.mn_pcap.specs.Format.{header, record_of}
 use Rattle.mn_pcap.specs.Reading as pcap
+use Rattle.mn_script.specs.declared.command.Line.{Line}
+use Rattle.mn_script.specs.Script.{script_of}
 use Rattle.mn_topo.specs.Network.{Network}
 use Rattle.mn_topo.specs.Topology.{topology_of}
 use Rattle.mn_ledger.specs.declared.verdict.Verdict.{Verdict}
@@ -12,8 +14,8 @@ use Rattle.mn_report.specs.Lines.{total_line}
 use Rattle.mn_run.specs.declared.outcome.Outcome.{Outcome}
 use Rattle.mn_run.specs.declared.outcome.Outcome.TheVariants.{Done}
 use Rattle.mn_run.specs.Words.{word, is_run, is_check}
-use Rattle.mn_run.specs.Network.{NetworkView, view_of, is_one_node}
-use Rattle.mn_run.specs.Script.{script_of}
+use Rattle.mn_run.specs.Network.{view_of, is_one_node}
+use Rattle.mn_run.specs.Sending.{all_sent}
 use Rattle.mn_run.specs.Service.{the_node, packets_of}
 use Rattle.mn_run.specs.Answer.{joined, check_line, sends, misses, refused_lines, packet_lines, names_of, totals_of, delivered_name, raw_ipv4}
 
@@ -22,13 +24,15 @@ use Rattle.mn_run.specs.Answer.{joined, check_line, sends, misses, refused_lines
 -- that applies; nothing else was put, and no other file changed
 pub record KeepsItsPromise (words : List (List ℕ)) (files : Files) (before : List ℕ) (after : Option Files) (written : Option (List ℕ)) : Type 0 where
   pub topology : Network
+  pub commands : List Line
   pub script : List Sent
   pub packets : List (List ℕ)
   pub verdicts : List Verdict
   pub arrived : List (List ℕ)
   pub topology_read : option_map topology_of (file files (word words 1)) ≡ Some (Ok topology)
   pub one_node : is_one_node topology ≡ true
-  pub script_read : option_and_then (script_of topology.site_names) (file files (word words 2)) ≡ Some script
+  pub script_read : option_map (script_of topology) (file files (word words 2)) ≡ Some (Ok commands)
+  pub each_sends : all_sent commands ≡ Some script
   pub capture_read : option_map pcap.packets_of (file files (word words 3)) ≡ Some (Ok packets)
   pub accounts : Accounts (view_of topology).routes the_node 0 (packets_of packets (sends (length packets) script)) verdicts arrived
   pub lines : written ≡ Some (before ++ joined (

@@ -1,7 +1,7 @@
 -- What reading the inputs tells.
 use Rattle.std.specs.Prelude.{◌≡◌, true, ℕ, List, Option, Some, ⊤}
 use Rattle.mn_run.specs.declared.outcome.Outcome.{Outcome}
-use Rattle.mn_run.specs.declared.outcome.Outcome.TheVariants.{Done, Usage, BadTopology, BadCapture, TooLarge, NotBuilt}
+use Rattle.mn_run.specs.declared.outcome.Outcome.TheVariants.{Done, Usage, BadTopology, BadScript, BadCapture, TooLarge, NotBuilt}
 use Rattle.mn_run.specs.declared.job.Job.{Job}
 use Rattle.mn_run.specs.declared.job.Loaded.{Loaded}
 use Rattle.mn_run.specs.declared.job.Loaded.TheVariants.{Refused, Ready}
@@ -25,6 +25,7 @@ LoadedIs answer (Ready job) = answer ≡ Some (answer_by job)
 abbrev pub IsRefusal : Outcome → Type 0
 IsRefusal Usage = ⊤
 IsRefusal (BadTopology rule place) = ⊤
+IsRefusal (BadScript rule line) = ⊤
 IsRefusal (BadCapture rule place) = ⊤
 IsRefusal (TooLarge which limit) = ⊤
 IsRefusal (NotBuilt what) = ⊤
@@ -35,9 +36,10 @@ abbrev pub IsSound : Loaded → Type 0
 IsSound (Refused outcome) = IsRefusal outcome × (outcome ≡ Usage → ⊥)
 IsSound (Ready job) = all_known (texts job.names.items) (pairs job.pieces.items) ≡ true
 
--- an outcome other than the refusal of a topology or a capture
+-- an outcome other than the refusal of an input by one of its rules
 abbrev pub HasPlainLine : Outcome → Type 0
 HasPlainLine (BadTopology rule place) = ⊥
+HasPlainLine (BadScript rule line) = ⊥
 HasPlainLine (BadCapture rule place) = ⊥
 HasPlainLine outcome = ⊤
 

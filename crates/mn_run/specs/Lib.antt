@@ -2,9 +2,9 @@ pub mod Words
 pub mod Network
 pub mod Service
 pub mod Refusals
+pub mod Sending
 pub mod Answer
 pub mod Jobs
-pub mod Script
 pub mod Endings
 pub mod Status
 pub mod Headline

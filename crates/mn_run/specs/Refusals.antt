@@ -1,5 +1,5 @@
 -- The line of an outcome that refuses.
-use Rattle.std.specs.Prelude.{ℕ, List, [], ◌∷◌, ◌++◌, codes}
+use Rattle.std.specs.Prelude.{ℕ, List, [], ◌∷◌, codes}
 use Rattle.std.specs.Fmt.{decimal}
 use Rattle.mn_pcap.specs.declared.refusal.PcapRule.{PcapRule}
 use Rattle.mn_pcap.specs.declared.refusal.PcapRule.TheVariants.{CutShort, IsPcapng, BadMagic, BadVersion, BadLinkType, BadRecord}
@@ -7,12 +7,14 @@ use Rattle.mn_topo.specs.declared.refusal.TopoRule.{TopoRule}
 use Rattle.mn_topo.specs.declared.refusal.TopoRule.TheVariants.{NotToml, UnknownKey, MissingKey, WrongKind, BadName, TwiceNamed, NoSuchName, SelfLink, TwiceLinked, TwiceLoopback, BadCost, BadDelay, TwiceRd, BadTarget, PrefixTaken, TooMany}
 use Rattle.mn_topo.specs.declared.refusal.Place.{Place}
 use Rattle.mn_topo.specs.declared.refusal.Place.TheVariants.{Top, Node, Link, Vrf, Site}
+use Rattle.mn_script.specs.declared.refusal.ScriptRule.{ScriptRule}
+use Rattle.mn_script.specs.declared.refusal.ScriptRule.TheVariants as script
 use Rattle.mn_report.specs.Lines.{text}
 use Rattle.mn_run.specs.declared.outcome.Input.TheVariants as input
 use Rattle.mn_run.specs.declared.outcome.Limit.{Limit}
-use Rattle.mn_run.specs.declared.outcome.Limit.TheVariants.{TopologyBytes, CaptureBytes, CaptureRecords}
+use Rattle.mn_run.specs.declared.outcome.Limit.TheVariants.{TopologyBytes, ScriptBytes, ScriptLines, CaptureBytes, CaptureRecords}
 use Rattle.mn_run.specs.declared.outcome.Outcome.{Outcome}
-use Rattle.mn_run.specs.declared.outcome.Outcome.TheVariants.{Usage, BadTopology, BadCapture, TooLarge, NotBuilt}
+use Rattle.mn_run.specs.declared.outcome.Outcome.TheVariants.{Usage, BadTopology, BadScript, BadCapture, TooLarge, NotBuilt}
 
 -- a rule of topologies by its number and name
 abbrev pub topo_rule_name : TopoRule → List ℕ
@@ -41,6 +43,15 @@ place_text (Link index) = text (codes "link " ∷ decimal index ∷ [])
 place_text (Vrf index) = text (codes "vrf " ∷ decimal index ∷ [])
 place_text (Site index) = text (codes "site " ∷ decimal index ∷ [])
 
+-- a rule of scripts by its number and name
+abbrev pub script_rule_name : ScriptRule → List ℕ
+script_rule_name script.UnknownWord = codes "S1 UnknownWord"
+script_rule_name script.WrongCount = codes "S2 WrongCount"
+script_rule_name script.BadNumber = codes "S3 BadNumber"
+script_rule_name script.NoSuchName = codes "S4 NoSuchName"
+script_rule_name script.NotLinked = codes "S5 NotLinked"
+script_rule_name script.NotEdge = codes "S6 NotEdge"
+
 -- a rule of captures by its name
 abbrev pub pcap_rule_name : PcapRule → List ℕ
 pcap_rule_name CutShort = codes "CutShort"
@@ -53,6 +64,8 @@ pcap_rule_name BadRecord = codes "BadRecord"
 -- the line of an input that passes a limit
 abbrev pub limit_line : Limit → List ℕ
 limit_line TopologyBytes = codes "too large topology bytes\n"
+limit_line ScriptBytes = codes "too large script bytes\n"
+limit_line ScriptLines = codes "too large script lines\n"
 limit_line CaptureBytes = codes "too large capture bytes\n"
 limit_line CaptureRecords = codes "too large capture records\n"
 
@@ -62,6 +75,7 @@ refusal_line Usage = codes "usage: mplsnet run TOPOLOGY SCRIPT CAPTURE FOLDER | 
 refusal_line (NotBuilt input.Topology) = codes "not built topology\n"
 refusal_line (NotBuilt input.Script) = codes "not built script\n"
 refusal_line (BadTopology rule place) = text (codes "topology refused " ∷ topo_rule_name rule ∷ codes " at " ∷ place_text place ∷ codes "\n" ∷ [])
+refusal_line (BadScript rule line) = text (codes "script refused " ∷ script_rule_name rule ∷ codes " at line " ∷ decimal line ∷ codes "\n" ∷ [])
 refusal_line (BadCapture rule place) = text (codes "capture refused " ∷ pcap_rule_name rule ∷ codes " at byte " ∷ decimal place ∷ codes "\n" ∷ [])
 refusal_line (TooLarge which limit) = limit_line which
 refusal_line outcome = []

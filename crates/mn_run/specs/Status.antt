@@ -1,13 +1,14 @@
 -- The status of the program.
 use Rattle.std.specs.Prelude.{ℕ}
 use Rattle.mn_run.specs.declared.outcome.Outcome.{Outcome}
-use Rattle.mn_run.specs.declared.outcome.Outcome.TheVariants.{Done, Usage, ReadFault, WriteFault, NoMemory, NotBuilt, BadTopology, BadCapture, TooLarge}
+use Rattle.mn_run.specs.declared.outcome.Outcome.TheVariants.{Done, Usage, ReadFault, WriteFault, NoMemory, NotBuilt, BadTopology, BadScript, BadCapture, TooLarge}
 
 -- each outcome has a status of its own
 abbrev pub status_of : Outcome → ℕ
 status_of Done = 0
 status_of Usage = 2
 status_of (BadTopology rule place) = 3
+status_of (BadScript rule line) = 4
 status_of (BadCapture rule place) = 5
 status_of ReadFault = 6
 status_of WriteFault = 7

@@ -4,28 +4,33 @@ ghost use Rattle.std.specs.Option.{ForSome};
 ghost use Rattle.mn_edge.specs.Faults.{Counted};
 ghost use Rattle.mn_edge.specs.Files.{file};
 ghost use Rattle.mn_edge.specs.Written.{texts};
+ghost use Rattle.mn_script.specs.Script.{AllFit};
 ghost use Rattle.mn_run.specs.Words.{is_run, is_check, is_command};
 ghost use Rattle.mn_run.specs.Service.{AllNumbered};
-ghost use Rattle.mn_run.specs.Answer.{answer_of, run_answer, check_answer, checked, from_topology, from_script, from_capture};
+ghost use Rattle.mn_run.specs.Answer.{answer_of, run_answer, check_answer, checked, from_topology, from_script, from_lines, from_capture};
 
 use crate::capture::read_capture;
 use crate::check::check;
 use crate::network::{Network, is_one_node, network_of};
 use crate::outcome::{Input, Limit, Outcome};
 use crate::plan::plan;
-use crate::script::read_script;
+use crate::sending::all_sent;
 use crate::words::is_run;
 use mn_edge::{Content, DeviceBad, Shelf, read_all};
 use mn_pcap::{PcapBad, PcapRule, count_records};
 use mn_report::Sent;
+use mn_script::{Line, ScriptBad, ScriptRule, count_lines, read_script};
 use mn_topo::{TopoBad, Topology, read_topology};
 use std::alloc::Global;
 
 /// The most bytes of a topology: 1 MiB.
 const MOST_TOPOLOGY_BYTES: u64 = 1 << 20;
 
-/// The most bytes of a script: 1 MiB.
-const MOST_BYTES: u64 = 1 << 20;
+/// The most bytes of a script: 64 MiB.
+const MOST_SCRIPT_BYTES: u64 = 1 << 26;
+
+/// The most lines of a script.
+const MOST_SCRIPT_LINES: u64 = 3_000_000;
 
 /// The most bytes of a capture: 64 MiB.
 const MOST_CAPTURE_BYTES: u64 = 1 << 26;
@@ -74,6 +79,12 @@ fn too_large(which: Limit, limit: u64) -> Loaded
     ensures { result ≡ Loaded.Refused (Outcome.TooLarge which limit) }
 {
     Loaded::Refused(Outcome::TooLarge { which, limit })
+}
+
+fn bad_script(rule: ScriptRule, line: u32) -> Loaded
+    ensures { result ≡ Loaded.Refused (Outcome.BadScript rule line) }
+{
+    Loaded::Refused(Outcome::BadScript { rule, line })
 }
 
 fn bad_capture(rule: PcapRule, place: u64) -> Loaded
@@ -158,8 +169,7 @@ fn load_over<S: Shelf>(
     if !is_one_node(topology) {
         return Ok(not_built(Input::Topology));
     }
-    let network = network_of(alloc, topology)?;
-    load_script(alloc, words, shelf, &network)
+    load_script(alloc, words, shelf, topology)
 }
 
 /// Reads a topology.
@@ -189,22 +199,52 @@ fn load_script<S: Shelf>(
     alloc: Global,
     words: &[String],
     shelf: &mut S,
-    network: &Network,
+    topology: &Topology,
 ) -> Result<Loaded, DeviceBad>
     requires { is_run (texts words.now) ≡ true }
-    ensures answer { IfOk result (λ l. ForSome (S.files shelf.old) (λ files. LoadedIs (from_script (texts words.now) files network.now) l)) }
+    ensures answer { IfOk result (λ l. ForSome (S.files shelf.old) (λ files. LoadedIs (from_script (texts words.now) files topology.now) l)) }
     ensures sound { IfOk result IsSound }
     ensures same { S.files shelf.new ≡ S.files shelf.old }
     ensures reads { Counted (S.read_faults shelf.old) (S.read_faults shelf.new) result }
     ensures writes { S.write_faults shelf.new ≡ S.write_faults shelf.old }
 {
-    match read_all(alloc, shelf, words[2].as_str(), MOST_BYTES)? {
-        Content::TooLarge => Ok(not_built(Input::Script)),
-        Content::Whole(bytes) => match read_script(alloc, &network.sites, &bytes)? {
-            None => Ok(not_built(Input::Script)),
-            Some(script) => load_capture(alloc, words, shelf, network, &script),
-        },
+    match read_all(alloc, shelf, words[2].as_str(), MOST_SCRIPT_BYTES)? {
+        Content::TooLarge => Ok(too_large(Limit::ScriptBytes, MOST_SCRIPT_BYTES)),
+        Content::Whole(bytes) => {
+            if count_lines(&bytes) > MOST_SCRIPT_LINES {
+                return Ok(too_large(Limit::ScriptLines, MOST_SCRIPT_LINES));
+            }
+            match read_script(alloc, topology, &bytes) {
+                Ok(lines) => load_lines(alloc, words, shelf, topology, &lines),
+                Err(ScriptBad::Refused { rule, line }) => Ok(bad_script(rule, line)),
+                Err(ScriptBad::NoMemory) => Err(DeviceBad::NoMemory),
+            }
+        }
     }
+}
+
+/// Reads the capture of a run whose script has these lines.
+fn load_lines<S: Shelf>(
+    alloc: Global,
+    words: &[String],
+    shelf: &mut S,
+    topology: &Topology,
+    lines: &[Line],
+) -> Result<Loaded, DeviceBad>
+    requires run { is_run (texts words.now) ≡ true }
+    requires few { length lines.now < 2 ^ 32 }
+    requires fit { AllFit topology.now lines.now }
+    ensures answer { IfOk result (λ l. ForSome (S.files shelf.old) (λ files. LoadedIs (from_lines (texts words.now) files topology.now lines.now) l)) }
+    ensures sound { IfOk result IsSound }
+    ensures same { S.files shelf.new ≡ S.files shelf.old }
+    ensures reads { Counted (S.read_faults shelf.old) (S.read_faults shelf.new) result }
+    ensures writes { S.write_faults shelf.new ≡ S.write_faults shelf.old }
+{
+    let Some(script) = all_sent(alloc, topology, lines)? else {
+        return Ok(not_built(Input::Script));
+    };
+    let network = network_of(alloc, topology)?;
+    load_capture(alloc, words, shelf, &network, &script)
 }
 
 fn load_capture<S: Shelf>(

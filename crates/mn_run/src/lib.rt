@@ -8,7 +8,7 @@ mod network;
 mod outcome;
 mod plan;
 mod refusals;
-mod script;
+mod sending;
 mod service;
 mod top;
 mod words;

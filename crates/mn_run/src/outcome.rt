@@ -2,6 +2,7 @@
 ghost use Rattle.std.specs.Prelude.{◌≡◌};
 
 use mn_pcap::PcapRule;
+use mn_script::ScriptRule;
 use mn_topo::{Place, TopoRule};
 
 /// An input of `run`.
@@ -17,6 +18,10 @@ pub enum Limit {
     /// 1 MiB.
     TopologyBytes,
     /// 64 MiB.
+    ScriptBytes,
+    /// 3,000,000 lines.
+    ScriptLines,
+    /// 64 MiB.
     CaptureBytes,
     /// 100,000 whole records.
     CaptureRecords,
@@ -31,6 +36,8 @@ pub enum Outcome {
     Usage,
     /// 3: the topology is refused by this rule, at this table of the file.
     BadTopology { rule: TopoRule, place: Place },
+    /// 4: the script is refused by this rule, at this line, from 1.
+    BadScript { rule: ScriptRule, line: u32 },
     /// 5: the capture is refused by this rule, at this byte of the file.
     BadCapture { rule: PcapRule, place: u64 },
     /// 6: the shelf failed to read.
@@ -56,6 +63,7 @@ impl Outcome {
             Outcome::Done => 0,
             Outcome::Usage => 2,
             Outcome::BadTopology { .. } => 3,
+            Outcome::BadScript { .. } => 4,
             Outcome::BadCapture { .. } => 5,
             Outcome::ReadFault => 6,
             Outcome::WriteFault => 7,

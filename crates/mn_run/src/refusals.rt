@@ -1,10 +1,11 @@
 //! The line of an outcome that refuses.
 ghost use Rattle.std.specs.Prelude.{◌≡◌, IfOk, string_bytes};
-ghost use Rattle.mn_run.specs.Refusals.{topo_rule_name, place_text, pcap_rule_name, limit_line, refusal_line};
+ghost use Rattle.mn_run.specs.Refusals.{topo_rule_name, place_text, script_rule_name, pcap_rule_name, limit_line, refusal_line};
 ghost use Rattle.mn_run.specs.Jobs.{HasPlainLine};
 
 use crate::outcome::{Input, Limit, Outcome};
 use mn_pcap::PcapRule;
+use mn_script::ScriptRule;
 use mn_topo::{Place, TopoRule};
 use std::alloc::{AllocError, Global};
 
@@ -45,6 +46,20 @@ fn place_text(alloc: Global, place: Place) -> Result<String, AllocError>
     }
 }
 
+/// A rule of scripts by its number and name.
+fn script_rule_name(rule: ScriptRule) -> &'static str
+    ensures { result.now ≡ script_rule_name rule }
+{
+    match rule {
+        ScriptRule::UnknownWord => "S1 UnknownWord",
+        ScriptRule::WrongCount => "S2 WrongCount",
+        ScriptRule::BadNumber => "S3 BadNumber",
+        ScriptRule::NoSuchName => "S4 NoSuchName",
+        ScriptRule::NotLinked => "S5 NotLinked",
+        ScriptRule::NotEdge => "S6 NotEdge",
+    }
+}
+
 /// A rule of captures by its name.
 fn pcap_rule_name(rule: PcapRule) -> &'static str
     ensures { result.now ≡ pcap_rule_name rule }
@@ -68,6 +83,10 @@ pub(crate) fn refusal_line(alloc: Global, outcome: Outcome) -> Result<String, Al
             let rule = topo_rule_name(rule);
             let place = place_text(alloc, place)?;
             format!(in alloc; "topology refused {rule} at {place}\n")
+        }
+        Outcome::BadScript { rule, line } => {
+            let rule = script_rule_name(rule);
+            format!(in alloc; "script refused {rule} at line {line}\n")
         }
         Outcome::BadCapture { rule, place } => {
             let rule = pcap_rule_name(rule);
@@ -94,6 +113,7 @@ fn plain_line(outcome: Outcome) -> &'static str
             what: Input::Script,
         } => "not built script\n",
         Outcome::BadTopology { .. }
+        | Outcome::BadScript { .. }
         | Outcome::BadCapture { .. }
         | Outcome::Done
         | Outcome::ReadFault
@@ -108,6 +128,8 @@ fn limit_line(which: Limit) -> &'static str
 {
     match which {
         Limit::TopologyBytes => "too large topology bytes\n",
+        Limit::ScriptBytes => "too large script bytes\n",
+        Limit::ScriptLines => "too large script lines\n",
         Limit::CaptureBytes => "too large capture bytes\n",
         Limit::CaptureRecords => "too large capture records\n",
     }

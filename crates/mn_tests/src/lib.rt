@@ -7,3 +7,5 @@
 mod check;
 #[cfg(test)]
 mod one_node;
+#[cfg(test)]
+mod scripts;

@@ -301,9 +301,17 @@ fn an_input_that_cannot_be_run_yet_is_named(rt: HostRuntime) -> Result<(), Fail>
     let whole = capture(alloc, &[PACKET.as_slice()])?;
     assert!(rt; is_refused(alloc, two_nodes, "", whole, "not built topology\n")?);
     let whole = capture(alloc, &[PACKET.as_slice()])?;
-    assert!(rt; is_refused(alloc, TWO_SITES, "link up a b", whole, "not built script\n")?);
+    assert!(rt; is_refused(alloc, TWO_SITES, "site down a", whole, "not built script\n")?);
     let whole = capture(alloc, &[PACKET.as_slice()])?;
-    assert!(rt; is_refused(alloc, TWO_SITES, "inject z 1", whole, "not built script\n")?);
+    assert!(rt;
+        is_refused(
+            alloc,
+            TWO_SITES,
+            "inject a 1\nflush",
+            whole,
+            "not built script\n"
+        )?
+    );
     Ok(())
 }
 

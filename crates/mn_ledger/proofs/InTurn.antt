@@ -1,0 +1,182 @@
+-- After every lawful journal each session is in turn.
+use Rattle.std.proofs.Common.{ℕ, suc, ◌≡◌, ◌≢◌, ◌+◌, ◌<◌, ◌≤◌, inl, inr, Bool, true, false, cond, List, [], ◌∷◌, length, refl, arith, sym, ◌∙◌, ap, subst, Option, None}
+use Rattle.std.specs.Prelude.{◌==◌, ◌&&◌, not, nat_lt, slice_index_or}
+use Rattle.std.proofs.lemmas.Bool.Decides.{eqb_tells, leb_tells, nat_tests}
+use Rattle.mn_base.specs.Wiring.{across, JoinsNodes, EndsDiffer}
+use Rattle.mn_topo.specs.Network.{Network, wiring_of}
+use Rattle.mn_topo.specs.Lawful.{IsLawful}
+use Rattle.mn_topo.specs.VrfTable.{is_edge}
+use Rattle.mn_topo.specs.Steps.{fits}
+use Rattle.mn_topo.specs.declared.steps.Step.{Step}
+use Rattle.mn_topo.specs.declared.steps.Step.TheVariants as step
+use Rattle.mn_topo.specs.declared.steps.JournalEntry.{JournalEntry}
+use Rattle.mn_ledger.specs.declared.refused.Refused.{Refused}
+use Rattle.mn_ledger.specs.declared.refused.Refused.TheVariants.{Unchanged, Empty}
+use Rattle.mn_ledger.specs.Tables.{put, put_pair}
+use Rattle.mn_ledger.specs.World.{World, Views, Open}
+use Rattle.mn_ledger.specs.Transport.{is_active}
+use Rattle.mn_ledger.specs.Vpn.{peers_live}
+use Rattle.mn_ledger.specs.Packets.{Packets, packets_after}
+use Rattle.mn_ledger.specs.Ledger.{after, start, no_packets, next_of, left_by, world_from, world_of}
+use Rattle.mn_ledger.specs.Refusal.{is_unchanged, is_empty, where_holds, first_cause, limits, refusal_at}
+use Rattle.mn_ledger.specs.Lawful.{IsLawfulFrom, IsLawfulJournal}
+use Rattle.mn_ledger.specs.Turns.{IsInTurn, HasRows, has_bgp_row}
+use Rattle.mn_ledger.proofs.Talk.{talk-nth, nth-row}
+use Rattle.mn_ledger.proofs.Turning.{Apart, loopbacks_apart, across-end}
+use Rattle.mn_ledger.proofs.GoingBy.{AllGoBy, LinkIsThere, sessions_go, put_here, put_off, pair_here, pair_off, above}
+use Rattle.mn_ledger.proofs.Peers.{AllPeersGoBy, AreInOrder, peers_go, peer-nth, peer-row, state_alive, live_sym}
+
+-- 1. What a lawful step owes
+
+second_none : (a b : Bool) (q r : Refused) (rest : List (Option Refused)) → first_cause (where_holds a q ∷ where_holds b r ∷ rest) ≡ None → b ≡ false
+second_none true b q r rest h = cc
+second_none false true q r rest h = cc
+second_none false false q r rest h = refl
+
+not_empty : (t : Network) (w : World) (k : Packets) (i : ℕ) (s : Step) (b : List ℕ) → refusal_at t w k i s b ≡ None → is_empty t w k s ≡ false
+not_empty t w k i s b h = second_none (is_unchanged w.config s) (is_empty t w k s) Unchanged Empty (limits t w k i s b) h
+
+and_right : (a b : Bool) → (a && b) ≡ true → b ≡ true
+and_right true b h = h
+and_right false b h = absurd (clash h)
+  where
+    clash : false ≡ true → ⊥
+    clash e = cc
+
+less_is : (a b : ℕ) → nat_lt a b ≡ true → a < b
+less_is a b h = grind (arith, nat_tests, h)
+
+differ_is : (a b : ℕ) → not (a == b) ≡ true → a ≢ b
+differ_is a b h e = clash (sym (ap (λ x. not (x == b)) e ∙ ap not (same b)) ∙ h)
+  where
+    same : (n : ℕ) → (n == n) ≡ true
+    same n = grind (arith, nat_tests)
+
+    clash : false ≡ true → ⊥
+    clash e = cc
+
+link_there : (t : Network) (s : Step) → fits t s ≡ true → LinkIsThere t s
+link_there t (step.HearLdp l dir) h = less_is l.0 (length t.links) h
+link_there t (step.LinkUp l) h = tt
+link_there t (step.LinkDown l) h = tt
+link_there t (step.Learn n l) h = tt
+link_there t (step.LdpAdmin l on) h = tt
+link_there t (step.BgpUp a b) h = tt
+link_there t (step.BgpDown a b) h = tt
+link_there t (step.HearBgp a b) h = tt
+link_there t (step.AddRoute s p) h = tt
+link_there t (step.DelRoute s p) h = tt
+link_there t (step.Import v x on) h = tt
+link_there t (step.Export v x on) h = tt
+link_there t (step.Attach s) h = tt
+link_there t (step.Detach s) h = tt
+link_there t (step.Inject s n) h = tt
+link_there t (step.Carry l d n) h = tt
+link_there t (step.Lose l d n) h = tt
+
+in_order : (t : Network) (s : Step) → fits t s ≡ true → AreInOrder s
+in_order t (step.BgpUp a b) h = less_is a.0 b.0 (and_right (is_edge t.vrfs a.0 && is_edge t.vrfs b.0) (nat_lt a.0 b.0) h)
+in_order t (step.BgpDown a b) h = less_is a.0 b.0 (and_right (is_edge t.vrfs a.0 && is_edge t.vrfs b.0) (nat_lt a.0 b.0) h)
+in_order t (step.HearBgp a b) h = differ_is a.0 b.0 (and_right (is_edge t.vrfs a.0 && is_edge t.vrfs b.0) (not (a.0 == b.0)) h)
+in_order t (step.HearLdp l dir) h = tt
+in_order t (step.LinkUp l) h = tt
+in_order t (step.LinkDown l) h = tt
+in_order t (step.Learn n l) h = tt
+in_order t (step.LdpAdmin l on) h = tt
+in_order t (step.AddRoute s p) h = tt
+in_order t (step.DelRoute s p) h = tt
+in_order t (step.Import v x on) h = tt
+in_order t (step.Export v x on) h = tt
+in_order t (step.Attach s) h = tt
+in_order t (step.Detach s) h = tt
+in_order t (step.Inject s n) h = tt
+in_order t (step.Carry l d n) h = tt
+in_order t (step.Lose l d n) h = tt
+
+-- 2. Nobody learns more than was changed
+
+abbrev Learned : Views → Type 0
+Learned v = (node l : ℕ) → v.learned node l ≤ v.changes l
+
+turn_kept : (v : Views) (at : ℕ) → Learned v → Learned (record v { changes = put v.changes at (v.changes at + 1) })
+turn_kept v at h node l = elim (eqb_tells l at) [
+  | inl p ↦ subst (λ x. v.learned node l ≤ x) (sym (ap (put v.changes at (v.changes at + 1)) p.1 ∙ put_here v.changes at (v.changes at + 1))) (more (subst (λ x. v.learned node l ≤ v.changes x) p.1 (h node l)))
+  | inr p ↦ subst (λ x. v.learned node l ≤ x) (sym (put_off v.changes at (v.changes at + 1) l p.1)) (h node l)
+]
+  where
+    more : v.learned node l ≤ v.changes at → v.learned node l ≤ v.changes at + 1
+    more g = omega (arith, g)
+
+learn_kept : (v : Views) (who at : ℕ) → v.learned who at < v.changes at → Learned v → Learned (record v { learned = put_pair v.learned who at (v.learned who at + 1) })
+learn_kept v who at less h node l = elim (eqb_tells node who) [
+  | inr p ↦ subst (λ x. x ≤ v.changes l) (sym (pair_off v.learned who at (v.learned who at + 1) node l (inl p.1))) (h node l)
+  | inl p ↦ elim (eqb_tells l at) [
+    | inr q ↦ subst (λ x. x ≤ v.changes l) (sym (pair_off v.learned who at (v.learned who at + 1) node l (inr q.1))) (h node l)
+    | inl q ↦ subst (λ x. x ≤ v.changes l) (sym (ap (λ x. put_pair v.learned who at (v.learned who at + 1) x l) p.1 ∙ ap (put_pair v.learned who at (v.learned who at + 1) who) q.1 ∙ pair_here v.learned who at (v.learned who at + 1))) (subst (λ x. v.learned who at + 1 ≤ v.changes x) (sym q.1) (reach less))
+  ]
+]
+  where
+    reach : v.learned who at < v.changes at → v.learned who at + 1 ≤ v.changes at
+    reach g = omega (arith, g)
+
+learned_go : (t : Network) (w : World) (k : Packets) (s : Step) → is_empty t w k s ≡ false → Learned w.views → Learned (after t w s).views
+learned_go t w k (step.LinkUp l) full h = turn_kept w.views l.0 h
+learned_go t w k (step.LinkDown l) full h = turn_kept w.views l.0 h
+learned_go t w k (step.Learn n l) full h = learn_kept w.views n.0 l.0 (above _ _ full) h
+learned_go t w k _ full h = h
+
+-- 3. Over a journal
+
+record Goes (t : Network) (w : World) : Type 0 where
+  ldp : AllGoBy t w.config w.sessions
+  bgp : AllPeersGoBy w.config w.peerings
+  views : Learned w.views
+
+goes_on : (t : Network) → Apart t → JoinsNodes (wiring_of t) → EndsDiffer (wiring_of t) → (es : List JournalEntry) (tick : ℕ) (w : World) (k : Packets) (i : ℕ) (ps : List (List ℕ)) → IsLawfulFrom t tick w k i es ps → Goes t w → Goes t (world_from t w es)
+goes_on t apart joins differ [] tick w k i ps lawful g = g
+goes_on t apart joins differ (e ∷ es) tick w k i ps lawful g =
+    let full : is_empty t w k e.step ≡ false = not_empty t w k i e.step (next_of ps) lawful.2 in
+    goes_on t apart joins differ es e.tick (after t w e.step) (packets_after t (after t w e.step) k e.step (next_of ps)) (i + 1) (left_by e.step ps) lawful.3 (record {
+      ldp = sessions_go t w k e.step apart joins differ (link_there t e.step lawful.0) full g.ldp;
+      bgp = peers_go t w k e.step (in_order t e.step lawful.0) full g.bgp;
+      views = learned_go t w k e.step full g.views;
+    })
+
+begins : (t : Network) → Goes t (start t)
+begins t = record {
+  ldp = λ l node below at_end. record { heard = omega arith; silent = λ dead. (refl, refl); talk = λ on. absurd (clash on) };
+  bgp = λ edge peer d. record { heard = omega arith; silent = λ dead. (refl, refl); talk = λ on. absurd (never edge peer on) };
+  views = λ node l. omega arith;
+}
+  where
+    clash : false ≡ true → ⊥
+    clash e = cc
+
+    never : (edge peer : ℕ) → peers_live (start t).config edge peer ≡ true → ⊥
+    never edge peer on = elim (leb_tells (suc edge) peer) [ inl p ↦ clash (sym (ap (λ b. cond b false false) p.0) ∙ on) | inr p ↦ clash (sym (ap (λ b. cond b false false) p.0) ∙ on) ]
+
+pub in_turn : (t : Network) (es : List JournalEntry) (ps : List (List ℕ)) → IsLawful t → IsLawfulJournal t es ps → IsInTurn t (world_of t es)
+in_turn t es ps lawful journal =
+    let g : Goes t (world_of t es) = goes_on t (loopbacks_apart t lawful) lawful.joins_nodes lawful.ends_differ es 0 (start t) no_packets 0 ps journal (begins t) in
+    record {
+      learned = g.views;
+      heard = λ l node below at_end. (g.ldp l node below at_end).heard;
+      silent = λ l node below at_end. (g.ldp l node below at_end).silent;
+      talk = λ l node below at_end. (g.ldp l node below at_end).talk;
+      told = λ edge peer d. (g.bgp edge peer d).heard;
+      untold = λ edge peer d. (g.bgp edge peer d).silent;
+      peer_talk = λ edge peer d. (g.bgp edge peer d).talk;
+    }
+
+pub rows : (t : Network) (w : World) → IsLawful t → IsInTurn t w → HasRows t w
+rows t w lawful turn = record {
+  ldp = λ l node below at_end alive more.
+      let other = across-end (wiring_of t) l node (lawful.ends_differ l below) at_end in
+      nth-row (is_active t l node) (w.sessions.heard l node) _ (talk-nth (is_active t l (across (wiring_of t) l node)) (w.sessions.heard l (across (wiring_of t) l node)) (w.sessions.said l (across (wiring_of t) l node)) (w.sessions.heard l node) (turn.talk l (across (wiring_of t) l node) below other.0 alive) more);
+  bgp = λ edge peer d alive more.
+      subst (λ st. has_bgp_row st (slice_index_or (w.peerings.told peer edge) (w.peerings.heard edge peer) Open) ≡ true) (sym (state_alive w.config w.peerings edge peer alive))
+      (peer-row (w.peerings.heard edge peer) _ (peer-nth (w.peerings.heard peer edge) (w.peerings.told peer edge) (w.peerings.heard edge peer) (turn.peer_talk peer edge (λ e. d (sym e)) (live_back edge peer d alive)) more));
+}
+  where
+    live_back : (edge peer : ℕ) → edge ≢ peer → peers_live w.config edge peer ≡ true → peers_live w.config peer edge ≡ true
+    live_back edge peer d h = sym (live_sym w.config edge peer d) ∙ h

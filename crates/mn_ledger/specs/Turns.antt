@@ -1,0 +1,86 @@
+-- Messages in turn: what the two ends of a living session have said goes by the state tables, so that no end ever hears a
+-- message for which its table has no row. RFC 5036, section 2.5.4; RFC 4271, section 8.2.2.
+use Rattle.std.specs.Prelude.{◌≡◌, ◌≤◌, ◌<◌, ◌≢◌, ℕ, zero, suc, Bool, true, false, List, [], ◌∷◌, length, slice_index_or, ⊤}
+use Rattle.mn_base.specs.Wiring.{is_end, across}
+use Rattle.mn_base.specs.declared.states.LdpState.{LdpState}
+use Rattle.mn_base.specs.declared.states.LdpState.TheVariants as ldp
+use Rattle.mn_base.specs.declared.states.BgpState.{BgpState}
+use Rattle.mn_base.specs.declared.states.BgpState.TheVariants as bgp
+use Rattle.mn_topo.specs.Network.{Network, wiring_of}
+use Rattle.mn_ledger.specs.World.{World, Message, Initialization, KeepAlive, Address, Mapping, Withdraw, Release, Telling, Open, Alive, Announce, Unreach}
+use Rattle.mn_ledger.specs.Transport.{lives, is_active, state_of}
+use Rattle.mn_ledger.specs.Vpn.{peers_live}
+use Rattle.mn_ledger.specs.Vpn as vpn
+
+-- 1. The rows of the two tables
+
+abbrev pub has_ldp_row : LdpState → Message → Bool
+has_ldp_row ldp.Initialized Initialization = true
+has_ldp_row ldp.OpenSent Initialization = true
+has_ldp_row ldp.OpenRec KeepAlive = true
+has_ldp_row ldp.Operational Initialization = false
+has_ldp_row ldp.Operational message = true
+has_ldp_row _ _ = false
+
+abbrev pub has_bgp_row : BgpState → Telling → Bool
+has_bgp_row bgp.OpenSent Open = true
+has_bgp_row bgp.OpenConfirm Alive = true
+has_bgp_row bgp.Established Open = false
+has_bgp_row bgp.Established telling = true
+has_bgp_row _ _ = false
+
+-- 2. What an end has said that has heard so many messages
+
+-- a message on labels: a Mapping, a Withdraw or a Release
+abbrev pub IsLabelMessage : Message → Type 0
+IsLabelMessage Initialization = ⊥
+IsLabelMessage KeepAlive = ⊥
+IsLabelMessage Address = ⊥
+IsLabelMessage (Mapping fec) = ⊤
+IsLabelMessage (Withdraw fec) = ⊤
+IsLabelMessage (Release fec) = ⊤
+
+abbrev pub AreLabelMessages : List Message → Type 0
+AreLabelMessages [] = ⊤
+AreLabelMessages (message ∷ messages) = IsLabelMessage message × AreLabelMessages messages
+
+abbrev pub IsTalk : Bool → ℕ → List Message → Type 0
+IsTalk true zero said = said ≡ Initialization ∷ []
+IsTalk false zero said = said ≡ []
+IsTalk active (suc zero) said = said ≡ Initialization ∷ KeepAlive ∷ []
+IsTalk active (suc (suc more)) said = (rest : List Message) × (said ≡ Initialization ∷ KeepAlive ∷ Address ∷ rest) × AreLabelMessages rest
+
+abbrev pub IsUpdate : Telling → Type 0
+IsUpdate Open = ⊥
+IsUpdate Alive = ⊥
+IsUpdate (Announce export) = ⊤
+IsUpdate (Unreach v prefix) = ⊤
+
+abbrev pub AreUpdates : List Telling → Type 0
+AreUpdates [] = ⊤
+AreUpdates (telling ∷ tellings) = IsUpdate telling × AreUpdates tellings
+
+abbrev pub IsPeerTalk : ℕ → List Telling → Type 0
+IsPeerTalk zero told = told ≡ Open ∷ []
+IsPeerTalk (suc zero) told = told ≡ Open ∷ Alive ∷ []
+IsPeerTalk (suc (suc more)) told = (rest : List Telling) × (told ≡ Open ∷ Alive ∷ rest) × AreUpdates rest
+
+-- 3. What holds after every lawful journal
+
+-- nobody has heard more than was said or told, nor learned more than was changed; without a life nothing was said, told
+-- or heard; and what was said and told goes by the tables
+pub record IsInTurn (topology : Network) (world : World) : Type 0 where
+  pub learned : (node l : ℕ) → world.views.learned node l ≤ world.views.changes l
+  pub heard : (l node : ℕ) → l < length topology.links → is_end (wiring_of topology) l node ≡ true → world.sessions.heard l node ≤ length (world.sessions.said l (across (wiring_of topology) l node))
+  pub silent : (l node : ℕ) → l < length topology.links → is_end (wiring_of topology) l node ≡ true → lives world.config l ≡ false → (world.sessions.said l node ≡ []) × (world.sessions.heard l node ≡ 0)
+  pub talk : (l node : ℕ) → l < length topology.links → is_end (wiring_of topology) l node ≡ true → lives world.config l ≡ true → IsTalk (is_active topology l node) (world.sessions.heard l node) (world.sessions.said l node)
+  pub told : (edge peer : ℕ) → edge ≢ peer → world.peerings.heard edge peer ≤ length (world.peerings.told peer edge)
+  pub untold : (edge peer : ℕ) → edge ≢ peer → peers_live world.config edge peer ≡ false → (world.peerings.told edge peer ≡ []) × (world.peerings.heard edge peer ≡ 0)
+  pub peer_talk : (edge peer : ℕ) → edge ≢ peer → peers_live world.config edge peer ≡ true → IsPeerTalk (world.peerings.heard edge peer) (world.peerings.told edge peer)
+
+-- the next message that an end hears has a row in the table of its state
+pub record HasRows (topology : Network) (world : World) : Type 0 where
+  pub ldp : (l node : ℕ) → l < length topology.links → is_end (wiring_of topology) l node ≡ true → lives world.config l ≡ true → world.sessions.heard l node < length (world.sessions.said l (across (wiring_of topology) l node))
+      → has_ldp_row (state_of topology world.sessions l node) (slice_index_or (world.sessions.said l (across (wiring_of topology) l node)) (world.sessions.heard l node) Address) ≡ true
+  pub bgp : (edge peer : ℕ) → edge ≢ peer → peers_live world.config edge peer ≡ true → world.peerings.heard edge peer < length (world.peerings.told peer edge)
+      → has_bgp_row (vpn.state_of world.config world.peerings edge peer) (slice_index_or (world.peerings.told peer edge) (world.peerings.heard edge peer) Open) ≡ true

@@ -1,9 +1,0 @@
-use Rattle.std.proofs.Common.{◌≡◌, ◌++◌, length}
-use Rattle.mn_run.specs.Script.{texts_now, line_words}
-use Rattle.mn_run.proofs.script.line_words.Given as goal
-
-abbrev pub invariant-words : goal.invariant-words
-invariant-words l = texts_now l.found.items ++ line_words l.rest ≡ line_words l.line
-
-abbrev pub decreases-words : goal.decreases-words
-decreases-words l = length l.rest

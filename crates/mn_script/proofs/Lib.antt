@@ -1,0 +1,6 @@
+pub mod Wording
+pub mod Counting
+pub mod Gathering
+pub mod FirstsOf
+pub mod Again
+pub mod Only

@@ -1,0 +1,9 @@
+use Rattle.std.proofs.Common.{◌≡◌, ◌++◌, length}
+use Rattle.mn_script.specs.Words.{texts, line_words}
+use Rattle.mn_script.proofs.words.line_words.Given as goal
+
+abbrev pub invariant-words : goal.invariant-words
+invariant-words l = texts l.found.items ++ line_words l.rest ≡ line_words l.line
+
+abbrev pub decreases-words : goal.decreases-words
+decreases-words l = length l.rest

@@ -1,0 +1,9 @@
+pub mod Rules
+pub mod Words
+pub mod Operands
+pub mod Steps
+pub mod Lines
+pub mod Script
+pub mod Counting
+pub mod Firsts
+pub mod Spelled

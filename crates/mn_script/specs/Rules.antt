@@ -1,0 +1,23 @@
+-- Which rule refuses a line, and what a reader answers.
+use Rattle.std.specs.Prelude.{◌≡◌, ℕ, List, Option, Some, None, Result, Ok, Err, Vec, ⊤}
+use Rattle.std.specs.declared.alloc.Global.{Global}
+use Rattle.mn_script.specs.declared.refusal.ScriptRule.{ScriptRule}
+use Rattle.mn_script.specs.declared.refusal.ScriptBad.{ScriptBad}
+use Rattle.mn_script.specs.declared.refusal.ScriptBad.TheVariants.{Refused, NoMemory}
+
+-- what comes next, unless a rule refuses the line before
+infixl 10 ◌>>=◌
+abbrev pub ◌>>=◌ : {A B : Type 0} → Result A ScriptRule → (A → Result B ScriptRule) → Result B ScriptRule
+(Ok x) >>= f = f x
+(Err rule) >>= f = Err rule
+
+-- what is there, or else the rule
+abbrev pub or_rule : {A : Type 0} → ScriptRule → Option A → Result A ScriptRule
+or_rule rule None = Err rule
+or_rule rule (Some x) = Ok x
+
+-- what a reader answers of the list that is defined, or of the rule that refuses it and the line: it may run out of memory
+abbrev pub Reads : {A : Type 0} → Result (Vec A Global) ScriptBad → Result (List A) (ScriptRule × ℕ) → Type 0
+Reads (Ok read) defined = defined ≡ Ok read.items
+Reads (Err (Refused rule line)) defined = defined ≡ Err (rule, line)
+Reads (Err NoMemory) defined = ⊤

@@ -1,0 +1,42 @@
+//! The script of a run: a command a line, read from text.
+//!
+//! ```text
+//! link up A B, link down A B              site up SITE, site down SITE
+//! learn N A B                             inject SITE K
+//! ldp on A B, ldp off A B                 carry A B PLACE, lose A B PLACE
+//! hear ldp A B, hear bgp A B              run T
+//! bgp up A B, bgp down A B                drain N
+//! route add SITE PREFIX, route del ..     flush
+//! import add VRF TARGET, import del ..    show links, show tree N, show ldp,
+//! export add VRF TARGET, export del ..      show bgp, show vrf VRF, show flight
+//! ```
+//!
+//! A word that begins with `#` ends its line. A line without words is passed over, and counts as a line: lines
+//! are numbered from 1. The first refused line is answered, and in a line the first of the rules S1 to S6 that it
+//! breaks. The rooms:
+//!
+//! - `refusal`: the rules, and what a reader answers
+//! - `command`: what a line asks for
+//! - `words`: the words of a line, S1 and S2
+//! - `operands`: what the words of a line name, S3 to S6
+//! - `steps`: the lines that name a step, a function each
+//! - `lines`: all lines, by their first word
+//! - `read`: the whole script
+//! - `laws`: what follows from the definitions
+#![tactic(auto)]
+
+mod command;
+mod laws;
+mod lines;
+mod operands;
+mod read;
+mod refusal;
+mod steps;
+#[cfg(test)]
+mod tests;
+mod words;
+
+pub use command::{Command, Line, Show};
+pub use laws::{all_read, command_again, command_only, first_refused};
+pub use read::{count_lines, read_script};
+pub use refusal::{ScriptBad, ScriptRule};

@@ -1,0 +1,72 @@
+//! The words of a line, and how many there are.
+ghost use Rattle.std.specs.Prelude.{◌≡◌, ◌∷◌, [], OnOk, length, take_while, IfOk};
+ghost use Rattle.mn_script.specs.Words.{texts, is_comment, line_words, word_at, is_word, choice, counted};
+
+use crate::ScriptRule;
+use mn_text::first_word;
+use std::alloc::{AllocError, Global};
+
+fn is_comment(word: &[u8]) -> bool
+    ensures { result ≡ is_comment word.now }
+{
+    !word.is_empty() && word[0] == b'#'
+}
+
+/// The words of a line before the first that begins with `#`.
+pub(crate) fn line_words(alloc: Global, line: &[u8]) -> Result<Vec<&[u8]>, AllocError>
+    ensures { IfOk result (λ found. texts found.items ≡ line_words line.now) }
+{
+    let mut found = Vec::new(alloc);
+    let mut rest = line;
+    'words: while let Some((word, next)) = first_word(rest) {
+        if is_comment(word) {
+            return Ok(found);
+        }
+        found.push(word)?;
+        rest = next;
+    }
+    Ok(found)
+}
+
+/// The word at `k`, from 0, and the empty text where there is none.
+pub(crate) fn word_at<'a>(words: &[&'a [u8]], k: usize) -> &'a [u8]
+    ensures { result.now ≡ word_at (texts words.now) k }
+{
+    match words.get(k) {
+        Some(word) => word,
+        None => &[],
+    }
+}
+
+pub(crate) fn is_word(words: &[&[u8]], k: usize, text: &str) -> bool
+    ensures { result ≡ is_word (texts words.now) k text.now }
+{
+    word_at(words, k) == text.as_bytes()
+}
+
+/// Whether the second word is the one of two or the other.
+pub(crate) fn choice(words: &[&[u8]], one: &str, other: &str) -> Result<bool, ScriptRule>
+    ensures { result ≡ choice (texts words.now) one.now other.now }
+{
+    if words.len() == 1 {
+        return Err(ScriptRule::WrongCount);
+    }
+    if is_word(words, 1, one) {
+        return Ok(true);
+    }
+    if is_word(words, 1, other) {
+        return Ok(false);
+    }
+    Err(ScriptRule::UnknownWord)
+}
+
+/// That the line has so many words.
+pub(crate) fn counted(words: &[&[u8]], count: usize) -> Result<(), ScriptRule>
+    ensures { result ≡ counted (texts words.now) count }
+{
+    if words.len() == count {
+        Ok(())
+    } else {
+        Err(ScriptRule::WrongCount)
+    }
+}
