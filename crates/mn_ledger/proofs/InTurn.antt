@@ -33,7 +33,7 @@ second_none true b q r rest h = cc
 second_none false true q r rest h = cc
 second_none false false q r rest h = refl
 
-not_empty : (t : Network) (w : World) (k : Packets) (i : ℕ) (s : Step) (b : List ℕ) → refusal_at t w k i s b ≡ None → is_empty t w k s ≡ false
+pub not_empty : (t : Network) (w : World) (k : Packets) (i : ℕ) (s : Step) (b : List ℕ) → refusal_at t w k i s b ≡ None → is_empty t w k s ≡ false
 not_empty t w k i s b h = second_none (is_unchanged w.config s) (is_empty t w k s) Unchanged Empty (limits t w k i s b) h
 
 and_right : (a b : Bool) → (a && b) ≡ true → b ≡ true
@@ -55,7 +55,7 @@ differ_is a b h e = clash (sym (ap (λ x. not (x == b)) e ∙ ap not (same b)) �
     clash : false ≡ true → ⊥
     clash e = cc
 
-link_there : (t : Network) (s : Step) → fits t s ≡ true → LinkIsThere t s
+pub link_there : (t : Network) (s : Step) → fits t s ≡ true → LinkIsThere t s
 link_there t (step.HearLdp l dir) h = less_is l.0 (length t.links) h
 link_there t (step.LinkUp l) h = tt
 link_there t (step.LinkDown l) h = tt
@@ -74,7 +74,7 @@ link_there t (step.Inject s n) h = tt
 link_there t (step.Carry l d n) h = tt
 link_there t (step.Lose l d n) h = tt
 
-in_order : (t : Network) (s : Step) → fits t s ≡ true → AreInOrder s
+pub in_order : (t : Network) (s : Step) → fits t s ≡ true → AreInOrder s
 in_order t (step.BgpUp a b) h = less_is a.0 b.0 (and_right (is_edge t.vrfs a.0 && is_edge t.vrfs b.0) (nat_lt a.0 b.0) h)
 in_order t (step.BgpDown a b) h = less_is a.0 b.0 (and_right (is_edge t.vrfs a.0 && is_edge t.vrfs b.0) (nat_lt a.0 b.0) h)
 in_order t (step.HearBgp a b) h = differ_is a.0 b.0 (and_right (is_edge t.vrfs a.0 && is_edge t.vrfs b.0) (not (a.0 == b.0)) h)
@@ -95,7 +95,7 @@ in_order t (step.Lose l d n) h = tt
 
 -- 2. Nobody learns more than was changed
 
-abbrev Learned : Views → Type 0
+abbrev pub Learned : Views → Type 0
 Learned v = (node l : ℕ) → v.learned node l ≤ v.changes l
 
 turn_kept : (v : Views) (at : ℕ) → Learned v → Learned (record v { changes = put v.changes at (v.changes at + 1) })
@@ -127,22 +127,25 @@ learned_go t w k _ full h = h
 
 -- 3. Over a journal
 
-record Goes (t : Network) (w : World) : Type 0 where
-  ldp : AllGoBy t w.config w.sessions
-  bgp : AllPeersGoBy w.config w.peerings
-  views : Learned w.views
+pub record Goes (t : Network) (w : World) : Type 0 where
+  pub ldp : AllGoBy t w.config w.sessions
+  pub bgp : AllPeersGoBy w.config w.peerings
+  pub views : Learned w.views
+
+pub goes_step : (t : Network) → Apart t → JoinsNodes (wiring_of t) → EndsDiffer (wiring_of t) → (w : World) (k : Packets) (s : Step) → fits t s ≡ true → is_empty t w k s ≡ false → Goes t w → Goes t (after t w s)
+goes_step t apart joins differ w k s fit full g = record {
+  ldp = sessions_go t w k s apart joins differ (link_there t s fit) full g.ldp;
+  bgp = peers_go t w k s (in_order t s fit) full g.bgp;
+  views = learned_go t w k s full g.views;
+}
 
 goes_on : (t : Network) → Apart t → JoinsNodes (wiring_of t) → EndsDiffer (wiring_of t) → (es : List JournalEntry) (tick : ℕ) (w : World) (k : Packets) (i : ℕ) (ps : List (List ℕ)) → IsLawfulFrom t tick w k i es ps → Goes t w → Goes t (world_from t w es)
 goes_on t apart joins differ [] tick w k i ps lawful g = g
 goes_on t apart joins differ (e ∷ es) tick w k i ps lawful g =
-    let full : is_empty t w k e.step ≡ false = not_empty t w k i e.step (next_of ps) lawful.2 in
-    goes_on t apart joins differ es e.tick (after t w e.step) (packets_after t (after t w e.step) k e.step (next_of ps)) (i + 1) (left_by e.step ps) lawful.3 (record {
-      ldp = sessions_go t w k e.step apart joins differ (link_there t e.step lawful.0) full g.ldp;
-      bgp = peers_go t w k e.step (in_order t e.step lawful.0) full g.bgp;
-      views = learned_go t w k e.step full g.views;
-    })
+    goes_on t apart joins differ es e.tick (after t w e.step) (packets_after t (after t w e.step) k e.step (next_of ps)) (i + 1) (left_by e.step ps) lawful.3
+    (goes_step t apart joins differ w k e.step lawful.0 (not_empty t w k i e.step (next_of ps) lawful.2) g)
 
-begins : (t : Network) → Goes t (start t)
+pub begins : (t : Network) → Goes t (start t)
 begins t = record {
   ldp = λ l node below at_end. record { heard = omega arith; silent = λ dead. (refl, refl); talk = λ on. absurd (clash on) };
   bgp = λ edge peer d. record { heard = omega arith; silent = λ dead. (refl, refl); talk = λ on. absurd (never edge peer on) };

@@ -12,3 +12,14 @@ pub mod Peers
 pub mod InTurn
 pub mod Quiet
 pub mod Nearer
+pub mod Channels
+pub mod Flows
+pub mod Members
+pub mod Statics
+pub mod Tellings
+pub mod Held
+pub mod Choice
+pub mod Frames
+mod Flights
+mod Premises
+pub mod OneKind

@@ -16,7 +16,7 @@ use Rattle.mn_ledger.specs.declared.verdict.Verdict.TheVariants.{Delivered, Drop
 use Rattle.mn_ledger.specs.declared.refused.Refused.TheVariants.{Unchanged, Empty, PrefixTaken, NoRouteThere, RoutesFull, TargetsFull, LabelsSpent, NetFull, TooManySteps}
 use Rattle.mn_ledger.specs.Tables.{everywhere}
 use Rattle.mn_ledger.specs.World.{World, Config, Initialization, KeepAlive, Address, Mapping, Withdraw, Release, Open, Alive, Announce, Unreach}
-use Rattle.mn_ledger.specs.Transport.{knowledge_of, news, sessions_after, speakers, by_neighbour}
+use Rattle.mn_ledger.specs.Transport.{knowledge_of, news, sessions_after, speakers, by_neighbour, is_mapped}
 use Rattle.mn_ledger.specs.Vpn.{peerings_after, held, exports_of, Source, Near, Far, HeldRoute, best, told_in}
 use Rattle.mn_ledger.specs.Packets.{Packets, packets_after}
 use Rattle.mn_ledger.specs.Ledger.{start, no_packets, first_config, world_of, packets_of}
@@ -96,6 +96,10 @@ a_session_opens_anew = refl
 pub each_mapping_is_awaited : ends (LdpAdmin (link_no 0) false ∷ LdpAdmin (link_no 0) true ∷ HearLdp (link_no 0) Back ∷ HearLdp (link_no 0) Forth ∷ HearLdp (link_no 0) Forth ∷ HearLdp (link_no 0) Back ∷ HearLdp (link_no 0) Back ∷ HearLdp (link_no 0) Back ∷ Inject (site_no 0) 1 ∷ []) (packet ∷ []) ≡ Dropped rule.NoLsp (node_no 0) ∷ []
 unfolding next knowledge_of news sessions_after peerings_after held packets_after is_not_ipv4 is_malformed is_truncated has_bad_checksum good checksum_for with_ttl aged in_flight bytes_flying
 each_mapping_is_awaited = refl
+
+-- of the mentions of a FEC the last decides, and those of others nothing
+pub the_last_mention_decides : map (is_mapped false 1) ((Mapping 1 ∷ Mapping 1 ∷ []) ∷ (Mapping 1 ∷ Withdraw 1 ∷ Withdraw 1 ∷ []) ∷ (Withdraw 1 ∷ Mapping 1 ∷ Withdraw 2 ∷ Release 1 ∷ []) ∷ (Mapping 2 ∷ []) ∷ []) ≡ true ∷ false ∷ true ∷ false ∷ []
+the_last_mention_decides = refl
 
 -- where a session begins or ends, the end `a` speaks first and then the end `b`
 pub ends_speak_first : speakers (wiring_of two_links) (LinkDown (link_no 1)) ≡ 1 ∷ 2 ∷ 0 ∷ []

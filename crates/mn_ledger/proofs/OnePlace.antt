@@ -25,7 +25,7 @@ use Rattle.mn_ledger.specs.Verdicts.{one_if, injections, times_in, times_by, ver
 use Rattle.mn_ledger.specs.Ledger.{packets_from, packets_of, after, start, no_packets, next_of, left_by, injects}
 
 -- what holds of both arms
-arms : {A : Type 0} (P : A → Type 0) (b : Bool) (x y : A) → P x → P y → P (elim b [ true ↦ x | false ↦ y ])
+pub arms : {A : Type 0} (P : A → Type 0) (b : Bool) (x y : A) → P x → P y → P (elim b [ true ↦ x | false ↦ y ])
 arms P true x y p q = p
 arms P false x y p q = q
 
@@ -60,14 +60,14 @@ by_one (Delivered s t n) c = omega arith
 by_one (Dropped r n) c = omega arith
 
 -- the packet is on no channel, each other one is where its verdict says, and there are so many
-record Loose (w : Packets) (p count : ℕ) : Type 0 where
-  others : (j c : ℕ) → j ≢ p → times_in j (w.flying c) ≡ times_by (verdict_on w j) c
-  none : (c : ℕ) → times_in p (w.flying c) ≡ 0
-  within : p < length w.verdicts
-  verdicts : length w.verdicts ≡ count
-  paths : length w.paths ≡ count
+pub record Loose (w : Packets) (p count : ℕ) : Type 0 where
+  pub others : (j c : ℕ) → j ≢ p → times_in j (w.flying c) ≡ times_by (verdict_on w j) c
+  pub none : (c : ℕ) → times_in p (w.flying c) ≡ 0
+  pub within : p < length w.verdicts
+  pub verdicts : length w.verdicts ≡ count
+  pub paths : length w.paths ≡ count
 
-judged_on : (w : Packets) (p : ℕ) (v : Verdict) (j : ℕ) → p < length w.verdicts → verdict_on (judged w p v) j ≡ cond (j == p) v (verdict_on w j)
+pub judged_on : (w : Packets) (p : ℕ) (v : Verdict) (j : ℕ) → p < length w.verdicts → verdict_on (judged w p v) j ≡ cond (j == p) v (verdict_on w j)
 judged_on w p v j h = grind (arith, common_steps, h)
 
 judged_count : (w : Packets) (p : ℕ) (v : Verdict) → length (judged w p v).verdicts ≡ length w.verdicts
@@ -106,7 +106,7 @@ flown_places w p count tok l d k e j c =
 fly : (w : Packets) (p count : ℕ) (tok : Token) (l : ℕ) (d : Dir) → Loose w p count → tok.packet ≡ p → AreInOnePlace (record (judged w p (Flying (record { 0 = l }) d)) { flying = put w.flying (channel l d) (w.flying (channel l d) ++ tok ∷ []) }) count
 fly w p count tok l d k e = record { places = flown_places w p count tok l d k e; verdicts = judged_count w p (Flying (record { 0 = l }) d) ∙ k.verdicts; paths = k.paths }
 
-loosen : (w : Packets) (c n count : ℕ) (k : Token) → AreInOnePlace w count → slice_get (w.flying c) n ≡ Some k → Loose (record w { flying = put w.flying c (without_place n (w.flying c)) }) k.packet count
+pub loosen : (w : Packets) (c n count : ℕ) (k : Token) → AreInOnePlace w count → slice_get (w.flying c) n ≡ Some k → Loose (record w { flying = put w.flying c (without_place n (w.flying c)) }) k.packet count
 loosen w c n count k h e =
     let gone : times_in k.packet (w.flying c) ≡ times_in k.packet (without_place n (w.flying c)) + 1 = times-without k.packet (w.flying c) n k e ∙ ap (λ x. times_in k.packet (without_place n (w.flying c)) + x) (one_same k.packet) in
     let there : 1 ≤ times_by (verdict_on w k.packet) c = omega (arith, gone, h.places k.packet c) in
@@ -128,7 +128,7 @@ loosen w c n count k h e =
 more : (w : Packets) (v : Verdict) (j : ℕ) → j ≢ length w.verdicts → get_or (w.verdicts ++ v ∷ []) j (Delivered (record { 0 = 0 }) 0 0) ≡ verdict_on w j
 more w v j h = grind (arith, common_steps, h)
 
-fresh : (w : Packets) (count edge : ℕ) → AreInOnePlace w count → Loose (one_more w edge) (length w.verdicts) (1 + count)
+pub fresh : (w : Packets) (count edge : ℕ) → AreInOnePlace w count → Loose (one_more w edge) (length w.verdicts) (1 + count)
 fresh w count edge h = record {
   others = λ j c r. rw (more w (Dropped rule.Lost (record { 0 = edge })) j r) (h.places j c);
   none = λ c. h.places (length w.verdicts) c ∙ ap (λ x. times_by x c) (past w (length w.verdicts) (omega arith));
@@ -204,7 +204,7 @@ cut_kept (k ∷ ks) w c n count e h =
     let l : Loose (record w { flying = put w.flying c ks }) k.packet count = rw e at (loosen w c 0 count k h there) in
     cut_kept ks (drop_at (record w { flying = put w.flying c ks }) k.packet rule.LinkCut n) c n count (put_here w.flying c ks) (dropped (record w { flying = put w.flying c ks }) k.packet count rule.LinkCut n l)
 
-unmarked : (w : Packets) (count : ℕ) → AreInOnePlace w count → AreInOnePlace (before_step w) count
+pub unmarked : (w : Packets) (count : ℕ) → AreInOnePlace w count → AreInOnePlace (before_step w) count
 unmarked w count h = record { places = h.places; verdicts = h.verdicts; paths = h.paths }
 
 -- none more
@@ -218,7 +218,7 @@ moved_kept t v w (Lose l d n) b count h = none_more _ _ (lost w l.0 d n count _ 
 moved_kept t v w (LinkDown l) b count h = none_more _ _ (cut_kept _ _ _ _ count refl (cut_kept _ _ _ _ count refl h))
 moved_kept t v w _ b count h = none_more _ _ h
 
-stepped : (t : Network) (v : World) (w : Packets) (s : Step) (b : List ℕ) (count : ℕ) → AreInOnePlace w count → AreInOnePlace (packets_after t v w s b) (one_if (injects s) + count)
+pub stepped : (t : Network) (v : World) (w : Packets) (s : Step) (b : List ℕ) (count : ℕ) → AreInOnePlace w count → AreInOnePlace (packets_after t v w s b) (one_if (injects s) + count)
 unfolding packets_after
 stepped t v w s b count h = moved_kept t v (before_step w) s b count (unmarked w count h)
 

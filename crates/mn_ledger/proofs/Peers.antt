@@ -101,14 +101,14 @@ each-append : (c : Config) (k : Peerings) (xs ys : List Told) → EachNews c k x
 each-append c k [] ys h g = g
 each-append c k (x ∷ xs) ys h g = (h.0, each-append c k xs ys h.1 g)
 
-and_right : (a b : Bool) → (a && b) ≡ true → b ≡ true
+pub and_right : (a b : Bool) → (a && b) ≡ true → b ≡ true
 and_right true b h = h
 and_right false b h = absurd (clash h)
   where
     clash : false ≡ true → ⊥
     clash e = cc
 
-two_ways : (b : Bool) → (b ≡ true) ⊎ (b ≡ false)
+pub two_ways : (b : Bool) → (b ≡ true) ⊎ (b ≡ false)
 two_ways true = inl refl
 two_ways false = inr refl
 
@@ -138,7 +138,7 @@ each-edge : (t : Network) (c : Config) (p : Peerings) (new : Config) (k : Peerin
 each-edge t c p new k [] = tt
 each-edge t c p new k (e ∷ es) = each-append new k (news t c p new k e) (all_news t c p new k es) (each-telling t c p new k e (changed (exports_of t c e) (exports_of t new e)) (updates-changed (exports_of t c e) (exports_of t new e))) (each-edge t c p new k es)
 
-tellings-append : (a b : ℕ) (xs ys : List Told) → tellings_of a b (xs ++ ys) ≡ tellings_of a b xs ++ tellings_of a b ys
+pub tellings-append : (a b : ℕ) (xs ys : List Told) → tellings_of a b (xs ++ ys) ≡ tellings_of a b xs ++ tellings_of a b ys
 tellings-append a b xs ys = ap (map (λ (told : Told). told.telling)) (filter-append (is_between a b) xs ys) ∙ map-append (λ (told : Told). told.telling) (filter (is_between a b) xs) (filter (is_between a b) ys)
 
 pick : (a b : ℕ) (x : Told) (xs : List Told) (on : Bool) → is_between a b x ≡ on → tellings_of a b (x ∷ xs) ≡ cond on (x.telling ∷ tellings_of a b xs) (tellings_of a b xs)
@@ -153,11 +153,11 @@ tellings-updates c k a b (x ∷ xs) h =
       | inr q ↦ subst AreUpdates (sym (pick a b x xs false q)) (tellings-updates c k a b xs h.1)
     ]
 
-and_left : (a b : Bool) → (a && b) ≡ true → a ≡ true
+pub and_left : (a b : Bool) → (a && b) ≡ true → a ≡ true
 and_left true b h = refl
 and_left false b h = h
 
-same_numbers : (a b : ℕ) → (a == b) ≡ true → a ≡ b
+pub same_numbers : (a b : ℕ) → (a == b) ≡ true → a ≡ b
 same_numbers a b h = elim (eqb_tells a b) [ inl p ↦ p.1 | inr p ↦ absurd (clash (sym h ∙ p.0)) ]
   where
     clash : true ≡ false → ⊥
@@ -181,17 +181,17 @@ few_off true k h = elim (leb_tells 2 k) [ inl r ↦ absurd (not_both h r.1) | in
     not_both a b = omega (arith, a, b)
 few_off false k h = refl
 
-same_test : (n : ℕ) → (n == n) ≡ true
+pub same_test : (n : ℕ) → (n == n) ≡ true
 same_test n = grind (arith, nat_tests)
 
-other_test : (a b : ℕ) → a ≢ b → (a == b) ≡ false
+pub other_test : (a b : ℕ) → a ≢ b → (a == b) ≡ false
 other_test a b h = elim (eqb_tells a b) [ inl p ↦ absurd (h p.1) | inr p ↦ p.0 ]
 
 told-own : (a b : ℕ) (xs : List Telling) → tellings_of a b (told_to a b xs) ≡ xs
 told-own a b [] = refl
 told-own a b (x ∷ xs) = pick a b (record { teller = a; peer = b; telling = x }) (told_to a b xs) true (ap (λ o. o && (b == b)) (same_test a) ∙ same_test b) ∙ ap (λ ys. x ∷ ys) (told-own a b xs)
 
-and_off : (b : Bool) → (b && false) ≡ false
+pub and_off : (b : Bool) → (b && false) ≡ false
 and_off true = refl
 and_off false = refl
 
@@ -279,10 +279,10 @@ lt_tells a b = elim (leb_tells (suc a) b) [ inl p ↦ inl (p.0, p.1) | inr p ↦
     at_most h = omega (arith, h)
 
 -- the pair is this one, this one the other way round, or neither
-Which : (a b edge peer : ℕ) → Type 0
+unfoldable pub Which : (a b edge peer : ℕ) → Type 0
 Which a b edge peer = ((edge ≡ a) × (peer ≡ b)) ⊎ (((edge ≡ b) × (peer ≡ a)) ⊎ (((edge ≢ a) ⊎ (peer ≢ b)) × ((edge ≢ b) ⊎ (peer ≢ a))))
 
-which : (a b edge peer : ℕ) → Which a b edge peer
+pub which : (a b edge peer : ℕ) → Which a b edge peer
 unfolding Which
 which a b edge peer = elim (eqb_tells edge a) [
   | inl p ↦ elim (eqb_tells peer b) [

@@ -55,7 +55,7 @@ abbrev pub two_links : Network
 two_links = record {
   asn = 65000;
   notice_delay = 1;
-  bgp_delay = 1;
+  bgp_delay = 3;
   node_names = (112 ∷ 101 ∷ 49 ∷ []) ∷ (112 ∷ []) ∷ (112 ∷ 101 ∷ 50 ∷ []) ∷ [];
   loopbacks = 3221225985 ∷ 3221225986 ∷ 3221225987 ∷ [];
   links = record { a = node_no 0; b = node_no 1; cost = 10; delay = 2; loss = 0 } ∷ record { a = node_no 1; b = node_no 2; cost = 10; delay = 2; loss = 0 } ∷ [];

@@ -44,15 +44,18 @@ pub record Flight : Type 0 where
   pub items : List Item
 
 abbrev pub same_channel : Channel → Channel → Bool
-same_channel (Notices l node) (Notices other_l other) = (l == other_l) && (node == other)
-same_channel (Messages l end) (Messages other_l other) = (l == other_l) && (end == other)
-same_channel (Routes edge peer) (Routes other other_peer) = (edge == other) && (peer == other_peer)
-same_channel (Frames l dir) (Frames other other_dir) = channel l dir == channel other other_dir
+same_channel (Notices l node) (Notices other_l other) = (other_l == l) && (other == node)
+same_channel (Messages l end) (Messages other_l other) = (other_l == l) && (other == end)
+same_channel (Routes edge peer) (Routes other other_peer) = (other == edge) && (other_peer == peer)
+same_channel (Frames l dir) (Frames other other_dir) = channel other other_dir == channel l dir
 same_channel _ _ = false
 
--- what flies in a channel, in the order of making
+-- what is on a channel, in the order of making
+abbrev pub items_on : Channel → List Item → List Item
+items_on on items = filter (λ item. same_channel on item.on) items
+
 abbrev pub loads_on : Channel → List Item → List Load
-loads_on on items = map (λ item. item.load) (filter (λ item. same_channel on item.on) items)
+loads_on on items = map (λ item. item.load) (items_on on items)
 
 -- 2. What a step makes
 
@@ -147,7 +150,7 @@ left_in_flight topology (BgpUp a b) items = filter (λ item. not (is_between a.0
 left_in_flight topology (BgpDown a b) items = filter (λ item. not (is_between a.0 b.0 item.on)) items
 left_in_flight topology _ items = items
 
--- 4. The flight after a step, and after a journal
+-- 4. The flight after a step, and after a journal; and all that the journal made
 
 abbrev pub with_made : Network → ℕ → List (Channel × Load) → Step → Flight → Flight
 with_made topology tick new step flight = record { made = flight.made + length new; items = left_in_flight topology step flight.items ++ numbered topology tick flight.made new }
@@ -162,3 +165,15 @@ flight_from topology world packets flight (entry ∷ entries) inputs =
 
 abbrev pub flight_of : Network → List JournalEntry → List (List ℕ) → Flight
 flight_of topology entries inputs = flight_from topology (start topology) no_packets (record { made = 0; items = [] }) entries inputs
+
+-- all items that these entries make, numbered from this number, each due its channel's delay after its entry's tick
+abbrev pub made_from : Network → World → Packets → ℕ → List JournalEntry → List (List ℕ) → List Item
+made_from topology world packets number [] inputs = []
+made_from topology world packets number (entry ∷ entries) inputs =
+    let world_then : World = after topology world entry.step in
+    let packets_then : Packets = packets_after topology world_then packets entry.step (next_of inputs) in
+    let new : List (Channel × Load) = made_in topology world world_then packets packets_then entry.step in
+    numbered topology entry.tick number new ++ made_from topology world_then packets_then (number + length new) entries (left_by entry.step inputs)
+
+abbrev pub made_by : Network → List JournalEntry → List (List ℕ) → List Item
+made_by topology entries inputs = made_from topology (start topology) no_packets 0 entries inputs

@@ -18,3 +18,6 @@ pub mod Turns
 pub mod Quiet
 pub mod Nearer
 pub mod Items
+pub mod InFlight
+pub mod Best
+pub mod OneKind

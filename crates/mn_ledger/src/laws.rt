@@ -24,6 +24,13 @@ ghost use Rattle.mn_topo.specs.Steps.{fits};
 ghost use Rattle.mn_ledger.specs.Refusal.{is_unchanged};
 ghost use Rattle.mn_ledger.specs.Quiet.{known_before, known_after, said_by};
 ghost use Rattle.mn_ledger.specs.Nearer.{IsNearer};
+ghost use Rattle.mn_ledger.specs.Items.{made_by, flight_of};
+ghost use Rattle.mn_ledger.specs.InFlight.{IsInFlight};
+ghost use Rattle.mn_ledger.specs.Best.{NamesTheBest, HavePrefixes};
+ghost use Rattle.mn_ledger.specs.Vpn.{held};
+ghost use Rattle.mn_ledger.specs.World.{Config};
+ghost use Rattle.mn_ledger.specs.Ledger.{config_after};
+ghost use Rattle.mn_ledger.specs.OneKind.{TellsOneKind};
 
 /// Each packet that is sent is accounted for: it reaches only the site of the longest route, unchanged but for TTL and
 /// checksum, or it falls to the first rule that applies.
@@ -77,4 +84,26 @@ pub fn the_next_hop_is_nearer()
         IsLawful topology → from < length topology.loopbacks → from ≢ to →
         next (wiring_of topology) view from to ≡ Some hop → IsLeast (wiring_of topology) view from to cost →
         IsNearer (wiring_of topology) view hop.0 to cost }
+{}
+
+/// After a lawful journal each channel of notices or messages holds the last that was made for it, with its number and due
+/// tick: what wasn't learned or heard yet. A link holds a frame for each packet that flies on it.
+pub fn what_flies_has_not_arrived()
+    ensures { (topology : Network) (entries : List JournalEntry) (inputs : List (List ℕ)) →
+        IsLawful topology → IsLawfulJournal topology entries inputs →
+        IsInFlight topology (world_of topology entries) (packets_of topology entries inputs) (made_by topology entries inputs) (flight_of topology entries inputs) }
+{}
+
+/// After a lawful journal, of the routes that a VRF holds `best` names the one that is best for an address, and none
+/// exactly where no prefix contains it: no two are best (RFC 1812, section 5.2.4.3).
+pub fn best_names_one_held_route()
+    ensures { (topology : Network) (entries : List JournalEntry) (inputs : List (List ℕ)) (edge v address : ℕ) →
+        IsLawful topology → HavePrefixes topology entries → IsLawfulJournal topology entries inputs →
+        NamesTheBest (held topology (world_of topology entries).config (world_of topology entries).peerings edge v) address }
+{}
+
+/// Of an edge's exports a step makes some go, or makes some come or change, and never both: so what the edge tells of them
+/// stands in the order of VRF and prefix. It holds of every step, refused or not.
+pub fn a_step_withdraws_or_announces()
+    ensures { (topology : Network) (config : Config) (step : Step) (edge : ℕ) → TellsOneKind topology config (config_after config step) edge }
 {}

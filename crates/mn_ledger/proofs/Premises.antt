@@ -1,0 +1,46 @@
+-- What the laws ask is met in the network of two links, once it is settled.
+use Rattle.std.proofs.Common.{arith}
+use Rattle.std.specs.Prelude.{◌≡◌, refl, true, false, [], ◌∷◌, Some}
+use Rattle.mn_base.specs.Wiring.{View}
+use Rattle.mn_base.specs.Paths.{IsLeast, next}
+use Rattle.mn_base.proofs.Dist.{dists_are_least}
+use Rattle.mn_ipv4.specs.Header.{is_not_ipv4, is_malformed, is_truncated, has_bad_checksum, good, checksum_for, with_ttl, aged}
+use Rattle.mn_topo.specs.Network.{wiring_of}
+use Rattle.mn_topo.specs.Steps.{fits}
+use Rattle.mn_topo.specs.declared.steps.Step.{Step}
+use Rattle.mn_topo.specs.declared.steps.Step.TheVariants.{LinkDown}
+use Rattle.mn_ledger.specs.Transport.{knowledge_of, news, sessions_after}
+use Rattle.mn_ledger.specs.Vpn.{peerings_after, held}
+use Rattle.mn_ledger.specs.Packets.{packets_after}
+use Rattle.mn_ledger.specs.Quiet.{known_before, known_after}
+use Rattle.mn_ledger.specs.Refusal.{is_unchanged, in_flight, bytes_flying}
+use Rattle.mn_ledger.proofs.TwoLinks.{link_no, two_links, the_topology_is_lawful, settled_world}
+
+-- 1. A node that learns nothing
+
+-- the far link goes down, of which the near edge knows nothing yet
+abbrev far_link_down : Step
+far_link_down = LinkDown (link_no 1)
+
+pub the_step_fits : fits two_links far_link_down ≡ true
+the_step_fits = refl
+
+pub the_link_is_not_down_yet : is_unchanged settled_world.config far_link_down ≡ false
+unfolding next knowledge_of news sessions_after peerings_after held packets_after is_not_ipv4 is_malformed is_truncated has_bad_checksum good checksum_for with_ttl aged in_flight bytes_flying
+the_link_is_not_down_yet = refl
+
+pub the_near_edge_learns_nothing : known_before two_links settled_world 0 ≡ known_after two_links settled_world far_link_down 0
+unfolding next knowledge_of news sessions_after peerings_after held packets_after is_not_ipv4 is_malformed is_truncated has_bad_checksum good checksum_for with_ttl aged in_flight bytes_flying
+the_near_edge_learns_nothing = refl
+
+-- 2. A next hop, and a least cost
+
+abbrev all_up : View
+all_up = true ∷ true ∷ []
+
+pub a_next_hop : next (wiring_of two_links) all_up 0 2 ≡ Some (1, 0)
+unfolding next
+a_next_hop = refl
+
+pub a_least_cost : IsLeast (wiring_of two_links) all_up 0 2 20
+a_least_cost = dists_are_least (wiring_of two_links) all_up 2 the_topology_is_lawful.joins_nodes 0 (omega arith)
