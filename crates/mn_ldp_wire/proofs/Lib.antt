@@ -1,0 +1,12 @@
+pub mod Loops
+pub mod Prefixes
+pub mod InOrder
+pub mod Written
+pub mod Bytes
+pub mod Frames
+pub mod Values
+pub mod Bodies
+pub mod Messages
+pub mod Pdus
+pub mod Causes
+pub mod Faults

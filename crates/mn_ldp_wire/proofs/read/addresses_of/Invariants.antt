@@ -1,0 +1,9 @@
+use Rattle.std.proofs.Common.{◌≡◌, ◌++◌, length}
+use Rattle.mn_ldp_wire.specs.Reading.{addresses_of}
+use Rattle.mn_ldp_wire.proofs.read.addresses_of.Given as goal
+
+abbrev pub invariant-addresses : goal.invariant-addresses
+invariant-addresses l = l.addresses.items ++ addresses_of l.rest ≡ addresses_of l.bytes
+
+abbrev pub decreases-addresses : goal.decreases-addresses
+decreases-addresses l = length l.rest

@@ -1,0 +1,4 @@
+pub mod Grammar
+pub mod Message
+pub mod Reading
+pub mod Refused
