@@ -1,0 +1,13 @@
+pub mod InTurn
+pub mod Parts
+pub mod Offered
+pub mod Split
+pub mod Taken
+pub mod Bytes
+pub mod Results
+pub mod Opened
+pub mod Listed
+pub mod Updated
+pub mod Headed
+pub mod Messages
+pub mod Spelling

@@ -1,0 +1,5 @@
+pub mod Says
+pub mod Items
+pub mod Grammar
+pub mod Written
+pub mod Reading
