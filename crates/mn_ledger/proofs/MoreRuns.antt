@@ -1,5 +1,5 @@
 -- More runs over the network of two links, each of which a wrong definition would end otherwise.
-use Rattle.std.specs.Prelude.{◌≡◌, refl, ℕ, zero, suc, List, [], ◌∷◌, ◌++◌, map, Some, None, true, false}
+use Rattle.std.specs.Prelude.{◌≡◌, refl, ℕ, zero, suc, List, [], ◌∷◌, ◌++◌, map, length, Some, None, true, false}
 use Rattle.std.specs.List.{range_with_len}
 use Rattle.mn_base.specs.declared.numbers.Rt.{Rt}
 use Rattle.mn_base.specs.declared.links.Dir.TheVariants.{Forth, Back}
@@ -15,9 +15,10 @@ use Rattle.mn_ledger.specs.declared.verdict.Verdict.{Verdict}
 use Rattle.mn_ledger.specs.declared.verdict.Verdict.TheVariants.{Delivered, Dropped, Flying}
 use Rattle.mn_ledger.specs.declared.refused.Refused.TheVariants.{Unchanged, Empty, PrefixTaken, NoRouteThere, RoutesFull, TargetsFull, LabelsSpent, NetFull, TooManySteps}
 use Rattle.mn_ledger.specs.Tables.{everywhere}
+use Rattle.mn_ledger.specs.World as world
 use Rattle.mn_ledger.specs.World.{World, Config, Initialization, KeepAlive, Address, Mapping, Withdraw, Release, Open, Alive, Announce, Unreach}
 use Rattle.mn_ledger.specs.Transport.{knowledge_of, news, sessions_after, speakers, by_neighbour, is_mapped}
-use Rattle.mn_ledger.specs.Vpn.{peerings_after, held, exports_of, Source, Near, Far, HeldRoute, best, told_in}
+use Rattle.mn_ledger.specs.Vpn.{peerings_after, held, exports_of, announced, Source, Own, Near, Far, HeldRoute, best, told_in}
 use Rattle.mn_ledger.specs.Packets.{Packets, packets_after}
 use Rattle.mn_ledger.specs.Ledger.{start, no_packets, first_config, world_of, packets_of}
 use Rattle.mn_ledger.specs.Refusal.{refusal, refusal_at, prefix_refusal, is_targets_full, is_spent, is_full, labels_given, in_flight, bytes_flying}
@@ -177,6 +178,37 @@ pub far_sources_in_order : best (from (Far 2 1) ∷ from (Far 1 3) ∷ from (Far
 unfolding next knowledge_of news sessions_after peerings_after held packets_after is_not_ipv4 is_malformed is_truncated has_bad_checksum good checksum_for with_ttl aged in_flight bytes_flying
 far_sources_in_order = refl
 
+-- an own static comes before another VRF's route of the same prefix, and that before another edge's
+pub own_comes_first : best (from (Far 1 1) ∷ from (Near 1) ∷ from Own ∷ []) 167837697 ≡ Some (from Own)
+unfolding next knowledge_of news sessions_after peerings_after held packets_after is_not_ipv4 is_malformed is_truncated has_bad_checksum good checksum_for with_ttl aged in_flight bytes_flying
+own_comes_first = refl
+
+pub near_comes_before_far : best (from (Far 1 1) ∷ from (Near 2) ∷ []) 167837697 ≡ Some (from (Near 2))
+unfolding next knowledge_of news sessions_after peerings_after held packets_after is_not_ipv4 is_malformed is_truncated has_bad_checksum good checksum_for with_ttl aged in_flight bytes_flying
+near_comes_before_far = refl
+
+-- a VRF holds its own statics once, though it imports what it exports; another VRF of the edge holds them beside its own
+pub statics_are_held_once : map (λ route. route.site) (held wider (first_config wider) (start wider).peerings 0 0) ≡ 0 ∷ 3 ∷ []
+unfolding next knowledge_of news sessions_after peerings_after held packets_after is_not_ipv4 is_malformed is_truncated has_bad_checksum good checksum_for with_ttl aged in_flight bytes_flying
+statics_are_held_once = refl
+
+pub another_vrf_holds_them_too : map (λ route. route.site) (held wider (first_config wider) (start wider).peerings 0 2) ≡ 2 ∷ 0 ∷ 3 ∷ []
+unfolding next knowledge_of news sessions_after peerings_after held packets_after is_not_ipv4 is_malformed is_truncated has_bad_checksum good checksum_for with_ttl aged in_flight bytes_flying
+another_vrf_holds_them_too = refl
+
+-- a route of the far edge over this attachment
+abbrev over : ℕ → world.Export
+over attachment = record { vrf = 1; prefix = far_block; site = 1; attachment = attachment; targets = target.0 ∷ [] }
+
+-- over another attachment it is another route, and announced anew; the same one isn't
+pub another_attachment_is_announced : announced (over 1 ∷ []) (over 2 ∷ []) ++ announced (over 1 ∷ []) (over 1 ∷ []) ≡ Announce (over 2) ∷ []
+another_attachment_is_announced = refl
+
+-- with a session ends what was told and heard in it, at both ends
+pub an_ended_session_forgets : (let peerings = (world_of two_links (settled_then (BgpDown (node_no 0) (node_no 2) ∷ []))).peerings in peerings.heard 0 2 ∷ peerings.heard 2 0 ∷ length (peerings.told 0 2) ∷ length (peerings.told 2 0) ∷ []) ≡ 0 ∷ 0 ∷ 0 ∷ 0 ∷ []
+unfolding next knowledge_of news sessions_after peerings_after held packets_after is_not_ipv4 is_malformed is_truncated has_bad_checksum good checksum_for with_ttl aged in_flight bytes_flying
+an_ended_session_forgets = refl
+
 -- 3. Packets
 
 -- two packets are delivered, each with its own TTL, and numbered in the order of delivery
@@ -220,6 +252,11 @@ not_so_yet = refl
 pub a_prefix_is_taken_in_its_vrf : map (λ step. refusal wider (at_start (Detach (site_no 0)) ∷ []) [] step []) (AddRoute (site_no 3) near_block ∷ AddRoute (site_no 3) far_block ∷ []) ≡ Some (PrefixTaken (site_no 0)) ∷ None ∷ []
 unfolding next knowledge_of news sessions_after peerings_after held packets_after is_not_ipv4 is_malformed is_truncated has_bad_checksum good checksum_for with_ttl aged in_flight bytes_flying
 a_prefix_is_taken_in_its_vrf = refl
+
+-- also at a site whose number isn't that of its VRF
+pub a_prefix_is_taken_at_a_second_site : refusal wider [] [] (AddRoute (site_no 0) (block 168034304 16)) [] ≡ Some (PrefixTaken (site_no 3))
+unfolding next knowledge_of news sessions_after peerings_after held packets_after is_not_ipv4 is_malformed is_truncated has_bad_checksum good checksum_for with_ttl aged in_flight bytes_flying
+a_prefix_is_taken_at_a_second_site = refl
 
 -- the prefix is there, but at another site
 pub a_route_is_taken_away_at_its_site : refusal two_links [] [] (DelRoute (site_no 0) far_block) [] ≡ Some NoRouteThere
