@@ -17,7 +17,7 @@ use Rattle.mn_ledger.specs.Best.{IsBest, NamesTheBest, AddFormed, HavePrefixes}
 use Rattle.mn_ledger.proofs.Peers.{two_ways, same_numbers}
 use Rattle.mn_ledger.proofs.Turning.{loopbacks_apart}
 use Rattle.mn_ledger.proofs.Members.{In, in_contained, contained_in, in_filter, filter_in, none_passes, passes_none}
-use Rattle.mn_ledger.proofs.Statics.{HasStatics, first_statics, statics_go}
+use Rattle.mn_ledger.proofs.Statics.{HasStatics, HasForms, first_statics, first_forms, statics_go, forms_go}
 use Rattle.mn_ledger.proofs.Tellings.{AllGood, tellings_go}
 use Rattle.mn_ledger.proofs.Held.{one_held, held_formed}
 
@@ -120,7 +120,7 @@ pref_on (Far a r) (Far b s) (Far c u) h g = far_on a b c r s u h g
 equal_if : (m n : ℕ) → nat_lt m n ≡ false → nat_lt n m ≡ false → m ≡ n
 equal_if m n h g = grind (arith, nat_tests, h, g)
 
-pref_neither : (x y : Source) → is_preferred x y ≡ false → is_preferred y x ≡ false → x ≡ y
+pub pref_neither : (x y : Source) → is_preferred x y ≡ false → is_preferred y x ≡ false → x ≡ y
 unfolding lex
 pref_neither Own Own h g = refl
 pref_neither Own (Near v) h g = absurd (no (sym h))
@@ -174,7 +174,7 @@ better_on x y z h g = elim (better_is x y h) [
   ]
 ]
 
-neither_better : (x y : HeldRoute) → is_better x y ≡ false → is_better y x ≡ false → (x.prefix.length ≡ y.prefix.length) × (x.source ≡ y.source)
+pub neither_better : (x y : HeldRoute) → is_better x y ≡ false → is_better y x ≡ false → (x.prefix.length ≡ y.prefix.length) × (x.source ≡ y.source)
 neither_better x y h g =
     let lengths : x.prefix.length ≡ y.prefix.length = not_longer in
     (lengths, pref_neither x.source y.source (sym (as_long x y lengths) ∙ h) (sym (as_long y x (sym lengths)) ∙ g))
@@ -189,7 +189,7 @@ neither_better x y h g =
     ]
 
 -- two prefixes of one length that contain an address are one
-one_prefix : (p q : AddressBlock) (address : ℕ) → IsPrefix p.address p.length → IsPrefix q.address q.length → p.length ≡ q.length → contains p address ≡ true → contains q address ≡ true → p ≡ q
+pub one_prefix : (p q : AddressBlock) (address : ℕ) → IsPrefix p.address p.length → IsPrefix q.address q.length → p.length ≡ q.length → contains p address ≡ true → contains q address ≡ true → p ≡ q
 one_prefix p q address fp fq same cp cq =
     let size : ℕ = 2 ^ (32 - p.length) in
     let sizes : 2 ^ (32 - q.length) ≡ size = ap (λ n. 2 ^ (32 - n)) (sym same) in
@@ -307,17 +307,18 @@ names_one routes address formed apart = record {
 
 record Keeps (t : Network) (w : World) : Type 0 where
   statics : HasStatics t w.config.statics
+  forms : HasForms w.config.statics
   told : AllGood t w.peerings
 
 keeps_on : (t : Network) (es : List JournalEntry) (tick : ℕ) (w : World) (k : Packets) (i : ℕ) (ps : List (List ℕ)) → IsLawfulFrom t tick w k i es ps → AddFormed es → Keeps t w → Keeps t (world_from t w es)
 keeps_on t [] tick w k i ps lawful formed h = h
 keeps_on t (e ∷ es) tick w k i ps lawful formed h =
-    let statics = statics_go t w k i e.step (next_of ps) lawful.2 formed.0 h.statics in
-    keeps_on t es e.tick (after t w e.step) (packets_after t (after t w e.step) k e.step (next_of ps)) (i + 1) (left_by e.step ps) lawful.3 formed.1 (record { statics = statics; told = tellings_go t w e.step statics h.told })
+    let forms = forms_go w e.step formed.0 h.forms in
+    keeps_on t es e.tick (after t w e.step) (packets_after t (after t w e.step) k e.step (next_of ps)) (i + 1) (left_by e.step ps) lawful.3 formed.1 (record { statics = statics_go t w k i e.step (next_of ps) lawful.2 h.statics; forms = forms; told = tellings_go t w e.step forms h.told })
 
 pub names_best : (t : Network) (es : List JournalEntry) (ps : List (List ℕ)) → IsLawful t → HavePrefixes t es → IsLawfulJournal t es ps → (edge v address : ℕ)
     → NamesTheBest (held t (world_of t es).config (world_of t es).peerings edge v) address
 names_best t es ps lawful prefixes journal edge v address =
-    let k : Keeps t (world_of t es) = keeps_on t es 0 (start t) no_packets 0 ps journal prefixes.added (record { statics = first_statics t lawful prefixes.sites; told = λ edge peer m i. absurd i }) in
-    names_one (held t (world_of t es).config (world_of t es).peerings edge v) address (λ a i. held_formed t (world_of t es).config (world_of t es).peerings edge v a k.statics k.told i)
+    let k : Keeps t (world_of t es) = keeps_on t es 0 (start t) no_packets 0 ps journal prefixes.added (record { statics = first_statics t lawful; forms = first_forms t prefixes.sites; told = λ edge peer m i. absurd i }) in
+    names_one (held t (world_of t es).config (world_of t es).peerings edge v) address (λ a i. held_formed t (world_of t es).config (world_of t es).peerings edge v a k.forms k.told i)
     (λ a b i j source prefix. one_held t (world_of t es).config (world_of t es).peerings edge v a b lawful (loopbacks_apart t lawful) k.statics k.told i j source prefix)

@@ -24,10 +24,11 @@ use Rattle.mn_ledger.specs.Refusal.{is_empty}
 use Rattle.mn_ledger.specs.Lawful.{IsLawfulFrom, IsLawfulJournal}
 use Rattle.mn_ledger.specs.Items.{Channel, Notices, Messages, Routes, Frames, Load, Notice, Says, Tells, Item, Flight, same_channel, items_on, loads_on, notices_in, messages_in, routes_in, message_of, route_of, frame_after, frames_in, made_in, numbered, without, is_session_of, is_over, is_between, left_in_flight, with_made, flight_from, flight_of, made_from, made_by}
 use Rattle.mn_ledger.specs.InFlight.{is_in_order, AreLastOf, AreNumbered, IsInFlight}
+use Rattle.mn_ledger.specs.Turns.{IsInTurn}
 use Rattle.mn_ledger.proofs.Peers.{two_ways, same_test, other_test, Which, which, AreInOrder}
 use Rattle.mn_ledger.proofs.Turning.{Apart, loopbacks_apart, across-end, dir_ends}
 use Rattle.mn_ledger.proofs.GoingBy.{LinkIsThere, put_here, put_off, pair_here, pair_off, or_both, above}
-use Rattle.mn_ledger.proofs.InTurn.{Goes, goes_step, begins, not_empty, link_there, in_order}
+use Rattle.mn_ledger.proofs.InTurn.{goes_step, begins, not_empty, link_there, in_order}
 use Rattle.mn_ledger.specs.Verdicts.{one_if, AreInOnePlace}
 use Rattle.mn_ledger.proofs.Members.{In, in_append, in_front, in_rest, in_filter, in_contained, contained_in}
 use Rattle.mn_ledger.proofs.OnePlace.{stepped}
@@ -547,7 +548,7 @@ in_without on (suc n) (y ∷ ys) x i = elim i [ inl e ↦ inl e | inr j ↦ inr 
     later_out true one more j = one j
     later_out false one more j = more j
 
-in_left : (t : Network) (s : Step) (items : List Item) (x : Item) → In (left_in_flight t s items) x → In items x
+pub in_left : (t : Network) (s : Step) (items : List Item) (x : Item) → In (left_in_flight t s items) x → In items x
 in_left t (Learn node l) items x i = in_without (Notices l.0 node.0) 0 items x i
 in_left t (HearLdp l dir) items x i = in_without (Messages l.0 (sender (wiring_of t) l.0 dir)) 0 items x i
 in_left t (HearBgp a b) items x i = in_without (Routes a.0 b.0) 0 items x i
@@ -578,7 +579,7 @@ made_frames t w v p q s l d =
     no_frame_notices (LinkDown at) = none_of (Frames l d) (λ n. (Notices at.0 n, Notice)) (λ n. refl) (nodes_of (wiring_of t))
     no_frame_notices _ = refl
 
-flows_step : (t : Network) → EndsDiffer (wiring_of t) → (w : World) (p : Packets) (s : Step) (b : List ℕ) (tick count : ℕ) → fits t s ≡ true → is_empty t w p s ≡ false → Goes t w → AreInOnePlace p count → (made : List Item) (flight : Flight) → IsInFlight t w p made flight
+flows_step : (t : Network) → EndsDiffer (wiring_of t) → (w : World) (p : Packets) (s : Step) (b : List ℕ) (tick count : ℕ) → fits t s ≡ true → is_empty t w p s ≡ false → IsInTurn t w → AreInOnePlace p count → (made : List Item) (flight : Flight) → IsInFlight t w p made flight
     → (let later : Packets = packets_after t (after t w s) p s b in
     let new : List (Channel × Load) = made_in t w (after t w s) p later s in
     IsInFlight t (after t w s) later (made ++ numbered t tick flight.made new) (with_made t tick new s flight))
@@ -601,7 +602,7 @@ flows_step t differ w p s b tick count fit full g one made flight f =
           ∙ frames_go t (after t w s) p s b flight.items count l dir one f.frames;
     }
 
-flows_on : (t : Network) → Apart t → JoinsNodes (wiring_of t) → EndsDiffer (wiring_of t) → (es : List JournalEntry) (tick : ℕ) (w : World) (k : Packets) (i count : ℕ) (ps : List (List ℕ)) → IsLawfulFrom t tick w k i es ps → Goes t w → AreInOnePlace k count
+flows_on : (t : Network) → Apart t → JoinsNodes (wiring_of t) → EndsDiffer (wiring_of t) → (es : List JournalEntry) (tick : ℕ) (w : World) (k : Packets) (i count : ℕ) (ps : List (List ℕ)) → IsLawfulFrom t tick w k i es ps → IsInTurn t w → AreInOnePlace k count
     → (made : List Item) (flight : Flight) → IsInFlight t w k made flight → IsInFlight t (world_from t w es) (packets_from t w k es ps) (made ++ made_from t w k flight.made es ps) (flight_from t w k flight es ps)
 flows_on t distinct joins differ [] tick w k i count ps lawful g one made flight f = subst (λ m. IsInFlight t w k m flight) (sym (append-nil made)) f
 flows_on t distinct joins differ (e ∷ es) tick w k i count ps lawful g one made flight f =

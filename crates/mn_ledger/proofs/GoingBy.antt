@@ -14,19 +14,10 @@ use Rattle.mn_ledger.specs.Transport.{Said, lives, is_active, state_by, answer, 
 use Rattle.mn_ledger.specs.Packets.{Packets}
 use Rattle.mn_ledger.specs.Ledger.{config_after, after}
 use Rattle.mn_ledger.specs.Refusal.{is_empty}
-use Rattle.mn_ledger.specs.Turns.{IsTalk}
+use Rattle.mn_ledger.specs.Turns.{IsTalk, IsEndInTurn, EndsAreInTurn}
 use Rattle.mn_ledger.proofs.Talk.{IsNth, talk-nth, talk-heard, talk-said}
 use Rattle.mn_ledger.proofs.Mentions.{EachNews, each-speaker, messages-append, messages-mentions, messages-none, few-off, dead-off}
 use Rattle.mn_ledger.proofs.Turning.{Apart, said-own, said-other, opening_talk, opener, across-end, dir_ends}
-
--- one end of a link goes by the table
-pub record GoesBy (t : Network) (c : Config) (s : Sessions) (l node : ℕ) : Type 0 where
-  pub heard : s.heard l node ≤ length (s.said l (across (wiring_of t) l node))
-  pub silent : lives c l ≡ false → (s.said l node ≡ []) × (s.heard l node ≡ 0)
-  pub talk : lives c l ≡ true → IsTalk (is_active t l node) (s.heard l node) (s.said l node)
-
-abbrev pub AllGoBy : Network → Config → Sessions → Type 0
-AllGoBy t c s = (l node : ℕ) → l < length t.links → is_end (wiring_of t) l node ≡ true → GoesBy t c s l node
 
 pub put_here : {A : Type 0} (f : ℕ → A) (k : ℕ) (v : A) → put f k v k ≡ v
 put_here f k v = elim (eqb_tells k k) [ inl p ↦ ap (λ b. cond b v (f k)) p.0 | inr p ↦ absurd (p.1 refl) ]
@@ -39,7 +30,7 @@ put_off f k v j d = elim (eqb_tells j k) [ inl p ↦ absurd (d p.1) | inr p ↦ 
 -- nothing of its own happened to it: it may say of its offers
 keeps : (t : Network) (c new : Config) (v : Views) (s k : Sessions) (xs ns : List Said) (l node : ℕ) → l < length t.links → EachNews (λ n. knowledge_of (wiring_of t) new v k n) ns
     → k.said l node ≡ s.said l node → k.heard l node ≡ s.heard l node → k.said l (across (wiring_of t) l node) ≡ s.said l (across (wiring_of t) l node) → lives new l ≡ lives c l → messages_of l node xs ≡ []
-    → GoesBy t c s l node → GoesBy t new (with_said k (xs ++ ns)) l node
+    → IsEndInTurn t c s l node → IsEndInTurn t new (with_said k (xs ++ ns)) l node
 keeps t c new v s k xs ns l node below each said heard far alive none g =
     let only : messages_of l node (xs ++ ns) ≡ messages_of l node ns = messages-append l node xs ns ∙ ap (λ ms. ms ++ messages_of l node ns) none in
     record {
@@ -62,7 +53,7 @@ open_if t new l alive h = ap (λ b. elim b as (λ _. List Said) [ true ↦ said_
 
 -- a life begins, or there is none
 begins : (t : Network) (new : Config) (v : Views) (k : Sessions) (ns : List Said) (l node : ℕ) → Apart t → JoinsNodes (wiring_of t) → EndsDiffer (wiring_of t) → l < length t.links → is_end (wiring_of t) l node ≡ true
-    → EachNews (λ n. knowledge_of (wiring_of t) new v k n) ns → k.said l node ≡ [] → k.heard l node ≡ 0 → GoesBy t new (with_said k (opening t new l ++ ns)) l node
+    → EachNews (λ n. knowledge_of (wiring_of t) new v k n) ns → k.said l node ≡ [] → k.heard l node ≡ 0 → IsEndInTurn t new (with_said k (opening t new l ++ ns)) l node
 begins t new v k ns l node apart joins differ below at_end each said heard =
     let quiet : messages_of l node ns ≡ [] = messages-none (λ n. knowledge_of (wiring_of t) new v k n) l node ns each (few-off (wiring_of t) new v k node l below (subst (λ n. n < 2) (sym heard) (omega arith))) in
     let only : messages_of l node (opening t new l ++ ns) ≡ messages_of l node (opening t new l) = messages-append l node (opening t new l) ns ∙ ap (λ ms. messages_of l node (opening t new l) ++ ms) quiet ∙ append-nil (messages_of l node (opening t new l)) in
@@ -78,8 +69,8 @@ begins t new v k ns l node apart joins differ below at_end each said heard =
 -- it hears the other end's next message, and answers
 hears : (t : Network) (c : Config) (v : Views) (s k : Sessions) (ns : List Said) (l node other : ℕ) → l < length t.links → across (wiring_of t) l node ≡ other
     → EachNews (λ n. knowledge_of (wiring_of t) c v k n) ns → k.said l node ≡ s.said l node → k.said l other ≡ s.said l other → k.heard l node ≡ s.heard l node + 1
-    → lives c l ≡ true → s.heard l node < length (s.said l other) → GoesBy t c s l node → GoesBy t c s l other
-    → GoesBy t c (with_said k (said_on l node (answer (state_by (is_active t l node) (s.heard l node)) (slice_index_or (s.said l other) (s.heard l node) Address)) ++ ns)) l node
+    → lives c l ≡ true → s.heard l node < length (s.said l other) → IsEndInTurn t c s l node → IsEndInTurn t c s l other
+    → IsEndInTurn t c (with_said k (said_on l node (answer (state_by (is_active t l node) (s.heard l node)) (slice_index_or (s.said l other) (s.heard l node) Address)) ++ ns)) l node
 hears t c v s k ns l node other below far each said far_said heard alive more g far_g =
     let message : Message = slice_index_or (s.said l other) (s.heard l node) Address in
     let answers : List Message = answer (state_by (is_active t l node) (s.heard l node)) message in
@@ -113,16 +104,16 @@ each_news t c v s new nv k step = each-speaker (wiring_of t) (λ n. knowledge_of
 
 -- a step that ends or begins the life of one link's session
 life_step : (t : Network) (c new : Config) (v nv : Views) (s : Sessions) (step : Step) (at : ℕ) → Apart t → JoinsNodes (wiring_of t) → EndsDiffer (wiring_of t) → counted t s step ≡ anew s at
-    → (xs : List Said) → (xs ≡ opening t new at) ⊎ ((xs ≡ []) × (lives new at ≡ false)) → ((l : ℕ) → l ≢ at → lives new l ≡ lives c l) → AllGoBy t c s → AllGoBy t new (with_said (anew s at) (xs ++ all_news t c v s new nv (anew s at) step))
+    → (xs : List Said) → (xs ≡ opening t new at) ⊎ ((xs ≡ []) × (lives new at ≡ false)) → ((l : ℕ) → l ≢ at → lives new l ≡ lives c l) → EndsAreInTurn t c s → EndsAreInTurn t new (with_said (anew s at) (xs ++ all_news t c v s new nv (anew s at) step))
 life_step t c new v nv s step at apart joins differ is xs which others h l node below at_end =
     elim (eqb_tells l at) [
-      | inl p ↦ subst (λ j. GoesBy t new (with_said (anew s at) (xs ++ all_news t c v s new nv (anew s at) step)) j node) (sym p.1) (here (subst (λ j. j < length t.links) p.1 below) (subst (λ j. is_end (wiring_of t) j node ≡ true) p.1 at_end))
+      | inl p ↦ subst (λ j. IsEndInTurn t new (with_said (anew s at) (xs ++ all_news t c v s new nv (anew s at) step)) j node) (sym p.1) (here (subst (λ j. j < length t.links) p.1 below) (subst (λ j. is_end (wiring_of t) j node ≡ true) p.1 at_end))
       | inr p ↦ keeps t c new nv s (anew s at) xs (all_news t c v s new nv (anew s at) step) l node below (each_news t c v s new nv (anew s at) step)
           (ap (λ f. f node) (put_off s.said at (λ n. []) l p.1)) (ap (λ f. f node) (put_off s.heard at (λ n. 0) l p.1)) (ap (λ f. f (across (wiring_of t) l node)) (put_off s.said at (λ n. []) l p.1))
           (others l p.1) (elsewhere p.1) (h l node below at_end)
     ]
   where
-    nothing : (k : Sessions) (ns : List Said) → k.said at node ≡ [] → k.heard at node ≡ 0 → (xs ≡ []) → lives new at ≡ false → EachNews (λ n. knowledge_of (wiring_of t) new nv k n) ns → at < length t.links → GoesBy t new (with_said k (xs ++ ns)) at node
+    nothing : (k : Sessions) (ns : List Said) → k.said at node ≡ [] → k.heard at node ≡ 0 → (xs ≡ []) → lives new at ≡ false → EachNews (λ n. knowledge_of (wiring_of t) new nv k n) ns → at < length t.links → IsEndInTurn t new (with_said k (xs ++ ns)) at node
     nothing k ns said heard none dead each b = record {
       heard = subst (λ n. n ≤ length (k.said at (across (wiring_of t) at node) ++ messages_of at (across (wiring_of t) at node) (xs ++ ns))) (sym heard) (omega arith);
       silent = λ _. (ap (λ ms. ms ++ messages_of at node (xs ++ ns)) said ∙ ap (λ ys. messages_of at node (ys ++ ns)) none ∙ messages-none (λ n. knowledge_of (wiring_of t) new nv k n) at node ns each (dead-off (wiring_of t) new nv k node at b dead), heard);
@@ -132,12 +123,12 @@ life_step t c new v nv s step at apart joins differ is xs which others h l node 
         clash : true ≡ false → ⊥
         clash e = cc
 
-    here : at < length t.links → is_end (wiring_of t) at node ≡ true → GoesBy t new (with_said (anew s at) (xs ++ all_news t c v s new nv (anew s at) step)) at node
+    here : at < length t.links → is_end (wiring_of t) at node ≡ true → IsEndInTurn t new (with_said (anew s at) (xs ++ all_news t c v s new nv (anew s at) step)) at node
     here b e =
         let said : (anew s at).said at node ≡ [] = ap (λ f. f node) (put_here s.said at (λ n. [])) in
         let heard : (anew s at).heard at node ≡ 0 = ap (λ f. f node) (put_here s.heard at (λ n. 0)) in
         elim which [
-          | inl q ↦ subst (λ ys. GoesBy t new (with_said (anew s at) (ys ++ all_news t c v s new nv (anew s at) step)) at node) (sym q) (begins t new nv (anew s at) (all_news t c v s new nv (anew s at) step) at node apart joins differ b e (each_news t c v s new nv (anew s at) step) said heard)
+          | inl q ↦ subst (λ ys. IsEndInTurn t new (with_said (anew s at) (ys ++ all_news t c v s new nv (anew s at) step)) at node) (sym q) (begins t new nv (anew s at) (all_news t c v s new nv (anew s at) step) at node apart joins differ b e (each_news t c v s new nv (anew s at) step) said heard)
           | inr q ↦ nothing (anew s at) (all_news t c v s new nv (anew s at) step) said heard q.0 q.1 (each_news t c v s new nv (anew s at) step) b
         ]
 
@@ -158,7 +149,7 @@ no_life_right : (b d : Bool) → d ≡ false → (b && d) ≡ false
 no_life_right true d h = h
 no_life_right false d h = refl
 
-learn_step : (t : Network) (c : Config) (v nv : Views) (s : Sessions) (step : Step) → AllGoBy t c s → AllGoBy t c (with_said s ([] ++ all_news t c v s c nv s step))
+learn_step : (t : Network) (c : Config) (v nv : Views) (s : Sessions) (step : Step) → EndsAreInTurn t c s → EndsAreInTurn t c (with_said s ([] ++ all_news t c v s c nv s step))
 learn_step t c v nv s step h l node below at_end =
     keeps t c c nv s s [] (all_news t c v s c nv s step) l node below (each_news t c v s c nv s step) refl refl refl refl refl (h l node below at_end)
 
@@ -177,15 +168,15 @@ pair_off f k m x l n d = elim d [
 -- one end of a link hears
 hear_step : (t : Network) (c : Config) (v : Views) (s : Sessions) (step : Step) (at m other : ℕ) → EndsDiffer (wiring_of t) → is_end (wiring_of t) at m ≡ true → across (wiring_of t) at m ≡ other → is_end (wiring_of t) at other ≡ true
     → lives c at ≡ true → s.heard at m < length (s.said at other) → at < length t.links
-    → (k : Sessions) → k ≡ record s { heard = put_pair s.heard at m (s.heard at m + 1) } → AllGoBy t c s
-    → AllGoBy t c (with_said k (said_on at m (answer (state_by (is_active t at m) (s.heard at m)) (slice_index_or (s.said at other) (s.heard at m) Address)) ++ all_news t c v s c v k step))
+    → (k : Sessions) → k ≡ record s { heard = put_pair s.heard at m (s.heard at m + 1) } → EndsAreInTurn t c s
+    → EndsAreInTurn t c (with_said k (said_on at m (answer (state_by (is_active t at m) (s.heard at m)) (slice_index_or (s.said at other) (s.heard at m) Address)) ++ all_news t c v s c v k step))
 hear_step t c v s step at m other differ m_end far other_end alive more inside k is h l node below at_end =
     let answers : List Message = answer (state_by (is_active t at m) (s.heard at m)) (slice_index_or (s.said at other) (s.heard at m) Address) in
     let ns : List Said = all_news t c v s c v k step in
     let each = each_news t c v s c v k step in
     let said : k.said ≡ s.said = ap (λ x. x.said) is in
     let heard : k.heard ≡ put_pair s.heard at m (s.heard at m + 1) = ap (λ x. x.heard) is in
-    let off : ((l ≢ at) ⊎ (node ≢ m)) → GoesBy t c (with_said k (said_on at m answers ++ ns)) l node = λ d.
+    let off : ((l ≢ at) ⊎ (node ≢ m)) → IsEndInTurn t c (with_said k (said_on at m answers ++ ns)) l node = λ d.
     keeps t c c v s k (said_on at m answers) ns l node below each (ap (λ f. f l node) said) (ap (λ f. f l node) heard ∙ pair_off s.heard at m (s.heard at m + 1) l node d) (ap (λ f. f l (across (wiring_of t) l node)) said) refl
     (said-other l node at m answers (elim d [ inl p ↦ inl (λ e. p (sym e)) | inr p ↦ inr (λ e. p (sym e)) ])) (h l node below at_end) in
     elim (eqb_tells l at) [
@@ -193,8 +184,8 @@ hear_step t c v s step at m other differ m_end far other_end alive more inside k
       | inl p ↦ elim (eqb_tells node m) [
         | inr q ↦ off (inr q.1)
         | inl q ↦
-            subst (λ j. GoesBy t c (with_said k (said_on at m answers ++ ns)) j node) (sym p.1)
-            (subst (λ j. GoesBy t c (with_said k (said_on at m answers ++ ns)) at j) (sym q.1)
+            subst (λ j. IsEndInTurn t c (with_said k (said_on at m answers ++ ns)) j node) (sym p.1)
+            (subst (λ j. IsEndInTurn t c (with_said k (said_on at m answers ++ ns)) at j) (sym q.1)
             (hears t c v s k ns at m other inside far each (ap (λ f. f at m) said) (ap (λ f. f at other) said) (ap (λ f. f at m) heard ∙ pair_here s.heard at m (s.heard at m + 1)) alive more (h at m inside m_end) (h at other inside other_end)))
       ]
     ]
@@ -222,7 +213,7 @@ LinkIsThere t (HearLdp l dir) = l.0 < length t.links
 LinkIsThere t _ = ⊤
 
 pub sessions_go : (t : Network) (w : World) (k : Packets) (step : Step) → Apart t → JoinsNodes (wiring_of t) → EndsDiffer (wiring_of t) → LinkIsThere t step → is_empty t w k step ≡ false
-    → AllGoBy t w.config w.sessions → AllGoBy t (after t w step).config (after t w step).sessions
+    → EndsAreInTurn t w.config w.sessions → EndsAreInTurn t (after t w step).config (after t w step).sessions
 unfolding sessions_after
 sessions_go t w k (LinkUp l) apart joins differ there full h =
     life_step t w.config (config_after w.config (LinkUp l)) w.views (views_after w.views (LinkUp l)) w.sessions (LinkUp l) l.0 apart joins differ refl

@@ -15,7 +15,7 @@ use Rattle.mn_ledger.specs.Vpn.{peers_live, is_for, is_present, export_of, expor
 use Rattle.mn_ledger.proofs.Peers.{same_test, same_numbers, and_left}
 use Rattle.mn_ledger.proofs.Turning.{Apart}
 use Rattle.mn_ledger.proofs.Members.{In, in_append, in_map, in_filter, in_flat_map, in_take, in_range, AreApart, one_alike, apart_filter, apart_push}
-use Rattle.mn_ledger.proofs.Statics.{SameStatic, HasStatics}
+use Rattle.mn_ledger.proofs.Statics.{SameStatic, HasStatics, HasForms}
 use Rattle.mn_ledger.proofs.Tellings.{Behind, behind, exported_by, IsGoodExport, AllGood}
 
 no : false ≡ true → ⊥
@@ -154,7 +154,7 @@ far_rd _ = 0
 one_edge : (t : Network) → Apart t → (m n : ℕ) → m < length t.loopbacks → n < length t.loopbacks → loopback t m ≡ loopback t n → m ≡ n
 one_edge t apart m n h g e = elim (eqb_tells m n) [ inl p ↦ p.1 | inr p ↦ absurd (apart m n h g p.1 e) ]
 
-one_vrf : (t : Network) → IsLawful t → (u w : ℕ) → u < length t.vrfs → w < length t.vrfs → (vrf_at t u).rd.0 ≡ (vrf_at t w).rd.0 → u ≡ w
+pub one_vrf : (t : Network) → IsLawful t → (u w : ℕ) → u < length t.vrfs → w < length t.vrfs → (vrf_at t u).rd.0 ≡ (vrf_at t w).rd.0 → u ≡ w
 one_vrf t lawful u w h g e = elim (eqb_tells u w) [
   | inl p ↦ p.1
   | inr p ↦ elim (leb_tells u w) [
@@ -240,15 +240,15 @@ one_held t c p edge v a b lawful apart h good i j source prefix =
 
 -- 4. Each prefix is of its form
 
-formed_behind : (t : Network) (c : Config) (v : ℕ) (targets : List ℕ) (x : Export) → HasStatics t c.statics → Behind t c v targets x → IsPrefix x.prefix.address x.prefix.length
+formed_behind : (t : Network) (c : Config) (v : ℕ) (targets : List ℕ) (x : Export) → HasForms c.statics → Behind t c v targets x → IsPrefix x.prefix.address x.prefix.length
 unfolding Behind
 formed_behind t c v targets x h b = subst (λ (e : Export). IsPrefix e.prefix.address e.prefix.length) b.3 (h.formed b.0 b.1)
 
-own_formed : (t : Network) (c : Config) (edge v : ℕ) (a : HeldRoute) → HasStatics t c.statics → OwnRoute t c edge v a → IsPrefix a.prefix.address a.prefix.length
+own_formed : (t : Network) (c : Config) (edge v : ℕ) (a : HeldRoute) → HasForms c.statics → OwnRoute t c edge v a → IsPrefix a.prefix.address a.prefix.length
 unfolding OwnRoute
 own_formed t c edge v a h m = subst (λ (r : HeldRoute). IsPrefix r.prefix.address r.prefix.length) m.2 (formed_behind t c v [] m.0 h m.1)
 
-near_formed : (t : Network) (c : Config) (edge : ℕ) (a : HeldRoute) → HasStatics t c.statics → NearRoute t c edge a → IsPrefix a.prefix.address a.prefix.length
+near_formed : (t : Network) (c : Config) (edge : ℕ) (a : HeldRoute) → HasForms c.statics → NearRoute t c edge a → IsPrefix a.prefix.address a.prefix.length
 unfolding NearRoute
 near_formed t c edge a h m =
     let x = exported_by t c edge m.0 m.1 in
@@ -258,7 +258,7 @@ far_formed : (t : Network) (c : Config) (p : Peerings) (edge : ℕ) (a : HeldRou
 unfolding FarRoute
 far_formed t c p edge a good m = subst (λ (r : HeldRoute). IsPrefix r.prefix.address r.prefix.length) m.4 (good_believed t c p edge m.0 m.2 good m.3).1
 
-pub held_formed : (t : Network) (c : Config) (p : Peerings) (edge v : ℕ) (a : HeldRoute) → HasStatics t c.statics → AllGood t p → In (held t c p edge v) a → IsPrefix a.prefix.address a.prefix.length
+pub held_formed : (t : Network) (c : Config) (p : Peerings) (edge v : ℕ) (a : HeldRoute) → HasForms c.statics → AllGood t p → In (held t c p edge v) a → IsPrefix a.prefix.address a.prefix.length
 unfolding Kinds
 held_formed t c p edge v a h good i = elim (kinds t c p edge v a i) [
   | inl m ↦ own_formed t c edge v a h m

@@ -23,8 +23,8 @@ use Rattle.mn_ledger.specs.Lawful.{IsLawfulFrom, IsLawfulJournal}
 use Rattle.mn_ledger.specs.Turns.{IsInTurn, HasRows, has_bgp_row}
 use Rattle.mn_ledger.proofs.Talk.{talk-nth, nth-row}
 use Rattle.mn_ledger.proofs.Turning.{Apart, loopbacks_apart, across-end}
-use Rattle.mn_ledger.proofs.GoingBy.{AllGoBy, LinkIsThere, sessions_go, put_here, put_off, pair_here, pair_off, above}
-use Rattle.mn_ledger.proofs.Peers.{AllPeersGoBy, AreInOrder, peers_go, peer-nth, peer-row, state_alive, live_sym}
+use Rattle.mn_ledger.proofs.GoingBy.{LinkIsThere, sessions_go, put_here, put_off, pair_here, pair_off, above}
+use Rattle.mn_ledger.proofs.Peers.{AreInOrder, peers_go, peer-nth, peer-row, state_alive, live_sym}
 
 -- 1. What a lawful step owes
 
@@ -127,29 +127,24 @@ learned_go t w k _ full h = h
 
 -- 3. Over a journal
 
-pub record Goes (t : Network) (w : World) : Type 0 where
-  pub ldp : AllGoBy t w.config w.sessions
-  pub bgp : AllPeersGoBy w.config w.peerings
-  pub views : Learned w.views
-
-pub goes_step : (t : Network) → Apart t → JoinsNodes (wiring_of t) → EndsDiffer (wiring_of t) → (w : World) (k : Packets) (s : Step) → fits t s ≡ true → is_empty t w k s ≡ false → Goes t w → Goes t (after t w s)
+pub goes_step : (t : Network) → Apart t → JoinsNodes (wiring_of t) → EndsDiffer (wiring_of t) → (w : World) (k : Packets) (s : Step) → fits t s ≡ true → is_empty t w k s ≡ false → IsInTurn t w → IsInTurn t (after t w s)
 goes_step t apart joins differ w k s fit full g = record {
   ldp = sessions_go t w k s apart joins differ (link_there t s fit) full g.ldp;
   bgp = peers_go t w k s (in_order t s fit) full g.bgp;
-  views = learned_go t w k s full g.views;
+  learned = learned_go t w k s full g.learned;
 }
 
-goes_on : (t : Network) → Apart t → JoinsNodes (wiring_of t) → EndsDiffer (wiring_of t) → (es : List JournalEntry) (tick : ℕ) (w : World) (k : Packets) (i : ℕ) (ps : List (List ℕ)) → IsLawfulFrom t tick w k i es ps → Goes t w → Goes t (world_from t w es)
+goes_on : (t : Network) → Apart t → JoinsNodes (wiring_of t) → EndsDiffer (wiring_of t) → (es : List JournalEntry) (tick : ℕ) (w : World) (k : Packets) (i : ℕ) (ps : List (List ℕ)) → IsLawfulFrom t tick w k i es ps → IsInTurn t w → IsInTurn t (world_from t w es)
 goes_on t apart joins differ [] tick w k i ps lawful g = g
 goes_on t apart joins differ (e ∷ es) tick w k i ps lawful g =
     goes_on t apart joins differ es e.tick (after t w e.step) (packets_after t (after t w e.step) k e.step (next_of ps)) (i + 1) (left_by e.step ps) lawful.3
     (goes_step t apart joins differ w k e.step lawful.0 (not_empty t w k i e.step (next_of ps) lawful.2) g)
 
-pub begins : (t : Network) → Goes t (start t)
+pub begins : (t : Network) → IsInTurn t (start t)
 begins t = record {
   ldp = λ l node below at_end. record { heard = omega arith; silent = λ dead. (refl, refl); talk = λ on. absurd (clash on) };
   bgp = λ edge peer d. record { heard = omega arith; silent = λ dead. (refl, refl); talk = λ on. absurd (never edge peer on) };
-  views = λ node l. omega arith;
+  learned = λ node l. omega arith;
 }
   where
     clash : false ≡ true → ⊥
@@ -159,26 +154,16 @@ begins t = record {
     never edge peer on = elim (leb_tells (suc edge) peer) [ inl p ↦ clash (sym (ap (λ b. cond b false false) p.0) ∙ on) | inr p ↦ clash (sym (ap (λ b. cond b false false) p.0) ∙ on) ]
 
 pub in_turn : (t : Network) (es : List JournalEntry) (ps : List (List ℕ)) → IsLawful t → IsLawfulJournal t es ps → IsInTurn t (world_of t es)
-in_turn t es ps lawful journal =
-    let g : Goes t (world_of t es) = goes_on t (loopbacks_apart t lawful) lawful.joins_nodes lawful.ends_differ es 0 (start t) no_packets 0 ps journal (begins t) in
-    record {
-      learned = g.views;
-      heard = λ l node below at_end. (g.ldp l node below at_end).heard;
-      silent = λ l node below at_end. (g.ldp l node below at_end).silent;
-      talk = λ l node below at_end. (g.ldp l node below at_end).talk;
-      told = λ edge peer d. (g.bgp edge peer d).heard;
-      untold = λ edge peer d. (g.bgp edge peer d).silent;
-      peer_talk = λ edge peer d. (g.bgp edge peer d).talk;
-    }
+in_turn t es ps lawful journal = goes_on t (loopbacks_apart t lawful) lawful.joins_nodes lawful.ends_differ es 0 (start t) no_packets 0 ps journal (begins t)
 
 pub rows : (t : Network) (w : World) → IsLawful t → IsInTurn t w → HasRows t w
 rows t w lawful turn = record {
   ldp = λ l node below at_end alive more.
       let other = across-end (wiring_of t) l node (lawful.ends_differ l below) at_end in
-      nth-row (is_active t l node) (w.sessions.heard l node) _ (talk-nth (is_active t l (across (wiring_of t) l node)) (w.sessions.heard l (across (wiring_of t) l node)) (w.sessions.said l (across (wiring_of t) l node)) (w.sessions.heard l node) (turn.talk l (across (wiring_of t) l node) below other.0 alive) more);
+      nth-row (is_active t l node) (w.sessions.heard l node) _ (talk-nth (is_active t l (across (wiring_of t) l node)) (w.sessions.heard l (across (wiring_of t) l node)) (w.sessions.said l (across (wiring_of t) l node)) (w.sessions.heard l node) ((turn.ldp l (across (wiring_of t) l node) below other.0).talk alive) more);
   bgp = λ edge peer d alive more.
       subst (λ st. has_bgp_row st (slice_index_or (w.peerings.told peer edge) (w.peerings.heard edge peer) Open) ≡ true) (sym (state_alive w.config w.peerings edge peer alive))
-      (peer-row (w.peerings.heard edge peer) _ (peer-nth (w.peerings.heard peer edge) (w.peerings.told peer edge) (w.peerings.heard edge peer) (turn.peer_talk peer edge (λ e. d (sym e)) (live_back edge peer d alive)) more));
+      (peer-row (w.peerings.heard edge peer) _ (peer-nth (w.peerings.heard peer edge) (w.peerings.told peer edge) (w.peerings.heard edge peer) ((turn.bgp peer edge (λ e. d (sym e))).talk (live_back edge peer d alive)) more));
 }
   where
     live_back : (edge peer : ℕ) → edge ≢ peer → peers_live w.config edge peer ≡ true → peers_live w.config peer edge ≡ true

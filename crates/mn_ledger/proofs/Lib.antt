@@ -1,6 +1,6 @@
 pub mod Longest
 pub mod Accounted
-mod TwoLinks
+pub mod TwoLinks
 mod MoreRuns
 pub mod OnePlace
 pub mod Parts
@@ -23,3 +23,7 @@ pub mod Frames
 mod Flights
 mod Premises
 pub mod OneKind
+pub mod More
+pub mod Ascending
+pub mod Tidy
+pub mod Ended

@@ -17,7 +17,7 @@ use Rattle.mn_ledger.specs.Vpn.{Told, peers_live, state_heard, state_of, is_esta
 use Rattle.mn_ledger.specs.Packets.{Packets}
 use Rattle.mn_ledger.specs.Ledger.{config_after, after}
 use Rattle.mn_ledger.specs.Refusal.{is_empty}
-use Rattle.mn_ledger.specs.Turns.{IsUpdate, AreUpdates, IsPeerTalk, has_bgp_row}
+use Rattle.mn_ledger.specs.Turns.{IsUpdate, AreUpdates, IsPeerTalk, has_bgp_row, IsPeerInTurn, PeersAreInTurn}
 use Rattle.mn_ledger.proofs.GoingBy.{pair_here, pair_off, or_both, not_false, above}
 
 -- 1. What is told in turn
@@ -204,17 +204,9 @@ told-other a b j k (x ∷ xs) d = pick a b (record { teller = j; peer = k; telli
 
 -- 3. One edge and a peer, whatever the step
 
-pub record PeerGoesBy (c : Config) (p : Peerings) (edge peer : ℕ) : Type 0 where
-  pub heard : p.heard edge peer ≤ length (p.told peer edge)
-  pub silent : peers_live c edge peer ≡ false → (p.told edge peer ≡ []) × (p.heard edge peer ≡ 0)
-  pub talk : peers_live c edge peer ≡ true → IsPeerTalk (p.heard edge peer) (p.told edge peer)
-
-abbrev pub AllPeersGoBy : Config → Peerings → Type 0
-AllPeersGoBy c p = (edge peer : ℕ) → edge ≢ peer → PeerGoesBy c p edge peer
-
 keeps : (c new : Config) (p k : Peerings) (xs ns : List Told) (edge peer : ℕ) → EachNews new k ns
     → k.told edge peer ≡ p.told edge peer → k.heard edge peer ≡ p.heard edge peer → k.told peer edge ≡ p.told peer edge → peers_live new edge peer ≡ peers_live c edge peer → tellings_of edge peer xs ≡ []
-    → PeerGoesBy c p edge peer → PeerGoesBy new (with_told k (xs ++ ns)) edge peer
+    → IsPeerInTurn c p edge peer → IsPeerInTurn new (with_told k (xs ++ ns)) edge peer
 keeps c new p k xs ns edge peer each told heard far alive none g =
     let only : tellings_of edge peer (xs ++ ns) ≡ tellings_of edge peer ns = tellings-append edge peer xs ns ∙ ap (λ ms. ms ++ tellings_of edge peer ns) none in
     record {
@@ -234,7 +226,7 @@ keeps c new p k xs ns edge peer each told heard far alive none g =
 
 -- a life begins with Open, or ends
 renewed : (new : Config) (k : Peerings) (xs ns : List Told) (edge peer : ℕ) → EachNews new k ns → k.told edge peer ≡ [] → k.heard edge peer ≡ 0
-    → (peers_live new edge peer ≡ true → tellings_of edge peer xs ≡ Open ∷ []) → (peers_live new edge peer ≡ false → tellings_of edge peer xs ≡ []) → PeerGoesBy new (with_told k (xs ++ ns)) edge peer
+    → (peers_live new edge peer ≡ true → tellings_of edge peer xs ≡ Open ∷ []) → (peers_live new edge peer ≡ false → tellings_of edge peer xs ≡ []) → IsPeerInTurn new (with_told k (xs ++ ns)) edge peer
 renewed new k xs ns edge peer each told heard on off =
     let quiet : tellings_of edge peer ns ≡ [] = tellings-none new k edge peer ns each (few_off (peers_live new edge peer) (k.heard edge peer) (subst (λ n. n < 2) (sym heard) (omega arith))) in
     let all : k.told edge peer ++ tellings_of edge peer (xs ++ ns) ≡ tellings_of edge peer xs = ap (λ ms. ms ++ tellings_of edge peer (xs ++ ns)) told ∙ tellings-append edge peer xs ns ∙ ap (λ ms. tellings_of edge peer xs ++ ms) quiet ∙ append-nil (tellings_of edge peer xs) in
@@ -245,8 +237,8 @@ renewed new k xs ns edge peer each told heard on off =
     }
 
 hears : (c : Config) (p k : Peerings) (ns : List Told) (edge peer : ℕ) (es : List Export) → EachNews c k ns → k.told edge peer ≡ p.told edge peer → k.told peer edge ≡ p.told peer edge → k.heard edge peer ≡ p.heard edge peer + 1
-    → peers_live c edge peer ≡ true → p.heard edge peer < length (p.told peer edge) → PeerGoesBy c p edge peer → IsPeerTalk (p.heard peer edge) (p.told peer edge)
-    → PeerGoesBy c (with_told k (told_to edge peer (reply (state_heard (p.heard edge peer)) (slice_index_or (p.told peer edge) (p.heard edge peer) Open) es) ++ ns)) edge peer
+    → peers_live c edge peer ≡ true → p.heard edge peer < length (p.told peer edge) → IsPeerInTurn c p edge peer → IsPeerTalk (p.heard peer edge) (p.told peer edge)
+    → IsPeerInTurn c (with_told k (told_to edge peer (reply (state_heard (p.heard edge peer)) (slice_index_or (p.told peer edge) (p.heard edge peer) Open) es) ++ ns)) edge peer
 hears c p k ns edge peer es each told far heard alive more g far_talk =
     let message : Telling = slice_index_or (p.told peer edge) (p.heard edge peer) Open in
     let answers : List Telling = reply (state_heard (p.heard edge peer)) message es in
@@ -326,16 +318,16 @@ live_here c a b on h = (
 
 session_step : (t : Network) (c : Config) (p : Peerings) (a b : ℕ) (on : Bool) (xs ns : List Told) → a < b → EachNews (with_session c a b on) (anew p a b) ns
     → (on ≡ true → (tellings_of a b xs ≡ Open ∷ []) × (tellings_of b a xs ≡ Open ∷ [])) → (on ≡ false → xs ≡ []) → ((edge peer : ℕ) → (edge ≢ a) ⊎ (peer ≢ b) → (edge ≢ b) ⊎ (peer ≢ a) → tellings_of edge peer xs ≡ [])
-    → AllPeersGoBy c p → AllPeersGoBy (with_session c a b on) (with_told (anew p a b) (xs ++ ns))
+    → PeersAreInTurn c p → PeersAreInTurn (with_session c a b on) (with_told (anew p a b) (xs ++ ns))
 unfolding Which
 session_step t c p a b on xs ns order each opens ends others h edge peer d =
     elim (split (which a b edge peer)) [
-      | inl q ↦ subst (λ x. PeerGoesBy (with_session c a b on) (with_told (anew p a b) (xs ++ ns)) x peer) (sym q.0) (subst (λ x. PeerGoesBy (with_session c a b on) (with_told (anew p a b) (xs ++ ns)) a x) (sym q.1)
+      | inl q ↦ subst (λ x. IsPeerInTurn (with_session c a b on) (with_told (anew p a b) (xs ++ ns)) x peer) (sym q.0) (subst (λ x. IsPeerInTurn (with_session c a b on) (with_told (anew p a b) (xs ++ ns)) a x) (sym q.1)
           (renewed (with_session c a b on) (anew p a b) xs ns a b each
           (pair_off (put_pair p.told a b []) b a [] a b (inl apart) ∙ pair_here p.told a b []) (pair_off (put_pair p.heard a b 0) b a 0 a b (inl apart) ∙ pair_here p.heard a b 0)
           (λ live. (opens (sym (live_here c a b on order).0 ∙ live)).0) (λ dead. ap (tellings_of a b) (ends (sym (live_here c a b on order).0 ∙ dead)))))
       | inr r ↦ elim r [
-        | inl q ↦ subst (λ x. PeerGoesBy (with_session c a b on) (with_told (anew p a b) (xs ++ ns)) x peer) (sym q.0) (subst (λ x. PeerGoesBy (with_session c a b on) (with_told (anew p a b) (xs ++ ns)) b x) (sym q.1)
+        | inl q ↦ subst (λ x. IsPeerInTurn (with_session c a b on) (with_told (anew p a b) (xs ++ ns)) x peer) (sym q.0) (subst (λ x. IsPeerInTurn (with_session c a b on) (with_told (anew p a b) (xs ++ ns)) b x) (sym q.1)
             (renewed (with_session c a b on) (anew p a b) xs ns b a each
             (pair_here (put_pair p.told a b []) b a []) (pair_here (put_pair p.heard a b 0) b a 0)
             (λ live. (opens (sym (live_here c a b on order).1 ∙ live)).1) (λ dead. ap (tellings_of b a) (ends (sym (live_here c a b on order).1 ∙ dead)))))
@@ -357,19 +349,19 @@ session_step t c p a b on xs ns order each opens ends others h edge peer d =
     split w = w
 
 -- no session begins or ends, and nobody hears
-config_step : (t : Network) (c new : Config) (p : Peerings) → ((edge peer : ℕ) → peers_live new edge peer ≡ peers_live c edge peer) → AllPeersGoBy c p → AllPeersGoBy new (with_told p ([] ++ all_news t c p new p (edges t)))
+config_step : (t : Network) (c new : Config) (p : Peerings) → ((edge peer : ℕ) → peers_live new edge peer ≡ peers_live c edge peer) → PeersAreInTurn c p → PeersAreInTurn new (with_told p ([] ++ all_news t c p new p (edges t)))
 config_step t c new p same h edge peer d = keeps c new p p [] (all_news t c p new p (edges t)) edge peer (each-edge t c p new p (edges t)) refl refl refl (same edge peer) refl (h edge peer d)
 
 -- an edge hears a peer
-hear_step : (t : Network) (c : Config) (p k : Peerings) (a b : ℕ) → a ≢ b → k ≡ record p { heard = put_pair p.heard b a (p.heard b a + 1) } → peers_live c b a ≡ true → p.heard b a < length (p.told a b) → peers_live c a b ≡ true → AllPeersGoBy c p
-    → AllPeersGoBy c (with_told k (told_to b a (reply (state_heard (p.heard b a)) (slice_index_or (p.told a b) (p.heard b a) Open) (exports_of t c b)) ++ all_news t c p c k (edges t)))
+hear_step : (t : Network) (c : Config) (p k : Peerings) (a b : ℕ) → a ≢ b → k ≡ record p { heard = put_pair p.heard b a (p.heard b a + 1) } → peers_live c b a ≡ true → p.heard b a < length (p.told a b) → peers_live c a b ≡ true → PeersAreInTurn c p
+    → PeersAreInTurn c (with_told k (told_to b a (reply (state_heard (p.heard b a)) (slice_index_or (p.told a b) (p.heard b a) Open) (exports_of t c b)) ++ all_news t c p c k (edges t)))
 hear_step t c p k a b apart is alive more far_alive h edge peer d =
     let answers : List Telling = reply (state_heard (p.heard b a)) (slice_index_or (p.told a b) (p.heard b a) Open) (exports_of t c b) in
     let ns : List Told = all_news t c p c k (edges t) in
     let each = each-edge t c p c k (edges t) in
     let told : k.told ≡ p.told = ap (λ x. x.told) is in
     let heard : k.heard ≡ put_pair p.heard b a (p.heard b a + 1) = ap (λ x. x.heard) is in
-    let off : ((edge ≢ b) ⊎ (peer ≢ a)) → PeerGoesBy c (with_told k (told_to b a answers ++ ns)) edge peer = λ e.
+    let off : ((edge ≢ b) ⊎ (peer ≢ a)) → IsPeerInTurn c (with_told k (told_to b a answers ++ ns)) edge peer = λ e.
     keeps c c p k (told_to b a answers) ns edge peer each (ap (λ f. f edge peer) told) (ap (λ f. f edge peer) heard ∙ pair_off p.heard b a (p.heard b a + 1) edge peer e) (ap (λ f. f peer edge) told) refl
     (told-other edge peer b a answers (elim e [ inl q ↦ inl (λ r. q (sym r)) | inr q ↦ inr (λ r. q (sym r)) ])) (h edge peer d) in
     elim (eqb_tells edge b) [
@@ -377,7 +369,7 @@ hear_step t c p k a b apart is alive more far_alive h edge peer d =
       | inl q ↦ elim (eqb_tells peer a) [
         | inr r ↦ off (inr r.1)
         | inl r ↦
-            subst (λ x. PeerGoesBy c (with_told k (told_to b a answers ++ ns)) x peer) (sym q.1) (subst (λ x. PeerGoesBy c (with_told k (told_to b a answers ++ ns)) b x) (sym r.1)
+            subst (λ x. IsPeerInTurn c (with_told k (told_to b a answers ++ ns)) x peer) (sym q.1) (subst (λ x. IsPeerInTurn c (with_told k (told_to b a answers ++ ns)) b x) (sym r.1)
             (hears c p k ns b a (exports_of t c b) each (ap (λ f. f b a) told) (ap (λ f. f a b) told) (ap (λ f. f b a) heard ∙ pair_here p.heard b a (p.heard b a + 1)) alive more (h b a (λ e. apart (sym e))) ((h a b apart).talk far_alive)))
       ]
     ]
@@ -419,7 +411,7 @@ unopened a b edge peer d e =
     ∙ ap (λ x. x ++ tellings_of edge peer (told_to b a (Open ∷ []))) (told-other edge peer a b (Open ∷ []) (elim d [ inl p ↦ inl (λ r. p (sym r)) | inr p ↦ inr (λ r. p (sym r)) ]))
     ∙ told-other edge peer b a (Open ∷ []) (elim e [ inl p ↦ inl (λ r. p (sym r)) | inr p ↦ inr (λ r. p (sym r)) ])
 
-pub peers_go : (t : Network) (w : World) (k : Packets) (s : Step) → AreInOrder s → is_empty t w k s ≡ false → AllPeersGoBy w.config w.peerings → AllPeersGoBy (after t w s).config (after t w s).peerings
+pub peers_go : (t : Network) (w : World) (k : Packets) (s : Step) → AreInOrder s → is_empty t w k s ≡ false → PeersAreInTurn w.config w.peerings → PeersAreInTurn (after t w s).config (after t w s).peerings
 unfolding peerings_after with_session
 peers_go t w k (step.BgpUp a b) order full h =
     session_step t w.config w.peerings a.0 b.0 true (told_to a.0 b.0 (Open ∷ []) ++ told_to b.0 a.0 (Open ∷ [])) (all_news t w.config w.peerings (config_after w.config (step.BgpUp a b)) (anew w.peerings a.0 b.0) (edges t)) order
@@ -442,7 +434,7 @@ peers_go t w k (step.HearBgp a b) order full h =
     let parts = or_both _ _ full in
     let alive : peers_live w.config a.0 b.0 ≡ true = not_false _ parts.0 in
     let back : peers_live w.config b.0 a.0 ≡ true = sym (live_sym w.config a.0 b.0 order) ∙ alive in
-    subst (λ st. AllPeersGoBy w.config (with_told (counted w.peerings (step.HearBgp a b)) (told_to b.0 a.0 (reply st (slice_index_or (w.peerings.told a.0 b.0) (w.peerings.heard b.0 a.0) Open) (exports_of t w.config b.0)) ++ all_news t w.config w.peerings w.config (counted w.peerings (step.HearBgp a b)) (edges t))))
+    subst (λ st. PeersAreInTurn w.config (with_told (counted w.peerings (step.HearBgp a b)) (told_to b.0 a.0 (reply st (slice_index_or (w.peerings.told a.0 b.0) (w.peerings.heard b.0 a.0) Open) (exports_of t w.config b.0)) ++ all_news t w.config w.peerings w.config (counted w.peerings (step.HearBgp a b)) (edges t))))
     (sym (state_alive w.config w.peerings b.0 a.0 back))
     (hear_step t w.config w.peerings (counted w.peerings (step.HearBgp a b)) a.0 b.0 order refl back (above _ _ parts.1) alive h)
 peers_go t w k (step.AddRoute s prefix) order full h = config_step t w.config (config_after w.config (step.AddRoute s prefix)) w.peerings (λ a b. refl) h

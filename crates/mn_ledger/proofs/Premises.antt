@@ -12,7 +12,8 @@ use Rattle.mn_topo.specs.declared.steps.Step.TheVariants.{LinkDown}
 use Rattle.mn_ledger.specs.Transport.{knowledge_of, news, sessions_after}
 use Rattle.mn_ledger.specs.Vpn.{peerings_after, held}
 use Rattle.mn_ledger.specs.Packets.{packets_after}
-use Rattle.mn_ledger.specs.Quiet.{known_before, known_after}
+use Rattle.mn_ledger.specs.Quiet.{known_after}
+use Rattle.mn_ledger.specs.Transport.{known}
 use Rattle.mn_ledger.specs.Refusal.{is_unchanged, in_flight, bytes_flying}
 use Rattle.mn_ledger.proofs.TwoLinks.{link_no, two_links, the_topology_is_lawful, settled_world}
 
@@ -29,7 +30,7 @@ pub the_link_is_not_down_yet : is_unchanged settled_world.config far_link_down �
 unfolding next knowledge_of news sessions_after peerings_after held packets_after is_not_ipv4 is_malformed is_truncated has_bad_checksum good checksum_for with_ttl aged in_flight bytes_flying
 the_link_is_not_down_yet = refl
 
-pub the_near_edge_learns_nothing : known_before two_links settled_world 0 ≡ known_after two_links settled_world far_link_down 0
+pub the_near_edge_learns_nothing : known two_links settled_world 0 ≡ known_after two_links settled_world far_link_down 0
 unfolding next knowledge_of news sessions_after peerings_after held packets_after is_not_ipv4 is_malformed is_truncated has_bad_checksum good checksum_for with_ttl aged in_flight bytes_flying
 the_near_edge_learns_nothing = refl
 

@@ -1,80 +1,25 @@
 -- Who learns nothing in a step says nothing in it.
 use Rattle.std.proofs.Common.{ℕ, ◌≡◌, ◌≢◌, ◌+◌, ◌<◌, inl, inr, Bool, true, false, cond, List, [], ◌∷◌, ◌++◌, filter, length, refl, arith, sym, ◌∙◌, ap, subst}
-use Rattle.std.specs.Prelude.{◌==◌, ◌&&◌, nat_lt, if◌then◌else◌, ⊤}
+use Rattle.std.specs.Prelude.{◌==◌, ◌&&◌, nat_lt, if◌then◌else◌}
 use Rattle.std.specs.List.{flat_map}
 use Rattle.std.proofs.lemmas.Bool.Decides.{eqb_tells, nat_tests}
 use Rattle.std.proofs.lemmas.List.Elements.{filter-append}
 use Rattle.std.proofs.lemmas.List.FromFn.{get_or-map-range_with_len}
 use Rattle.mn_base.specs.Wiring.{Wiring, link, is_end, receiver, sender}
+use Rattle.mn_node.proofs.News.{by-said, by-news, part_none, no_news}
 use Rattle.mn_topo.specs.Network.{Network, wiring_of}
 use Rattle.mn_topo.specs.Steps.{fits}
 use Rattle.mn_topo.specs.declared.steps.Step.{Step}
 use Rattle.mn_topo.specs.declared.steps.Step.TheVariants as step
 use Rattle.mn_ledger.specs.World.{World, Config, Views, Sessions, Message, Initialization}
-use Rattle.mn_ledger.specs.Transport.{Said, Knowledge, lives, knowledge_of, hearing, hearing_at, is_operational, is_active, said_on, opening, replies, answered, mention, mentioned_on, mentioned_from, offered, by_neighbour, news, speakers, counted, views_after}
+use Rattle.mn_ledger.specs.Transport.{Said, Knowledge, known, lives, knowledge_of, hearing, hearing_at, is_operational, is_active, said_on, opening, replies, answered, news, speakers, counted, views_after}
 use Rattle.mn_ledger.specs.Ledger.{config_after}
 use Rattle.mn_ledger.specs.Refusal.{is_unchanged, agree}
-use Rattle.mn_ledger.specs.Quiet.{known_before, known_after, said_by}
+use Rattle.mn_ledger.specs.Quiet.{known_after, said_by}
 use Rattle.mn_ledger.proofs.Turning.{opener, is_end-a, is_end-b}
 use Rattle.mn_ledger.proofs.GoingBy.{put_here, pair_here}
 
--- 1. With the same knowledge there is no news
-
-same_links : (k : Knowledge) (node fec : ℕ) (b : Bool) (ls : List ℕ) → flat_map (mentioned_on k k node fec b b) ls ≡ []
-same_links k node fec b [] = refl
-same_links k node fec b (l ∷ ls) = ap (λ xs. xs ++ flat_map (mentioned_on k k node fec b b) ls) (one (is_operational k l) b) ∙ same_links k node fec b ls
-  where
-    one : (on b : Bool) → (if on then said_on l node (mention (on && b) b fec) else []) ≡ []
-    one true true = refl
-    one true false = refl
-    one false b = refl
-
-same_from : (k : Knowledge) (node : ℕ) (ls : List ℕ) (fec : ℕ) (bs : List Bool) → mentioned_from k k node ls fec bs bs ≡ []
-same_from k node ls fec [] = refl
-same_from k node ls fec (b ∷ bs) = ap (λ xs. xs ++ mentioned_from k k node ls (fec + 1) bs bs) (same_links k node fec b ls) ∙ same_from k node ls (fec + 1) bs
-
-no_news : (w : Wiring) (k : Knowledge) (node : ℕ) → news w k k node ≡ []
-unfolding news
-no_news w k node = same_from k node (by_neighbour w node) 0 (offered w k node)
-
--- 2. News is said by its node
-
-abbrev EachBy : ℕ → List Said → Type 0
-EachBy node [] = ⊤
-EachBy node (said ∷ sayings) = (said.end ≡ node) × EachBy node sayings
-
-by-append : (n : ℕ) (xs ys : List Said) → EachBy n xs → EachBy n ys → EachBy n (xs ++ ys)
-by-append n [] ys h g = g
-by-append n (x ∷ xs) ys h g = (h.0, by-append n xs ys h.1 g)
-
-by-said : (l n : ℕ) (ms : List Message) → EachBy n (said_on l n ms)
-by-said l n [] = tt
-by-said l n (m ∷ ms) = (refl, by-said l n ms)
-
-by-if : (n : ℕ) (b : Bool) (xs : List Said) → EachBy n xs → EachBy n (if b then xs else [])
-by-if n true xs h = h
-by-if n false xs h = tt
-
-by-links : (before after : Knowledge) (n fec : ℕ) (was is : Bool) (ls : List ℕ) → EachBy n (flat_map (mentioned_on before after n fec was is) ls)
-by-links before after n fec was is [] = tt
-by-links before after n fec was is (l ∷ ls) = by-append n (mentioned_on before after n fec was is l) (flat_map (mentioned_on before after n fec was is) ls) (by-if n (is_operational after l) (said_on l n (mention (is_operational before l && was) is fec)) (by-said l n (mention (is_operational before l && was) is fec))) (by-links before after n fec was is ls)
-
-by-from : (before after : Knowledge) (n : ℕ) (ls : List ℕ) (fec : ℕ) (weres ares : List Bool) → EachBy n (mentioned_from before after n ls fec weres ares)
-by-from before after n ls fec [] ares = tt
-by-from before after n ls fec (was ∷ weres) [] = tt
-by-from before after n ls fec (was ∷ weres) (is ∷ ares) = by-append n (flat_map (mentioned_on before after n fec was is) ls) (mentioned_from before after n ls (fec + 1) weres ares) (by-links before after n fec was is ls) (by-from before after n ls (fec + 1) weres ares)
-
-by-news : (w : Wiring) (before after : Knowledge) (n : ℕ) → EachBy n (news w before after n)
-unfolding news
-by-news w before after n = by-from before after n (by_neighbour w n) 0 (offered w before n) (offered w after n)
-
-other_test : (a b : ℕ) → a ≢ b → (a == b) ≡ false
-other_test a b h = elim (eqb_tells a b) [ inl p ↦ absurd (h p.1) | inr p ↦ p.0 ]
-
-none-by : (n node : ℕ) (xs : List Said) → n ≢ node → EachBy n xs → filter (λ said. said.end == node) xs ≡ []
-none-by n node [] d h = refl
-none-by n node (x ∷ xs) d h =
-    ap (λ b. cond b (x ∷ filter (λ said. said.end == node) xs) (filter (λ said. said.end == node) xs)) (ap (λ e. e == node) h.0 ∙ other_test n node d) ∙ none-by n node xs d h.1
+-- 1. News is said by its node
 
 no_news_by : (w : Wiring) (before after : ℕ → Knowledge) (node : ℕ) (ns : List ℕ) → before node ≡ after node → filter (λ said. said.end == node) (flat_map (λ n. news w (before n) (after n) n) ns) ≡ []
 no_news_by w before after node [] e = refl
@@ -86,12 +31,12 @@ no_news_by w before after node (n ∷ ns) e =
     here : filter (λ said. said.end == node) (news w (before n) (after n) n) ≡ []
     here = elim (eqb_tells n node) [
       | inl p ↦ ap (filter (λ (said : Said). said.end == node)) (ap (λ m. news w (before m) (after m) m) p.1 ∙ ap (λ k. news w k (after node) node) e ∙ no_news w (after node) node)
-      | inr p ↦ none-by n node (news w (before n) (after n) n) p.1 (by-news w (before n) (after n) n)
+      | inr p ↦ part_none n node (news w (before n) (after n) n) p.1 (by-news w (before n) (after n) n)
     ]
 
--- 3. Replies are said by who learns something
+-- 2. Replies are said by who learns something
 
-hearing-is : (w : Wiring) (c : Config) (v : Views) (s : Sessions) (node l : ℕ) → l < length w.ends → hearing (knowledge_of w c v s node) l ≡ hearing_at w c s node l
+pub hearing-is : (w : Wiring) (c : Config) (v : Views) (s : Sessions) (node l : ℕ) → l < length w.ends → hearing (knowledge_of w c v s node) l ≡ hearing_at w c s node l
 unfolding knowledge_of
 hearing-is w c v s node l h = get_or-map-range_with_len (hearing_at w c s node) 0 (length w.ends) l l (record { alive = false; count = 0; messages = [] }) h (omega arith)
 
@@ -124,7 +69,7 @@ no_opening t c new v nv s k l node h dead e = by_life (lives new l) refl
     by_life true a =
         ap (λ b. filter (λ (said : Said). said.end == node) (elim b as (λ _. List Said) [ true ↦ said_on l (opener t l) (Initialization ∷ []) | false ↦ [] ])) a
         ∙ (elim (eqb_tells (opener t l) node) [
-          | inr p ↦ none-by (opener t l) node (said_on l (opener t l) (Initialization ∷ [])) p.1 (by-said l (opener t l) (Initialization ∷ []))
+          | inr p ↦ part_none (opener t l) node (said_on l (opener t l) (Initialization ∷ [])) p.1 (by-said l (opener t l) (Initialization ∷ []))
           | inl p ↦ absurd (clash (sym (and_both (lives new l) (is_end (wiring_of t) l node) a (ap (is_end (wiring_of t) l) (sym p.1) ∙ opener_end t l)) ∙ sym (ap (λ x. x.alive) (hearing-is (wiring_of t) new nv k node l h)) ∙ sym (ap (λ x. (hearing x l).alive) e) ∙ ap (λ x. x.alive) (hearing-is (wiring_of t) c v s node l h) ∙ no_life (lives c l) (is_end (wiring_of t) l node) dead))
         ])
 
@@ -132,7 +77,7 @@ no_opening t c new v nv s k l node h dead e = by_life (lives new l) refl
 no_answer : (t : Network) (c new : Config) (v nv : Views) (s k : Sessions) (l m other node : ℕ) → l < length t.links → k.heard l m ≡ s.heard l m + 1
     → knowledge_of (wiring_of t) c v s node ≡ knowledge_of (wiring_of t) new nv k node → filter (λ said. said.end == node) (answered t s l m other) ≡ []
 no_answer t c new v nv s k l m other node h more e = elim (eqb_tells m node) [
-  | inr p ↦ none-by m node (answered t s l m other) p.1 (by-said l m _)
+  | inr p ↦ part_none m node (answered t s l m other) p.1 (by-said l m _)
   | inl p ↦ absurd (one_more (s.heard l node) (sym (ap (λ x. x.count) (hearing-is (wiring_of t) c v s node l h)) ∙ ap (λ x. (hearing x l).count) e ∙ ap (λ x. x.count) (hearing-is (wiring_of t) new nv k node l h) ∙ subst (λ n. k.heard l n ≡ s.heard l n + 1) p.1 more))
 ]
   where
@@ -151,7 +96,7 @@ was_off true false false a h = refl
 was_off true true false a h = absurd (clash (sym h))
 was_off false was on a h = refl
 
-no_replies : (t : Network) (w : World) (s : Step) (node : ℕ) → fits t s ≡ true → is_unchanged w.config s ≡ false → known_before t w node ≡ known_after t w s node → filter (λ said. said.end == node) (replies t (config_after w.config s) w.sessions s) ≡ []
+no_replies : (t : Network) (w : World) (s : Step) (node : ℕ) → fits t s ≡ true → is_unchanged w.config s ≡ false → known t w node ≡ known_after t w s node → filter (λ said. said.end == node) (replies t (config_after w.config s) w.sessions s) ≡ []
 no_replies t w (step.LinkUp l) node fit new e =
     no_opening t w.config (config_after w.config (step.LinkUp l)) w.views (views_after w.views (step.LinkUp l)) w.sessions (counted t w.sessions (step.LinkUp l)) l.0 node (less_is l.0 (length t.links) fit) (no_life (w.config.is_up l.0) (w.config.ldp_on l.0) new) e
 no_replies t w (step.LdpAdmin l on) node fit new e = by_life (lives (config_after w.config (step.LdpAdmin l on)) l.0) refl
@@ -166,8 +111,8 @@ no_replies t w (step.HearLdp l dir) node fit new e =
     (pair_here w.sessions.heard l.0 (receiver (wiring_of t) l.0 dir) (w.sessions.heard l.0 (receiver (wiring_of t) l.0 dir) + 1)) e
 no_replies t w _ node fit new e = refl
 
-pub says_nothing : (t : Network) (w : World) (s : Step) (node : ℕ) → fits t s ≡ true → is_unchanged w.config s ≡ false → known_before t w node ≡ known_after t w s node → said_by t w s node ≡ []
+pub says_nothing : (t : Network) (w : World) (s : Step) (node : ℕ) → fits t s ≡ true → is_unchanged w.config s ≡ false → known t w node ≡ known_after t w s node → said_by t w s node ≡ []
 says_nothing t w s node fit new e =
     filter-append (λ (said : Said). said.end == node) (replies t (config_after w.config s) w.sessions s) _
-    ∙ ap (λ xs. xs ++ filter (λ said. said.end == node) (flat_map (λ n. news (wiring_of t) (known_before t w n) (known_after t w s n) n) (speakers (wiring_of t) s))) (no_replies t w s node fit new e)
-    ∙ no_news_by (wiring_of t) (known_before t w) (known_after t w s) node (speakers (wiring_of t) s) e
+    ∙ ap (λ xs. xs ++ filter (λ said. said.end == node) (flat_map (λ n. news (wiring_of t) (known t w n) (known_after t w s n) n) (speakers (wiring_of t) s))) (no_replies t w s node fit new e)
+    ∙ no_news_by (wiring_of t) (known t w) (known_after t w s) node (speakers (wiring_of t) s) e

@@ -26,8 +26,12 @@ use Rattle.mn_ledger.proofs.Members.{In, in_append, in_filter, AreApart, apart_f
 abbrev pub SameStatic : Network → SiteRoute → SiteRoute → Type 0
 SameStatic t x y = (vrf_of t x.site ≡ vrf_of t y.site) × (x.prefix ≡ y.prefix)
 
+-- no two are of one VRF and prefix
 pub record HasStatics (t : Network) (statics : List SiteRoute) : Type 0 where
   pub apart : AreApart (SameStatic t) statics
+
+-- their prefixes have no bit set past their length
+pub record HasForms (statics : List SiteRoute) : Type 0 where
   pub formed : (x : SiteRoute) → In statics x → IsPrefix x.prefix.address x.prefix.length
 
 same_to_itself : (p : AddressBlock) → same_prefix p p ≡ true
@@ -94,15 +98,17 @@ get_same [] i d e h = absurd (none i h)
 get_same (x ∷ xs) zero d e h = refl
 get_same (x ∷ xs) (suc i) d e h = get_same xs i d e (omega (arith, h))
 
-pub first_statics : (t : Network) → IsLawful t → AreFormed (statics_from 0 t.sites) → HasStatics t (start t).config.statics
+pub first_statics : (t : Network) → IsLawful t → HasStatics t (start t).config.statics
 unfolding AreFrom
-first_statics t lawful formed = record {
+first_statics t lawful = record {
   apart = distinct_apart t (statics_from 0 t.sites) (subst (IsDistinct same_static) (sym (keyed_statics t 0 t.sites (λ i d below. get_same t.sites i d _ below ∙ ap (site_at t) (from_none i)))) lawful.sites.distinct);
-  formed = formed_in (statics_from 0 t.sites) formed;
 }
   where
     from_none : (i : ℕ) → i ≡ 0 + i
     from_none i = omega arith
+
+pub first_forms : (t : Network) → AreFormed (statics_from 0 t.sites) → HasForms (start t).config.statics
+first_forms t formed = record { formed = formed_in (statics_from 0 t.sites) formed }
 
 -- 3. A step
 
@@ -138,17 +144,24 @@ none_taken t v p (y ∷ ys) h x i e f = split ((vrf_of t y.site == v) && same_pr
       | inr j ↦ more g j
     ]
 
-pub statics_go : (t : Network) (w : World) (k : Packets) (i : ℕ) (s : Step) (b : List ℕ) → refusal_at t w k i s b ≡ None → AddsFormed s → HasStatics t w.config.statics → HasStatics t (config_after w.config s).statics
-statics_go t w k i (AddRoute s p) b none form h = record {
+pub statics_go : (t : Network) (w : World) (k : Packets) (i : ℕ) (s : Step) (b : List ℕ) → refusal_at t w k i s b ≡ None → HasStatics t w.config.statics → HasStatics t (config_after w.config s).statics
+statics_go t w k i (AddRoute s p) b none h = record {
   apart = apart_push (SameStatic t) w.config.statics (record { site = s.0; prefix = p }) h.apart
       (λ x j a. none_taken t (vrf_of t s.0) p w.config.statics (not_taken _ _ (no_static_refusal t w k i (AddRoute s p) b none)) x j a.0 a.1);
+}
+statics_go t w k i (DelRoute s p) b none h = record {
+  apart = apart_filter (SameStatic t) (λ static. not (is_static s.0 p static)) w.config.statics h.apart;
+}
+statics_go t w k i _ b none h = h
+
+pub forms_go : (w : World) (s : Step) → AddsFormed s → HasForms w.config.statics → HasForms (config_after w.config s).statics
+forms_go w (AddRoute s p) form h = record {
   formed = λ x j. elim (in_append w.config.statics (record { site = s.0; prefix = p } ∷ []) x j) [
     | inl l ↦ h.formed x l
     | inr l ↦ elim l [ inl e ↦ subst (λ (z : SiteRoute). IsPrefix z.prefix.address z.prefix.length) e form | inr n ↦ absurd n ]
   ];
 }
-statics_go t w k i (DelRoute s p) b none form h = record {
-  apart = apart_filter (SameStatic t) (λ static. not (is_static s.0 p static)) w.config.statics h.apart;
+forms_go w (DelRoute s p) form h = record {
   formed = λ x j. h.formed x (in_filter (λ static. not (is_static s.0 p static)) w.config.statics x j).0;
 }
-statics_go t w k i _ b none form h = h
+forms_go w _ form h = h

@@ -16,7 +16,7 @@ use Rattle.mn_ledger.specs.Vpn.{Told, comes_before, placed, in_order, is_present
 use Rattle.mn_ledger.specs.Ledger.{config_after, after}
 use Rattle.mn_ledger.proofs.GoingBy.{pair_here, pair_off}
 use Rattle.mn_ledger.proofs.Members.{In, in_append, in_map, in_filter, in_flat_map, in_range}
-use Rattle.mn_ledger.proofs.Statics.{HasStatics}
+use Rattle.mn_ledger.proofs.Statics.{HasForms}
 
 -- 1. What a VRF exports
 
@@ -61,7 +61,7 @@ exported_by t c edge e i =
 abbrev pub IsGoodExport : Network → Export → Type 0
 IsGoodExport t e = (e.vrf < length t.vrfs) × IsPrefix e.prefix.address e.prefix.length
 
-good_export : (t : Network) (c : Config) (edge : ℕ) → HasStatics t c.statics → (e : Export) → In (exports_of t c edge) e → IsGoodExport t e
+good_export : (t : Network) (c : Config) (edge : ℕ) → HasForms c.statics → (e : Export) → In (exports_of t c edge) e → IsGoodExport t e
 unfolding Behind
 good_export t c edge h e i =
     let x = exported_by t c edge e i in
@@ -96,7 +96,7 @@ good_told_to t a b ms h x i = let f = in_map (λ telling. record { teller = a; p
 join_told : (t : Network) (xs ys : List Told) → AllTold t xs → AllTold t ys → AllTold t (xs ++ ys)
 join_told t xs ys h g x i = elim (in_append xs ys x i) [ inl j ↦ h x j | inr j ↦ g x j ]
 
-good_replies : (t : Network) (c : Config) (k : Peerings) (s : Step) → HasStatics t c.statics → AllTold t (replies t c k s)
+good_replies : (t : Network) (c : Config) (k : Peerings) (s : Step) → HasForms c.statics → AllTold t (replies t c k s)
 good_replies t c k (step.BgpUp a b) h = join_told t (told_to a.0 b.0 (Open ∷ [])) (told_to b.0 a.0 (Open ∷ [])) (good_told_to t a.0 b.0 (Open ∷ []) (one_good t Open tt)) (good_told_to t b.0 a.0 (Open ∷ []) (one_good t Open tt))
 good_replies t c k (step.HearBgp a b) h = good_told_to t b.0 a.0 (reply _ _ (exports_of t c b.0)) (good_reply t _ _ (exports_of t c b.0) (good_export t c b.0 h))
 good_replies t c k _ h = λ x i. absurd i
@@ -107,13 +107,13 @@ good_changed t before now h m i = elim (in_append (withdrawn before now) (announ
   | inr j ↦ good_announced t (filter (λ export. not (list_any (same_export export) before)) now) (λ e k. h e (in_filter (λ export. not (list_any (same_export export) before)) now e k).0) m j
 ]
 
-good_news : (t : Network) (c : Config) (p : Peerings) (new : Config) (k : Peerings) (edge : ℕ) → HasStatics t new.statics → AllTold t (news t c p new k edge)
+good_news : (t : Network) (c : Config) (p : Peerings) (new : Config) (k : Peerings) (edge : ℕ) → HasForms new.statics → AllTold t (news t c p new k edge)
 good_news t c p new k edge h x i =
     let f = in_flat_map (λ telling. map (λ peer. record { teller = edge; peer = peer; telling = telling }) (steady_peers t c p new k edge)) (changed (exports_of t c edge) (exports_of t new edge)) x i in
     let g = in_map (λ peer. record { teller = edge; peer = peer; telling = f.0 }) (steady_peers t c p new k edge) x f.2 in
     subst (λ (y : Told). IsGood t y.telling) g.2 (good_changed t (exports_of t c edge) (exports_of t new edge) (good_export t new edge h) f.0 f.1)
 
-good_told : (t : Network) (c : Config) (p : Peerings) (new : Config) (k : Peerings) (s : Step) → HasStatics t new.statics → AllTold t (told_in t c p new k s)
+good_told : (t : Network) (c : Config) (p : Peerings) (new : Config) (k : Peerings) (s : Step) → HasForms new.statics → AllTold t (told_in t c p new k s)
 good_told t c p new k s h =
     join_told t (replies t new p s) (flat_map (news t c p new k) (edges t)) (good_replies t new p s h)
     (λ x i. let f = in_flat_map (news t c p new k) (edges t) x i in good_news t c p new k f.0 h x f.2)
@@ -148,10 +148,10 @@ more_good t k xs h g edge peer m i = elim (in_append (k.told edge peer) (telling
   | inr j ↦ let f = in_tellings edge peer xs m j in subst (IsGood t) f.2 (g f.0 f.1)
 ]
 
-told_go_on : (t : Network) (c new : Config) (p : Peerings) (s : Step) → HasStatics t new.statics → AllGood t p → (edge peer : ℕ) (m : Telling) → In ((counted p s).told edge peer ++ tellings_of edge peer (told_in t c p new (counted p s) s)) m → IsGood t m
+told_go_on : (t : Network) (c new : Config) (p : Peerings) (s : Step) → HasForms new.statics → AllGood t p → (edge peer : ℕ) (m : Telling) → In ((counted p s).told edge peer ++ tellings_of edge peer (told_in t c p new (counted p s) s)) m → IsGood t m
 told_go_on t c new p s h g = more_good t (counted p s) (told_in t c p new (counted p s) s) (still_good t p s g) (good_told t c p new (counted p s) s h)
 
-pub tellings_go : (t : Network) (w : World) (s : Step) → HasStatics t (config_after w.config s).statics → AllGood t w.peerings → AllGood t (after t w s).peerings
+pub tellings_go : (t : Network) (w : World) (s : Step) → HasForms (config_after w.config s).statics → AllGood t w.peerings → AllGood t (after t w s).peerings
 unfolding peerings_after
 tellings_go t w (step.BgpUp a b) h g = told_go_on t w.config (config_after w.config (step.BgpUp a b)) w.peerings (step.BgpUp a b) h g
 tellings_go t w (step.BgpDown a b) h g = told_go_on t w.config (config_after w.config (step.BgpDown a b)) w.peerings (step.BgpDown a b) h g

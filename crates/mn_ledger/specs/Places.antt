@@ -4,11 +4,12 @@ use Rattle.std.specs.List.{range_with_len}
 use Rattle.mn_topo.specs.declared.vrfs.VrfDef.{VrfDef}
 use Rattle.mn_topo.specs.declared.sites.SiteDef.{SiteDef}
 use Rattle.mn_topo.specs.VrfTable.{is_edge}
-use Rattle.mn_topo.specs.Network.{Network}
+use Rattle.mn_topo.specs.Network.{Network, wiring_of}
+use Rattle.mn_node.specs.Machine.{loopback_of}
 
 -- the node's address
 abbrev pub loopback : Network → ℕ → ℕ
-loopback topology node = slice_index_or topology.loopbacks node 0
+loopback topology node = loopback_of (wiring_of topology) node
 
 abbrev pub vrf_at : Network → ℕ → VrfDef
 vrf_at topology v = slice_index_or topology.vrfs v (record { node = record { 0 = 0 }; rd = record { 0 = 0 }; «import» = []; export = [] })

@@ -3,12 +3,12 @@ use Rattle.std.specs.Prelude.{ℕ, ◌==◌, List, filter}
 use Rattle.mn_topo.specs.Network.{Network, wiring_of}
 use Rattle.mn_topo.specs.declared.steps.Step.{Step}
 use Rattle.mn_ledger.specs.World.{World}
-use Rattle.mn_ledger.specs.Transport.{Said, Knowledge, knowledge_of, views_after, counted, said_in}
+use Rattle.mn_ledger.specs.Transport.{Said, Knowledge, knowledge_of, known, views_after, counted, said_in}
 use Rattle.mn_ledger.specs.Ledger.{config_after}
 
--- what a node knows before the step
+-- what a node knew before the step is what it knows in the world
 abbrev pub known_before : Network → World → ℕ → Knowledge
-known_before topology world node = knowledge_of (wiring_of topology) world.config world.views world.sessions node
+known_before = known
 
 -- and what it knows once the step has set its switches, views and counts, and nobody has said anything
 abbrev pub known_after : Network → World → Step → ℕ → Knowledge

@@ -7,20 +7,13 @@ use Rattle.mn_base.specs.declared.states.LdpState.TheVariants as ldp
 use Rattle.mn_base.specs.declared.states.BgpState.{BgpState}
 use Rattle.mn_base.specs.declared.states.BgpState.TheVariants as bgp
 use Rattle.mn_topo.specs.Network.{Network, wiring_of}
-use Rattle.mn_ledger.specs.World.{World, Message, Initialization, KeepAlive, Address, Mapping, Withdraw, Release, Telling, Open, Alive, Announce, Unreach}
+pub use Rattle.mn_node.specs.Ldp.{has_ldp_row}
+use Rattle.mn_ledger.specs.World.{Config, Sessions, Peerings, World, Message, Initialization, KeepAlive, Address, Mapping, Withdraw, Release, Telling, Open, Alive, Announce, Unreach}
 use Rattle.mn_ledger.specs.Transport.{lives, is_active, state_of}
 use Rattle.mn_ledger.specs.Vpn.{peers_live}
 use Rattle.mn_ledger.specs.Vpn as vpn
 
 -- 1. The rows of the two tables
-
-abbrev pub has_ldp_row : LdpState → Message → Bool
-has_ldp_row ldp.Initialized Initialization = true
-has_ldp_row ldp.OpenSent Initialization = true
-has_ldp_row ldp.OpenRec KeepAlive = true
-has_ldp_row ldp.Operational Initialization = false
-has_ldp_row ldp.Operational message = true
-has_ldp_row _ _ = false
 
 abbrev pub has_bgp_row : BgpState → Telling → Bool
 has_bgp_row bgp.OpenSent Open = true
@@ -67,16 +60,31 @@ IsPeerTalk (suc (suc more)) told = (rest : List Telling) × (told ≡ Open ∷ A
 
 -- 3. What holds after every lawful journal
 
--- nobody has heard more than was said or told, nor learned more than was changed; without a life nothing was said, told
--- or heard; and what was said and told goes by the tables
+-- an end of a link has heard no more than the other said; without a life nothing was said or heard; and what was said goes by
+-- the table
+pub record IsEndInTurn (topology : Network) (config : Config) (sessions : Sessions) (l node : ℕ) : Type 0 where
+  pub heard : sessions.heard l node ≤ length (sessions.said l (across (wiring_of topology) l node))
+  pub silent : lives config l ≡ false → (sessions.said l node ≡ []) × (sessions.heard l node ≡ 0)
+  pub talk : lives config l ≡ true → IsTalk (is_active topology l node) (sessions.heard l node) (sessions.said l node)
+
+-- and so of an edge and a peer
+pub record IsPeerInTurn (config : Config) (peerings : Peerings) (edge peer : ℕ) : Type 0 where
+  pub heard : peerings.heard edge peer ≤ length (peerings.told peer edge)
+  pub silent : peers_live config edge peer ≡ false → (peerings.told edge peer ≡ []) × (peerings.heard edge peer ≡ 0)
+  pub talk : peers_live config edge peer ≡ true → IsPeerTalk (peerings.heard edge peer) (peerings.told edge peer)
+
+abbrev pub EndsAreInTurn : Network → Config → Sessions → Type 0
+EndsAreInTurn topology config sessions =
+    (l node : ℕ) → l < length topology.links → is_end (wiring_of topology) l node ≡ true → IsEndInTurn topology config sessions l node
+
+abbrev pub PeersAreInTurn : Config → Peerings → Type 0
+PeersAreInTurn config peerings = (edge peer : ℕ) → edge ≢ peer → IsPeerInTurn config peerings edge peer
+
+-- nobody has learned more than was changed, and each session is in turn
 pub record IsInTurn (topology : Network) (world : World) : Type 0 where
   pub learned : (node l : ℕ) → world.views.learned node l ≤ world.views.changes l
-  pub heard : (l node : ℕ) → l < length topology.links → is_end (wiring_of topology) l node ≡ true → world.sessions.heard l node ≤ length (world.sessions.said l (across (wiring_of topology) l node))
-  pub silent : (l node : ℕ) → l < length topology.links → is_end (wiring_of topology) l node ≡ true → lives world.config l ≡ false → (world.sessions.said l node ≡ []) × (world.sessions.heard l node ≡ 0)
-  pub talk : (l node : ℕ) → l < length topology.links → is_end (wiring_of topology) l node ≡ true → lives world.config l ≡ true → IsTalk (is_active topology l node) (world.sessions.heard l node) (world.sessions.said l node)
-  pub told : (edge peer : ℕ) → edge ≢ peer → world.peerings.heard edge peer ≤ length (world.peerings.told peer edge)
-  pub untold : (edge peer : ℕ) → edge ≢ peer → peers_live world.config edge peer ≡ false → (world.peerings.told edge peer ≡ []) × (world.peerings.heard edge peer ≡ 0)
-  pub peer_talk : (edge peer : ℕ) → edge ≢ peer → peers_live world.config edge peer ≡ true → IsPeerTalk (world.peerings.heard edge peer) (world.peerings.told edge peer)
+  pub ldp : EndsAreInTurn topology world.config world.sessions
+  pub bgp : PeersAreInTurn world.config world.peerings
 
 -- the next message that an end hears has a row in the table of its state
 pub record HasRows (topology : Network) (world : World) : Type 0 where

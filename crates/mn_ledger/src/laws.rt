@@ -22,7 +22,8 @@ ghost use Rattle.mn_base.specs.Paths.{IsLeast, next};
 ghost use Rattle.mn_topo.specs.Network.{wiring_of};
 ghost use Rattle.mn_topo.specs.Steps.{fits};
 ghost use Rattle.mn_ledger.specs.Refusal.{is_unchanged};
-ghost use Rattle.mn_ledger.specs.Quiet.{known_before, known_after, said_by};
+ghost use Rattle.mn_ledger.specs.Transport.{known};
+ghost use Rattle.mn_ledger.specs.Quiet.{known_after, said_by};
 ghost use Rattle.mn_ledger.specs.Nearer.{IsNearer};
 ghost use Rattle.mn_ledger.specs.Items.{made_by, flight_of};
 ghost use Rattle.mn_ledger.specs.InFlight.{IsInFlight};
@@ -75,7 +76,7 @@ pub fn every_message_has_a_row()
 pub fn who_learns_nothing_says_nothing()
     ensures { (topology : Network) (world : World) (step : Step) (node : ℕ) →
         fits topology step ≡ true → is_unchanged world.config step ≡ false →
-        known_before topology world node ≡ known_after topology world step node → said_by topology world step node ≡ [] }
+        known topology world node ≡ known_after topology world step node → said_by topology world step node ≡ [] }
 {}
 
 /// From the next hop towards a node the least cost is less than from the node before it.
