@@ -42,9 +42,9 @@ free t w k n s b h =
     let one = none_first (where_holds (is_unchanged w.config s) why.Unchanged) (where_holds (is_empty t w k s) why.Empty ∷ limits t w k n s b) h in
     let two = none_first (where_holds (is_empty t w k s) why.Empty) (limits t w k n s b) one.1 in
     let three = none_first (static_refusal t w.config s)
-        (where_holds (is_targets_full w.config s) why.TargetsFull ∷ where_holds (is_spent t w.config s) why.LabelsSpent ∷ where_holds (is_full t w k s b) why.NetFull ∷ where_holds (nat_le 4000000 n) why.TooManySteps ∷ []) two.1 in
+    (where_holds (is_targets_full w.config s) why.TargetsFull ∷ where_holds (is_spent t w.config s) why.LabelsSpent ∷ where_holds (is_full t w k s b) why.NetFull ∷ where_holds (nat_le 4000000 n) why.TooManySteps ∷ []) two.1 in
     let four = none_first (where_holds (is_targets_full w.config s) why.TargetsFull)
-        (where_holds (is_spent t w.config s) why.LabelsSpent ∷ where_holds (is_full t w k s b) why.NetFull ∷ where_holds (nat_le 4000000 n) why.TooManySteps ∷ []) three.1 in
+    (where_holds (is_spent t w.config s) why.LabelsSpent ∷ where_holds (is_full t w k s b) why.NetFull ∷ where_holds (nat_le 4000000 n) why.TooManySteps ∷ []) three.1 in
     let five = none_first (where_holds (is_spent t w.config s) why.LabelsSpent) (where_holds (is_full t w k s b) why.NetFull ∷ where_holds (nat_le 4000000 n) why.TooManySteps ∷ []) four.1 in
     let six = none_first (where_holds (is_full t w k s b) why.NetFull) (where_holds (nat_le 4000000 n) why.TooManySteps ∷ []) five.1 in
     let seven = none_first (where_holds (nat_le 4000000 n) why.TooManySteps) [] six.1 in

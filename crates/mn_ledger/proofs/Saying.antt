@@ -17,7 +17,7 @@ use Rattle.mn_topo.specs.declared.steps.Step.TheVariants as step
 use Rattle.mn_topo.specs.declared.steps.JournalEntry.{JournalEntry}
 use Rattle.mn_ledger.specs.Tables.{put}
 use Rattle.mn_ledger.specs.World.{World, Config, Views, Sessions, Message, Initialization, KeepAlive, Address, Mapping, Withdraw, Release}
-use Rattle.mn_ledger.specs.Transport.{Said, Knowledge, knowledge_of, lives, state_of, spoken, is_by, messages_of, said_on, answer, mention, mentioned_on, mentioned_from, offers, offered, by_neighbour, is_operational, news, opening, replies, answered, ends_first, speakers, said_in, counted, anew, sessions_after}
+use Rattle.mn_ledger.specs.Transport.{Said, Knowledge, knowledge_of, lives, state_of, spoken, is_by, messages_of, said_on, answer, mention, mentioned_on, mentioned_from, offers, offered, by_neighbour, is_operational, news, opening, replies, ends_first, speakers, counted, anew, sessions_after}
 use Rattle.mn_ledger.specs.Packets.{Packets, packets_after}
 use Rattle.mn_ledger.specs.Ledger.{after, start, no_packets, next_of, left_by, world_from, world_of}
 use Rattle.mn_ledger.specs.Lawful.{IsLawfulFrom, IsLawfulJournal}

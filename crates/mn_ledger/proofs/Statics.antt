@@ -12,7 +12,6 @@ use Rattle.mn_topo.specs.Steps.{has_site, fits}
 use Rattle.mn_topo.proofs.Prefixes.{prefix_is}
 use Rattle.mn_topo.specs.Lawful.{IsLawful, same_static}
 use Rattle.mn_topo.specs.Network.{Network}
-use Rattle.mn_ledger.specs.declared.refused.Refused.{Refused}
 use Rattle.mn_ledger.specs.Places.{site_at, vrf_of}
 use Rattle.mn_ledger.specs.World.{SiteRoute, World}
 use Rattle.mn_ledger.specs.Packets.{Packets}

@@ -8,7 +8,6 @@ ghost use Rattle.std.specs.Prelude.{◌≡◌};
 ghost use Rattle.mn_topo.specs.Network.{Network};
 ghost use Rattle.mn_topo.specs.Lawful.{IsLawful};
 ghost use Rattle.mn_topo.specs.declared.steps.Step.{Step};
-
 ghost use Rattle.mn_ledger.specs.World.{World};
 ghost use Rattle.mn_ledger.specs.Packets.{Packets};
 ghost use Rattle.mn_ledger.specs.Ledger.{world_of, packets_of};
