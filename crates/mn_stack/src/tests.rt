@@ -55,6 +55,7 @@ fn a_packet_crosses_three_nodes(rt: HostRuntime) -> Result<(), Fail> {
     assert_eq!(rt; (frame.depth(), frame.room()), (2, 0));
     let sent = joined(rt.alloc(), &TWO_ENTRIES, &PACKET)?;
     assert_eq!(rt; frame.bytes(), sent.as_slice());
+    assert_eq!(rt; frame.packet(), PACKET.as_slice());
     assert!(rt; frame.depth() == 2);
     frame.pop();
     assert!(rt; frame.depth() == 1);
@@ -65,6 +66,7 @@ fn a_packet_crosses_three_nodes(rt: HostRuntime) -> Result<(), Fail> {
     frame.pop();
     frame.set_ip_ttl(61);
     assert_eq!(rt; frame.bytes(), DELIVERED.as_slice());
+    assert_eq!(rt; frame.packet(), DELIVERED.as_slice());
     Ok(())
 }
 
