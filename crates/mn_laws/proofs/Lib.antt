@@ -1,0 +1,12 @@
+pub mod At
+pub mod Elsewhere
+pub mod Entering
+pub mod Moving
+pub mod There
+pub mod Fates
+pub mod Travelling
+pub mod Sent
+pub mod Copies
+pub mod Announced
+pub mod Holding
+pub mod Accounted
