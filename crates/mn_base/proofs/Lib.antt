@@ -1,2 +1,10 @@
 pub mod Dist
 pub mod Next
+pub mod Tests
+pub mod Members
+pub mod Rules
+pub mod Bytes
+pub mod Places
+pub mod Orders
+pub mod Changes
+pub mod Kept

@@ -2,3 +2,8 @@ pub mod Numbers
 pub mod Wiring
 pub mod Paths
 pub mod Square
+pub mod Bytes
+pub mod Rules
+pub mod Refusals
+pub mod Found
+pub mod Ordered

@@ -4,6 +4,7 @@
 //! - `links`: a link's two ends, its figures, and its two directions
 //! - `drops`: the rules by which a packet is dropped
 //! - `states`: the states of an LDP and of a BGP session
+//! - `laws`: what holds of rules tried in order (`specs/Rules.antt`) and of lists kept in an order (`specs/Ordered.antt`)
 //! - `list`: a `Vec` that contracts see as a list
 //! - `counter`: a counter of steps, for contracts that bound them
 //! - `paths`: what holds of the walks and least costs of `specs/Paths.antt`
@@ -12,6 +13,7 @@
 mod counter;
 mod drops;
 mod links;
+mod laws;
 mod list;
 mod numbers;
 mod paths;
@@ -21,6 +23,7 @@ mod tests;
 
 pub use counter::Steps;
 pub use drops::Rule;
+pub use laws::{changes_keep_the_order, first_rule_that_is_broken, numbers_in_order};
 pub use links::{Dir, LinkEnds};
 pub use list::ListOf;
 pub use numbers::{LinkNo, NodeNo, Rd, Rt, SiteNo, VrfNo};

@@ -4,7 +4,7 @@ use Rattle.std.proofs.lemmas.List.{take_at}
 use Rattle.byteorder.specs.Endian.{big_number, big_bytes}
 use Rattle.byteorder.specs.Numbers.{big_number-reads_back}
 use Rattle.mn_vpn_nlri.specs.Reading.{IsBytes}
-use Rattle.mn_vpn_nlri.proofs.Numbers.{IsBytes-take}
+use Rattle.mn_base.proofs.Bytes.{IsBytes-take}
 
 pub bytes-rest : (xs ys : List ℕ) → IsBytes (xs ++ ys) → IsBytes ys
 bytes-rest [] ys h = h

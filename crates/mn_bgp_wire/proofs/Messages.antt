@@ -4,7 +4,7 @@ use Rattle.std.specs.Prelude.{slice_index, IfOk}
 use Rattle.std.proofs.lemmas.Bool.{eqb-true}
 use Rattle.std.proofs.lemmas.Bool.Decides.{nat_tests}
 use Rattle.mn_vpn_nlri.specs.Reading.{IsBytes}
-use Rattle.mn_vpn_nlri.proofs.Numbers.{IsBytes-drop}
+use Rattle.mn_base.proofs.Bytes.{IsBytes-drop}
 use Rattle.mn_bgp_wire.specs.Says.{Says}
 use Rattle.mn_bgp_wire.specs.Grammar.{message_bytes, kind_of, IsBody, IsBgp, open_kind, update_kind, PathAttribute, HasAllWanted, AreAttributes, IsOpen}
 use Rattle.mn_bgp_wire.specs.Reading.{after, allows, is_kind, header_of, body_of, open_of, update_of, update_said, body_says, message_of, Answers, Fails}

@@ -14,15 +14,12 @@ use Rattle.mn_bgp_wire.specs.declared.message.BgpMessage.{BgpMessage}
 use Rattle.mn_bgp_wire.specs.declared.message.BgpMessage.TheVariants as messages
 use Rattle.mn_bgp_wire.specs.declared.refusal.BgpWireBad.{BgpWireBad}
 use Rattle.mn_bgp_wire.specs.declared.refusal.BgpWireBad.TheVariants.{Short, BadMarker, BadLength, BadType, BadOpen, BadAttribute, MissingAttribute, NoMemory}
+pub use Rattle.mn_base.specs.Rules.{first_refusal, unless, after}
 
 -- A value, or else a refusal.
 abbrev pub or_else : {X : Type 0} → BgpWireBad → Option X → Result X BgpWireBad
 or_else bad None = Err bad
 or_else bad (Some x) = Ok x
-
-abbrev pub after : {X Y : Type 0} → Result X BgpWireBad → (X → Result Y BgpWireBad) → Result Y BgpWireBad
-after (Ok x) f = f x
-after (Err bad) f = Err bad
 
 -- Parts of OPEN and UPDATE.
 
@@ -161,14 +158,6 @@ update_of body = after (or_else BadAttribute (attributes_in body)) says_of
 -- A message: RFC 4271, section 6.1.
 
 -- The first rule that is broken, of rules in order, each with whether it is broken.
-abbrev pub first_refusal : List (Bool × BgpWireBad) → Option BgpWireBad
-first_refusal [] = None
-first_refusal (row ∷ rows) = if row.0 then Some row.1 else first_refusal rows
-
-abbrev pub unless : {X : Type 0} → Option BgpWireBad → X → Result X BgpWireBad
-unless None x = Ok x
-unless (Some bad) x = Err bad
-
 abbrev pub is_marked : List ℕ → Bool
 is_marked bytes = list_all (λ byte. byte == 255) (take 16 bytes)
 

@@ -6,19 +6,6 @@ use Rattle.byteorder.specs.Endian.{big_bytes, big_number}
 use Rattle.byteorder.specs.Numbers.{big_from-lt, big_number-reads_back}
 use Rattle.mn_ldp_wire.specs.Grammar.{IsBytes}
 
-pub IsBytes-drop : (n : ℕ) (bs : List ℕ) → IsBytes bs → IsBytes (drop n bs)
-IsBytes-drop zero bs h = h
-IsBytes-drop (suc n) [] h = h
-IsBytes-drop (suc n) (b ∷ bs) h = (let below = h.below in IsBytes-drop n bs (record { below = λ i. below (suc i) }))
-
-pub IsBytes-take : (n : ℕ) (bs : List ℕ) → IsBytes bs → IsBytes (take n bs)
-IsBytes-take n bs h = record {
-  below = λ i. elim (cases_lt i n) [
-    | inl lt ↦ rw (get_or-take n bs i 0 lt) (h.below i)
-    | inr le ↦ rw (get_or_past (take n bs) i 0 (omega (arith, length-take n bs))) (omega arith)
-  ];
-}
-
 cells : (a b c d : ℕ) (xs ys : List ℕ) → a ≡ b → c ≡ d → xs ≡ ys → a ∷ c ∷ xs ≡ b ∷ d ∷ ys
 cells a b c d xs ys e f g = cc
 

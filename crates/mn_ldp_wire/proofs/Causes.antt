@@ -12,7 +12,7 @@ use Rattle.mn_ldp_wire.specs.Message.{PduContents}
 use Rattle.mn_ldp_wire.specs.Grammar.{IsBytes, AreSaid, IsPdu}
 use Rattle.mn_ldp_wire.specs.Reading.{◌>>=◌, size_at, id_at, message_at, messages_of, pdu_of, cut_bad}
 use Rattle.mn_ldp_wire.specs.Refused.{IsMessageRefused, IsRefused}
-use Rattle.mn_ldp_wire.proofs.Bytes.{IsBytes-drop}
+use Rattle.mn_base.proofs.Bytes.{IsBytes-drop}
 use Rattle.mn_ldp_wire.proofs.InOrder.{with_front, message_shorter, messages_nil, messages_more, messages_bad}
 use Rattle.mn_ldp_wire.proofs.Messages.{IsInFront, in_front, front_again}
 use Rattle.mn_ldp_wire.proofs.Faults.{message_bad, message_again}

@@ -13,7 +13,7 @@ use Rattle.mn_ldp_wire.specs.declared.refusal.WireBad.TheVariants.{BadMessageLen
 use Rattle.mn_ldp_wire.specs.Grammar.{IsBytes, framed, FitsFrame, u_bit, is_known, type_of, mandatory_tlvs, prefix_element, ArePassedOver}
 use Rattle.mn_ldp_wire.specs.Reading.{◌>>=◌, Front, front_of, due, mandatory_at, are_passed_over, prefix_of, label_of, addresses_of, is_address_list, asked, notification_of, initialization_of, address_message_of, binding_of, bound, body_of, said_of, message_in, message_at}
 use Rattle.mn_ldp_wire.specs.Refused.{IsStatusValue, AreParameters, IsAddressList, IsOnePrefix, IsLabelValue, IsMissing, IsNotDue, HasWrongValue, IsDueRefused, IsLabelRefused, IsMandatoryRefused, IsFurtherRefused, HasMessage, IsUnknownRefused, AreTlvsRefused, IsRefusedThere}
-use Rattle.mn_ldp_wire.proofs.Bytes.{IsBytes-drop}
+use Rattle.mn_base.proofs.Bytes.{IsBytes-drop}
 use Rattle.mn_ldp_wire.proofs.Frames.{IsFramed, framed_is, framed_again, IsDue, mandatory_is, mandatory_again, over_is, over_again}
 use Rattle.mn_ldp_wire.proofs.Values.{label_is, label_again, status_is, Asked, session_is, list_is, list_again}
 use Rattle.mn_ldp_wire.proofs.Prefixes.{element_is, element_again}

@@ -8,7 +8,8 @@ use Rattle.mn_ldp_wire.specs.declared.refusal.WireBad.{WireBad}
 use Rattle.mn_ldp_wire.specs.declared.refusal.WireBad.TheVariants.{MissingTlv, BadTlv}
 use Rattle.mn_ldp_wire.specs.Grammar.{IsBytes, framed, FitsFrame, u_bit, ArePassedOver}
 use Rattle.mn_ldp_wire.specs.Reading.{Front, size_at, front_of, due, mandatory_at, are_passed_over}
-use Rattle.mn_ldp_wire.proofs.Bytes.{IsBytes-drop, IsBytes-take, two_again, two_fits, two_back}
+use Rattle.mn_base.proofs.Bytes.{IsBytes-drop, IsBytes-take}
+use Rattle.mn_ldp_wire.proofs.Bytes.{two_again, two_fits, two_back}
 use Rattle.mn_ldp_wire.proofs.Loops.{front_is, front_from, front_shorter, not_empty, over_done, over_cut, over_step, over_one_more}
 
 -- ---- what stands at the front

@@ -11,7 +11,8 @@ use Rattle.mn_ldp_wire.specs.declared.refusal.WireBad.{WireBad}
 use Rattle.mn_ldp_wire.specs.declared.refusal.WireBad.TheVariants.{BadTlv}
 use Rattle.mn_ldp_wire.specs.Grammar.{IsBytes, framed, FitsFrame, u_bit, type_of, is_known, mandatory_tlvs, IsMessage, IsUnknown, IsSaid, AreSaid}
 use Rattle.mn_ldp_wire.specs.Reading.{◌>>=◌, front_of, body_of, are_passed_over, said_of, message_at, messages_of}
-use Rattle.mn_ldp_wire.proofs.Bytes.{four_again, four_fits, four_back, IsBytes-drop}
+use Rattle.mn_base.proofs.Bytes.{IsBytes-drop}
+use Rattle.mn_ldp_wire.proofs.Bytes.{four_again, four_fits, four_back}
 use Rattle.mn_ldp_wire.proofs.Frames.{framed_is, framed_again, over_is, over_again}
 use Rattle.mn_ldp_wire.proofs.Bodies.{IsRead, body_is, body_again}
 use Rattle.mn_ldp_wire.proofs.InOrder.{bind_ok, is_at, with_front, message_shorter, messages_nil, messages_more, messages_bad}

@@ -14,7 +14,8 @@ use Rattle.mn_ldp_wire.specs.declared.refusal.WireBad.TheVariants.{Short, BadVer
 use Rattle.mn_ldp_wire.specs.Message.{PduContents}
 use Rattle.mn_ldp_wire.specs.Grammar.{IsBytes, FitsId, ldp_id, framed, type_of, mandatory_tlvs, IsLawful, IsMessage, AreSaid, IsPdu, written, written_message}
 use Rattle.mn_ldp_wire.specs.Reading.{◌>>=◌, size_at, id_at, messages_of, pdu_of, cut_bad, Answers}
-use Rattle.mn_ldp_wire.proofs.Bytes.{IsBytes-drop, two_again, two_fits, two_back}
+use Rattle.mn_base.proofs.Bytes.{IsBytes-drop}
+use Rattle.mn_ldp_wire.proofs.Bytes.{two_again, two_fits, two_back}
 use Rattle.mn_ldp_wire.proofs.Values.{id_is, id_again}
 use Rattle.mn_ldp_wire.proofs.InOrder.{bind_ok}
 use Rattle.mn_ldp_wire.proofs.Messages.{messages_are_read, messages_again, front_some, type_small}

@@ -6,16 +6,18 @@ use Rattle.std.proofs.lemmas.Nat.{mod-pow-add}
 use Rattle.std.proofs.lemmas.Bool.{and_parts, and_from, leb-true, le-leb, eqb-true, eq-eqb}
 use Rattle.byteorder.specs.Endian.{big_bytes, big_number}
 use Rattle.mn_prefix.specs.Prefix.{AddressBlock, IsPrefix}
-use Rattle.mn_ldp_wire.specs.Grammar.{IsBytes, whole_bytes, prefix_element}
-use Rattle.mn_ldp_wire.specs.Reading.{address_of, octets_of, bits_of, is_prefix_element, prefix_of}
-use Rattle.mn_ldp_wire.proofs.Bytes.{IsBytes-drop}
+use Rattle.mn_ldp_wire.specs.Grammar.{IsBytes, prefix_element}
+use Rattle.mn_prefix.specs.Octets.{octets}
+use Rattle.mn_ldp_wire.specs.Reading.{octets_of, bits_of, is_prefix_element, prefix_of}
+use Rattle.mn_prefix.specs.Octets.{address_of}
+use Rattle.mn_base.proofs.Bytes.{IsBytes-drop}
 
 pub record IsElement (value : List ℕ) : Type 0 where
   pub header : 4 ≤ length value
   pub element : slice_index value 0 ≡ 2
   pub family : big_number 2 (drop 1 value) ≡ 1
   pub bits : bits_of value ≤ 32
-  pub octets : length (octets_of value) ≡ whole_bytes (bits_of value)
+  pub first_bytes : length (octets_of value) ≡ octets (bits_of value)
   pub clear : address_of (octets_of value) % 2 ^ (32 - bits_of value) ≡ 0
 
 abbrev pub prefix_in : List ℕ → AddressBlock
@@ -24,7 +26,7 @@ prefix_in value = record { address = address_of (octets_of value); length = bits
 element_passes : (value : List ℕ) → IsElement value → is_prefix_element value ≡ true
 element_passes value e =
     and_from _ _ (and_from _ _ (and_from _ _ (and_from _ _ (and_from _ _
-    (le-leb _ _ e.header) (eq-eqb _ _ e.element)) (eq-eqb _ _ e.family)) (le-leb _ _ e.bits)) (eq-eqb _ _ e.octets)) (eq-eqb _ _ e.clear)
+    (le-leb _ _ e.header) (eq-eqb _ _ e.element)) (eq-eqb _ _ e.family)) (le-leb _ _ e.bits)) (eq-eqb _ _ e.first_bytes)) (eq-eqb _ _ e.clear)
 
 passes_is : (value : List ℕ) → is_prefix_element value ≡ true → IsElement value
 passes_is value h =
@@ -38,7 +40,7 @@ passes_is value h =
       element = eqb-true _ _ e.1;
       family = eqb-true _ _ a.1;
       bits = leb-true _ _ b.1;
-      octets = eqb-true _ _ o.1;
+      first_bytes = eqb-true _ _ o.1;
       clear = eqb-true _ _ f.1;
     }
 
@@ -74,8 +76,8 @@ pub octets_all : (value : List ℕ) → take (length value - 4) (drop 4 value) �
 octets_all value = take_all (length value - 4) (drop 4 value) (omega (arith, length-drop 4 value))
 
 -- no prefix has these numbers
-pub not_an_element : (value octets : List ℕ) (address bits : ℕ) → octets ≡ octets_of value → address ≡ address_of octets → bits ≡ bits_of value → address < 2 ^ 32 → (IsPrefix address bits → ⊥) → prefix_of value ≡ None
-not_an_element value octets address bits same is bits_is fits none =
+pub not_an_element : (value first_bytes : List ℕ) (address bits : ℕ) → first_bytes ≡ octets_of value → address ≡ address_of first_bytes → bits ≡ bits_of value → address < 2 ^ 32 → (IsPrefix address bits → ⊥) → prefix_of value ≡ None
+not_an_element value first_bytes address bits same is bits_is fits none =
     let a : address_of (octets_of value) ≡ address = sym (is ∙ ap address_of same) in
     prefix_none value (λ e. none (record {
       fits = fits;
@@ -84,9 +86,9 @@ not_an_element value octets address bits same is bits_is fits none =
     }))
 
 -- these are a prefix's
-pub an_element : (value octets : List ℕ) (address bits : ℕ) (p : AddressBlock) → 4 ≤ length value → slice_index value 0 ≡ 2 → big_number 2 (drop 1 value) ≡ 1 → octets ≡ octets_of value → address ≡ address_of octets → bits ≡ bits_of value
-    → p ≡ record { address = address; length = bits } → IsPrefix p.address p.length → length octets ≡ whole_bytes p.length → prefix_of value ≡ Some p
-an_element value octets address bits p header element family same is bits_is p_is form size =
+pub an_element : (value first_bytes : List ℕ) (address bits : ℕ) (p : AddressBlock) → 4 ≤ length value → slice_index value 0 ≡ 2 → big_number 2 (drop 1 value) ≡ 1 → first_bytes ≡ octets_of value → address ≡ address_of first_bytes → bits ≡ bits_of value
+    → p ≡ record { address = address; length = bits } → IsPrefix p.address p.length → length first_bytes ≡ octets p.length → prefix_of value ≡ Some p
+an_element value first_bytes address bits p header element family same is bits_is p_is form size =
     let a : address ≡ address_of (octets_of value) = is ∙ ap address_of same in
     let p_in : p ≡ prefix_in value = p_is ∙ ap (λ (x : ℕ). record { address = x; length = bits }) a ∙ ap (λ (n : ℕ). record { address = address_of (octets_of value); length = n }) bits_is in
     let f : IsPrefix (prefix_in value).address (prefix_in value).length = subst (λ (q : AddressBlock). IsPrefix q.address q.length) p_in form in
@@ -95,7 +97,7 @@ an_element value octets address bits p header element family same is bits_is p_i
       element = element;
       family = family;
       bits = f.short;
-      octets = sym (ap length same) ∙ size ∙ ap (λ (q : AddressBlock). whole_bytes q.length) p_in;
+      first_bytes = sym (ap length same) ∙ size ∙ ap (λ (q : AddressBlock). octets q.length) p_in;
       clear = f.clear;
     } in
     prefix_some value e ∙ ap Some (sym p_in)
@@ -114,8 +116,8 @@ three_cells a b c d x y e f g = cc
 four_cells : (a b c d x y v w : ℕ) → a ≡ b → c ≡ d → x ≡ y → v ≡ w → a ∷ c ∷ x ∷ v ∷ [] ≡ b ∷ d ∷ y ∷ w ∷ []
 four_cells a b c d x y v w e f g h = cc
 
--- the octets are the first bytes of their address
-pub octets_again : (octets : List ℕ) → IsBytes octets → length octets ≤ 4 → (octets ≡ take (length octets) (big_bytes 4 (address_of octets))) × (address_of octets < 2 ^ 32)
+-- the first_bytes are the first bytes of their address
+pub octets_again : (first_bytes : List ℕ) → IsBytes first_bytes → length first_bytes ≤ 4 → (first_bytes ≡ take (length first_bytes) (big_bytes 4 (address_of first_bytes))) × (address_of first_bytes < 2 ^ 32)
 octets_again [] h short = (refl, omega arith)
 octets_again (a ∷ []) h short = (let x = h.below 0 in (one_cell _ _ (omega arith), omega arith))
 octets_again (a ∷ b ∷ []) h short = (let x = h.below 0 in let y = h.below 1 in (two_cells _ _ _ _ (omega arith) (omega arith), omega arith))
@@ -123,7 +125,7 @@ octets_again (a ∷ b ∷ c ∷ []) h short =
     (let x = h.below 0 in let y = h.below 1 in let z = h.below 2 in (three_cells _ _ _ _ _ _ (omega arith) (omega arith) (omega arith), omega arith))
 octets_again (a ∷ b ∷ c ∷ d ∷ []) h short =
     (let x = h.below 0 in let y = h.below 1 in let z = h.below 2 in let w = h.below 3 in (four_cells _ _ _ _ _ _ _ _ (omega arith) (omega arith) (omega arith) (omega arith), omega arith))
-octets_again (a ∷ b ∷ c ∷ d ∷ e ∷ octets) h short = absurd (omega arith)
+octets_again (a ∷ b ∷ c ∷ d ∷ e ∷ first_bytes) h short = absurd (omega arith)
 
 -- an address is that of its first n bytes, where the others are zero
 address_back : (n address : ℕ) → n ≤ 4 → address < 2 ^ 32 → address % 2 ^ (32 - 8 * n) ≡ 0 → address_of (take n (big_bytes 4 address)) ≡ address
@@ -135,10 +137,10 @@ address_back (suc (suc (suc (suc zero)))) address h fits clear = omega arith
 address_back (suc (suc (suc (suc (suc n))))) address h fits clear = absurd (omega arith)
 
 -- whole bytes have at least the bits that they hold
-bytes_clear : (bits address : ℕ) → bits ≤ 32 → address % 2 ^ (32 - bits) ≡ 0 → address % 2 ^ (32 - 8 * whole_bytes bits) ≡ 0
+bytes_clear : (bits address : ℕ) → bits ≤ 32 → address % 2 ^ (32 - bits) ≡ 0 → address % 2 ^ (32 - 8 * octets bits) ≡ 0
 bytes_clear bits address short clear =
-    let k = 32 - 8 * whole_bytes bits in
-    let j = 8 * whole_bytes bits - bits in
+    let k = 32 - 8 * octets bits in
+    let j = 8 * octets bits - bits in
     let both : 32 - bits ≡ j + k = omega arith in
     let split : address % 2 ^ (j + k) ≡ 0 = subst (λ (n : ℕ). address % 2 ^ n ≡ 0) both clear in
     omega (arith, split, mod-pow-add address j k)
@@ -152,13 +154,13 @@ element_whole [] h e = (let long = e.header in absurd (omega arith))
 element_whole (a ∷ []) h e = (let long = e.header in absurd (omega arith))
 element_whole (a ∷ b ∷ []) h e = (let long = e.header in absurd (omega arith))
 element_whole (a ∷ b ∷ c ∷ []) h e = (let long = e.header in absurd (omega arith))
-element_whole (a ∷ b ∷ c ∷ d ∷ octets) h e =
+element_whole (a ∷ b ∷ c ∷ d ∷ first_bytes) h e =
     let family : b * 256 + (c * 1 + 0) ≡ 1 = e.family in
     let bits = e.bits in
-    let size : length octets ≡ whole_bytes d = e.octets in
-    let o = octets_again octets (IsBytes-drop 4 (a ∷ b ∷ c ∷ d ∷ octets) h) (omega arith) in
-    let same : octets ≡ take (whole_bytes d) (big_bytes 4 (address_of octets)) = o.0 ∙ ap (λ (n : ℕ). take n (big_bytes 4 (address_of octets))) size in (
-      five_cells _ _ _ _ _ _ d d octets _ e.element (omega arith) (omega arith) refl same,
+    let size : length first_bytes ≡ octets d = e.first_bytes in
+    let o = octets_again first_bytes (IsBytes-drop 4 (a ∷ b ∷ c ∷ d ∷ first_bytes) h) (omega arith) in
+    let same : first_bytes ≡ take (octets d) (big_bytes 4 (address_of first_bytes)) = o.0 ∙ ap (λ (n : ℕ). take n (big_bytes 4 (address_of first_bytes))) size in (
+      five_cells _ _ _ _ _ _ d d first_bytes _ e.element (omega arith) (omega arith) refl same,
       record { fits = o.1; short = e.bits; clear = e.clear },
     )
 
@@ -170,16 +172,16 @@ element_is value p h is =
 pub element_again : (p : AddressBlock) → IsPrefix p.address p.length → prefix_of (prefix_element p) ≡ Some p
 unfolding prefix_element
 element_again p form =
-    let n = whole_bytes p.length in
-    let octets : List ℕ = take n (big_bytes 4 p.address) in
+    let n = octets p.length in
+    let first_bytes : List ℕ = take n (big_bytes 4 p.address) in
     let short = form.short in
-    let size : length octets ≡ n = length-take-le n (big_bytes 4 p.address) (omega arith) in
-    let back : address_of octets ≡ p.address = address_back n p.address (omega arith) form.fits (bytes_clear p.length p.address form.short form.clear) in
+    let size : length first_bytes ≡ n = length-take-le n (big_bytes 4 p.address) (omega arith) in
+    let back : address_of first_bytes ≡ p.address = address_back n p.address (omega arith) form.fits (bytes_clear p.length p.address form.short form.clear) in
     prefix_some (prefix_element p) (record {
       header = omega arith;
       element = refl;
       family = refl;
       bits = form.short;
-      octets = size;
+      first_bytes = size;
       clear = subst (λ (a : ℕ). a % 2 ^ (32 - p.length) ≡ 0) (sym back) form.clear;
     }) ∙ ap (λ (a : ℕ). Some (record { address = a; length = p.length })) back

@@ -11,7 +11,8 @@ use Rattle.mn_ldp_wire.specs.declared.message.LdpBody.{LdpBody}
 use Rattle.mn_ldp_wire.specs.declared.message.LdpBody.TheVariants.{Notification, Initialization}
 use Rattle.mn_ldp_wire.specs.Grammar.{IsBytes, IsLabel, FitsId, ldp_id, status_value, session_parameters, address_list, IsStatus, IsAsked, AreAddresses}
 use Rattle.mn_ldp_wire.specs.Reading.{is_label, label_of, id_at, asked, addresses_of, is_address_list}
-use Rattle.mn_ldp_wire.proofs.Bytes.{IsBytes-drop, two_again, four_again, two_fits, four_fits, two_back, four_back}
+use Rattle.mn_base.proofs.Bytes.{IsBytes-drop}
+use Rattle.mn_ldp_wire.proofs.Bytes.{two_again, four_again, two_fits, four_fits, two_back, four_back}
 use Rattle.mn_ldp_wire.proofs.Loops.{four_more, no_more}
 use Rattle.mn_ldp_wire.proofs.Written.{length-addresses}
 

@@ -7,7 +7,8 @@ use Rattle.mn_ldp_wire.specs.declared.message.LdpId.{LdpId}
 use Rattle.mn_ldp_wire.specs.declared.message.LdpMessage.{LdpMessage}
 use Rattle.mn_ldp_wire.specs.declared.message.LdpBody.{LdpBody}
 use Rattle.mn_ldp_wire.specs.declared.message.LdpBody.TheVariants.{Notification, Initialization, KeepAlive, Address, Mapping, Withdraw, Release}
-use Rattle.mn_ldp_wire.specs.Grammar.{framed, prefix_element, address_list, status_value, session_parameters, ldp_id, binding, mandatory_tlvs, type_of, written, written_message, IsWritable, whole_bytes}
+use Rattle.mn_ldp_wire.specs.Grammar.{framed, prefix_element, address_list, status_value, session_parameters, ldp_id, binding, mandatory_tlvs, type_of, written, written_message, IsWritable}
+use Rattle.mn_prefix.specs.Octets.{octets}
 
 pub length-addresses : (addresses : List ℕ) → length (flat_map (big_bytes 4) addresses) ≡ 4 * length addresses
 length-addresses [] = refl
@@ -28,15 +29,15 @@ addresses_in_turn new third second first old addresses done size e4 all e3 e2 e1
     turn ∙ regroup_4 old (big_bytes 2 0x0101) (big_bytes 2 size) (big_bytes 2 1) (flat_map (big_bytes 4) addresses)
     ∙ ap (λ (n : ℕ). old ++ (big_bytes 2 0x0101 ++ (big_bytes 2 n ++ (big_bytes 2 1 ++ flat_map (big_bytes 4) addresses)))) same
 
-pub fec_in_turn : (last fifth fourth third second first old octets : List ℕ) (prefix : AddressBlock) (size : ℕ) → last ≡ fifth ++ octets → octets ≡ take (whole_bytes prefix.length) (big_bytes 4 prefix.address)
-    → fifth ≡ fourth ++ prefix.length ∷ [] → fourth ≡ third ++ big_bytes 2 1 → third ≡ second ++ 2 ∷ [] → second ≡ first ++ big_bytes 2 size → first ≡ old ++ big_bytes 2 0x0100 → size ≡ 4 + length octets
+pub fec_in_turn : (last fifth fourth third second first old first_bytes : List ℕ) (prefix : AddressBlock) (size : ℕ) → last ≡ fifth ++ first_bytes → first_bytes ≡ take (octets prefix.length) (big_bytes 4 prefix.address)
+    → fifth ≡ fourth ++ prefix.length ∷ [] → fourth ≡ third ++ big_bytes 2 1 → third ≡ second ++ 2 ∷ [] → second ≡ first ++ big_bytes 2 size → first ≡ old ++ big_bytes 2 0x0100 → size ≡ 4 + length first_bytes
     → last ≡ old ++ framed 0x0100 (prefix_element prefix)
 unfolding framed prefix_element
-fec_in_turn last fifth fourth third second first old octets prefix size e6 all e5 e4 e3 e2 e1 is =
-    let same : size ≡ suc (suc (suc (suc (length (take (whole_bytes prefix.length) (big_bytes 4 prefix.address)))))) = omega (arith, ap length all) in
-    let turn : last ≡ (((((old ++ big_bytes 2 0x0100) ++ big_bytes 2 size) ++ 2 ∷ []) ++ big_bytes 2 1) ++ prefix.length ∷ []) ++ take (whole_bytes prefix.length) (big_bytes 4 prefix.address) = cc in
-    turn ∙ regroup_6 old (big_bytes 2 0x0100) (big_bytes 2 size) (2 ∷ []) (big_bytes 2 1) (prefix.length ∷ []) (take (whole_bytes prefix.length) (big_bytes 4 prefix.address))
-    ∙ ap (λ (n : ℕ). old ++ (big_bytes 2 0x0100 ++ (big_bytes 2 n ++ (2 ∷ [] ++ (big_bytes 2 1 ++ (prefix.length ∷ [] ++ take (whole_bytes prefix.length) (big_bytes 4 prefix.address))))))) same
+fec_in_turn last fifth fourth third second first old first_bytes prefix size e6 all e5 e4 e3 e2 e1 is =
+    let same : size ≡ suc (suc (suc (suc (length (take (octets prefix.length) (big_bytes 4 prefix.address)))))) = omega (arith, ap length all) in
+    let turn : last ≡ (((((old ++ big_bytes 2 0x0100) ++ big_bytes 2 size) ++ 2 ∷ []) ++ big_bytes 2 1) ++ prefix.length ∷ []) ++ take (octets prefix.length) (big_bytes 4 prefix.address) = cc in
+    turn ∙ regroup_6 old (big_bytes 2 0x0100) (big_bytes 2 size) (2 ∷ []) (big_bytes 2 1) (prefix.length ∷ []) (take (octets prefix.length) (big_bytes 4 prefix.address))
+    ∙ ap (λ (n : ℕ). old ++ (big_bytes 2 0x0100 ++ (big_bytes 2 n ++ (2 ∷ [] ++ (big_bytes 2 1 ++ (prefix.length ∷ [] ++ take (octets prefix.length) (big_bytes 4 prefix.address))))))) same
 
 pub at_ok : {T E : Type 0} (r : Result T E) (new old x y : List ℕ) → new ≡ (if is_ok r then x else old) → (new ≡ x → new ≡ y) → OnOk r (new ≡ y)
 at_ok (Ok t) new old x y e h = h e
@@ -54,7 +55,7 @@ length-framed kind value = omega arith
 
 pub length-element : (prefix : AddressBlock) → length (prefix_element prefix) ≤ 8
 unfolding prefix_element
-length-element prefix = omega (arith, length-take (whole_bytes prefix.length) (big_bytes 4 prefix.address))
+length-element prefix = omega (arith, length-take (octets prefix.length) (big_bytes 4 prefix.address))
 
 binding_small : (prefix : AddressBlock) (label : ℕ) → length (binding prefix label) ≤ 20
 binding_small prefix label =

@@ -8,10 +8,8 @@ use Rattle.mn_ldp_wire.specs.declared.message.LdpId.{LdpId}
 use Rattle.mn_ldp_wire.specs.declared.message.LdpMessage.{LdpMessage}
 use Rattle.mn_ldp_wire.specs.declared.message.LdpBody.{LdpBody}
 use Rattle.mn_ldp_wire.specs.declared.message.LdpBody.TheVariants.{Notification, Initialization, KeepAlive, Address, Mapping, Withdraw, Release}
-
--- what a PDU is made of: numbers below 256
-pub record IsBytes (bytes : List ℕ) : Type 0 where
-  pub below : (i : ℕ) → slice_index bytes i < 256
+use Rattle.mn_prefix.specs.Octets.{prefix_octets}
+pub use Rattle.mn_base.specs.Bytes.{IsBytes}
 
 -- Sections 3.3 and 3.5: a TLV, and a message too, is its type (2 bytes), the length of what follows (2), and what follows.
 unfoldable pub framed : ℕ → List ℕ → List ℕ
@@ -28,11 +26,8 @@ u_bit = 0x8000
 
 -- Section 3.4.1: a FEC of one element, a prefix: 02, the address family (2; IPv4 is 1), the length in bits (1), and of the address
 -- as many whole bytes as the length needs.
-abbrev pub whole_bytes : ℕ → ℕ
-whole_bytes bits = (bits + 7) / 8
-
 unfoldable pub prefix_element : AddressBlock → List ℕ
-prefix_element prefix = 2 ∷ big_bytes 2 1 ++ prefix.length ∷ take (whole_bytes prefix.length) (big_bytes 4 prefix.address)
+prefix_element prefix = 2 ∷ big_bytes 2 1 ++ prefix.length ∷ prefix_octets prefix
 
 -- Section 3.4.2.1: a generic label is a number of 20 bits in four bytes. RFC 3032, section 2.1: of those below 16 only 3 is given, implicit null.
 abbrev pub IsLabel : ℕ → Type 0

@@ -9,12 +9,9 @@ use Rattle.mn_ldp_wire.specs.declared.message.LdpBody.TheVariants.{Notification,
 use Rattle.mn_ldp_wire.specs.declared.refusal.WireBad.{WireBad}
 use Rattle.mn_ldp_wire.specs.declared.refusal.WireBad.TheVariants.{Short, BadVersion, BadPduLength, BadMessageLength, UnknownMessage, MissingTlv, BadTlv, BadFec, NoMemory}
 use Rattle.mn_ldp_wire.specs.Message.{PduContents}
-use Rattle.mn_ldp_wire.specs.Grammar.{u_bit, whole_bytes, is_known}
-
-infixl 10 ◌>>=◌
-abbrev pub ◌>>=◌ : {A B : Type 0} → Result A WireBad → (A → Result B WireBad) → Result B WireBad
-(Ok x) >>= f = f x
-(Err bad) >>= f = Err bad
+use Rattle.mn_ldp_wire.specs.Grammar.{u_bit, is_known}
+use Rattle.mn_prefix.specs.Octets.{octets, address_of}
+pub use Rattle.mn_base.specs.Refusals.{◌>>=◌}
 
 -- What a function answers, seen by `view`, is what reading gives.
 abbrev pub Gives : {X Y : Type 0} → (X → Y) → Result X WireBad → Result Y WireBad → Type 0
@@ -62,10 +59,6 @@ are_passed_over bytes = passed_over_from (length bytes) bytes
 
 -- The values of TLVs.
 
--- the address whose last bytes, left out, are zero
-abbrev pub address_of : List ℕ → ℕ
-address_of octets = big_number 4 (octets ++ replicate (4 - length octets) 0)
-
 abbrev pub octets_of : List ℕ → List ℕ
 octets_of value = drop 4 value
 
@@ -76,7 +69,7 @@ bits_of value = slice_index value 3
 abbrev pub is_prefix_element : List ℕ → Bool
 is_prefix_element value =
     nat_le 4 (length value) && (slice_index value 0 == 2) && (big_number 2 (drop 1 value) == 1)
-    && nat_le (bits_of value) 32 && (length (octets_of value) == whole_bytes (bits_of value))
+    && nat_le (bits_of value) 32 && (length (octets_of value) == octets (bits_of value))
     && (address_of (octets_of value) % 2 ^ (32 - bits_of value) == 0)
 
 unfoldable pub prefix_of : List ℕ → Option AddressBlock

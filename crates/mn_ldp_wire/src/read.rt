@@ -3,8 +3,8 @@ ghost use Rattle.std.specs.Prelude.{◌≡◌, ◌≤◌, ◌<◌, ◌==◌, Lis
 ghost use Rattle.byteorder.specs.Endian.{big_number};
 ghost use Rattle.mn_ldp_wire.specs.declared.message.LdpId.{LdpId};
 ghost use Rattle.mn_ldp_wire.specs.declared.message.LdpMessage.{LdpMessage};
-ghost use Rattle.mn_ldp_wire.specs.Grammar.{is_known, whole_bytes, IsPdu, IsLawful};
-ghost use Rattle.mn_ldp_wire.specs.Reading.{Gives, Answers, front_of, mandatory_at, are_passed_over, prefix_of, label_of, is_label, addresses_of, address_of, is_address_list, notification_of, initialization_of, address_message_of, binding_of, body_of, said_of, message_at, messages_of, pdu_of, id_at, asked};
+ghost use Rattle.mn_ldp_wire.specs.Grammar.{is_known, IsPdu, IsLawful};
+ghost use Rattle.mn_ldp_wire.specs.Reading.{Gives, Answers, front_of, mandatory_at, are_passed_over, prefix_of, label_of, is_label, addresses_of, is_address_list, notification_of, initialization_of, address_message_of, binding_of, body_of, said_of, message_at, messages_of, pdu_of, id_at, asked};
 
 use crate::message::{
     ADDRESS_SIZE, Addresses, ELEMENT_HEADER, FAMILY_SIZE, FIRST_LABEL, FRAME_HEADER, IMPLICIT_NULL,
@@ -14,7 +14,7 @@ use crate::message::{
 use crate::refusal::WireBad;
 use byteorder::{BigEndian, ByteOrder};
 use mn_base::ListOf;
-use mn_prefix::Prefix;
+use mn_prefix::{Prefix, address_of, octets};
 use std::alloc::Global;
 use std::marker::Model;
 
@@ -252,32 +252,15 @@ fn prefix_of(value: &[u8]) -> Option<Prefix>
     {
         return None;
     }
-    let octets = &value[ELEMENT_HEADER..];
-    if octets.len() > ADDRESS_SIZE {
+    let first_bytes = &value[ELEMENT_HEADER..];
+    if first_bytes.len() > ADDRESS_SIZE {
         return None;
     }
-    let prefix = Prefix::new(address_of(octets), value[3])?;
-    if octets.len() != whole_bytes(prefix.length()) {
+    let prefix = Prefix::new(address_of(first_bytes), value[3])?;
+    if first_bytes.len() != octets(prefix.length()) {
         return None;
     }
     Some(prefix)
-}
-
-/// How many bytes hold so many bits.
-pub(crate) fn whole_bytes(bits: u8) -> usize
-    ensures { result ≡ whole_bytes bits }
-{
-    usize::from(bits).div_ceil(8)
-}
-
-/// The address whose last bytes, left out, are zero.
-fn address_of(octets: &[u8]) -> u32
-    requires { length octets.now ≤ 4 }
-    ensures { result ≡ address_of octets.now }
-{
-    let mut address = [0; ADDRESS_SIZE];
-    address[..octets.len()].copy_from_slice(octets);
-    u32::from_be_bytes(address)
 }
 
 /// The label that is the value of a TLV.

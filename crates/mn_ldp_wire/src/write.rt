@@ -11,9 +11,8 @@ use crate::message::{
     LdpMessage, MESSAGE_ID, PREFIX_ELEMENT, SESSION_PARAMETERS_SIZE, STATUS_SIZE, VERSION, tlvs,
     types,
 };
-use crate::read::whole_bytes;
 use byteorder::{BigEndian, ByteOrder};
-use mn_prefix::Prefix;
+use mn_prefix::{Prefix, octets};
 use std::alloc::{AllocError, Global};
 
 /// Writes a message as a PDU of its own. It has from 1 to 1,000 addresses, and a label that is 3 or from 16 to 1,048,575.
@@ -160,13 +159,13 @@ fn put_prefix(out: &mut Vec<u8>, prefix: Prefix) -> Result<(), AllocError>
 {
     let length = prefix.length();
     let address = prefix.address().to_be_bytes();
-    let octets = &address[..whole_bytes(length)];
+    let first_bytes = &address[..octets(length)];
     put_u16(out, tlvs::FEC)?;
-    put_u16(out, (ELEMENT_HEADER + octets.len()) as u16)?;
+    put_u16(out, (ELEMENT_HEADER + first_bytes.len()) as u16)?;
     out.push(PREFIX_ELEMENT)?;
     put_u16(out, IPV4)?;
     out.push(length)?;
-    out.extend_from_slice(octets)
+    out.extend_from_slice(first_bytes)
 }
 
 /// Appends a TLV.

@@ -6,10 +6,7 @@ use Rattle.mn_pcap.specs.Format.{magic, major, minor, snaplen}
 use Rattle.mn_pcap.specs.declared.message.Form.{Form}
 use Rattle.mn_pcap.specs.declared.message.LinkKind.{LinkKind}
 use Rattle.mn_pcap.specs.declared.message.LinkKind.TheVariants.{Ethernet, RawIp, RawIpv4}
-
--- what a file holds: numbers below 256
-pub record IsBytes (bytes : List ℕ) : Type 0 where
-  pub below : (i : ℕ) → slice_index bytes i < 256
+pub use Rattle.mn_base.specs.Bytes.{IsBytes}
 
 -- the number in the first n bytes, whose high byte is the first or the last
 unfoldable pub number : Bool → ℕ → List ℕ → ℕ

@@ -11,20 +11,9 @@ use Rattle.mn_pcap.specs.declared.refusal.PcapRule.{PcapRule}
 use Rattle.mn_pcap.specs.declared.refusal.PcapRule.TheVariants.{CutShort, IsPcapng, BadMagic, BadVersion, BadLinkType, BadRecord}
 use Rattle.mn_pcap.specs.declared.refusal.PcapBad.{PcapBad}
 use Rattle.mn_pcap.specs.declared.refusal.PcapBad.TheVariants.{Refused, NoMemory}
+pub use Rattle.mn_base.specs.Rules.{first_refusal, unless, after}
 
--- The first rule that is broken. The rules stand in order, each with whether it is broken and with the byte at
--- which the file is refused for it.
-abbrev pub first_refusal : List (Bool × PcapRule × ℕ) → Option PcapBad
-first_refusal [] = None
-first_refusal (row ∷ rows) = if row.0 then Some (Refused row.1 row.2) else first_refusal rows
-
-abbrev pub unless : {X : Type 0} → Option PcapBad → X → Result X PcapBad
-unless None x = Ok x
-unless (Some bad) x = Err bad
-
-abbrev pub after : {X Y : Type 0} → Result X PcapBad → (X → Result Y PcapBad) → Result Y PcapBad
-after (Ok x) f = f x
-after (Err bad) f = Err bad
+-- The rules stand in order, each with whether it is broken, and with the byte at which the file is refused for it.
 
 -- The file's header.
 
@@ -53,14 +42,14 @@ is_link_type n = n == link_type_of Ethernet || n == link_type_of RawIp || n == l
 abbrev pub link_kind : ℕ → LinkKind
 link_kind n = if n == link_type_of Ethernet then Ethernet else if n == link_type_of RawIp then RawIp else RawIpv4
 
-abbrev pub header_rules : List ℕ → List (Bool × PcapRule × ℕ)
+abbrev pub header_rules : List ℕ → List (Bool × PcapBad)
 header_rules bytes =
-    (nat_lt (length bytes) 4, CutShort, 0)
-    ∷ (number true 4 bytes == pcapng, IsPcapng, 0)
-    ∷ (not (is_big bytes || is_little bytes), BadMagic, 0)
-    ∷ (nat_lt (length bytes) file_header_size, CutShort, 0)
-    ∷ (not (is_version bytes), BadVersion, 4)
-    ∷ (not (is_link_type (link_type bytes)), BadLinkType, 20)
+    (nat_lt (length bytes) 4, Refused CutShort 0)
+    ∷ (number true 4 bytes == pcapng, Refused IsPcapng 0)
+    ∷ (not (is_big bytes || is_little bytes), Refused BadMagic 0)
+    ∷ (nat_lt (length bytes) file_header_size, Refused CutShort 0)
+    ∷ (not (is_version bytes), Refused BadVersion 4)
+    ∷ (not (is_link_type (link_type bytes)), Refused BadLinkType 20)
     ∷ []
 
 abbrev pub form_of : List ℕ → Form
@@ -74,11 +63,11 @@ header_of bytes = unless (first_refusal (header_rules bytes)) (form_of bytes)
 abbrev pub captured_length : Bool → List ℕ → ℕ → ℕ
 captured_length big bytes at = number big 4 (drop (at + 8) bytes)
 
-abbrev pub record_rules : Bool → List ℕ → ℕ → List (Bool × PcapRule × ℕ)
+abbrev pub record_rules : Bool → List ℕ → ℕ → List (Bool × PcapBad)
 record_rules big bytes at =
-    (nat_lt (length bytes) (at + record_header_size), CutShort, at)
-    ∷ (nat_lt snaplen (captured_length big bytes at), BadRecord, at)
-    ∷ (nat_lt (length bytes) (at + record_header_size + captured_length big bytes at), CutShort, at)
+    (nat_lt (length bytes) (at + record_header_size), Refused CutShort at)
+    ∷ (nat_lt snaplen (captured_length big bytes at), Refused BadRecord at)
+    ∷ (nat_lt (length bytes) (at + record_header_size + captured_length big bytes at), Refused CutShort at)
     ∷ []
 
 abbrev pub place_of : Bool → List ℕ → ℕ → Place

@@ -9,23 +9,27 @@
 //! ```
 //!
 //! - this file: `Prefix`, its order, and which addresses it contains
+//! - `carried`: the bytes of a prefix that protocols carry
 //! - `table`: `PrefixTable`, the calls that each table of prefixes has
 //! - `pairs`: the plainest such table, which shows that its clauses can be met
 //! - `laws`: what follows from the definitions of `specs/`
 #![tactic(auto)]
 
-ghost use Rattle.std.specs.Prelude.{◌≡◌, ◌≤◌, ◌-◌, ◌^◌, MatchOption};
+ghost use Rattle.std.specs.Prelude.{◌≡◌, ◌≤◌, ◌-◌, ◌^◌, MatchOption, IfSome};
 ghost use Rattle.mn_prefix.specs.Prefix.{contains, IsPrefix};
 
 use std::marker::Model;
 
+mod carried;
 mod laws;
+
 mod pairs;
 mod table;
 #[cfg(test)]
 mod tests;
 
-pub use laws::{contains_its_block, longest_of_a_table, orders_by_address_then_length};
+pub use laws::{contains_its_block, longest_of_a_table, octets_tell_a_prefix, orders_by_address_then_length};
+pub use carried::{address_of, octets};
 pub use table::PrefixTable;
 
 /// The bits of an address.
@@ -34,7 +38,7 @@ const WIDTH: u8 = 32;
 /// An address and how many of its first bits are the network's. The other bits are zero.
 ///
 /// Prefixes are ordered by address, and those of one address by length.
-#[derive(Clone, Copy, Debug, PartialEq, Eq, PartialOrd, Ord)]
+#[derive(Clone, Copy, Debug, PartialEq, Eq, PartialOrd, Ord, Hash)]
 pub struct Prefix {
     address: u32,
     length: u8,
@@ -63,7 +67,8 @@ fn block_size(length: u8) -> u64
 impl Prefix {
     /// The prefix, or `None` where `length` is above 32 or a bit after the first `length` is set.
     pub fn new(address: u32, length: u8) -> Option<Prefix>
-        ensures { MatchOption result (¬ IsPrefix address length) (λ p. p ≡ record { address = address; length = length }) }
+        ensures value { MatchOption result (¬ IsPrefix address length) (λ p. p ≡ record { address = address; length = length }) }
+        ensures form { IfSome result (λ p. IsPrefix p.address p.length) }
     {
         if length > WIDTH || u64::from(address) % block_size(length) != 0 {
             return None;

@@ -4,12 +4,7 @@ use Rattle.std.specs.declared.alloc.Global.{Global}
 use Rattle.mn_script.specs.declared.refusal.ScriptRule.{ScriptRule}
 use Rattle.mn_script.specs.declared.refusal.ScriptBad.{ScriptBad}
 use Rattle.mn_script.specs.declared.refusal.ScriptBad.TheVariants.{Refused, NoMemory}
-
--- what comes next, unless a rule refuses the line before
-infixl 10 ◌>>=◌
-abbrev pub ◌>>=◌ : {A B : Type 0} → Result A ScriptRule → (A → Result B ScriptRule) → Result B ScriptRule
-(Ok x) >>= f = f x
-(Err rule) >>= f = Err rule
+pub use Rattle.mn_base.specs.Refusals.{◌>>=◌}
 
 -- what is there, or else the rule
 abbrev pub or_rule : {A : Type 0} → ScriptRule → Option A → Result A ScriptRule

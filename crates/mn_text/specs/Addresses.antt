@@ -5,6 +5,7 @@ use Rattle.mn_prefix.specs.Prefix.{AddressBlock}
 use Rattle.mn_text.specs.declared.refusal.TextBad.{TextBad}
 use Rattle.mn_text.specs.declared.refusal.TextBad.TheVariants.{BadPrefix, HostBits}
 use Rattle.mn_text.specs.Numbers.{number_text, number_up_to}
+use Rattle.mn_base.specs.Found.{◌>>=◌}
 
 -- the four bytes of an address, the greatest first, joined by dots
 unfoldable pub address_text : ℕ → List ℕ
@@ -17,10 +18,6 @@ prefix_text p = address_text p.address ++ 47 ∷ number_text p.length
 -- the part before the first such byte, and the part after it
 abbrev pub cut : ℕ → List ℕ → Option (List ℕ × List ℕ)
 cut byte word = option_map (λ i. (take i word, drop (i + 1) word)) (position (λ b. b == byte) word)
-
-infixl 10 ◌>>=◌
-abbrev ◌>>=◌ : {A B : Type 0} → Option A → (A → Option B) → Option B
-o >>= f = option_and_then f o
 
 -- four numbers of at most 255, joined by dots
 unfoldable pub address_of : List ℕ → Option ℕ

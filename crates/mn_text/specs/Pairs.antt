@@ -5,6 +5,7 @@ use Rattle.mn_base.specs.declared.numbers.Rd.{Rd}
 use Rattle.mn_base.specs.declared.numbers.Rt.{Rt}
 use Rattle.mn_text.specs.Numbers.{number_text, number_up_to}
 use Rattle.mn_text.specs.Addresses.{cut, address_of, address_text}
+use Rattle.mn_base.specs.Found.{◌>>=◌}
 
 -- two bytes of AS, and four of number
 abbrev pub by_as_text : ℕ → List ℕ
@@ -25,10 +26,6 @@ rd_text rd = pair_text 1 rd.0
 -- the text of a target
 abbrev pub rt_text : Rt → List ℕ
 rt_text target = pair_text 0x0102 target.0
-
-infixl 10 ◌>>=◌
-abbrev ◌>>=◌ : {A B : Type 0} → Option A → (A → Option B) → Option B
-o >>= f = option_and_then f o
 
 -- an AS of at most 65535 and a number of at most 4294967295, as six bytes
 abbrev pub as_pair : List ℕ → List ℕ → Option ℕ

@@ -4,17 +4,7 @@ use Rattle.mn_topo.specs.declared.refusal.TopoRule.{TopoRule}
 use Rattle.mn_topo.specs.declared.refusal.Place.{Place}
 use Rattle.mn_topo.specs.declared.refusal.TopoBad.{TopoBad}
 use Rattle.mn_topo.specs.declared.refusal.TopoBad.TheVariants.{Refused, NoMemory}
-
--- the rule, where it is broken
-abbrev pub broken : Bool → TopoRule → Option TopoRule
-broken true rule = Some rule
-broken false rule = None
-
--- the first of the broken rules
-abbrev pub first_broken : List (Option TopoRule) → Option TopoRule
-first_broken [] = None
-first_broken (Some rule ∷ rules) = Some rule
-first_broken (None ∷ rules) = first_broken rules
+pub use Rattle.mn_base.specs.Rules.{when as broken, first_broken}
 
 -- what the rest gives, unless the entry at the place breaks a rule
 abbrev pub unless_broken : {A : Type 0} → Option TopoRule → Place → Result A (TopoRule × Place) → Result A (TopoRule × Place)

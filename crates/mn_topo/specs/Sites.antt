@@ -16,10 +16,7 @@ use Rattle.mn_topo.specs.Names.{has_name, named_at, number_named}
 use Rattle.mn_topo.specs.Nodes.{name_of}
 use Rattle.mn_topo.specs.SiteTable.{SiteTable, Static, statics_of, in_vrf, is_one_taken}
 use Rattle.mn_topo.specs.Rules.{broken, first_broken, unless_broken}
-
-infixl 10 ◌>>=◌
-abbrev ◌>>=◌ : {A B : Type 0} → Option A → (A → Option B) → Option B
-o >>= f = option_and_then f o
+use Rattle.mn_base.specs.Found.{◌>>=◌}
 
 abbrev pub site_keys : List (List ℕ)
 site_keys = codes "name" ∷ codes "vrf" ∷ codes "prefixes" ∷ []

@@ -20,6 +20,7 @@ use Rattle.mn_topo.specs.Vrfs.{vrfs_from}
 use Rattle.mn_topo.specs.SiteTable.{SiteTable, no_sites}
 use Rattle.mn_topo.specs.Sites.{sites_from}
 use Rattle.mn_topo.specs.Network.{Network}
+pub use Rattle.mn_base.specs.Refusals.{◌>>=◌}
 
 abbrev pub top_keys : List (List ℕ)
 top_keys = codes "as" ∷ codes "notice_delay" ∷ codes "bgp_delay" ∷ codes "node" ∷ codes "link" ∷ codes "vrf" ∷ codes "site" ∷ []
@@ -68,11 +69,6 @@ network_with top nodes links vrfs sites = record {
   site_names = sites.names;
   sites = sites.sites;
 }
-
-infixl 10 ◌>>=◌
-abbrev pub ◌>>=◌ : {A B : Type 0} → Result A (TopoRule × Place) → (A → Result B (TopoRule × Place)) → Result B (TopoRule × Place)
-(Ok value) >>= f = f value
-(Err refused) >>= f = Err refused
 
 -- the arrays, one after another
 abbrev pub arrays_of : Members → Result Network (TopoRule × Place)

@@ -19,10 +19,7 @@ use Rattle.mn_topo.specs.Names.{has_name, named_at, number_named}
 use Rattle.mn_topo.specs.Nodes.{name_of}
 use Rattle.mn_topo.specs.VrfTable.{VrfTable, has_rd, is_edge, edges_of}
 use Rattle.mn_topo.specs.Rules.{broken, first_broken, unless_broken}
-
-infixl 10 ◌>>=◌
-abbrev ◌>>=◌ : {A B : Type 0} → Option A → (A → Option B) → Option B
-o >>= f = option_and_then f o
+use Rattle.mn_base.specs.Found.{◌>>=◌}
 
 abbrev pub vrf_keys : List (List ℕ)
 vrf_keys = codes "name" ∷ codes "node" ∷ codes "rd" ∷ codes "import" ∷ codes "export" ∷ []

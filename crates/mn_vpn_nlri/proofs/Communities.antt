@@ -11,7 +11,8 @@ use Rattle.mn_base.specs.Numbers.{has_rt_form}
 use Rattle.mn_vpn_nlri.specs.declared.refusal.NlriBad.TheVariants.{Short}
 use Rattle.mn_vpn_nlri.specs.Grammar.{community_bytes, is_target, AreTargets, AllTargets, written_targets}
 use Rattle.mn_vpn_nlri.specs.Reading.{IsBytes, communities_of, targets_of}
-use Rattle.mn_vpn_nlri.proofs.Numbers.{IsBytes-drop, IsBytes-take, number-eight}
+use Rattle.mn_base.proofs.Bytes.{IsBytes-drop, IsBytes-take}
+use Rattle.mn_vpn_nlri.proofs.Numbers.{number-eight}
 
 abbrev pub community : ℕ → Rt
 community n = record { 0 = n }

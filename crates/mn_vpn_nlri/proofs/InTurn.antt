@@ -6,7 +6,7 @@ use Rattle.mn_vpn_nlri.specs.declared.message.VpnRoute.{VpnRoute}
 use Rattle.mn_vpn_nlri.specs.declared.refusal.NlriBad.{NlriBad}
 use Rattle.mn_vpn_nlri.specs.Grammar.{IsNlri, AreNlri, label_field}
 use Rattle.mn_vpn_nlri.specs.Reading.{IsBytes, route_at, behind, routes_from, routes_of}
-use Rattle.mn_vpn_nlri.proofs.Numbers.{IsBytes-drop}
+use Rattle.mn_base.proofs.Bytes.{IsBytes-drop}
 use Rattle.mn_vpn_nlri.proofs.Routes.{route_is_read, read_is_route, read_within, length-nlri_of}
 
 -- no route more, one more, and a refusal

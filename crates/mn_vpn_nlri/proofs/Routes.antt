@@ -11,9 +11,12 @@ use Rattle.mn_prefix.specs.Prefix.{AddressBlock}
 use Rattle.mn_vpn_nlri.specs.declared.message.VpnRoute.{VpnRoute}
 use Rattle.mn_vpn_nlri.specs.declared.refusal.NlriBad.{NlriBad}
 use Rattle.mn_vpn_nlri.specs.declared.refusal.NlriBad.TheVariants.{Short, BadLength, BadRd, HostBits, NoMemory}
-use Rattle.mn_vpn_nlri.specs.Grammar.{IsVpnRoute, IsNlri, octets, prefix_octets, nlri_of, label_field, written, written_field, as_read, bits_before_prefix}
-use Rattle.mn_vpn_nlri.specs.Reading.{IsBytes, first_refusal, unless, vpn_route_of, route_at, bits_of, size_of, rd_of, label_of, address_of, prefix_length_of, has_host_bits}
-use Rattle.mn_vpn_nlri.proofs.Numbers.{IsBytes-drop, IsBytes-take, number-three, number-eight, first_bytes, prefix_again}
+use Rattle.mn_vpn_nlri.specs.Grammar.{IsVpnRoute, IsNlri, nlri_of, label_field, written, written_field, as_read, bits_before_prefix}
+use Rattle.mn_prefix.specs.Octets.{octets, prefix_octets}
+use Rattle.mn_vpn_nlri.specs.Reading.{IsBytes, first_refusal, unless, vpn_route_of, route_at, bits_of, size_of, rd_of, label_of, prefix_address_of, prefix_length_of, has_host_bits}
+use Rattle.mn_base.proofs.Bytes.{IsBytes-drop, IsBytes-take}
+use Rattle.mn_prefix.proofs.PrefixBytes.{first_bytes, prefix_again, length-prefix_octets}
+use Rattle.mn_vpn_nlri.proofs.Numbers.{number-three, number-eight}
 
 -- The rules in order.
 
@@ -37,9 +40,6 @@ cut_short x false b c d e hb hc = rw (hb, hc) refl
 rd_fits : (n : ℕ) → has_rd_form n ≡ true → n < 256 ^ 8
 rd_fits n form = let h : n / 2 ^ 48 ≤ 1 = grind (arith, nat_tests) in omega arith
 
-pub length-prefix_octets : (block : AddressBlock) → block.length ≤ 32 → length (prefix_octets block) ≡ octets block.length
-length-prefix_octets block short = length-take-le (octets block.length) (big_bytes 4 block.address) (omega arith)
-
 pub length-nlri_of : (field : ℕ) (route : VpnRoute) → IsVpnRoute route → length (nlri_of field route) ≡ 12 + octets route.prefix.length
 unfolding nlri_of
 length-nlri_of field route lawful = let n = length-prefix_octets route.prefix lawful.prefix.short in omega arith
@@ -50,7 +50,7 @@ record Fields (field : ℕ) (route : VpnRoute) (rest : List ℕ) : Type 0 where
   rd_is : rd_of (nlri_of field route ++ rest) ≡ route.rd.0
   label_is : label_of (nlri_of field route ++ rest) ≡ field / 2 ^ 4
   prefix_length_is : prefix_length_of (nlri_of field route ++ rest) ≡ route.prefix.length
-  address_is : address_of (nlri_of field route ++ rest) ≡ route.prefix.address
+  address_is : prefix_address_of (nlri_of field route ++ rest) ≡ route.prefix.address
 
 fields : (field : ℕ) (route : VpnRoute) (rest : List ℕ) → IsVpnRoute route → field < 2 ^ 24 → Fields field route rest
 unfolding nlri_of
@@ -97,9 +97,9 @@ nlri_is_read field route rest lawful fits label =
     let lengths : (nat_lt (bits_of bytes) bits_before_prefix || nat_lt (bits_before_prefix + 32) (bits_of bytes)) ≡ false = rw (low, high) refl in
     let whole : nat_lt (length bytes) (size_of bytes) ≡ false = grind (arith, nat_tests) in
     let rd : not (has_rd_form (rd_of bytes)) ≡ false = ap (λ (n : ℕ). not (has_rd_form n)) f.rd_is ∙ ap not lawful.distinguisher in
-    let clear : has_host_bits (address_of bytes) (prefix_length_of bytes) ≡ false = ap (λ (n : ℕ). has_host_bits n (prefix_length_of bytes)) f.address_is ∙ ap (λ (n : ℕ). has_host_bits route.prefix.address n) f.prefix_length_is ∙ ap (λ (n : ℕ). not (n == 0)) lawful.prefix.clear in
+    let clear : has_host_bits (prefix_address_of bytes) (prefix_length_of bytes) ≡ false = ap (λ (n : ℕ). has_host_bits n (prefix_length_of bytes)) f.address_is ∙ ap (λ (n : ℕ). has_host_bits route.prefix.address n) f.prefix_length_is ∙ ap (λ (n : ℕ). not (n == 0)) lawful.prefix.clear in
     let is : vpn_route_of bytes ≡ route = same_made f.rd_is f.address_is f.prefix_length_is (f.label_is ∙ label) in
-    let whole_is : route_at bytes ≡ found (vpn_route_of bytes) (size_of bytes) = none_broken (vpn_route_of bytes, size_of bytes) (length bytes == 0) (nat_lt (bits_of bytes) bits_before_prefix || nat_lt (bits_before_prefix + 32) (bits_of bytes)) (nat_lt (length bytes) (size_of bytes)) (not (has_rd_form (rd_of bytes))) (has_host_bits (address_of bytes) (prefix_length_of bytes)) some lengths whole rd clear in
+    let whole_is : route_at bytes ≡ found (vpn_route_of bytes) (size_of bytes) = none_broken (vpn_route_of bytes, size_of bytes) (length bytes == 0) (nat_lt (bits_of bytes) bits_before_prefix || nat_lt (bits_before_prefix + 32) (bits_of bytes)) (nat_lt (length bytes) (size_of bytes)) (not (has_rd_form (rd_of bytes))) (has_host_bits (prefix_address_of bytes) (prefix_length_of bytes)) some lengths whole rd clear in
     let same : found (vpn_route_of bytes) (size_of bytes) ≡ found route (length (nlri_of field route)) = ap (λ (r : VpnRoute). found r (size_of bytes)) is ∙ ap (λ (n : ℕ). found route n) size in
     whole_is ∙ same
 
@@ -118,7 +118,7 @@ pub record IsRead (bytes : List ℕ) (route : VpnRoute) (size : ℕ) : Type 0 wh
   pub high : bits_of bytes ≤ 120
   pub whole : size_of bytes ≤ length bytes
   pub rd : has_rd_form (rd_of bytes) ≡ true
-  pub clear : has_host_bits (address_of bytes) (prefix_length_of bytes) ≡ false
+  pub clear : has_host_bits (prefix_address_of bytes) (prefix_length_of bytes) ≡ false
   pub route_is : vpn_route_of bytes ≡ route
   pub size_is : size_of bytes ≡ size
 
@@ -134,7 +134,7 @@ neither false false e = (refl, refl)
 pub is_read : (bytes : List ℕ) (route : VpnRoute) (size : ℕ) → route_at bytes ≡ Ok (route, size) → IsRead bytes route size
 unfolding route_at
 is_read bytes route size e =
-    let p = passes (vpn_route_of bytes, size_of bytes) (route, size) (length bytes == 0) (nat_lt (bits_of bytes) bits_before_prefix || nat_lt (bits_before_prefix + 32) (bits_of bytes)) (nat_lt (length bytes) (size_of bytes)) (not (has_rd_form (rd_of bytes))) (has_host_bits (address_of bytes) (prefix_length_of bytes)) e in
+    let p = passes (vpn_route_of bytes, size_of bytes) (route, size) (length bytes == 0) (nat_lt (bits_of bytes) bits_before_prefix || nat_lt (bits_before_prefix + 32) (bits_of bytes)) (nat_lt (length bytes) (size_of bytes)) (not (has_rd_form (rd_of bytes))) (has_host_bits (prefix_address_of bytes) (prefix_length_of bytes)) e in
     let lengths = neither (nat_lt (bits_of bytes) bits_before_prefix) (nat_lt (bits_before_prefix + 32) (bits_of bytes)) p.1 in
     record {
       low = grind (arith, nat_tests, lengths.0);
@@ -165,7 +165,7 @@ front_again (n ∷ p ∷ q ∷ r ∷ a ∷ b ∷ c ∷ d ∷ e ∷ f ∷ g ∷ h
     ∙ ap (λ (ys : List ℕ). n ∷ p ∷ q ∷ r ∷ ys ++ tail) rd
 front_again _ bytes long tail = absurd (omega arith)
 
-octets_again : (bytes : List ℕ) → IsBytes bytes → 88 ≤ bits_of bytes → bits_of bytes ≤ 120 → size_of bytes ≤ length bytes → take (octets (prefix_length_of bytes)) (big_bytes 4 (address_of bytes)) ≡ take (octets (prefix_length_of bytes)) (drop 12 bytes)
+octets_again : (bytes : List ℕ) → IsBytes bytes → 88 ≤ bits_of bytes → bits_of bytes ≤ 120 → size_of bytes ≤ length bytes → take (octets (prefix_length_of bytes)) (big_bytes 4 (prefix_address_of bytes)) ≡ take (octets (prefix_length_of bytes)) (drop 12 bytes)
 octets_again bytes h low high whole =
     let count : size_of bytes - 12 ≡ octets (prefix_length_of bytes) = omega arith in
     let part = take (octets (prefix_length_of bytes)) (drop 12 bytes) in
@@ -173,13 +173,13 @@ octets_again bytes h low high whole =
     ap (λ (n : ℕ). take (octets (prefix_length_of bytes)) (big_bytes 4 (big_number 4 (take n (drop 12 bytes))))) count
     ∙ first_bytes (octets (prefix_length_of bytes)) part (IsBytes-take (octets (prefix_length_of bytes)) (drop 12 bytes) (IsBytes-drop 12 bytes h)) size (omega arith)
 
-read_again : (bytes : List ℕ) → IsBytes bytes → 88 ≤ bits_of bytes → bits_of bytes ≤ 120 → size_of bytes ≤ length bytes → has_rd_form (rd_of bytes) ≡ true → has_host_bits (address_of bytes) (prefix_length_of bytes) ≡ false → IsNlri (take (size_of bytes) bytes) (vpn_route_of bytes)
+read_again : (bytes : List ℕ) → IsBytes bytes → 88 ≤ bits_of bytes → bits_of bytes ≤ 120 → size_of bytes ≤ length bytes → has_rd_form (rd_of bytes) ≡ true → has_host_bits (prefix_address_of bytes) (prefix_length_of bytes) ≡ false → IsNlri (take (size_of bytes) bytes) (vpn_route_of bytes)
 unfolding nlri_of
 read_again bytes h low high whole rd clear =
     let field = big_number 3 (drop 1 bytes) in
     let fits : field < 256 ^ 3 = big_from-lt 0 3 (drop 1 bytes) (λ k. (IsBytes-drop 1 bytes h).below k) in
-    let address_fits : address_of bytes < 256 ^ 4 = big_from-lt 0 4 (slice_range bytes 12 (size_of bytes)) (λ k. (IsBytes-take (size_of bytes - 12) (drop 12 bytes) (IsBytes-drop 12 bytes h)).below k) in
-    let zeros : address_of bytes % 2 ^ (32 - prefix_length_of bytes) ≡ 0 = grind (arith, nat_tests, not_false (address_of bytes % 2 ^ (32 - prefix_length_of bytes) == 0) clear) in
+    let address_fits : prefix_address_of bytes < 256 ^ 4 = big_from-lt 0 4 (slice_range bytes 12 (size_of bytes)) (λ k. (IsBytes-take (size_of bytes - 12) (drop 12 bytes) (IsBytes-drop 12 bytes h)).below k) in
+    let zeros : prefix_address_of bytes % 2 ^ (32 - prefix_length_of bytes) ≡ 0 = grind (arith, nat_tests, not_false (prefix_address_of bytes % 2 ^ (32 - prefix_length_of bytes) == 0) clear) in
     let bits : bits_before_prefix + prefix_length_of bytes ≡ bits_of bytes = omega arith in
     let fields : label_field (label_of bytes) (field % 2 ^ 4) ≡ field = omega arith in
     let size : size_of bytes ≡ 12 + octets (prefix_length_of bytes) = omega arith in
@@ -192,7 +192,7 @@ read_again bytes h low high whole rd clear =
           front
           ∙ sym (front_again bytes h (omega arith) (take (octets (prefix_length_of bytes)) (drop 12 bytes)))
           ∙ ap (λ (ys : List ℕ). bits_of bytes ∷ big_bytes 3 field ++ big_bytes 8 (rd_of bytes) ++ ys) (sym (octets_again bytes h low high whole))
-          ∙ ap (λ (n : ℕ). n ∷ big_bytes 3 field ++ big_bytes 8 (rd_of bytes) ++ prefix_octets (record { address = address_of bytes; length = prefix_length_of bytes })) (sym bits)
+          ∙ ap (λ (n : ℕ). n ∷ big_bytes 3 field ++ big_bytes 8 (rd_of bytes) ++ prefix_octets (record { address = prefix_address_of bytes; length = prefix_length_of bytes })) (sym bits)
           ∙ ap (λ (f : ℕ). nlri_of f (vpn_route_of bytes)) (sym fields);
     }
 
@@ -220,7 +220,7 @@ cut_nlri field route (suc size) lawful cut =
     let lengths : (nat_lt (bits_of bytes) bits_before_prefix || nat_lt (bits_before_prefix + 32) (bits_of bytes)) ≡ false = rw (low, high) refl in
     let less : length bytes < size_of bytes = omega arith in
     let whole : nat_lt (length bytes) (size_of bytes) ≡ true = grind (arith, nat_tests) in
-    cut_short (vpn_route_of bytes, size_of bytes) (length bytes == 0) (nat_lt (bits_of bytes) bits_before_prefix || nat_lt (bits_before_prefix + 32) (bits_of bytes)) (nat_lt (length bytes) (size_of bytes)) (not (has_rd_form (rd_of bytes))) (has_host_bits (address_of bytes) (prefix_length_of bytes)) lengths whole
+    cut_short (vpn_route_of bytes, size_of bytes) (length bytes == 0) (nat_lt (bits_of bytes) bits_before_prefix || nat_lt (bits_before_prefix + 32) (bits_of bytes)) (nat_lt (length bytes) (size_of bytes)) (not (has_rd_form (rd_of bytes))) (has_host_bits (prefix_address_of bytes) (prefix_length_of bytes)) lengths whole
 
 pub cut_is_short : (bytes : List ℕ) (route : VpnRoute) (size : ℕ) → IsNlri bytes route → size < length bytes → route_at (take size bytes) ≡ Err Short
 cut_is_short bytes route size is cut =
@@ -269,7 +269,7 @@ no_memory x bad false false false false false h is = cc
 pub no_memory_by : (answer : Result (VpnRoute × ℕ) NlriBad) (bytes : List ℕ) → answer ≡ route_at bytes → IfErr answer (λ bad. bad ≢ NoMemory)
 unfolding route_at
 no_memory_by (Ok found) bytes e = tt
-no_memory_by (Err bad) bytes e = no_memory (vpn_route_of bytes, size_of bytes) bad (length bytes == 0) (nat_lt (bits_of bytes) bits_before_prefix || nat_lt (bits_before_prefix + 32) (bits_of bytes)) (nat_lt (length bytes) (size_of bytes)) (not (has_rd_form (rd_of bytes))) (has_host_bits (address_of bytes) (prefix_length_of bytes)) (sym e)
+no_memory_by (Err bad) bytes e = no_memory (vpn_route_of bytes, size_of bytes) bad (length bytes == 0) (nat_lt (bits_of bytes) bits_before_prefix || nat_lt (bits_before_prefix + 32) (bits_of bytes)) (nat_lt (length bytes) (size_of bytes)) (not (has_rd_form (rd_of bytes))) (has_host_bits (prefix_address_of bytes) (prefix_length_of bytes)) (sym e)
 
 -- Appending the bytes of a route, the first of those with the whole address.
 

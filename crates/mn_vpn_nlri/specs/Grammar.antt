@@ -7,6 +7,8 @@ use Rattle.mn_base.specs.declared.numbers.Rt.{Rt}
 use Rattle.mn_base.specs.Numbers.{has_rd_form, has_rt_form}
 use Rattle.mn_prefix.specs.Prefix.{AddressBlock, IsPrefix}
 use Rattle.mn_vpn_nlri.specs.declared.message.VpnRoute.{VpnRoute}
+use Rattle.mn_prefix.specs.Octets.{prefix_octets}
+pub use Rattle.mn_base.specs.Ordered.{IsAscending}
 
 -- A route.
 
@@ -21,15 +23,8 @@ pub record IsVpnRoute (route : VpnRoute) : Type 0 where
 abbrev pub bits_before_prefix : ℕ
 bits_before_prefix = 24 + 64
 
--- the bytes that hold so many bits
-abbrev pub octets : ℕ → ℕ
-octets bits = (bits + 7) / 8
-
--- RFC 4364, section 4.3.4: of the address, the bytes that hold the network's bits
-abbrev pub prefix_octets : AddressBlock → List ℕ
-prefix_octets block = take (octets block.length) (big_bytes 4 block.address)
-
--- length in bits (1), label field (3), distinguisher (8), prefix (0 to 4)
+-- length in bits (1), label field (3), distinguisher (8), prefix (0 to 4; RFC 4364, section 4.3.4: of the address, the bytes that
+-- hold the network's bits)
 unfoldable pub nlri_of : ℕ → VpnRoute → List ℕ
 nlri_of label_field route = (bits_before_prefix + route.prefix.length) ∷ big_bytes 3 label_field ++ big_bytes 8 route.rd.0 ++ prefix_octets route.prefix
 
@@ -85,10 +80,6 @@ pub record AreTargets (bytes : List ℕ) (targets : List Rt) : Type 0 where
   pub fit : AllByRecursion (λ community. community.0 < 2 ^ 64) communities
   pub whole : bytes ≡ flat_map community_bytes communities
   pub targets_are : targets ≡ filter is_target communities
-
--- each target is below all that come after it, as the big-endian number of its eight bytes
-abbrev pub IsAscending : List Rt → Type 0
-IsAscending targets = AllPairs (λ earlier later. earlier.0 < later.0) targets
 
 -- each is a target
 abbrev pub AllTargets : List Rt → Type 0

@@ -7,24 +7,10 @@ use Rattle.mn_base.specs.Numbers.{has_rd_form}
 use Rattle.mn_vpn_nlri.specs.declared.message.VpnRoute.{VpnRoute}
 use Rattle.mn_vpn_nlri.specs.declared.refusal.NlriBad.{NlriBad}
 use Rattle.mn_vpn_nlri.specs.declared.refusal.NlriBad.TheVariants.{Short, BadLength, BadRd, HostBits, NoMemory}
-use Rattle.mn_vpn_nlri.specs.Grammar.{bits_before_prefix, octets, is_target}
-
--- what a packet holds: numbers below 256
-pub record IsBytes (bytes : List ℕ) : Type 0 where
-  pub below : (i : ℕ) → slice_index bytes i < 256
-
--- The first rule that is broken, of rules in order, each with whether it is broken.
-abbrev pub first_refusal : List (Bool × NlriBad) → Option NlriBad
-first_refusal [] = None
-first_refusal (row ∷ rows) = if row.0 then Some row.1 else first_refusal rows
-
-abbrev pub unless : {X : Type 0} → Option NlriBad → X → Result X NlriBad
-unless None x = Ok x
-unless (Some bad) x = Err bad
-
-abbrev pub after : {X Y : Type 0} → Result X NlriBad → (X → Result Y NlriBad) → Result Y NlriBad
-after (Ok x) f = f x
-after (Err bad) f = Err bad
+use Rattle.mn_vpn_nlri.specs.Grammar.{bits_before_prefix, is_target}
+use Rattle.mn_prefix.specs.Octets.{octets, address_of}
+pub use Rattle.mn_base.specs.Bytes.{IsBytes}
+pub use Rattle.mn_base.specs.Rules.{first_refusal, unless, after}
 
 -- The route at the front of the bytes.
 
@@ -46,12 +32,9 @@ rd_of bytes = big_number 8 (drop 4 bytes)
 abbrev pub prefix_length_of : List ℕ → ℕ
 prefix_length_of bytes = bits_of bytes - bits_before_prefix
 
--- the address that begins with these bytes: a byte that isn't there is zero
-abbrev pub address_in : List ℕ → ℕ
-address_in first_bytes = big_number 4 first_bytes
-
-abbrev pub address_of : List ℕ → ℕ
-address_of bytes = address_in (slice_range bytes 12 (size_of bytes))
+-- the address that begins with the bytes behind the distinguisher
+abbrev pub prefix_address_of : List ℕ → ℕ
+prefix_address_of bytes = address_of (slice_range bytes 12 (size_of bytes))
 
 -- a bit is set that isn't one of the first so many of the address
 abbrev pub has_host_bits : ℕ → ℕ → Bool
@@ -63,13 +46,13 @@ route_rules bytes =
     ∷ (nat_lt (bits_of bytes) bits_before_prefix || nat_lt (bits_before_prefix + 32) (bits_of bytes), BadLength)
     ∷ (nat_lt (length bytes) (size_of bytes), Short)
     ∷ (not (has_rd_form (rd_of bytes)), BadRd)
-    ∷ (has_host_bits (address_of bytes) (prefix_length_of bytes), HostBits)
+    ∷ (has_host_bits (prefix_address_of bytes) (prefix_length_of bytes), HostBits)
     ∷ []
 
 abbrev pub vpn_route_of : List ℕ → VpnRoute
 vpn_route_of bytes = record {
   rd = record { 0 = rd_of bytes };
-  prefix = record { address = address_of bytes; length = prefix_length_of bytes };
+  prefix = record { address = prefix_address_of bytes; length = prefix_length_of bytes };
   label = label_of bytes;
 }
 

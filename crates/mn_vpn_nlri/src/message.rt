@@ -1,8 +1,5 @@
 // The values, and the numbers of the format.
 
-ghost use Rattle.std.specs.Prelude.{◌≡◌};
-ghost use Rattle.mn_vpn_nlri.specs.Grammar.{octets};
-
 use mn_base::Rd;
 use mn_prefix::Prefix;
 
@@ -41,11 +38,4 @@ pub struct VpnRoute {
     pub prefix: Prefix,
     /// Below 1,048,576. Of a withdrawal the label says nothing.
     pub label: u32,
-}
-
-/// The bytes that hold so many bits.
-pub(crate) fn octets(bits: u8) -> usize
-    ensures { result ≡ octets bits }
-{
-    (bits as usize + 7) / 8
 }

@@ -3,16 +3,16 @@ ghost use Rattle.std.specs.Prelude.{◌≡◌, ◌≢◌, ◌≤◌, ◌<◌, �
 ghost use Rattle.mn_base.specs.declared.numbers.Rt.{Rt as Target};
 ghost use Rattle.mn_vpn_nlri.specs.declared.message.VpnRoute.{VpnRoute as Route};
 ghost use Rattle.mn_vpn_nlri.specs.Grammar.{IsNlri, AreTargets};
-ghost use Rattle.mn_vpn_nlri.specs.Reading.{route_at, targets_of, address_in, Answers};
+ghost use Rattle.mn_vpn_nlri.specs.Reading.{route_at, targets_of, Answers};
 
 use crate::message::{
     ADDRESS_BITS, BITS_BEFORE_PREFIX, BITS_BELOW_LABEL, COMMUNITY, LABEL_AT, PREFIX_AT, RD_AT,
-    VpnRoute, octets,
+    VpnRoute,
 };
 use crate::refusal::NlriBad;
 use byteorder::{BigEndian, ByteOrder};
 use mn_base::{Rd, Rt};
-use mn_prefix::Prefix;
+use mn_prefix::{Prefix, address_of, octets};
 use std::alloc::Global;
 
 /// Reads the route at the front, and how many bytes it has, 12 to 16. Bytes may follow it.
@@ -48,20 +48,10 @@ fn route_at(bytes: &[u8]) -> Result<(VpnRoute, usize), NlriBad>
     if !rd.has_form() {
         return Err(NlriBad::BadRd);
     }
-    let address = address_in(&bytes[PREFIX_AT..size]);
+    let address = address_of(&bytes[PREFIX_AT..size]);
     let prefix = Prefix::new(address, bits - BITS_BEFORE_PREFIX).ok_or(NlriBad::HostBits)?;
     let label = BigEndian::read_u24(&bytes[LABEL_AT..]) >> BITS_BELOW_LABEL;
     Ok((VpnRoute { rd, prefix, label }, size))
-}
-
-/// The address that begins with these bytes, at most four. The others are zero.
-fn address_in(bytes: &[u8]) -> u32
-    requires { length bytes.now ≤ 4 }
-    ensures { result ≡ address_in bytes.now }
-{
-    let mut address = [0; 4];
-    address[..bytes.len()].copy_from_slice(bytes);
-    u32::from_be_bytes(address)
 }
 
 /// Reads the targets among extended communities, in order; communities that aren't targets are passed over.

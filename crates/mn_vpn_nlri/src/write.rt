@@ -6,10 +6,11 @@ ghost use Rattle.mn_vpn_nlri.specs.Grammar.{written, written_field, written_targ
 
 use crate::message::{
     BITS_BEFORE_PREFIX, BITS_BELOW_LABEL, BOTTOM, COMMUNITY, LABEL_AT, PREFIX_AT, RD_AT, VpnRoute,
-    WITHDRAWN, octets,
+    WITHDRAWN,
 };
 use byteorder::{BigEndian, ByteOrder};
 use mn_base::Rt;
+use mn_prefix::octets;
 use std::alloc::AllocError;
 
 /// Appends the bytes of a route, or of its withdrawal.

@@ -1,5 +1,6 @@
 use Rattle.std.proofs.Common.{◌≡◌, ◌+◌, arith, length, take, ap, ◌∙◌}
-use Rattle.mn_vpn_nlri.specs.Grammar.{octets, written, written_field}
+use Rattle.mn_vpn_nlri.specs.Grammar.{written, written_field}
+use Rattle.mn_prefix.specs.Octets.{octets}
 use Rattle.mn_vpn_nlri.proofs.Routes.{written_is_route, appended, taken}
 use Rattle.mn_vpn_nlri.proofs.write.write_route.Goals as goal
 
