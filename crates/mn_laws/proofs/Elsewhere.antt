@@ -2,7 +2,7 @@
 use Rattle.std.proofs.Common.{ℕ, zero, suc, ◌≡◌, ◌≢◌, ◌+◌, ◌-◌, ◌<◌, ◌≤◌, ◌⊎◌, inl, inr, Bool, true, false, cond, List, [], ◌∷◌, ◌++◌, length, get_or, refl, arith, sym, ◌∙◌, ap, subst, Option, Some, None}
 use Rattle.std.specs.Prelude.{◌==◌, nat_le, slice_get, slice_index_or, slice_set}
 use Rattle.std.proofs.lemmas.Grind.{common_steps}
-use Rattle.std.proofs.lemmas.Bool.Decides.{eqb_tells}
+use Rattle.std.proofs.lemmas.Bool.Decides.{eqb_tells, leb_tells}
 use Rattle.mn_base.specs.declared.drops.Rule.{Rule}
 use Rattle.mn_base.specs.declared.drops.Rule.TheVariants as rule
 use Rattle.mn_base.specs.declared.links.Dir.{Dir}
@@ -50,6 +50,19 @@ judged_off w p v j h = record { verdict = set_other w.verdicts p j v (Delivered 
 
 pub judged_here : (w : Packets) (p : ℕ) (v : Verdict) → p < length w.verdicts → verdict_on (judged w p v) p ≡ v
 judged_here w p v h = set_here w.verdicts p v (Delivered (record { 0 = 0 }) 0 0) h
+
+-- a verdict that is set, or as it was
+pub set_verdict : (w : Packets) (p : ℕ) (v : Verdict) (j : ℕ) → (verdict_on (judged w p v) j ≡ v) ⊎ (verdict_on (judged w p v) j ≡ verdict_on w j)
+set_verdict w p v j = elim (eqb_tells j p) [
+  | inr q ↦ inr (set_other w.verdicts p j v (Delivered (record { 0 = 0 }) 0 0) q.1)
+  | inl q ↦ elim (leb_tells (length w.verdicts) p) [
+    | inl r ↦ inr (ap (λ vs. slice_index_or vs j (Delivered (record { 0 = 0 }) 0 0)) (set_past w.verdicts p v r.1))
+    | inr r ↦ inl (ap (verdict_on (judged w p v)) q.1 ∙ judged_here w p v r.1)
+  ]
+]
+  where
+    set_past : {A : Type 0} (xs : List A) (i : ℕ) (x : A) → length xs ≤ i → slice_set xs i x ≡ xs
+    set_past xs i x h = grind (arith, common_steps, h)
 
 pub deliver_off : (w : Packets) (p s ttl : ℕ) (b : List ℕ) (j : ℕ) → j ≢ p → Same j w (deliver w p s ttl b)
 deliver_off w p s ttl b j h = record { verdict = set_other w.verdicts p j _ (Delivered (record { 0 = 0 }) 0 0) h; path = refl; frames = λ c k i e. i }

@@ -10,3 +10,10 @@ pub mod Copies
 pub mod Announced
 pub mod Holding
 pub mod Accounted
+pub mod Linked
+pub mod Channels
+pub mod Ordered
+pub mod Opening
+pub mod Sums
+pub mod Tallies
+pub mod Counted

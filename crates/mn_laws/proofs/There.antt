@@ -84,7 +84,7 @@ pub record IsHop (t : Network) (node : ℕ) (hop : ℕ × ℕ) : Type 0 where
 or_false : (b : Bool) → (false || b) ≡ true → b ≡ true
 or_false b h = h
 
-sends_from : (t : Network) (l node : ℕ) → is_end (wiring_of t) l node ≡ true → sender (wiring_of t) l (away_from t l node) ≡ node
+pub sends_from : (t : Network) (l node : ℕ) → is_end (wiring_of t) l node ≡ true → sender (wiring_of t) l (away_from t l node) ≡ node
 sends_from t l node h = elim (eqb_tells (link (wiring_of t) l).a.0 node) [
   | inl q ↦ rw q.0 q.1
   | inr q ↦ rw q.0 (same_numbers (link (wiring_of t) l).b.0 node (sym (ap (λ b. b || ((link (wiring_of t) l).b.0 == node)) q.0) ∙ h))

@@ -1,3 +1,4 @@
 pub mod Deliveries
 pub mod Accounts
 pub mod Named
+pub mod Flight

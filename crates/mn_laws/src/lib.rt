@@ -9,6 +9,7 @@ ghost use Rattle.mn_ledger.specs.Ledger.{world_of, packets_of};
 ghost use Rattle.mn_ledger.specs.Lawful.{IsLawfulJournal};
 ghost use Rattle.mn_ledger.specs.Verdicts.{injections};
 ghost use Rattle.mn_laws.specs.Accounts.{Accounts};
+ghost use Rattle.mn_laws.specs.Flight.{FliesAsCounted};
 ghost use Rattle.mn_laws.specs.Named.{NamesWhatExists, AreBytes, FramesAreGood};
 
 /// Each packet that is sent is accounted for: it reaches only the site of the best route that its VRF held as it was sent,
@@ -30,4 +31,11 @@ pub fn what_flies_is_a_good_packet()
     ensures { (topology : Network) (entries : List JournalEntry) (inputs : List (List ℕ)) →
         IsLawful topology → IsLawfulJournal topology entries inputs → length inputs ≡ injections entries → AreBytes inputs →
         FramesAreGood topology (world_of topology entries) (packets_of topology entries inputs) }
+{}
+
+/// After a lawful journal items fly in the order of their numbers and of their making, each on a channel of the network. The
+/// step that delivers one is refused by nothing but a full journal. What is in flight is as much as counts against a full network.
+pub fn what_flies_counts()
+    ensures { (topology : Network) (entries : List JournalEntry) (inputs : List (List ℕ)) →
+        IsLawful topology → IsLawfulJournal topology entries inputs → FliesAsCounted topology entries inputs }
 {}
