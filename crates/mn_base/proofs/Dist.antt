@@ -4,42 +4,29 @@ use Rattle.std.specs.Prelude.{◌==◌, ◌&&◌, ◌||◌, Option, Some, None, 
 use Rattle.std.specs.List.{IsDistinct, list_any, AllByRecursion}
 use Rattle.std.proofs.lemmas.Map.Steps.{length-le_from_distinct_below}
 use Rattle.std.proofs.lemmas.Grind.{common_steps}
-use Rattle.std.proofs.lemmas.Bool.{eqb-true}
+use Rattle.std.proofs.lemmas.Bool.{eqb-true, and_parts}
 use Rattle.std.proofs.lemmas.Bool.Decides.{eqb_tells}
 use Rattle.std.proofs.lemmas.List.FromFn.{get_or-map-range_with_len}
 use Rattle.std.specs.List.{range_with_len}
 use Rattle.mn_base.specs.Wiring.{Wiring, View, is_up, link, across, is_end, links_at, nodes_of, JoinsNodes}
+use Rattle.mn_base.proofs.Bools.{and_on, or_off, less_is, less_tells}
 use Rattle.mn_base.specs.Paths.{may_go, walk_end, cost_of, IsDist, lesser, plus, least_over, rounds, dists_to}
 
 -- 1. Tests
-both : (a b : Bool) → (a && b) ≡ true → (a ≡ true) × (b ≡ true)
-both true true h = (refl, refl)
-both true false h = cc
-both false b h = cc
-
-both_true : (a b : Bool) → a ≡ true → b ≡ true → (a && b) ≡ true
-both_true a b p q = rw (p, q) refl
-
-ltb-lt : (a b : ℕ) → nat_lt a b ≡ true → a < b
-ltb-lt a b h = grind (arith, common_steps, h)
-
-lt-ltb : (a b : ℕ) → a < b → nat_lt a b ≡ true
-lt-ltb a b h = grind (arith, common_steps, h)
-
-cond_below : (c : Bool) (a b n : ℕ) → a < n → b < n → cond c a b < n
+pub cond_below : (c : Bool) (a b n : ℕ) → a < n → b < n → cond c a b < n
 cond_below true a b n p q = p
 cond_below false a b n p q = q
 
 -- 2. Numbers
-abbrev IsIn : ℕ → List ℕ → Type 0
+abbrev pub IsIn : ℕ → List ℕ → Type 0
 IsIn x [] = ⊥
 IsIn x (y ∷ ys) = (x ≡ y) ⊎ IsIn x ys
 
-in_tail : (x a : ℕ) (b : Bool) (ys : List ℕ) → IsIn x ys → IsIn x (cond b (a ∷ ys) ys)
+pub in_tail : (x a : ℕ) (b : Bool) (ys : List ℕ) → IsIn x ys → IsIn x (cond b (a ∷ ys) ys)
 in_tail x a true ys h = inr h
 in_tail x a false ys h = h
 
-in_head : (x a : ℕ) (b : Bool) (ys : List ℕ) → x ≡ a → b ≡ true → IsIn x (cond b (a ∷ ys) ys)
+pub in_head : (x a : ℕ) (b : Bool) (ys : List ℕ) → x ≡ a → b ≡ true → IsIn x (cond b (a ∷ ys) ys)
 in_head x a true ys e h = inl e
 in_head x a false ys e h = cc
 
@@ -109,7 +96,7 @@ module _ (net : Wiring) (view : View) (p : ℕ) (ok : JoinsNodes net) where
   across_below x l h = cond_below _ _ _ _ (ok l h).1 (ok l h).0
 
   has_arm : (x l : ℕ) (b : Bool) (o : Option ℕ) → is_up view l ≡ b → is_end net l x ≡ true → l < length net.ends → HasSome (across net l x) o → HasSome x (elim b [ true ↦ plus (link net l).cost o | false ↦ None ])
-  has_arm x l true o u e i h = has_plus x l o (both_true (is_up view l) _ u (both_true (is_end net l x) _ e (lt-ltb l (length net.ends) i))) h
+  has_arm x l true o u e i h = has_plus x l o (and_on (is_up view l) _ u (and_on (is_end net l x) _ e (less_is l (length net.ends) i))) h
   has_arm x l false o u e i h = tt
 
   has_over : (x : ℕ) (ds : List (Option ℕ)) (ls : List ℕ) → ((y : ℕ) → y < length net.loopbacks → HasSome y (slice_index_or ds y None)) → AllByRecursion (Good (λ l. is_end net l x) (length net.ends)) ls → HasSome x (least_over net view ds x ls)
@@ -167,9 +154,9 @@ module _ (net : Wiring) (view : View) (p : ℕ) (ok : JoinsNodes net) where
       (lesser_left _ _ 0 (most_start x (same_node x w)))
   most_rounds (suc k) (l ∷ ls) x h n w =
       let g : (may_go net view x l ≡ true) × (walk_end net view (across net l x) ls ≡ Some p) = gone _ _ w in
-      let u : (is_up view l ≡ true) × ((is_end net l x && nat_lt l (length net.ends)) ≡ true) = both _ _ g.0 in
-      let v : (is_end net l x ≡ true) × (nat_lt l (length net.ends) ≡ true) = both _ _ u.1 in
-      let b : l < length net.ends = ltb-lt _ _ v.1 in
+      let u : (is_up view l ≡ true) × ((is_end net l x && nat_lt l (length net.ends)) ≡ true) = and_parts _ _ g.0 in
+      let v : (is_end net l x ≡ true) × (nat_lt l (length net.ends) ≡ true) = and_parts _ _ u.1 in
+      let b : l < length net.ends = less_tells _ _ v.1 in
       subst (λ o. AtMost o ((link net l).cost + cost_of net ls)) (sym (get-nodes (λ x. lesser (cond (x == p) (Some 0) None) (least_over net view (rounds k net view p) x (links_at net x))) x h))
       (lesser_right _ _ _ (most_over x (rounds k net view p) (links_at net x) l (cost_of net ls)
       (in_filter (λ m. is_end net m x) (length net.ends) 0 l (omega arith) (omega (arith, b)) v.0) u.0
@@ -199,10 +186,6 @@ module _ (net : Wiring) (view : View) (p : ℕ) (ok : JoinsNodes net) where
   or_left : (a b : Bool) → a ≡ false → (a || b) ≡ true → b ≡ true
   or_left a b e h = rw e at h
 
-  or_parts : (a b : Bool) → (a || b) ≡ false → (a ≡ false) × (b ≡ false)
-  or_parts true b h = cc
-  or_parts false b h = (refl, h)
-
   suffix_step : (x y l : ℕ) (ls : List ℕ) (b : Bool) → (x == y) ≡ b → IsStraight y (cost_of net (l ∷ ls)) (l ∷ ls) → (b ≡ false → IsStraight x (cost_of net ls) (suffix x (across net l y) ls)) → IsStraight x (cost_of net (l ∷ ls)) (cond b (l ∷ ls) (suffix x (across net l y) ls))
   suffix_step x y l ls true e h f = subst (λ n. IsStraight n (cost_of net (l ∷ ls)) (l ∷ ls)) (sym (eqb-true x y e)) h
   suffix_step x y l ls false e h f = let k : IsStraight x (cost_of net ls) (suffix x (across net l y) ls) = f refl in record { ends = k.ends; cheap = omega (arith, k.cheap); once = k.once }
@@ -220,7 +203,7 @@ module _ (net : Wiring) (view : View) (p : ℕ) (ok : JoinsNodes net) where
 
   any_none : (x : ℕ) (ys : List ℕ) → list_any (eqb x) ys ≡ false → AllByRecursion (λ y. eqb x y ≡ false) ys
   any_none x [] h = tt
-  any_none x (y ∷ ys) h = ((or_parts (eqb x y) _ h).0, any_none x ys (or_parts (eqb x y) _ h).1)
+  any_none x (y ∷ ys) h = ((or_off (eqb x y) _ h).0, any_none x ys (or_off (eqb x y) _ h).1)
 
   straight_step : (x l c : ℕ) (ms : List ℕ) (b : Bool) → list_any (eqb x) (visits (across net l x) ms) ≡ b → may_go net view x l ≡ true → IsStraight (across net l x) c ms → IsStraight x ((link net l).cost + c) (cond b (suffix x (across net l x) ms) (l ∷ ms))
   unfolding IsDistinct
@@ -248,7 +231,7 @@ module _ (net : Wiring) (view : View) (p : ℕ) (ok : JoinsNodes net) where
   visits_below (l ∷ ls) x h w q a =
       let g : (may_go net view x l ≡ true) × (walk_end net view (across net l x) ls ≡ Some p) = gone _ _ w in
       below_step q x (visits (across net l x) ls) (eqb q x) refl h
-      (visits_below ls (across net l x) (across_below x l (ltb-lt _ _ (both _ _ (both _ _ g.0).1).1)) g.1 q) a
+      (visits_below ls (across net l x) (across_below x l (less_tells _ _ (and_parts _ _ (and_parts _ _ g.0).1).1)) g.1 q) a
 
   -- 5. The rounds are least
   cheapest : (x : ℕ) → x < length net.loopbacks → (ls : List ℕ) → walk_end net view x ls ≡ Some p → AtMost (slice_index_or (dists_to net view p) x None) (cost_of net (straight x ls))

@@ -1,6 +1,6 @@
 pub mod Dist
 pub mod Next
-pub mod Tests
+pub mod Bools
 pub mod Members
 pub mod Rules
 pub mod Bytes

@@ -1,27 +1,16 @@
 -- The next hop is on a least walk, to a neighbour of least number.
-use Rattle.std.proofs.Common.{ℕ, zero, suc, ◌≡◌, ◌≢◌, ◌+◌, ◌<◌, ◌≤◌, Bool, true, false, cond, List, [], ◌∷◌, length, refl, arith, sym, ◌∙◌, ap, ◌⊎◌, inl, inr, subst, eq-eqb}
-use Rattle.std.specs.Prelude.{◌&&◌, Option, Some, None, nat_lt, filter}
+use Rattle.std.proofs.Common.{ℕ, zero, suc, ◌≡◌, ◌≢◌, ◌+◌, ◌<◌, ◌≤◌, Bool, true, false, cond, List, [], ◌∷◌, length, refl, arith, sym, ◌∙◌, ap, inl, inr, subst, eq-eqb}
+use Rattle.std.specs.Prelude.{Option, Some, None, nat_lt, filter}
 use Rattle.std.specs.List.{range_with_len}
 use Rattle.std.proofs.lemmas.Bool.{eqb-true, and_parts, ltb-true}
 use Rattle.std.proofs.lemmas.Bool.Decides.{eqb_tells, nat_tests}
 use Rattle.std.proofs.lemmas.Option.{same_Some}
 use Rattle.mn_base.specs.Wiring.{Wiring, View, is_up, link, across, is_end, links_of, links_at, JoinsNodes}
 use Rattle.mn_base.specs.Paths.{may_go, walk_end, cost_of, IsLeast, IsDist, IsOnLeast, IsNext, plus, dist_in, dists_to, same_cost, is_on_least, nearer, nearest, next_by, next}
-use Rattle.mn_base.proofs.Dist.{dists_are_least}
+use Rattle.mn_base.proofs.Bools.{and_on}
+use Rattle.mn_base.proofs.Dist.{IsIn, in_tail, in_head, cond_below, dists_are_least}
 
 -- 1. Members of a list
-abbrev IsIn : ℕ → List ℕ → Type 0
-IsIn x [] = ⊥
-IsIn x (y ∷ ys) = (x ≡ y) ⊎ IsIn x ys
-
-in_tail : (x a : ℕ) (b : Bool) (ys : List ℕ) → IsIn x ys → IsIn x (cond b (a ∷ ys) ys)
-in_tail x a true ys h = inr h
-in_tail x a false ys h = h
-
-in_head : (x a : ℕ) (b : Bool) (ys : List ℕ) → x ≡ a → b ≡ true → IsIn x (cond b (a ∷ ys) ys)
-in_head x a true ys e h = inl e
-in_head x a false ys e h = cc
-
 in_filter : (test : ℕ → Bool) (x : ℕ) (xs : List ℕ) → IsIn x xs → test x ≡ true → IsIn x (filter test xs)
 in_filter test x [] i h = i
 in_filter test x (y ∷ ys) i h =
@@ -80,13 +69,6 @@ gone : (to : ℕ) (b : Bool) (o : Option ℕ) → cond b o None ≡ Some to → 
 gone to true o h = (refl, h)
 gone to false o h = cc
 
-cond_below : (c : Bool) (a b n : ℕ) → a < n → b < n → cond c a b < n
-cond_below true a b n p q = p
-cond_below false a b n p q = q
-
-both_true : (a b : Bool) → a ≡ true → b ≡ true → (a && b) ≡ true
-both_true a b p q = rw (p, q) refl
-
 module _ (net : Wiring) (view : View) (to : ℕ) (ok : JoinsNodes net) where
   abbrev dist : ℕ → Option ℕ
   dist x = dist_in (dists_to net view to) x
@@ -117,7 +99,7 @@ module _ (net : Wiring) (view : View) (to : ℕ) (ok : JoinsNodes net) where
   -- and one that is on a least walk passes
   complete : (x l : ℕ) → x < length net.loopbacks → IsOnLeast net view x to l → is_on_least net view (dists_to net view to) x l ≡ true
   complete x l hx h =
-      both_true (is_up view l) _ h.up (same_on _ _ (link net l).cost h.rest (dist_is (across net l x) h.rest (across_below x l h.there) h.after) (dist_is x ((link net l).cost + h.rest) hx h.whole))
+      and_on (is_up view l) _ h.up (same_on _ _ (link net l).cost h.rest (dist_is (across net l x) h.rest (across_below x l h.there) h.after) (dist_is x ((link net l).cost + h.rest) hx h.whole))
 
   -- the first link of a least walk is on one
   first_link : (x l : ℕ) (ls : List ℕ) (o : Option ℕ) → x < length net.loopbacks → walk_end net view x (l ∷ ls) ≡ Some to → ((ms : List ℕ) → walk_end net view x ms ≡ Some to → cost_of net (l ∷ ls) ≤ cost_of net ms) → IsDist net view (across net l x) to o → IsOnLeast net view x to l

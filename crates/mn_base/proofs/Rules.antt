@@ -1,9 +1,8 @@
 -- The first rule that is broken, in the words of the list.
-use Rattle.std.proofs.Common.{◌≡◌, ◌⊎◌, Bool, true, false, List, [], ◌∷◌, ◌++◌, map, refl, sym, ◌∙◌, ap}
+use Rattle.std.proofs.Common.{◌≡◌, Bool, true, false, List, [], ◌∷◌, ◌++◌, map, refl, sym, ◌∙◌, ap}
 use Rattle.std.specs.Prelude.{Option, Some, None, if◌then◌else◌}
 use Rattle.std.specs.List.{AllByRecursion}
 use Rattle.mn_base.specs.Rules.{when, first_broken, first_refusal, IsFirstBroken}
-use Rattle.mn_base.proofs.Tests.{no}
 
 some_is : {R : Type 0} (a b : R) → Some a ≡ Some b → a ≡ b
 some_is a b h = cc

@@ -12,8 +12,8 @@
 
 mod counter;
 mod drops;
-mod links;
 mod laws;
+mod links;
 mod list;
 mod numbers;
 mod paths;

@@ -92,3 +92,10 @@ fn the_laws_of_walks_hold() {
     crate::square_is_wired();
     crate::walks_in_the_square();
 }
+
+#[test]
+fn laws_of_lists_hold_of_each_type() {
+    crate::first_rule_that_is_broken::<u8>();
+    crate::changes_keep_the_order::<u16>();
+    crate::numbers_in_order();
+}

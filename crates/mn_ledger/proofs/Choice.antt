@@ -13,7 +13,7 @@ use Rattle.mn_ledger.specs.Vpn.{Source, Own, Near, Far, HeldRoute, is_preferred,
 use Rattle.mn_ledger.specs.Packets.{Packets, packets_after}
 use Rattle.mn_ledger.specs.Ledger.{after, start, no_packets, next_of, left_by, world_from, world_of}
 use Rattle.mn_ledger.specs.Lawful.{IsLawfulFrom, IsLawfulJournal}
-use Rattle.mn_ledger.specs.Best.{IsBest, NamesTheBest, AddFormed, HavePrefixes}
+use Rattle.mn_ledger.specs.Best.{IsBest, NamesTheBest}
 use Rattle.mn_ledger.proofs.Peers.{two_ways, same_numbers}
 use Rattle.mn_ledger.proofs.Turning.{loopbacks_apart}
 use Rattle.mn_ledger.proofs.Members.{In, in_contained, contained_in, in_filter, filter_in, none_passes, passes_none}
@@ -236,7 +236,7 @@ some_unbeaten c (d ∷ xs) =
 
 -- 5. The best route
 
-in_first : (xs : List HeldRoute) (x : HeldRoute) → first_of xs ≡ Some x → In xs x
+pub in_first : (xs : List HeldRoute) (x : HeldRoute) → first_of xs ≡ Some x → In xs x
 in_first [] x h = cc
 in_first (y ∷ ys) x h = inl (ap (λ o. elim o as (λ _. HeldRoute) [ None ↦ y | Some z ↦ z ]) h)
 
@@ -248,7 +248,7 @@ not_true : (b : Bool) → not b ≡ true → b ≡ false
 not_true true h = cc
 not_true false h = refl
 
-from_unbeaten : (routes : List HeldRoute) (address : ℕ) (x : HeldRoute) → In (unbeaten (matching address routes)) x → IsBest routes address x
+pub from_unbeaten : (routes : List HeldRoute) (address : ℕ) (x : HeldRoute) → In (unbeaten (matching address routes)) x → IsBest routes address x
 from_unbeaten routes address x i =
     let found : List HeldRoute = matching address routes in
     let u = in_filter (λ route. not (list_any (λ other. is_better other route) found)) found x i in
@@ -273,7 +273,7 @@ some_in : (xs : List HeldRoute) (x : HeldRoute) → In xs x → (y : HeldRoute) 
 some_in [] x i = absurd i
 some_in (c ∷ xs) x i = some_unbeaten c xs
 
-none_matches : (routes : List HeldRoute) (address : ℕ) → best routes address ≡ None → (x : HeldRoute) → In (matching address routes) x → ⊥
+pub none_matches : (routes : List HeldRoute) (address : ℕ) → best routes address ≡ None → (x : HeldRoute) → In (matching address routes) x → ⊥
 none_matches routes address h x i =
     let top = some_in (matching address routes) x i in
     let first = first_there (unbeaten (matching address routes)) top.0 (to_unbeaten routes address top.0 top.1 top.2) in
@@ -305,20 +305,23 @@ names_one routes address formed apart = record {
 
 -- 6. Over a journal
 
-record Keeps (t : Network) (w : World) : Type 0 where
-  statics : HasStatics t w.config.statics
-  forms : HasForms w.config.statics
-  told : AllGood t w.peerings
+pub record Keeps (t : Network) (w : World) : Type 0 where
+  pub statics : HasStatics t w.config.statics
+  pub forms : HasForms w.config.statics
+  pub told : AllGood t w.peerings
 
-keeps_on : (t : Network) (es : List JournalEntry) (tick : ℕ) (w : World) (k : Packets) (i : ℕ) (ps : List (List ℕ)) → IsLawfulFrom t tick w k i es ps → AddFormed es → Keeps t w → Keeps t (world_from t w es)
-keeps_on t [] tick w k i ps lawful formed h = h
-keeps_on t (e ∷ es) tick w k i ps lawful formed h =
-    let forms = forms_go w e.step formed.0 h.forms in
-    keeps_on t es e.tick (after t w e.step) (packets_after t (after t w e.step) k e.step (next_of ps)) (i + 1) (left_by e.step ps) lawful.3 formed.1 (record { statics = statics_go t w k i e.step (next_of ps) lawful.2 h.statics; forms = forms; told = tellings_go t w e.step forms h.told })
+keeps_on : (t : Network) (es : List JournalEntry) (tick : ℕ) (w : World) (k : Packets) (i : ℕ) (ps : List (List ℕ)) → IsLawfulFrom t tick w k i es ps → Keeps t w → Keeps t (world_from t w es)
+keeps_on t [] tick w k i ps lawful h = h
+keeps_on t (e ∷ es) tick w k i ps lawful h =
+    let forms = forms_go t w e.step lawful.0 h.forms in
+    keeps_on t es e.tick (after t w e.step) (packets_after t (after t w e.step) k e.step (next_of ps)) (i + 1) (left_by e.step ps) lawful.3 (record { statics = statics_go t w k i e.step (next_of ps) lawful.2 h.statics; forms = forms; told = tellings_go t w e.step forms h.told })
 
-pub names_best : (t : Network) (es : List JournalEntry) (ps : List (List ℕ)) → IsLawful t → HavePrefixes t es → IsLawfulJournal t es ps → (edge v address : ℕ)
+pub keeps : (t : Network) (es : List JournalEntry) (ps : List (List ℕ)) → IsLawful t → IsLawfulJournal t es ps → Keeps t (world_of t es)
+keeps t es ps lawful journal = keeps_on t es 0 (start t) no_packets 0 ps journal (record { statics = first_statics t lawful; forms = first_forms t lawful; told = λ edge peer m i. absurd i })
+
+pub names_best : (t : Network) (es : List JournalEntry) (ps : List (List ℕ)) → IsLawful t → IsLawfulJournal t es ps → (edge v address : ℕ)
     → NamesTheBest (held t (world_of t es).config (world_of t es).peerings edge v) address
-names_best t es ps lawful prefixes journal edge v address =
-    let k : Keeps t (world_of t es) = keeps_on t es 0 (start t) no_packets 0 ps journal prefixes.added (record { statics = first_statics t lawful; forms = first_forms t prefixes.sites; told = λ edge peer m i. absurd i }) in
+names_best t es ps lawful journal edge v address =
+    let k : Keeps t (world_of t es) = keeps t es ps lawful journal in
     names_one (held t (world_of t es).config (world_of t es).peerings edge v) address (λ a i. held_formed t (world_of t es).config (world_of t es).peerings edge v a k.forms k.told i)
     (λ a b i j source prefix. one_held t (world_of t es).config (world_of t es).peerings edge v a b lawful (loopbacks_apart t lawful) k.statics k.told i j source prefix)

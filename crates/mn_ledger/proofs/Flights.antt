@@ -1,8 +1,7 @@
 -- What flies over the network of two links, with numbers and due ticks: a notice takes 1 tick, what goes over a link 2, and
 -- what one edge tells another 3.
 use Rattle.std.specs.Prelude.{◌≡◌, refl, false, ◌++◌, ℕ, List, [], ◌∷◌}
-use Rattle.std.proofs.Common.{rules, arith}
-use Rattle.mn_prefix.specs.Prefix.{IsPrefix}
+use Rattle.std.proofs.Common.{rules}
 use Rattle.mn_base.specs.declared.links.Dir.TheVariants.{Forth, Back}
 use Rattle.mn_base.specs.Paths.{next}
 use Rattle.mn_ipv4.specs.Header.{is_not_ipv4, is_malformed, is_truncated, has_bad_checksum, good, checksum_for, with_ttl, aged}
@@ -16,7 +15,7 @@ use Rattle.mn_ledger.specs.Packets.{Token, packets_after}
 use Rattle.mn_ledger.specs.Items.{Channel, Notices, Messages, Routes, Frames, Load, Notice, Says, Tells, Carries, Item, flight_of}
 use Rattle.mn_ledger.specs.Refusal.{in_flight, bytes_flying}
 use Rattle.mn_ledger.specs.Lawful.{IsLawfulJournal}
-use Rattle.mn_ledger.specs.Best.{HavePrefixes}
+use Rattle.mn_topo.specs.Steps.{fits}
 use Rattle.mn_ledger.proofs.TwoLinks.{node_no, link_no, site_no, two_links, settling, packet, across_both}
 
 abbrev at : ℕ → Step → JournalEntry
@@ -85,18 +84,12 @@ pub the_second_overtakes : (flight_of two_links (settling ++ at 5 (Inject (site_
 unfolding next knowledge_of news sessions_after peerings_after held packets_after is_not_ipv4 is_malformed is_truncated has_bad_checksum good checksum_for with_ttl aged in_flight bytes_flying
 the_second_overtakes = refl
 
--- the prefixes of the network, and of a lawful run that adds one, are of their form
-of_form : IsPrefix 167837696 16
-of_form = record { fits = omega arith; short = omega arith; clear = refl }
-
-of_form_too : IsPrefix 167903232 16
-of_form_too = record { fits = omega arith; short = omega arith; clear = refl }
-
+-- a lawful run that adds a prefix; one with a bit set past its length fits no topology
 abbrev adds_a_route : List JournalEntry
 adds_a_route = across_both ++ at 9 (AddRoute (site_no 0) (record { address = 0; length = 0 })) ∷ []
 
-pub prefixes_are_formed : HavePrefixes two_links adds_a_route
-prefixes_are_formed = record { sites = (of_form, (of_form_too, tt)); added = search rules }
+pub host_bits_do_not_fit : fits two_links (AddRoute (site_no 0) (record { address = 1; length = 31 })) ≡ false
+host_bits_do_not_fit = refl
 
 pub adding_is_lawful : IsLawfulJournal two_links adds_a_route (packet ∷ [])
 unfolding next knowledge_of news sessions_after peerings_after held packets_after is_not_ipv4 is_malformed is_truncated has_bad_checksum good checksum_for with_ttl aged in_flight bytes_flying

@@ -512,7 +512,7 @@ from_numbered t tick n [] place item e = absurd (clash e)
 from_numbered t tick n (x ∷ xs) zero item e = omega (arith, ap (λ (i : Item). i.number) (some_same _ item e))
 from_numbered t tick n (x ∷ xs) (suc place) item e = omega (arith, from_numbered t tick (n + 1) xs place item e)
 
-length_numbered : (t : Network) (tick n : ℕ) (xs : List (Channel × Load)) → length (numbered t tick n xs) ≡ length xs
+pub length_numbered : (t : Network) (tick n : ℕ) (xs : List (Channel × Load)) → length (numbered t tick n xs) ≡ length xs
 length_numbered t tick n [] = refl
 length_numbered t tick n (x ∷ xs) = ap suc (length_numbered t tick (n + 1) xs)
 

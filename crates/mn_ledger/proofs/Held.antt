@@ -23,7 +23,7 @@ no e = cc
 
 -- 1. What an edge believes of a peer
 
-abbrev SameRoute : Export → Export → Type 0
+abbrev pub SameRoute : Export → Export → Type 0
 SameRoute x y = (x.vrf ≡ y.vrf) × (x.prefix ≡ y.prefix)
 
 is_for_it : (x e : Export) → SameRoute x e → is_for e.vrf e.prefix x ≡ true
@@ -40,6 +40,13 @@ believed_apart es (Announce e ∷ ms) h =
 believed_apart es (Unreach v p ∷ ms) h = believed_apart (believed_after es (Unreach v p)) ms (apart_filter SameRoute (λ other. not (is_for v p other)) es h)
 believed_apart es (Open ∷ ms) h = believed_apart es ms h
 believed_apart es (Alive ∷ ms) h = believed_apart es ms h
+
+pub believed_is_apart : (c : Config) (p : Peerings) (edge peer : ℕ) → AreApart SameRoute (believed c p edge peer)
+believed_is_apart c p edge peer = either (peers_live c edge peer)
+  where
+    either : (b : Bool) → AreApart SameRoute (if b then believed_from [] (heard_of p edge peer) else [])
+    either true = believed_apart [] (heard_of p edge peer) tt
+    either false = tt
 
 -- what is believed was announced
 announced_once : (es : List Export) (ms : List Telling) (x : Export) → In (believed_from es ms) x → In es x ⊎ In ms (Announce x)
@@ -65,7 +72,7 @@ if_in false xs x i = absurd i
 in_believed : (c : Config) (p : Peerings) (edge peer : ℕ) (x : Export) → In (believed c p edge peer) x → In (believed_from [] (heard_of p edge peer)) x
 in_believed c p edge peer x i = if_in (peers_live c edge peer) (believed_from [] (heard_of p edge peer)) x i
 
-good_believed : (t : Network) (c : Config) (p : Peerings) (edge peer : ℕ) (x : Export) → AllGood t p → In (believed c p edge peer) x → IsGoodExport t x
+pub good_believed : (t : Network) (c : Config) (p : Peerings) (edge peer : ℕ) (x : Export) → AllGood t p → In (believed c p edge peer) x → IsGoodExport t x
 good_believed t c p edge peer x good i = elim (announced_once [] (heard_of p edge peer) x (in_believed c p edge peer x i)) [
   | inl j ↦ absurd j
   | inr j ↦ good peer edge (Announce x) (in_take (p.heard edge peer) (p.told peer edge) (Announce x) j)
@@ -78,20 +85,20 @@ one_believed c p edge peer x y i j a =
 -- 2. From where each held route comes
 
 -- by its source
-OwnRoute : Network → Config → ℕ → ℕ → HeldRoute → Type 0
+unfoldable pub OwnRoute : Network → Config → ℕ → ℕ → HeldRoute → Type 0
 OwnRoute t c edge v a = (x : Export) × Behind t c v [] x × (held_by edge Own x ≡ a)
 
-NearRoute : Network → Config → ℕ → HeldRoute → Type 0
+unfoldable pub NearRoute : Network → Config → ℕ → HeldRoute → Type 0
 NearRoute t c edge a = (x : Export) × In (exports_of t c edge) x × (held_by edge (Near x.vrf) x ≡ a)
 
-FarRoute : Network → Config → Peerings → ℕ → HeldRoute → Type 0
+unfoldable pub FarRoute : Network → Config → Peerings → ℕ → HeldRoute → Type 0
 FarRoute t c p edge a = (peer : ℕ) × (peer < length t.loopbacks) × (x : Export) × In (believed c p edge peer) x × (held_by peer (Far (loopback t peer) (vrf_at t x.vrf).rd.0) x ≡ a)
 
-from_own : (t : Network) (c : Config) (edge v : ℕ) (a : HeldRoute) → In (own_routes t c edge v) a → OwnRoute t c edge v a
+pub from_own : (t : Network) (c : Config) (edge v : ℕ) (a : HeldRoute) → In (own_routes t c edge v) a → OwnRoute t c edge v a
 unfolding OwnRoute
 from_own t c edge v a i = let m = in_map (held_by edge Own) _ a i in (m.0, behind t c v [] m.0 m.1, m.2)
 
-from_near : (t : Network) (c : Config) (edge v : ℕ) (a : HeldRoute) → In (near_routes t c edge v) a → NearRoute t c edge a
+pub from_near : (t : Network) (c : Config) (edge v : ℕ) (a : HeldRoute) → In (near_routes t c edge v) a → NearRoute t c edge a
 unfolding NearRoute
 from_near t c edge v a i =
     let others : List Export = filter (λ export. not (export.vrf == v)) (exports_of t c edge) in
@@ -99,7 +106,7 @@ from_near t c edge v a i =
     let f = in_filter (λ (export : Export). meet export.targets (c.imports v)) others m.0 m.1 in
     (m.0, (in_filter (λ (export : Export). not (export.vrf == v)) (exports_of t c edge) m.0 f.0).0, m.2)
 
-from_far : (t : Network) (c : Config) (p : Peerings) (edge v : ℕ) (a : HeldRoute) → In (flat_map (far_routes t c p edge v) (filter (λ peer. not (peer == edge)) (edges t))) a → FarRoute t c p edge a
+pub from_far : (t : Network) (c : Config) (p : Peerings) (edge v : ℕ) (a : HeldRoute) → In (flat_map (far_routes t c p edge v) (filter (λ peer. not (peer == edge)) (edges t))) a → FarRoute t c p edge a
 unfolding FarRoute
 from_far t c p edge v a i =
     let m = in_flat_map (far_routes t c p edge v) (filter (λ peer. not (peer == edge)) (edges t)) a i in
@@ -124,7 +131,7 @@ kinds t c p edge v a i = elim (in_append (own_routes t c edge v) (near_routes t 
 
 -- 3. One route of each source and prefix
 
-present_vrf : (t : Network) (c : Config) (v : ℕ) (x : SiteRoute) → is_present t c v x ≡ true → vrf_of t x.site ≡ v
+pub present_vrf : (t : Network) (c : Config) (v : ℕ) (x : SiteRoute) → is_present t c v x ≡ true → vrf_of t x.site ≡ v
 present_vrf t c v x h = same_numbers (vrf_of t x.site) v (and_left _ _ h)
 
 one_behind : (t : Network) (c : Config) (v : ℕ) (targets : List ℕ) (x y : Export) → HasStatics t c.statics → Behind t c v targets x → Behind t c v targets y → x.prefix ≡ y.prefix → x ≡ y
@@ -134,24 +141,24 @@ one_behind t c v targets x y h a b same =
     (present_vrf t c v a.0 a.2 ∙ sym (present_vrf t c v b.0 b.2), ap (λ (e : Export). e.prefix) a.3 ∙ same ∙ sym (ap (λ (e : Export). e.prefix) b.3)) in
     sym a.3 ∙ ap (export_of c v targets) one ∙ b.3
 
-abbrev source_kind : Source → ℕ
+abbrev pub source_kind : Source → ℕ
 source_kind Own = 0
 source_kind (Near v) = 1
 source_kind (Far address rd) = 2
 
-abbrev near_vrf : Source → ℕ
+abbrev pub near_vrf : Source → ℕ
 near_vrf (Near v) = v
 near_vrf _ = 0
 
-abbrev far_address : Source → ℕ
+abbrev pub far_address : Source → ℕ
 far_address (Far address rd) = address
 far_address _ = 0
 
-abbrev far_rd : Source → ℕ
+abbrev pub far_rd : Source → ℕ
 far_rd (Far address rd) = rd
 far_rd _ = 0
 
-one_edge : (t : Network) → Apart t → (m n : ℕ) → m < length t.loopbacks → n < length t.loopbacks → loopback t m ≡ loopback t n → m ≡ n
+pub one_edge : (t : Network) → Apart t → (m n : ℕ) → m < length t.loopbacks → n < length t.loopbacks → loopback t m ≡ loopback t n → m ≡ n
 one_edge t apart m n h g e = elim (eqb_tells m n) [ inl p ↦ p.1 | inr p ↦ absurd (apart m n h g p.1 e) ]
 
 pub one_vrf : (t : Network) → IsLawful t → (u w : ℕ) → u < length t.vrfs → w < length t.vrfs → (vrf_at t u).rd.0 ≡ (vrf_at t w).rd.0 → u ≡ w
@@ -196,15 +203,15 @@ one_far t c p edge a b lawful apart good m n source prefix =
     sym m.4 ∙ ap (λ q. held_by q (Far (loopback t q) (vrf_at t m.2.vrf).rd.0) m.2) peer ∙ ap (λ (e : Export). held_by n.0 (Far (loopback t n.0) (vrf_at t e.vrf).rd.0) e) one ∙ n.4
 
 -- its kind
-own_kind : (t : Network) (c : Config) (edge v : ℕ) (a : HeldRoute) → OwnRoute t c edge v a → 0 ≡ source_kind a.source
+pub own_kind : (t : Network) (c : Config) (edge v : ℕ) (a : HeldRoute) → OwnRoute t c edge v a → 0 ≡ source_kind a.source
 unfolding OwnRoute
 own_kind t c edge v a m = ap (λ (r : HeldRoute). source_kind r.source) m.2
 
-near_kind : (t : Network) (c : Config) (edge : ℕ) (a : HeldRoute) → NearRoute t c edge a → 1 ≡ source_kind a.source
+pub near_kind : (t : Network) (c : Config) (edge : ℕ) (a : HeldRoute) → NearRoute t c edge a → 1 ≡ source_kind a.source
 unfolding NearRoute
 near_kind t c edge a m = ap (λ (r : HeldRoute). source_kind r.source) m.2
 
-far_kind : (t : Network) (c : Config) (p : Peerings) (edge : ℕ) (a : HeldRoute) → FarRoute t c p edge a → 2 ≡ source_kind a.source
+pub far_kind : (t : Network) (c : Config) (p : Peerings) (edge : ℕ) (a : HeldRoute) → FarRoute t c p edge a → 2 ≡ source_kind a.source
 unfolding FarRoute
 far_kind t c p edge a m = ap (λ (r : HeldRoute). source_kind r.source) m.4
 

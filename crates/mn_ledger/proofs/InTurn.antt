@@ -1,5 +1,5 @@
 -- After every lawful journal each session is in turn.
-use Rattle.std.proofs.Common.{ℕ, suc, ◌≡◌, ◌≢◌, ◌+◌, ◌<◌, ◌≤◌, inl, inr, Bool, true, false, cond, List, [], ◌∷◌, length, refl, arith, sym, ◌∙◌, ap, subst, Option, None}
+use Rattle.std.proofs.Common.{ℕ, suc, ◌≡◌, ◌≢◌, ◌+◌, ◌<◌, ◌≤◌, inl, inr, Bool, true, false, cond, List, [], ◌∷◌, length, refl, arith, sym, ◌∙◌, ap, subst, None}
 use Rattle.std.specs.Prelude.{◌==◌, ◌&&◌, not, nat_lt, slice_index_or}
 use Rattle.std.proofs.lemmas.Bool.Decides.{eqb_tells, leb_tells, nat_tests}
 use Rattle.mn_base.specs.Wiring.{across, JoinsNodes, EndsDiffer}
@@ -10,17 +10,16 @@ use Rattle.mn_topo.specs.Steps.{fits}
 use Rattle.mn_topo.specs.declared.steps.Step.{Step}
 use Rattle.mn_topo.specs.declared.steps.Step.TheVariants as step
 use Rattle.mn_topo.specs.declared.steps.JournalEntry.{JournalEntry}
-use Rattle.mn_ledger.specs.declared.refused.Refused.{Refused}
-use Rattle.mn_ledger.specs.declared.refused.Refused.TheVariants.{Unchanged, Empty}
 use Rattle.mn_ledger.specs.Tables.{put, put_pair}
 use Rattle.mn_ledger.specs.World.{World, Views, Open}
 use Rattle.mn_ledger.specs.Transport.{is_active}
 use Rattle.mn_ledger.specs.Vpn.{peers_live}
 use Rattle.mn_ledger.specs.Packets.{Packets, packets_after}
 use Rattle.mn_ledger.specs.Ledger.{after, start, no_packets, next_of, left_by, world_from, world_of}
-use Rattle.mn_ledger.specs.Refusal.{is_unchanged, is_empty, where_holds, first_cause, limits, refusal_at}
+use Rattle.mn_ledger.specs.Refusal.{is_empty, refusal_at}
 use Rattle.mn_ledger.specs.Lawful.{IsLawfulFrom, IsLawfulJournal}
 use Rattle.mn_ledger.specs.Turns.{IsInTurn, HasRows, has_bgp_row}
+use Rattle.mn_ledger.proofs.Refusals.{free}
 use Rattle.mn_ledger.proofs.Talk.{talk-nth, nth-row}
 use Rattle.mn_ledger.proofs.Turning.{Apart, loopbacks_apart, across-end}
 use Rattle.mn_ledger.proofs.GoingBy.{LinkIsThere, sessions_go, put_here, put_off, pair_here, pair_off, above}
@@ -28,13 +27,8 @@ use Rattle.mn_ledger.proofs.Peers.{AreInOrder, peers_go, peer-nth, peer-row, sta
 
 -- 1. What a lawful step owes
 
-second_none : (a b : Bool) (q r : Refused) (rest : List (Option Refused)) → first_cause (where_holds a q ∷ where_holds b r ∷ rest) ≡ None → b ≡ false
-second_none true b q r rest h = cc
-second_none false true q r rest h = cc
-second_none false false q r rest h = refl
-
 pub not_empty : (t : Network) (w : World) (k : Packets) (i : ℕ) (s : Step) (b : List ℕ) → refusal_at t w k i s b ≡ None → is_empty t w k s ≡ false
-not_empty t w k i s b h = second_none (is_unchanged w.config s) (is_empty t w k s) Unchanged Empty (limits t w k i s b) h
+not_empty t w k i s b h = (free t w k i s b h).there
 
 and_right : (a b : Bool) → (a && b) ≡ true → b ≡ true
 and_right true b h = h

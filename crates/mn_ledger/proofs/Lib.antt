@@ -1,7 +1,7 @@
 pub mod Longest
 pub mod Accounted
 pub mod TwoLinks
-mod MoreRuns
+pub mod MoreRuns
 pub mod OnePlace
 pub mod Parts
 pub mod Talk
@@ -20,10 +20,13 @@ pub mod Tellings
 pub mod Held
 pub mod Choice
 pub mod Frames
-mod Flights
-mod Premises
+pub mod Flights
+pub mod Premises
 pub mod OneKind
 pub mod More
+pub mod Refusals
+pub mod Saying
+pub mod Order
 pub mod Ascending
 pub mod Tidy
 pub mod Ended

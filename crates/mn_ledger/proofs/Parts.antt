@@ -2,14 +2,14 @@
 use Rattle.std.proofs.Common.{◌≡◌, ◌≢◌, ◌⊎◌, ℕ, ◌+◌, ◌==◌, ◌++◌, filter, Bool, true, false, cond, List, [], ◌∷◌, Option, Some, None, refl, sym, ◌∙◌, ap, arith, inl, inr}
 use Rattle.std.specs.Prelude.{unwrap_or, if◌then◌else◌, is_some, not, ◌&&◌, ◌||◌, nat_lt}
 use Rattle.std.proofs.lemmas.Bool.Decides.{eqb_tells}
-use Rattle.mn_topo.specs.Network.{Network}
+use Rattle.mn_topo.specs.Network.{Network, wiring_of}
 use Rattle.mn_topo.specs.declared.steps.Step.{Step}
 use Rattle.mn_topo.specs.declared.steps.Step.TheVariants.{LinkUp, LinkDown, Learn, LdpAdmin, HearLdp, BgpUp, BgpDown, HearBgp, AddRoute, DelRoute, Import, Export, Attach, Detach, Inject, Carry, Lose}
 use Rattle.mn_topo.specs.declared.steps.JournalEntry.{JournalEntry}
 use Rattle.mn_ledger.specs.World.{World}
 use Rattle.mn_ledger.specs.Packets.{Packets, packets_after, before_step}
-use Rattle.mn_ledger.specs.Transport.{is_transport, sessions_after}
-use Rattle.mn_ledger.specs.Vpn.{is_routing, peerings_after}
+use Rattle.mn_ledger.specs.Transport.{is_transport, knowledge_of, usable_by, sessions_after}
+use Rattle.mn_ledger.specs.Vpn.{is_routing, peerings_after, exports_of, held}
 use Rattle.mn_ledger.specs.Ledger.{after, start, world_from, with_target, is_static}
 use Rattle.mn_prefix.specs.Prefix.{AddressBlock}
 use Rattle.mn_ledger.specs.Vpn.{has_target}
@@ -73,6 +73,41 @@ packets_kept t v k (Carry l d n) b h = cc
 packets_kept t v k (Lose l d n) b h = cc
 packets_kept t v k _ b h = refl
 
+-- what a node knows, what an edge exports, and what a VRF holds
+pub knowledge_kept : (t : Network) (w : World) (s : Step) (node : ℕ) → is_transport s ≡ false → knowledge_of (wiring_of t) (after t w s).config (after t w s).views (after t w s).sessions node ≡ knowledge_of (wiring_of t) w.config w.views w.sessions node
+unfolding knowledge_of sessions_after
+knowledge_kept t w (LinkUp l) node h = cc
+knowledge_kept t w (LinkDown l) node h = cc
+knowledge_kept t w (Learn n l) node h = cc
+knowledge_kept t w (LdpAdmin l on) node h = cc
+knowledge_kept t w (HearLdp l d) node h = cc
+knowledge_kept t w _ node h = refl
+
+pub held_kept : (t : Network) (w : World) (s : Step) (edge v : ℕ) → is_routing s ≡ false → held t (after t w s).config (after t w s).peerings edge v ≡ held t w.config w.peerings edge v
+unfolding held peerings_after
+held_kept t w (BgpUp a b) edge v h = cc
+held_kept t w (BgpDown a b) edge v h = cc
+held_kept t w (HearBgp a b) edge v h = cc
+held_kept t w (AddRoute s p) edge v h = cc
+held_kept t w (DelRoute s p) edge v h = cc
+held_kept t w (Import x r on) edge v h = cc
+held_kept t w (Export x r on) edge v h = cc
+held_kept t w (Attach s) edge v h = cc
+held_kept t w (Detach s) edge v h = cc
+held_kept t w _ edge v h = refl
+
+pub exports_kept : (t : Network) (w : World) (s : Step) (edge : ℕ) → is_routing s ≡ false → exports_of t (after t w s).config edge ≡ exports_of t w.config edge
+exports_kept t w (BgpUp a b) edge h = cc
+exports_kept t w (BgpDown a b) edge h = cc
+exports_kept t w (HearBgp a b) edge h = cc
+exports_kept t w (AddRoute s p) edge h = cc
+exports_kept t w (DelRoute s p) edge h = cc
+exports_kept t w (Import x r on) edge h = cc
+exports_kept t w (Export x r on) edge h = cc
+exports_kept t w (Attach s) edge h = cc
+exports_kept t w (Detach s) edge h = cc
+exports_kept t w _ edge h = refl
+
 pub other_parts_kept : (t : Network) (w : World) (k : Packets) (s : Step) (b : List ℕ) → KeepsOtherParts t w k s b
 other_parts_kept t w k s b = record {
   configured = config_kept t w s;
@@ -80,6 +115,10 @@ other_parts_kept t w k s b = record {
   said = sessions_kept t w s;
   told = peerings_kept t w s;
   moved = packets_kept t (after t w s) k s b;
+  knows = λ h node. knowledge_kept t w s node h;
+  sends = λ h node fec. ap (λ x. usable_by (wiring_of t) x node fec) (knowledge_kept t w s node h);
+  exports = λ h edge. exports_kept t w s edge h;
+  holds = λ h edge v. held_kept t w s edge v h;
 }
 
 -- what each step sets as it says, or leaves, is what the last that says anything says
@@ -354,6 +393,7 @@ last_steps_decide t es = record {
   statics = λ s prefix. last_decides t (λ w. list_any (is_static s prefix) w.config.statics) (routes_prefix s prefix) (static_set t s prefix) (start t) es;
   attached = λ s. last_decides t (λ w. is_some (w.config.attached s)) (makes_attached s) (attached_set t s) (start t) es;
   attachment = λ s n e. numbers_kept t (start t) es (first_number t) s n e ∙ ap (λ k. 1 + k) (from_none _ _ (counts t (λ w. w.config.attaches s) (attaches_site s) (attach_counts t s) (start t) es));
+  attaches = λ s. from_none _ _ (counts t (λ w. w.config.attaches s) (attaches_site s) (attach_counts t s) (start t) es);
   changes = λ l. from_none _ _ (counts t (λ w. w.views.changes l) (turns l) (turn_counts t l) (start t) es);
   learned = λ n l. from_none _ _ (counts t (λ w. w.views.learned n l) (teaches n l) (learn_counts t n l) (start t) es);
 }

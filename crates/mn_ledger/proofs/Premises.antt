@@ -1,6 +1,6 @@
 -- What the laws ask is met in the network of two links, once it is settled.
 use Rattle.std.proofs.Common.{arith}
-use Rattle.std.specs.Prelude.{◌≡◌, refl, true, false, [], ◌∷◌, Some}
+use Rattle.std.specs.Prelude.{◌≡◌, refl, true, false, [], ◌∷◌, length, Some}
 use Rattle.mn_base.specs.Wiring.{View}
 use Rattle.mn_base.specs.Paths.{IsLeast, next}
 use Rattle.mn_base.proofs.Dist.{dists_are_least}
@@ -15,7 +15,8 @@ use Rattle.mn_ledger.specs.Packets.{packets_after}
 use Rattle.mn_ledger.specs.Quiet.{known_after}
 use Rattle.mn_ledger.specs.Transport.{known}
 use Rattle.mn_ledger.specs.Refusal.{is_unchanged, in_flight, bytes_flying}
-use Rattle.mn_ledger.proofs.TwoLinks.{link_no, two_links, the_topology_is_lawful, settled_world}
+use Rattle.mn_ledger.specs.Verdicts.{injections}
+use Rattle.mn_ledger.proofs.TwoLinks.{link_no, two_links, the_topology_is_lawful, settled_world, packet, across_both}
 
 -- 1. A node that learns nothing
 
@@ -45,3 +46,8 @@ a_next_hop = refl
 
 pub a_least_cost : IsLeast (wiring_of two_links) all_up 0 2 20
 a_least_cost = dists_are_least (wiring_of two_links) all_up 2 the_topology_is_lawful.joins_nodes 0 (omega arith)
+
+-- 3. The bytes of each packet that is injected
+
+pub as_many_packets : length (packet ∷ []) ≡ injections across_both
+as_many_packets = refl

@@ -1,5 +1,5 @@
 -- Who learns nothing in a step says nothing in it.
-use Rattle.std.proofs.Common.{ℕ, ◌≡◌, ◌≢◌, ◌+◌, ◌<◌, inl, inr, Bool, true, false, cond, List, [], ◌∷◌, ◌++◌, filter, length, refl, arith, sym, ◌∙◌, ap, subst}
+use Rattle.std.proofs.Common.{ℕ, ◌≡◌, ◌+◌, ◌<◌, inl, inr, Bool, true, false, List, [], ◌∷◌, ◌++◌, filter, length, refl, arith, sym, ◌∙◌, ap, subst}
 use Rattle.std.specs.Prelude.{◌==◌, ◌&&◌, nat_lt, if◌then◌else◌}
 use Rattle.std.specs.List.{flat_map}
 use Rattle.std.proofs.lemmas.Bool.Decides.{eqb_tells, nat_tests}
@@ -11,8 +11,8 @@ use Rattle.mn_topo.specs.Network.{Network, wiring_of}
 use Rattle.mn_topo.specs.Steps.{fits}
 use Rattle.mn_topo.specs.declared.steps.Step.{Step}
 use Rattle.mn_topo.specs.declared.steps.Step.TheVariants as step
-use Rattle.mn_ledger.specs.World.{World, Config, Views, Sessions, Message, Initialization}
-use Rattle.mn_ledger.specs.Transport.{Said, Knowledge, known, lives, knowledge_of, hearing, hearing_at, is_operational, is_active, said_on, opening, replies, answered, news, speakers, counted, views_after}
+use Rattle.mn_ledger.specs.World.{World, Config, Views, Sessions, Initialization}
+use Rattle.mn_ledger.specs.Transport.{Said, Knowledge, known, lives, knowledge_of, hearing, hearing_at, is_active, said_on, opening, replies, answered, news, speakers, counted, views_after}
 use Rattle.mn_ledger.specs.Ledger.{config_after}
 use Rattle.mn_ledger.specs.Refusal.{is_unchanged, agree}
 use Rattle.mn_ledger.specs.Quiet.{known_after, said_by}

@@ -2,23 +2,23 @@
 use Rattle.std.proofs.Common.{ℕ, zero, suc, ◌≡◌, ◌+◌, ◌<◌, inl, inr, Bool, true, false, cond, List, [], ◌∷◌, ◌++◌, map, length, refl, arith, sym, ◌∙◌, ap, subst, Option, Some, None}
 use Rattle.std.proofs.lemmas.List.{map-append}
 use Rattle.std.specs.Prelude.{◌==◌, ◌&&◌, not, slice_index_or}
-use Rattle.std.specs.List.{IsDistinct, AllByRecursion}
+use Rattle.std.specs.List.{IsDistinct, AllByRecursion, list_all}
 use Rattle.mn_prefix.specs.Prefix.{AddressBlock, IsPrefix, same_prefix}
 use Rattle.mn_topo.specs.declared.sites.SiteDef.{SiteDef}
 use Rattle.mn_topo.specs.declared.steps.Step.{Step}
 use Rattle.mn_topo.specs.declared.steps.Step.TheVariants.{AddRoute, DelRoute}
-use Rattle.mn_topo.specs.SiteTable.{Static, in_vrf, statics_of}
+use Rattle.mn_topo.specs.SiteTable.{Static, in_vrf, statics_of, is_lawful_prefix}
+use Rattle.mn_topo.specs.Steps.{has_site, fits}
+use Rattle.mn_topo.proofs.Prefixes.{prefix_is}
 use Rattle.mn_topo.specs.Lawful.{IsLawful, same_static}
 use Rattle.mn_topo.specs.Network.{Network}
-use Rattle.mn_ledger.specs.declared.refused.Refused.{Refused}
-use Rattle.mn_ledger.specs.declared.refused.Refused.TheVariants.{Unchanged, Empty}
 use Rattle.mn_ledger.specs.Places.{site_at, vrf_of}
 use Rattle.mn_ledger.specs.World.{SiteRoute, World}
 use Rattle.mn_ledger.specs.Packets.{Packets}
 use Rattle.mn_ledger.specs.Ledger.{statics_from, is_static, config_after, start}
-use Rattle.mn_ledger.specs.Refusal.{is_unchanged, is_empty, taken_by, prefix_refusal, static_refusal, where_holds, first_cause, limits, refusal_at}
-use Rattle.mn_ledger.specs.Best.{AreFormed, AddsFormed}
+use Rattle.mn_ledger.specs.Refusal.{taken_by, prefix_refusal, refusal_at}
 use Rattle.mn_ledger.proofs.Peers.{same_test}
+use Rattle.mn_ledger.proofs.Refusals.{free}
 use Rattle.mn_ledger.proofs.Members.{In, in_append, in_filter, AreApart, apart_filter, apart_push}
 
 -- 1. Statics
@@ -86,10 +86,6 @@ keyed_statics t k (site ∷ sites) h =
     next : (i : ℕ) → k + suc i ≡ k + 1 + i
     next i = omega arith
 
-formed_in : (xs : List SiteRoute) → AreFormed xs → (x : SiteRoute) → In xs x → IsPrefix x.prefix.address x.prefix.length
-formed_in [] h x i = absurd i
-formed_in (y ∷ ys) h x i = elim i [ inl e ↦ subst (λ z. IsPrefix z.prefix.address z.prefix.length) e h.0 | inr j ↦ formed_in ys h.1 x j ]
-
 get_same : {A : Type 0} (xs : List A) (i : ℕ) (d e : A) → i < length xs → slice_index_or xs i d ≡ slice_index_or xs i e
 get_same [] i d e h = absurd (none i h)
   where
@@ -98,29 +94,33 @@ get_same [] i d e h = absurd (none i h)
 get_same (x ∷ xs) zero d e h = refl
 get_same (x ∷ xs) (suc i) d e h = get_same xs i d e (omega (arith, h))
 
-pub first_statics : (t : Network) → IsLawful t → HasStatics t (start t).config.statics
+all_keyed : (t : Network) → map (keyed t) (statics_from 0 t.sites) ≡ statics_of t.sites
 unfolding AreFrom
-first_statics t lawful = record {
-  apart = distinct_apart t (statics_from 0 t.sites) (subst (IsDistinct same_static) (sym (keyed_statics t 0 t.sites (λ i d below. get_same t.sites i d _ below ∙ ap (site_at t) (from_none i)))) lawful.sites.distinct);
-}
+all_keyed t = keyed_statics t 0 t.sites (λ i d below. get_same t.sites i d _ below ∙ ap (site_at t) (from_none i))
   where
     from_none : (i : ℕ) → i ≡ 0 + i
     from_none i = omega arith
 
-pub first_forms : (t : Network) → AreFormed (statics_from 0 t.sites) → HasForms (start t).config.statics
-first_forms t formed = record { formed = formed_in (statics_from 0 t.sites) formed }
+pub first_statics : (t : Network) → IsLawful t → HasStatics t (start t).config.statics
+first_statics t lawful = record { apart = distinct_apart t (statics_from 0 t.sites) (subst (IsDistinct same_static) (sym (all_keyed t)) lawful.sites.distinct) }
+
+both : (a b : Bool) → (a && b) ≡ true → (a ≡ true) × (b ≡ true)
+both true b h = (refl, h)
+both false b h = cc
+
+passes : (t : Network) (xs : List SiteRoute) → list_all (λ (static : Static). is_lawful_prefix static.1) (map (keyed t) xs) ≡ true → (x : SiteRoute) → In xs x → is_lawful_prefix x.prefix ≡ true
+unfolding keyed
+passes t [] h x i = absurd i
+passes t (y ∷ ys) h x i =
+    let q = both (is_lawful_prefix y.prefix) (list_all (λ (static : Static). is_lawful_prefix static.1) (map (keyed t) ys)) h in
+    elim i [ inl e ↦ subst (λ (z : SiteRoute). is_lawful_prefix z.prefix ≡ true) e q.0 | inr j ↦ passes t ys q.1 x j ]
+
+pub first_forms : (t : Network) → IsLawful t → HasForms (start t).config.statics
+first_forms t lawful = record {
+  formed = λ x i. prefix_is x.prefix (passes t (statics_from 0 t.sites) (subst (λ xs. list_all (λ (static : Static). is_lawful_prefix static.1) xs ≡ true) (sym (all_keyed t)) lawful.sites.formed) x i);
+}
 
 -- 3. A step
-
-none_first : (o : Option Refused) (os : List (Option Refused)) → first_cause (o ∷ os) ≡ None → (o ≡ None) × (first_cause os ≡ None)
-none_first None os h = (refl, h)
-none_first (Some r) os h = cc
-
-no_static_refusal : (t : Network) (w : World) (k : Packets) (i : ℕ) (s : Step) (b : List ℕ) → refusal_at t w k i s b ≡ None → static_refusal t w.config s ≡ None
-no_static_refusal t w k i s b h =
-    let after_first = none_first (where_holds (is_unchanged w.config s) Unchanged) (where_holds (is_empty t w k s) Empty ∷ limits t w k i s b) h in
-    let after_second = none_first (where_holds (is_empty t w k s) Empty) (limits t w k i s b) after_first.1 in
-    (none_first (static_refusal t w.config s) _ after_second.1).0
 
 not_taken : (o : Option ℕ) (count : ℕ) → prefix_refusal o count ≡ None → o ≡ None
 not_taken None count h = refl
@@ -147,21 +147,21 @@ none_taken t v p (y ∷ ys) h x i e f = split ((vrf_of t y.site == v) && same_pr
 pub statics_go : (t : Network) (w : World) (k : Packets) (i : ℕ) (s : Step) (b : List ℕ) → refusal_at t w k i s b ≡ None → HasStatics t w.config.statics → HasStatics t (config_after w.config s).statics
 statics_go t w k i (AddRoute s p) b none h = record {
   apart = apart_push (SameStatic t) w.config.statics (record { site = s.0; prefix = p }) h.apart
-      (λ x j a. none_taken t (vrf_of t s.0) p w.config.statics (not_taken _ _ (no_static_refusal t w k i (AddRoute s p) b none)) x j a.0 a.1);
+      (λ x j a. none_taken t (vrf_of t s.0) p w.config.statics (not_taken (taken_by t (vrf_of t s.0) p w.config.statics) (length w.config.statics) (free t w k i (AddRoute s p) b none).statics) x j a.0 a.1);
 }
 statics_go t w k i (DelRoute s p) b none h = record {
   apart = apart_filter (SameStatic t) (λ static. not (is_static s.0 p static)) w.config.statics h.apart;
 }
 statics_go t w k i _ b none h = h
 
-pub forms_go : (w : World) (s : Step) → AddsFormed s → HasForms w.config.statics → HasForms (config_after w.config s).statics
-forms_go w (AddRoute s p) form h = record {
+pub forms_go : (t : Network) (w : World) (s : Step) → fits t s ≡ true → HasForms w.config.statics → HasForms (config_after w.config s).statics
+forms_go t w (AddRoute s p) fit h = record {
   formed = λ x j. elim (in_append w.config.statics (record { site = s.0; prefix = p } ∷ []) x j) [
     | inl l ↦ h.formed x l
-    | inr l ↦ elim l [ inl e ↦ subst (λ (z : SiteRoute). IsPrefix z.prefix.address z.prefix.length) e form | inr n ↦ absurd n ]
+    | inr l ↦ elim l [ inl e ↦ subst (λ (z : SiteRoute). IsPrefix z.prefix.address z.prefix.length) e (prefix_is p (both (has_site t s) (is_lawful_prefix p) fit).1) | inr n ↦ absurd n ]
   ];
 }
-forms_go w (DelRoute s p) form h = record {
+forms_go t w (DelRoute s p) fit h = record {
   formed = λ x j. h.formed x (in_filter (λ static. not (is_static s.0 p static)) w.config.statics x j).0;
 }
-forms_go w _ form h = h
+forms_go t w _ fit h = h

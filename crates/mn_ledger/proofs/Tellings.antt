@@ -20,7 +20,7 @@ use Rattle.mn_ledger.proofs.Statics.{HasForms}
 
 -- 1. What a VRF exports
 
-in_placed : (e : Export) (es : List Export) (x : Export) → In (placed e es) x → (e ≡ x) ⊎ In es x
+pub in_placed : (e : Export) (es : List Export) (x : Export) → In (placed e es) x → (e ≡ x) ⊎ In es x
 in_placed e [] x i = elim i [ inl q ↦ inl q | inr j ↦ absurd j ]
 in_placed e (y ∷ ys) x i = split (comes_before e.prefix y.prefix) (in_placed e ys x) i
   where
@@ -28,7 +28,7 @@ in_placed e (y ∷ ys) x i = split (comes_before e.prefix y.prefix) (in_placed e
     split true more j = elim j [ inl q ↦ inl q | inr k ↦ inr k ]
     split false more j = elim j [ inl q ↦ inr (inl q) | inr k ↦ elim (more k) [ inl q ↦ inl q | inr l ↦ inr (inr l) ] ]
 
-in_in_order : (es : List Export) (x : Export) → In (in_order es) x → In es x
+pub in_in_order : (es : List Export) (x : Export) → In (in_order es) x → In es x
 in_in_order [] x i = absurd i
 in_in_order (e ∷ es) x i = elim (in_placed e (in_order es) x i) [ inl q ↦ inl q | inr j ↦ inr (in_in_order es x j) ]
 

@@ -13,6 +13,9 @@ pub mod Refusal
 pub mod Lawful
 pub mod Settled
 pub mod Verdicts
+pub mod OneMore
+pub mod Bounds
+pub mod Tidy
 pub mod Parts
 pub mod Turns
 pub mod Quiet

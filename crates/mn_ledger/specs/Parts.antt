@@ -8,8 +8,8 @@ use Rattle.mn_topo.specs.declared.steps.JournalEntry.{JournalEntry}
 use Rattle.mn_prefix.specs.Prefix.{AddressBlock}
 use Rattle.mn_ledger.specs.World.{World}
 use Rattle.mn_ledger.specs.Packets.{Packets, packets_after, before_step}
-use Rattle.mn_ledger.specs.Transport.{is_transport}
-use Rattle.mn_ledger.specs.Vpn.{is_routing, has_target}
+use Rattle.mn_ledger.specs.Transport.{is_transport, known, usable}
+use Rattle.mn_ledger.specs.Vpn.{is_routing, has_target, exports_of, held}
 use Rattle.mn_ledger.specs.Ledger.{after, world_of, first_config, is_static}
 
 -- the steps that configure
@@ -37,13 +37,19 @@ is_moving (Carry l dir place) = true
 is_moving (Lose l dir place) = true
 is_moving _ = false
 
--- a step that isn't of a part leaves it as it was
+-- a step that isn't of a part leaves it as it was; and where parts say something together, that too: what a node knows and where it
+-- can send change only by steps of links and LDP, what an edge exports and a VRF holds only by steps of routes and BGP
 pub record KeepsOtherParts (topology : Network) (world : World) (packets : Packets) (step : Step) (bytes : List ℕ) : Type 0 where
   pub configured : is_configuring step ≡ false → (after topology world step).config ≡ world.config
   pub viewed : is_viewing step ≡ false → (after topology world step).views ≡ world.views
   pub said : is_transport step ≡ false → (after topology world step).sessions ≡ world.sessions
   pub told : is_routing step ≡ false → (after topology world step).peerings ≡ world.peerings
   pub moved : is_moving step ≡ false → packets_after topology (after topology world step) packets step bytes ≡ before_step packets
+  pub knows : is_transport step ≡ false → (node : ℕ) → known topology (after topology world step) node ≡ known topology world node
+  pub sends : is_transport step ≡ false → (node fec : ℕ)
+      → usable topology (after topology world step).config (after topology world step).views (after topology world step).sessions node fec ≡ usable topology world.config world.views world.sessions node fec
+  pub exports : is_routing step ≡ false → (edge : ℕ) → exports_of topology (after topology world step).config edge ≡ exports_of topology world.config edge
+  pub holds : is_routing step ≡ false → (edge v : ℕ) → held topology (after topology world step).config (after topology world step).peerings edge v ≡ held topology world.config world.peerings edge v
 
 -- what the last step that says anything says
 abbrev pub later : {A : Type 0} → Option A → Option A → Option A
@@ -108,8 +114,8 @@ routes_prefix s prefix (AddRoute site added) = cond (is_static s prefix (record 
 routes_prefix s prefix (DelRoute site removed) = cond (is_static s prefix (record { site = site.0; prefix = removed })) (Some false) None
 routes_prefix s prefix _ = None
 
--- each part of the configuration is what the last step that named it made it, or else the start's; changes, learned
--- changes and attachments are counted, and an attachment's number is one more than the attachments so far
+-- each part of the configuration is what the last step that named it made it, or else the start's; changes, learned changes and
+-- attachments are counted, of a detached site too, and the number of a present attachment is one more than the attachments so far
 pub record IsByLastSteps (topology : Network) (entries : List JournalEntry) : Type 0 where
   pub links : (l : ℕ) → (world_of topology entries).config.is_up l ≡ unwrap_or (last_said (makes_up l) entries) false
   pub switches_are : (l : ℕ) → (world_of topology entries).config.ldp_on l ≡ unwrap_or (last_said (switches l) entries) true
@@ -119,5 +125,6 @@ pub record IsByLastSteps (topology : Network) (entries : List JournalEntry) : Ty
   pub statics : (s : ℕ) (prefix : AddressBlock) → list_any (is_static s prefix) (world_of topology entries).config.statics ≡ unwrap_or (last_said (routes_prefix s prefix) entries) (list_any (is_static s prefix) (first_config topology).statics)
   pub attached : (s : ℕ) → is_some ((world_of topology entries).config.attached s) ≡ unwrap_or (last_said (makes_attached s) entries) true
   pub attachment : (s n : ℕ) → (world_of topology entries).config.attached s ≡ Some n → n ≡ 1 + times (attaches_site s) entries
+  pub attaches : (s : ℕ) → (world_of topology entries).config.attaches s ≡ times (attaches_site s) entries
   pub changes : (l : ℕ) → (world_of topology entries).views.changes l ≡ times (turns l) entries
   pub learned : (node l : ℕ) → (world_of topology entries).views.learned node l ≡ times (teaches node l) entries

@@ -1,11 +1,9 @@
 -- What each node knows of the links, and what the ends of LDP sessions say: RFC 5036, sections 2.5.4, 2.6.1 to 2.6.3
 -- and appendix A, in downstream unsolicited mode with ordered control and liberal retention.
-use Rattle.std.specs.Prelude.{ℕ, zero, suc, ◌+◌, ◌%◌, ◌==◌, ◌&&◌, ◌||◌, Bool, true, false, cond, not, nat_lt, nat_le, if◌then◌else◌, List, [], ◌∷◌, ◌++◌, map, take, filter, slice_index_or, Option, Some, None, is_some}
+use Rattle.std.specs.Prelude.{ℕ, ◌+◌, ◌%◌, ◌==◌, ◌&&◌, Bool, true, false, not, if◌then◌else◌, List, [], ◌∷◌, ◌++◌, map, take, filter, slice_index_or, Option}
 use Rattle.std.specs.List.{flat_map}
-use Rattle.mn_base.specs.Wiring.{Wiring, View, nodes_of, links_of, link, is_end, across, joining, sender, receiver}
-use Rattle.mn_base.specs.Paths.{next}
+use Rattle.mn_base.specs.Wiring.{Wiring, View, nodes_of, links_of, link, is_end, across, sender, receiver}
 use Rattle.mn_base.specs.declared.states.LdpState.{LdpState}
-use Rattle.mn_base.specs.declared.states.LdpState.TheVariants.{Initialized, OpenSent, OpenRec, Operational}
 use Rattle.mn_topo.specs.Network.{Network, wiring_of}
 use Rattle.mn_topo.specs.declared.steps.Step.{Step}
 use Rattle.mn_topo.specs.declared.steps.Step.TheVariants.{LinkUp, LinkDown, Learn, LdpAdmin, HearLdp}

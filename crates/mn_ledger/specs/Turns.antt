@@ -2,8 +2,6 @@
 -- message for which its table has no row. RFC 5036, section 2.5.4; RFC 4271, section 8.2.2.
 use Rattle.std.specs.Prelude.{◌≡◌, ◌≤◌, ◌<◌, ◌≢◌, ℕ, zero, suc, Bool, true, false, List, [], ◌∷◌, length, slice_index_or, ⊤}
 use Rattle.mn_base.specs.Wiring.{is_end, across}
-use Rattle.mn_base.specs.declared.states.LdpState.{LdpState}
-use Rattle.mn_base.specs.declared.states.LdpState.TheVariants as ldp
 use Rattle.mn_base.specs.declared.states.BgpState.{BgpState}
 use Rattle.mn_base.specs.declared.states.BgpState.TheVariants as bgp
 use Rattle.mn_topo.specs.Network.{Network, wiring_of}

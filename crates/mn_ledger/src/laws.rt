@@ -8,7 +8,6 @@ ghost use Rattle.std.specs.Prelude.{◌≡◌};
 ghost use Rattle.mn_topo.specs.Network.{Network};
 ghost use Rattle.mn_topo.specs.Lawful.{IsLawful};
 ghost use Rattle.mn_topo.specs.declared.steps.Step.{Step};
-ghost use Rattle.mn_topo.specs.declared.steps.JournalEntry.{JournalEntry};
 ghost use Rattle.mn_ledger.specs.World.{World};
 ghost use Rattle.mn_ledger.specs.Packets.{Packets};
 ghost use Rattle.mn_ledger.specs.Ledger.{world_of, packets_of};
@@ -27,11 +26,17 @@ ghost use Rattle.mn_ledger.specs.Quiet.{known_after, said_by};
 ghost use Rattle.mn_ledger.specs.Nearer.{IsNearer};
 ghost use Rattle.mn_ledger.specs.Items.{made_by, flight_of};
 ghost use Rattle.mn_ledger.specs.InFlight.{IsInFlight};
-ghost use Rattle.mn_ledger.specs.Best.{NamesTheBest, HavePrefixes};
+ghost use Rattle.mn_ledger.specs.Best.{NamesTheBest};
 ghost use Rattle.mn_ledger.specs.Vpn.{held};
 ghost use Rattle.mn_ledger.specs.World.{Config};
 ghost use Rattle.mn_ledger.specs.Ledger.{config_after};
 ghost use Rattle.mn_ledger.specs.OneKind.{TellsOneKind};
+ghost use Rattle.mn_ledger.specs.OneMore.{GoesOnByOneStep};
+ghost use Rattle.mn_ledger.specs.Tidy.{IsTidy};
+ghost use Rattle.mn_ledger.specs.Bounds.{IsBounded};
+ghost use Rattle.mn_ledger.specs.Refusal.{refusal_at};
+ghost use Rattle.mn_ledger.specs.declared.refused.Refused.TheVariants.{NoMemory};
+ghost use Rattle.mn_topo.specs.declared.steps.JournalEntry.{JournalEntry};
 
 /// Each packet that is sent is accounted for: it reaches only the site of the longest route, unchanged but for TTL and
 /// checksum, or it falls to the first rule that applies.
@@ -48,14 +53,16 @@ pub fn packets_are_in_one_place()
         AreInOnePlace (packets_of topology entries inputs) (injections entries) }
 {}
 
-/// A step leaves the parts of the world that it isn't of as they were; of packets, that nothing is delivered in it.
+/// A step leaves the parts of the world that it isn't of as they were; of packets, that nothing is delivered in it. So what
+/// a node knows, and where it can send, changes only by steps of links and LDP; and what an edge exports and a VRF holds
+/// only by steps of routes and BGP.
 pub fn a_step_keeps_other_parts()
     ensures { (topology : Network) (world : World) (packets : Packets) (step : Step) (bytes : List ℕ) →
         KeepsOtherParts topology world packets step bytes }
 {}
 
-/// What is configured is what the last step that named it made it, and changes, learned changes and attachments are
-/// counted over the journal.
+/// What is configured is what the last step that named it made it, and changes, learned changes and attachments, those of
+/// detached sites too, are counted over the journal.
 pub fn last_steps_decide()
     ensures { (topology : Network) (entries : List JournalEntry) → IsByLastSteps topology entries }
 {}
@@ -99,7 +106,7 @@ pub fn what_flies_has_not_arrived()
 /// exactly where no prefix contains it: no two are best (RFC 1812, section 5.2.4.3).
 pub fn best_names_one_held_route()
     ensures { (topology : Network) (entries : List JournalEntry) (inputs : List (List ℕ)) (edge v address : ℕ) →
-        IsLawful topology → HavePrefixes topology entries → IsLawfulJournal topology entries inputs →
+        IsLawful topology → IsLawfulJournal topology entries inputs →
         NamesTheBest (held topology (world_of topology entries).config (world_of topology entries).peerings edge v) address }
 {}
 
@@ -107,4 +114,31 @@ pub fn best_names_one_held_route()
 /// stands in the order of VRF and prefix. It holds of every step, refused or not.
 pub fn a_step_withdraws_or_announces()
     ensures { (topology : Network) (config : Config) (step : Step) (edge : ℕ) → TellsOneKind topology config (config_after config step) edge }
+{}
+
+/// What a journal with one entry more makes is what the journal made, and one step more; and it is lawful exactly where the
+/// journal is, the step fits, the clock doesn't go back, and nothing refuses the step.
+pub fn one_entry_more()
+    ensures { (topology : Network) (entries : List JournalEntry) (inputs : List (List ℕ)) (entry : JournalEntry) (bytes : List ℕ) →
+        length inputs ≡ injections entries → GoesOnByOneStep topology entries inputs entry bytes }
+{}
+
+/// After a lawful journal sets of targets ascend, no two statics of one VRF have one prefix, exports stand in their order,
+/// each once, and no two routes that a VRF holds have one prefix and one source.
+pub fn lists_are_tidy()
+    ensures { (topology : Network) (entries : List JournalEntry) (inputs : List (List ℕ)) →
+        IsLawful topology → IsLawfulJournal topology entries inputs → IsTidy topology (world_of topology entries) }
+{}
+
+/// A lawful journal has at most 4,000,000 entries, and so 32 bits count the changes of a link and the messages that an end
+/// says in one life of a session.
+pub fn journals_are_bounded()
+    ensures { (topology : Network) (entries : List JournalEntry) (inputs : List (List ℕ)) →
+        IsLawful topology → IsLawfulJournal topology entries inputs → IsBounded topology entries }
+{}
+
+/// The ledger refuses no step for want of memory.
+pub fn memory_refuses_nothing()
+    ensures { (topology : Network) (world : World) (packets : Packets) (count : ℕ) (step : Step) (bytes : List ℕ) →
+        refusal_at topology world packets count step bytes ≢ Some NoMemory }
 {}

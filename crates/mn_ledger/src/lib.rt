@@ -31,7 +31,8 @@ mod verdict;
 
 pub use laws::{
     a_step_keeps_other_parts, a_step_withdraws_or_announces, best_names_one_held_route,
-    every_message_has_a_row, every_packet_is_accounted_for, last_steps_decide,
+    every_message_has_a_row, every_packet_is_accounted_for, journals_are_bounded,
+    last_steps_decide, lists_are_tidy, memory_refuses_nothing, one_entry_more,
     packets_are_in_one_place, sessions_are_in_turn, the_next_hop_is_nearer,
     what_flies_has_not_arrived, who_learns_nothing_says_nothing,
 };

@@ -22,14 +22,15 @@ use std::marker::Model;
 
 mod carried;
 mod laws;
-
 mod pairs;
 mod table;
 #[cfg(test)]
 mod tests;
 
-pub use laws::{contains_its_block, longest_of_a_table, octets_tell_a_prefix, orders_by_address_then_length};
 pub use carried::{address_of, octets};
+pub use laws::{
+    contains_its_block, longest_of_a_table, octets_tell_a_prefix, orders_by_address_then_length,
+};
 pub use table::PrefixTable;
 
 /// The bits of an address.

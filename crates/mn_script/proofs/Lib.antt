@@ -4,3 +4,4 @@ pub mod Gathering
 pub mod FirstsOf
 pub mod Again
 pub mod Only
+pub mod Front

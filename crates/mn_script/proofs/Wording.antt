@@ -1,6 +1,6 @@
 -- The words of a line, one after another.
-use Rattle.std.proofs.Common.{◌≡◌, ℕ, false, not, cond, List, [], ◌∷◌, ◌++◌, ap, sym, ◌∙◌, Bor, append_assoc}
-use Rattle.std.proofs.lemmas.List.{map-append}
+use Rattle.std.proofs.Common.{◌≡◌, ◌≤◌, ℕ, true, false, not, cond, List, [], ◌∷◌, ◌++◌, length, take, ap, sym, ◌∙◌, Bor, append_assoc, append-nil, arith}
+use Rattle.std.proofs.lemmas.List.{map-append, length-map, take_all, take-append-le}
 use Rattle.std.proofs.lemmas.List.Sums.{take_while-cons}
 use Rattle.std.specs.Prelude.{take_while}
 use Rattle.mn_text.specs.Words.{words}
@@ -21,3 +21,38 @@ word_joins found new word next rest line pushed first plain before =
     ∙ append_assoc (texts found) (word.now ∷ []) (line_words next)
     ∙ ap (λ ws. texts found ++ ws) (sym (word_kept word.now next rest first plain))
     ∙ before
+
+-- a comment ends the words
+comment_ends : (word next rest : List ℕ) → words rest ≡ word ∷ words next → is_comment word ≡ true → line_words rest ≡ []
+comment_ends word next rest e h =
+    ap (take_while (λ w. not (is_comment w))) e
+    ∙ take_while-cons (λ w. not (is_comment w)) word (words next)
+    ∙ ap (λ b. cond (not b) (word ∷ line_words next) []) h
+
+-- few words that are all of them
+few_are_all : (front all : List (List ℕ)) → front ++ [] ≡ all → length front ≤ 5 → front ≡ take 5 all
+few_are_all front all e few = sym (take_all 5 front few) ∙ ap (take 5) (sym (append-nil front) ∙ e)
+
+-- five words before others
+five_are_first : (front more all : List (List ℕ)) → front ++ more ≡ all → length front ≡ 5 → front ≡ take 5 all
+five_are_first front more all e five =
+    sym (take_all 5 front (omega arith)) ∙ sym (take-append-le 5 front more (omega arith)) ∙ ap (take 5) e
+
+-- as many texts as words
+as_many : (found : List (Bor (List ℕ))) → length (texts found) ≡ length found
+as_many found = length-map found (λ (w : Bor (List ℕ)). w.now)
+
+-- the words before a comment, of which there are few
+pub before_comment : (found : List (Bor (List ℕ))) (word next rest line : List ℕ)
+    → words rest ≡ word ∷ words next → is_comment word ≡ true
+    → length found ≤ 5 → texts found ++ line_words rest ≡ line_words line
+    → texts found ≡ take 5 (line_words line)
+before_comment found word next rest line first comment few before =
+    let none = ap (λ ws. texts found ++ ws) (sym (comment_ends word next rest first comment)) in
+    few_are_all (texts found) (line_words line) (none ∙ before) (omega (arith, as_many found))
+
+-- five words that were found before others
+pub first_five : (found : List (Bor (List ℕ))) (rest line : List ℕ) → length found ≡ 5
+    → texts found ++ line_words rest ≡ line_words line → texts found ≡ take 5 (line_words line)
+first_five found rest line five before =
+    five_are_first (texts found) (line_words rest) (line_words line) before (as_many found ∙ five)

@@ -13,7 +13,7 @@
 //!
 //! A word that begins with `#` ends its line. A line without words is passed over, and counts as a line: lines
 //! are numbered from 1. The first refused line is answered, and in a line the first of the rules S1 to S6 that it
-//! breaks. The rooms:
+//! breaks. At most five words of a line are kept, so that a line takes no more memory than a command. The rooms:
 //!
 //! - `refusal`: the rules, and what a reader answers
 //! - `command`: what a line asks for

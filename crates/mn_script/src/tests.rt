@@ -188,11 +188,12 @@ fn words_of_no_form_are_unknown(rt: HostRuntime) -> Result<(), Fail> {
     Ok(())
 }
 
-// Lines with a word less than their form, or with one more.
+// Lines with a word less than their form, or with more.
 const MISCOUNTED: &str = "link -> WrongCount at 1
 link up -> WrongCount at 1
 link up pe1 -> WrongCount at 1
 link down pe1 p x -> WrongCount at 1
+link up pe1 p 1 2 3 4 5 6 7 8 -> WrongCount at 1
 learn -> WrongCount at 1
 learn pe1 p -> WrongCount at 1
 learn pe1 p pe1 x -> WrongCount at 1

@@ -1,5 +1,5 @@
 //! The words of a line, and how many there are.
-ghost use Rattle.std.specs.Prelude.{◌≡◌, ◌∷◌, [], OnOk, length, take_while, IfOk};
+ghost use Rattle.std.specs.Prelude.{◌≡◌, ◌∷◌, [], OnOk, length, take, take_while, IfOk};
 ghost use Rattle.mn_script.specs.Words.{texts, is_comment, line_words, word_at, is_word, choice, counted};
 
 use crate::ScriptRule;
@@ -12,14 +12,18 @@ fn is_comment(word: &[u8]) -> bool
     !word.is_empty() && word[0] == b'#'
 }
 
-/// The words of a line before the first that begins with `#`.
+/// Words of a line that are looked at: one more than the longest form has.
+const MOST_WORDS: usize = 5;
+
+/// The first words of a line, before one that begins with `#`. They are five at most, so that a line of millions of
+/// words takes no more memory than a command: what it says is S2 by then, or S1 of its first words.
 pub(crate) fn line_words(alloc: Global, line: &[u8]) -> Result<Vec<&[u8]>, AllocError>
-    ensures { IfOk result (λ found. texts found.items ≡ line_words line.now) }
+    ensures { IfOk result (λ found. texts found.items ≡ take 5 (line_words line.now)) }
 {
     let mut found = Vec::new(alloc);
     let mut rest = line;
     'words: while let Some((word, next)) = first_word(rest) {
-        if is_comment(word) {
+        if is_comment(word) || found.len() == MOST_WORDS {
             return Ok(found);
         }
         found.push(word)?;

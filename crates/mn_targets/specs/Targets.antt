@@ -1,5 +1,5 @@
 -- RFC 4364, section 4.3.1, and RFC 4360, section 4: sets of route targets, and when a route's targets meet those that a VRF imports.
-use Rattle.std.specs.Prelude.{◌≡◌, ◌≢◌, ◌<◌, ◌↔◌, ◌⊎◌, ◌==◌, nat_lt, not, Bool, true, false, cond, filter, List, [], ◌∷◌}
+use Rattle.std.specs.Prelude.{◌≡◌, ◌≢◌, ◌↔◌, ◌⊎◌, ◌==◌, nat_lt, not, Bool, true, false, cond, filter, List, [], ◌∷◌}
 use Rattle.std.specs.List.{Contains, list_any}
 pub use Rattle.mn_base.specs.Ordered.{IsAscending}
 use Rattle.mn_base.specs.declared.numbers.Rt.{Rt}

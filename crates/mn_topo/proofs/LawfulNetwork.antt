@@ -43,7 +43,7 @@ vrfs_begin nodes = record { named = no_names; each = refl; formed = refl; distin
 
 sites_begin : (vrfs : ℕ) → AreSites vrfs no_sites
 unfolding IsDistinct
-sites_begin vrfs = record { named = no_names; each = refl; placed = refl; distinct = tt; few_prefixes = omega arith }
+sites_begin vrfs = record { named = no_names; each = refl; placed = refl; formed = refl; distinct = tt; few_prefixes = omega arith }
 
 -- what is read first, where the whole is read
 first_read : {A B : Type 0} (read : Result A (TopoRule × Place)) (rest : A → Result B (TopoRule × Place)) (value : B) → (read >>= rest) ≡ Ok value → (x : A) × ((read ≡ Ok x) × (rest x ≡ Ok value))

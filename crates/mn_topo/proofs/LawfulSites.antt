@@ -18,6 +18,7 @@ use Rattle.mn_topo.specs.Sites.{prefixes_of, site_head_rule, site_head_rules, is
 use Rattle.mn_topo.specs.Lawful.{AreSites, same_static}
 use Rattle.mn_topo.proofs.LawfulEntries.{all_kept, kept, reads_on, all_push, distinct_push, names_push}
 use Rattle.mn_topo.proofs.LawfulLinks.{named_within}
+use Rattle.mn_topo.proofs.Prefixes.{statics_lawful}
 
 same_static-flip : (one other : Static) → same_static one other ≡ same_static other one
 same_static-flip one other = rw (nat_eq_equiv.symm one.0 other.0, nat_eq_equiv.symm one.1.address other.1.address, nat_eq_equiv.symm one.1.length other.1.length) refl
@@ -45,6 +46,7 @@ site_step vrfs earlier entry h lawful =
       named = names_push earlier.names (name_of entry) h.named (not-false _ (kept _ BadName head.1.1.1.0)) (kept _ TwiceNamed head.1.1.1.1.0);
       each = simp length-append (ap (λ n. n + 1) h.each);
       placed = all_push (λ site. nat_lt site.vrf.0 (length vrfs)) earlier.sites (site_in vrfs entry) h.placed (named_within vrfs (codes "vrf") entry (kept _ NoSuchName head.1.1.1.1.1.0));
+      formed = rw (statics_of-push earlier.sites (site_in vrfs entry)) (statics_lawful (statics_of earlier.sites) (number_named vrfs (codes "vrf") entry) entry h.formed);
       distinct = rw (statics_of-push earlier.sites (site_in vrfs entry)) (statics_push (prefixes_of entry) (statics_of earlier.sites) (number_named vrfs (codes "vrf") entry) h.distinct (kept _ PrefixTaken all.1.0));
       few_prefixes = rw (statics_of-push earlier.sites (site_in vrfs entry), length-append, length-map) few;
     }

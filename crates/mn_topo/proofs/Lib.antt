@@ -7,6 +7,7 @@ pub mod StaticKeys
 pub mod LawfulEntries
 pub mod LawfulLinks
 pub mod LawfulVrfs
+pub mod Prefixes
 pub mod LawfulSites
 pub mod Wirings
 pub mod LawfulNetwork

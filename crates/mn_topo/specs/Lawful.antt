@@ -12,7 +12,7 @@ use Rattle.mn_topo.specs.Tables.{is_name}
 use Rattle.mn_topo.specs.Nodes.{NodeTable, is_loopback}
 use Rattle.mn_topo.specs.Links.{joins}
 use Rattle.mn_topo.specs.VrfTable.{VrfTable, edges_of}
-use Rattle.mn_topo.specs.SiteTable.{SiteTable, Static, statics_of}
+use Rattle.mn_topo.specs.SiteTable.{SiteTable, Static, statics_of, is_lawful_prefix}
 use Rattle.mn_topo.specs.Network.{Network, wiring_of}
 
 -- names of their form, of which no two are the same
@@ -64,11 +64,12 @@ pub record AreVrfs (nodes : ℕ) (vrfs : VrfTable) : Type 0 where
 abbrev pub same_static : Static → Static → Bool
 same_static one other = one.0 == other.0 && same_prefix one.1 other.1
 
--- sites with names in VRFs, with no more than 65,536 prefixes, of which no two in a VRF are the same
+-- sites with names in VRFs, with no more than 65,536 lawful prefixes, of which no two in a VRF are the same
 pub record AreSites (vrfs : ℕ) (sites : SiteTable) : Type 0 where
   pub named : AreNames sites.names
   pub each : length sites.sites ≡ length sites.names
   pub placed : list_all (λ site. nat_lt site.vrf.0 vrfs) sites.sites ≡ true
+  pub formed : list_all (λ static. is_lawful_prefix static.1) (statics_of sites.sites) ≡ true
   pub distinct : IsDistinct same_static (statics_of sites.sites)
   pub few_prefixes : length (statics_of sites.sites) ≤ 65536
 

@@ -1,5 +1,5 @@
 -- Sites in order, and the prefixes that stand in their VRFs.
-use Rattle.std.specs.Prelude.{ℕ, Bool, false, ◌==◌, ◌&&◌, ◌||◌, List, [], ◌∷◌, ◌++◌, map}
+use Rattle.std.specs.Prelude.{ℕ, ◌-◌, ◌^◌, ◌%◌, Bool, false, ◌==◌, ◌&&◌, ◌||◌, nat_lt, nat_le, List, [], ◌∷◌, ◌++◌, map}
 use Rattle.std.specs.List.{list_any, flat_map}
 use Rattle.mn_prefix.specs.Prefix.{AddressBlock, same_prefix}
 use Rattle.mn_topo.specs.declared.sites.SiteDef.{SiteDef}
@@ -11,6 +11,10 @@ pub record SiteTable : Type 0 where
 
 abbrev pub no_sites : SiteTable
 no_sites = record { names = []; sites = [] }
+
+-- an address of 32 bits, of which no more than 32 are the network's, and the bits after those are zero: RFC 4632, section 3.1
+abbrev pub is_lawful_prefix : AddressBlock → Bool
+is_lawful_prefix prefix = (nat_lt prefix.address (2 ^ 32) && nat_le prefix.length 32) && (prefix.address % 2 ^ (32 - prefix.length) == 0)
 
 -- a prefix that stands in a VRF
 abbrev pub Static : Type 0

@@ -8,6 +8,7 @@ use Rattle.mn_base.specs.declared.numbers.SiteNo.{SiteNo}
 use Rattle.mn_topo.specs.declared.steps.Step.{Step}
 use Rattle.mn_topo.specs.declared.steps.Step.TheVariants.{LinkUp, LinkDown, Learn, LdpAdmin, HearLdp, BgpUp, BgpDown, HearBgp, AddRoute, DelRoute, Import, Export, Attach, Detach, Inject, Carry, Lose}
 use Rattle.mn_topo.specs.VrfTable.{is_edge}
+use Rattle.mn_topo.specs.SiteTable.{is_lawful_prefix}
 use Rattle.mn_topo.specs.Network.{Network}
 
 abbrev pub has_node : Network → NodeNo → Bool
@@ -30,7 +31,8 @@ are_edges network a b = (is_edge network.vrfs a.0 && is_edge network.vrfs b.0) &
 abbrev pub are_edges_in_order : Network → NodeNo → NodeNo → Bool
 are_edges_in_order network a b = (is_edge network.vrfs a.0 && is_edge network.vrfs b.0) && nat_lt a.0 b.0
 
--- the numbers are those of links, nodes, VRFs and sites of the topology, a record is from 1, a target is of one of its two forms, and a BGP step names two different edges
+-- the numbers are those of links, nodes, VRFs and sites of the topology, a prefix has no bit past its length, a record is from 1, a target
+-- is of one of its two forms, and a BGP step names two different edges
 abbrev pub fits : Network → Step → Bool
 fits network (LinkUp link) = has_link network link
 fits network (LinkDown link) = has_link network link
@@ -40,8 +42,8 @@ fits network (HearLdp link dir) = has_link network link
 fits network (BgpUp a b) = are_edges_in_order network a b
 fits network (BgpDown a b) = are_edges_in_order network a b
 fits network (HearBgp a b) = are_edges network a b
-fits network (AddRoute site prefix) = has_site network site
-fits network (DelRoute site prefix) = has_site network site
+fits network (AddRoute site prefix) = has_site network site && is_lawful_prefix prefix
+fits network (DelRoute site prefix) = has_site network site && is_lawful_prefix prefix
 fits network (Import vrf target on) = has_vrf network vrf && has_rt_form target.0
 fits network (Export vrf target on) = has_vrf network vrf && has_rt_form target.0
 fits network (Attach site) = has_site network site

@@ -1,8 +1,10 @@
 //! What follows from the definitions.
-ghost use Rattle.std.specs.Prelude.{◌≡◌, ◌<◌, ℕ, List, length, slice_index_or, Some};
+ghost use Rattle.std.specs.Prelude.{◌≡◌, ◌<◌, ◌↔◌, ℕ, List, length, slice_index_or, Some, true};
 ghost use Rattle.mn_base.specs.declared.links.Dir.{Dir};
 ghost use Rattle.mn_base.specs.Wiring.{sender, receiver};
+ghost use Rattle.mn_prefix.specs.Prefix.{AddressBlock, IsPrefix};
 ghost use Rattle.mn_topo.specs.Names.{number_of};
+ghost use Rattle.mn_topo.specs.SiteTable.{is_lawful_prefix};
 ghost use Rattle.mn_topo.specs.Network.{Network, wiring_of, link_of};
 ghost use Rattle.mn_topo.specs.Lawful.{AreNames, IsLawful};
 
@@ -14,4 +16,9 @@ pub fn name_again()
 /// Each link is found by its two ends, in either direction.
 pub fn link_again()
     ensures { (network : Network) (l : ℕ) (dir : Dir) → IsLawful network → l < length network.links → link_of network (sender (wiring_of network) l dir) (receiver (wiring_of network) l dir) ≡ Some (record { 0 = l }, dir) }
+{}
+
+/// A prefix of a site or of a step is lawful exactly where no bit is set past its length (RFC 4632, section 3.1).
+pub fn lawful_prefixes()
+    ensures { (prefix : AddressBlock) → (is_lawful_prefix prefix ≡ true) ↔ IsPrefix prefix.address prefix.length }
 {}

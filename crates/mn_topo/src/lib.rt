@@ -37,7 +37,7 @@ mod top;
 mod topology;
 mod vrfs;
 
-pub use laws::{link_again, name_again};
+pub use laws::{lawful_prefixes, link_again, name_again};
 pub use nodes::Node;
 pub use read::read_topology;
 pub use refusal::{Place, TopoBad, TopoRule};

@@ -7,6 +7,7 @@ use crate::sites::{SiteDef, Sites};
 use crate::steps::Step;
 use crate::vrfs::{VrfDef, Vrfs};
 use mn_base::{Dir, LinkEnds, LinkNo, NodeNo, SiteNo, VrfNo};
+use mn_prefix::Prefix;
 use std::marker::Model;
 
 /// The nodes, links, VRFs and sites of a network, numbered from 0 in the order of the file.
@@ -72,7 +73,16 @@ ghost use Rattle.mn_topo.specs.Network.{node_named, vrf_named, site_named, link_
 ghost use Rattle.mn_topo.specs.Links.{are_joined};
 ghost use Rattle.mn_topo.specs.Lawful.{IsLawful};
 ghost use Rattle.mn_topo.specs.VrfTable.{is_edge};
+ghost use Rattle.mn_topo.specs.SiteTable.{is_lawful_prefix};
 ghost use Rattle.mn_topo.specs.Steps.{has_node, has_link, has_vrf, has_site, are_edges, are_edges_in_order, fits};
+
+/// Whether no bit is set past the prefix's length, which is at most 32: each prefix is such by its type.
+#[tactic(auto, using(crate::proofs::Prefixes::is_lawful))]
+fn is_lawful(prefix: &Prefix) -> bool
+    ensures { result ≡ is_lawful_prefix prefix.now }
+{
+    prefix.length() <= 32
+}
 
 impl Topology {
     /// What holds of every topology.
@@ -248,7 +258,8 @@ impl Topology {
     }
 
     /// Whether the step's numbers are those of the topology, a record is from 1, a target is of one of its
-    /// two forms, and a BGP step names two different edges, which BgpUp and BgpDown do in their order.
+    /// two forms, and a BGP step names two different edges, which BgpUp and BgpDown do in their order. A prefix
+    /// has no bit past its length, as its type says.
     pub fn fits(&self, step: &Step) -> bool
         ensures { result ≡ fits self.now step.now }
     {
@@ -258,7 +269,9 @@ impl Topology {
             Step::LdpAdmin(link, _) | Step::HearLdp(link, _) => self.has_link(*link),
             Step::BgpUp(a, b) | Step::BgpDown(a, b) => self.are_edges_in_order(*a, *b),
             Step::HearBgp(a, b) => self.are_edges(*a, *b),
-            Step::AddRoute(site, _) | Step::DelRoute(site, _) => self.has_site(*site),
+            Step::AddRoute(site, prefix) | Step::DelRoute(site, prefix) => {
+                self.has_site(*site) && is_lawful(prefix)
+            }
             Step::Import(vrf, target, _) | Step::Export(vrf, target, _) => {
                 self.has_vrf(*vrf) && target.has_form()
             }

@@ -2,4 +2,4 @@ use Rattle.mn_ledger.proofs.Choice.{names_best}
 use Rattle.mn_ledger.proofs.laws.best_names_one_held_route.Goals as goal
 
 pub returns : goal.returns
-returns c = λ t es ps edge v address lawful prefixes journal. names_best t es ps lawful prefixes journal edge v address
+returns c = λ t es ps edge v address lawful journal. names_best t es ps lawful journal edge v address

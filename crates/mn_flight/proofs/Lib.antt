@@ -1,0 +1,4 @@
+pub mod Members
+pub mod Taken
+pub mod First
+pub mod Kept

@@ -1,0 +1,2 @@
+pub mod Hearable
+pub mod InARow

@@ -1,0 +1,87 @@
+-- RFC 5036, section 2.5.4: the states of an end of a session, and what it answers in each.
+use Rattle.std.specs.Prelude.{ℕ, ◌==◌, ◌&&◌, not, nat_lt, Bool, true, false, if◌then◌else◌, Option, Some, None, is_some}
+use Rattle.mn_base.specs.declared.states.LdpState.{LdpState}
+use Rattle.mn_base.specs.declared.states.LdpState.TheVariants.{Initialized, OpenSent, OpenRec, Operational}
+use Rattle.mn_ldp_wire.specs.declared.message.LdpId.{LdpId}
+use Rattle.mn_ldp_wire.specs.declared.message.LdpBody.{LdpBody}
+use Rattle.mn_ldp_wire.specs.declared.message.LdpBody.TheVariants as says
+use Rattle.mn_ldp_session.specs.declared.kind.LdpKind.{LdpKind}
+use Rattle.mn_ldp_session.specs.declared.kind.LdpKind.TheVariants.{Notification, Initialization, KeepAlive, Address, Mapping, Withdraw, Release}
+use Rattle.mn_ldp_session.specs.declared.refusal.SessionBad.{SessionBad}
+use Rattle.mn_ldp_session.specs.declared.refusal.SessionBad.TheVariants.{Unexpected, BadParameters}
+use Rattle.mn_ldp_session.specs.declared.session.Reply.{Reply}
+use Rattle.mn_ldp_session.specs.declared.session.Session.{Session}
+
+abbrev pub kind_of : LdpBody → LdpKind
+kind_of (says.Notification status about kind) = Notification
+kind_of (says.Initialization version keepalive flags limit greatest receiver) = Initialization
+kind_of says.KeepAlive = KeepAlive
+kind_of (says.Address addresses) = Address
+kind_of (says.Mapping prefix label) = Mapping
+kind_of (says.Withdraw prefix label) = Withdraw
+kind_of (says.Release prefix label) = Release
+
+-- 1. The table
+
+abbrev pub says_both : Reply
+says_both = record { say_init = true; say_keep = true; became_operational = false }
+
+abbrev pub says_keep : Reply
+says_keep = record { say_init = false; say_keep = true; became_operational = false }
+
+abbrev pub begins : Reply
+begins = record { say_init = false; say_keep = false; became_operational = true }
+
+abbrev pub says_nothing : Reply
+says_nothing = record { say_init = false; say_keep = false; became_operational = false }
+
+-- the state and what is heard in it; what is said, and the state then
+abbrev pub row : LdpState → LdpKind → Option (Reply × LdpState)
+row Initialized Initialization = Some (says_both, OpenRec)
+row OpenSent Initialization = Some (says_keep, OpenRec)
+row OpenRec KeepAlive = Some (begins, Operational)
+row Operational KeepAlive = Some (says_nothing, Operational)
+row Operational Address = Some (says_nothing, Operational)
+row Operational Mapping = Some (says_nothing, Operational)
+row Operational Withdraw = Some (says_nothing, Operational)
+row Operational Release = Some (says_nothing, Operational)
+row state kind = None
+
+abbrev pub has_row : LdpState → LdpKind → Bool
+has_row state kind = is_some (row state kind)
+
+abbrev pub state_by : LdpState → Option (Reply × LdpState) → LdpState
+state_by state None = state
+state_by state (Some next) = next.1
+
+-- the state after a message; where the table has no row, it stays
+abbrev pub then_state : LdpState → LdpKind → LdpState
+then_state state kind = state_by state (row state kind)
+
+-- 2. What is refused
+
+-- section 2.2.2: the sender is this router, and speaks of the labels of the whole router
+abbrev pub is_from : ℕ → LdpId → Bool
+is_from router id = (id.lsr == router) && (id.space == 0)
+
+-- section 3.5.3: a session of version 1 with a keepalive time, and for this receiver
+abbrev pub is_acceptable : ℕ → LdpBody → Bool
+is_acceptable me (says.Initialization version keepalive flags limit greatest receiver) = (version == 1) && (not (keepalive == 0) && is_from me receiver)
+is_acceptable me _ = true
+
+-- the first cause for which a message is refused
+abbrev pub refusal : Session → LdpId → LdpBody → Option SessionBad
+refusal session from body =
+    if has_row session.state (kind_of body)
+    then (if is_from session.peer from && is_acceptable session.me body then None else Some BadParameters)
+    else Some (Unexpected session.state (kind_of body))
+
+-- 3. How a session begins
+
+-- section 2.5.2: the end of greater address is active
+abbrev pub opened : ℕ → ℕ → Session
+opened me peer = record { me = me; peer = peer; state = if nat_lt peer me then OpenSent else Initialized }
+
+-- the active end says its Initialization
+abbrev pub first_kind : Session → Option LdpKind
+first_kind session = elim session.state [ Initialized ↦ None | OpenSent ↦ Some Initialization | OpenRec ↦ None | Operational ↦ None ]

@@ -1,0 +1,346 @@
+ghost use Rattle.std.specs.Prelude.{ℕ, ◌≡◌, ◌≤◌, ◌<◌, ◌++◌, ◌==◌, ◌||◌, List, length, slice_index_or, slice_set, replicate, map, IfOk, OnOk, OnErr, is_some, true, false, Bool};
+ghost use Rattle.std.specs.List.{flat_map, range_with_len};
+ghost use Rattle.mn_lib.specs.Bindings.{nothing_heard, nodes, is_open, usable, offers, after_event, after_events, EventFits, EventsFit, row_of, with_label, label_in};
+ghost use Rattle.mn_lib.specs.declared.undo.Undo.TheVariants.{Label};
+ghost use Rattle.mn_lib.specs.Undoing.{heard_label, undone, all_undone, undo_of};
+ghost use Rattle.mn_lib.specs.Tells.{tells, told, told_of, changes, releases, closes, opens, offered};
+
+use crate::event::{LibEvent, Tell, TellKind, closes, opens, opens_any};
+use crate::row::Row;
+use crate::undo::Undo;
+use mn_base::NodeNo;
+use std::alloc::{AllocError, Global};
+use std::marker::Model;
+
+/// The bindings that a node has heard and told.
+///
+/// Contracts see, by neighbour, what it said last of each FEC, or that it isn't open, and by FEC the next hop.
+#[derive(Drop)]
+pub struct Lib {
+    alloc: Global,
+    me: NodeNo,
+    heard: Vec<Option<Row>>,
+    hops: Vec<Option<NodeNo>>,
+}
+
+impl Model for Lib {
+    ghost use Rattle.mn_lib.specs.Bindings.{Bindings};
+
+    ghost Value = { Bindings };
+
+    ghost use Rattle.mn_lib.specs.Kept.{Stands};
+
+    ghost view = { λ lib. record { me = lib.me; heard = lib.heard.items; hops = lib.hops.items } };
+
+    ghost invariant = { Stands };
+}
+
+impl Lib {
+    /// The bindings of a node at the start, in a network of at most 256 nodes: no neighbour is open, and no FEC has a next
+    /// hop.
+    pub fn new(alloc: Global, me: NodeNo, nodes: u32) -> Result<Lib, AllocError>
+        requires few { nodes ≤ 256 }
+        requires me { me.0 < nodes }
+        ensures { IfOk result (λ lib. lib ≡ nothing_heard me nodes) }
+    {
+        let mut heard = Vec::new(alloc);
+        for _ in 0..nodes {
+            heard.push(None)?;
+        }
+        let mut hops = Vec::new(alloc);
+        hops.resize(nodes as usize, None)?;
+        Ok(Lib {
+            alloc,
+            me,
+            heard,
+            hops,
+        })
+    }
+
+    /// The next hop towards a FEC and its label, where that neighbour is open and the last thing that it said of the FEC
+    /// is a Mapping. It takes no memory.
+    pub fn usable(&self, fec: NodeNo) -> Option<(NodeNo, u32)>
+        requires { fec.0 < nodes self.now }
+        ensures { result ≡ usable self.now fec.0 }
+    {
+        match self.hops[fec.0 as usize] {
+            None => None,
+            Some(hop) => match self.label(hop, fec) {
+                None => None,
+                Some(label) => Some((hop, label)),
+            },
+        }
+    }
+
+    /// Whether the node is open to this neighbour.
+    fn is_open(&self, to: NodeNo) -> bool
+        ensures { result ≡ is_open self.now to.0 }
+    {
+        let at = to.0 as usize;
+        if at < self.heard.len() {
+            match &self.heard[at] {
+                None => false,
+                Some(_) => true,
+            }
+        } else {
+            false
+        }
+    }
+
+    /// The label that a neighbour said last, where it is open and its last word of the FEC was a Mapping.
+    fn label(&self, from: NodeNo, fec: NodeNo) -> Option<u32>
+        ensures { result ≡ label_in (row_of self.now from.0) fec.0 }
+    {
+        let at = from.0 as usize;
+        if at < self.heard.len() {
+            match &self.heard[at] {
+                None => None,
+                Some(row) => row.label(fec),
+            }
+        } else {
+            None
+        }
+    }
+
+    /// Whether the FEC is mapped to the neighbours: RFC 5036, section 2.6.1.2.
+    fn offers(&self, fec: NodeNo) -> bool
+        requires { fec.0 < nodes self.now }
+        ensures { result ≡ offers self.now fec.0 }
+    {
+        self.me == fec || self.usable(fec).is_some()
+    }
+
+    /// Which FECs are offered, in node order.
+    fn offered(&self) -> Result<Vec<bool>, AllocError>
+        ensures { IfOk result (λ fecs. fecs.items ≡ offered self.now) }
+    {
+        let mut offered = Vec::new(self.alloc);
+        for fec in 0..self.hops.len() {
+            offered.push(self.offers(NodeNo(fec as u16)))?;
+        }
+        Ok(offered)
+    }
+
+    /// Takes an event, and says what puts it back.
+    fn event(&mut self, event: LibEvent) -> Result<Undo, AllocError>
+        requires { EventFits self.old event }
+        ensures ok { OnOk result (self.new ≡ after_event self.old event) }
+        ensures undo { IfOk result (λ undo. undo ≡ undo_of self.old event) }
+        ensures rows { length self.old.heard ≡ nodes self.old }
+        ensures err { OnErr result (self.new ≡ self.old) }
+    {
+        match event {
+            LibEvent::Opened(from) => {
+                let row = Row::new(self.alloc, self.hops.len())?;
+                self.heard[from.0 as usize] = Some(row);
+                Ok(Undo::Row(from, None))
+            }
+            LibEvent::Closed(from) => Ok(Undo::Row(from, self.heard[from.0 as usize].take())),
+            LibEvent::Map(from, fec, label) => Ok(self.hear(from, fec, Some(label))),
+            LibEvent::Withdraw(from, fec) => Ok(self.hear(from, fec, None)),
+            LibEvent::Next(fec, hop) => {
+                let old = self.hops[fec.0 as usize];
+                self.hops[fec.0 as usize] = hop;
+                Ok(Undo::Hop(fec, old))
+            }
+        }
+    }
+
+    /// Takes an event; what it answers puts the bindings back as they were.
+    fn step(&mut self, event: LibEvent) -> Result<Undo, AllocError>
+        requires { EventFits self.old event }
+        ensures ok { OnOk result (self.new ≡ after_event self.old event) }
+        ensures undo { IfOk result (λ undo. undone self.new undo ≡ self.old) }
+        ensures err { OnErr result (self.new ≡ self.old) }
+    {
+        let undo = self.event(event)?;
+        Ok(undo)
+    }
+
+    /// Notes what a neighbour said last of a FEC.
+    fn hear(&mut self, from: NodeNo, fec: NodeNo, label: Option<u32>) -> Undo
+        requires { from.0 < nodes self.old }
+        ensures after { self.new ≡ heard_label self.old from.0 fec.0 label }
+        ensures undo { result ≡ Label from fec (label_in (row_of self.old from.0) fec.0) }
+        ensures rows { length self.old.heard ≡ nodes self.old }
+    {
+        let old = self.label(from, fec);
+        if let Some(row) = &mut self.heard[from.0 as usize] {
+            row.set(fec, label);
+        }
+        Undo::Label(from, fec, old)
+    }
+
+    /// Puts one event back.
+    fn undo(&mut self, undo: Undo)
+        ensures { self.new ≡ undone self.old undo }
+    {
+        match undo {
+            Undo::Row(from, row) => {
+                let at = from.0 as usize;
+                if at < self.heard.len() {
+                    self.heard[at] = row;
+                }
+            }
+            Undo::Label(from, fec, label) => {
+                let at = from.0 as usize;
+                if at < self.heard.len() {
+                    if let Some(row) = &mut self.heard[at] {
+                        row.set(fec, label);
+                    }
+                }
+            }
+            Undo::Hop(fec, hop) => {
+                let at = fec.0 as usize;
+                if at < self.hops.len() {
+                    self.hops[at] = hop;
+                }
+            }
+        }
+    }
+
+    /// Takes the events one after the other.
+    fn follow(&mut self, events: &[LibEvent], undos: &mut Vec<Undo>) -> Result<(), AllocError>
+        requires { EventsFit self.old events.now }
+        ensures after { OnOk result (self.new ≡ after_events self.old events.now) }
+        ensures undo { all_undone self.new undos.new.items ≡ all_undone self.old undos.old.items }
+    {
+        for event in events {
+            undos.reserve(1)?;
+            let undo = self.step(*event)?;
+            undos.push_reserved(undo);
+        }
+        Ok(())
+    }
+
+    /// Puts events back, the last one first.
+    fn undo_all(&mut self, mut undos: Vec<Undo>)
+        ensures { self.new ≡ all_undone self.old undos.items }
+    {
+        while let Some(undo) = undos.pop() {
+            self.undo(undo);
+        }
+    }
+
+    /// Tells one neighbour what it must know of a FEC that is offered now or not.
+    fn tell_one(
+        &self,
+        events: &[LibEvent],
+        fec: NodeNo,
+        before: bool,
+        to: NodeNo,
+        tells: &mut Vec<Tell>,
+    ) -> Result<(), AllocError>
+        requires fec { fec.0 < nodes self.now }
+        ensures { OnOk result (tells.new.items ≡ tells.old.items ++ told before self.now events.now fec.0 to.0) }
+    {
+        if !self.is_open(to) {
+            return Ok(());
+        }
+        let before = before && !opens(events, to);
+        let kind = match (before, self.offers(fec)) {
+            (false, true) => TellKind::Map,
+            (true, false) => TellKind::Withdraw,
+            _ => return Ok(()),
+        };
+        tells.push(Tell { to, kind, fec })?;
+        Ok(())
+    }
+
+    /// Tells each open neighbour what it must know of one FEC.
+    fn tell(
+        &self,
+        events: &[LibEvent],
+        fec: NodeNo,
+        before: bool,
+        tells: &mut Vec<Tell>,
+    ) -> Result<(), AllocError>
+        requires fec { fec.0 < nodes self.now }
+        ensures { OnOk result (tells.new.items ≡ tells.old.items ++ told_of before self.now events.now fec.0) }
+    {
+        for to in 0..self.hops.len() {
+            self.tell_one(events, fec, before, NodeNo(to as u16), tells)?;
+        }
+        Ok(())
+    }
+
+    /// Tells the changes of all FECs since these were offered. A FEC whose offer stayed is news for a new neighbour alone.
+    fn changes(
+        &self,
+        events: &[LibEvent],
+        before: &[bool],
+        tells: &mut Vec<Tell>,
+    ) -> Result<(), AllocError>
+        requires { length before.now ≡ nodes self.now }
+        ensures { OnOk result (tells.new.items ≡ tells.old.items ++ changes before.now self.now events.now) }
+    {
+        let fresh = opens_any(events);
+        for at in 0..self.hops.len() {
+            let fec = NodeNo(at as u16);
+            if fresh || before[at] != self.offers(fec) {
+                self.tell(events, fec, before[at], tells)?;
+            }
+        }
+        Ok(())
+    }
+
+    /// Takes the events as one change, and says what must be told, in order: a Release for each Withdraw whose neighbour
+    /// isn't closed later, and then by FEC and neighbour, in node order, a Map of what is offered newly and a Withdraw of
+    /// what isn't offered any more. A neighbour that was opened is told a Map of each FEC that is offered.
+    ///
+    /// An `Err` is want of memory alone, and changes nothing.
+    pub fn apply(&mut self, events: &[LibEvent]) -> Result<Vec<Tell>, AllocError>
+        requires { EventsFit self.old events.now }
+        ensures tells { IfOk result (λ all. all.items ≡ tells self.old events.now) }
+        ensures after { OnOk result (self.new ≡ after_events self.old events.now) }
+        ensures kept { OnErr result (self.new ≡ self.old) }
+    {
+        let before = self.offered()?;
+        let mut undos = Vec::new(self.alloc);
+        match self.take(events, &before, &mut undos) {
+            Ok(tells) => Ok(tells),
+            Err(error) => {
+                self.undo_all(undos);
+                Err(error)
+            }
+        }
+    }
+
+    /// Takes the events, and notes how to put them back.
+    fn take(
+        &mut self,
+        events: &[LibEvent],
+        before: &[bool],
+        undos: &mut Vec<Undo>,
+    ) -> Result<Vec<Tell>, AllocError>
+        requires fit { EventsFit self.old events.now }
+        requires before { before.now ≡ offered self.old }
+        ensures tells { IfOk result (λ all. all.items ≡ tells self.old events.now) }
+        ensures after { OnOk result (self.new ≡ after_events self.old events.now) }
+        ensures undo { all_undone self.new undos.new.items ≡ all_undone self.old undos.old.items }
+    {
+        self.follow(events, undos)?;
+        let mut tells = releases(self.alloc, events)?;
+        self.changes(events, before, &mut tells)?;
+        Ok(tells)
+    }
+}
+
+/// A Release for each Withdraw whose neighbour isn't closed later: RFC 5036, section 3.5.10.1.
+fn releases(alloc: Global, events: &[LibEvent]) -> Result<Vec<Tell>, AllocError>
+    ensures { IfOk result (λ all. all.items ≡ releases events.now) }
+{
+    let mut tells = Vec::new(alloc);
+    for (at, event) in events.iter().enumerate() {
+        if let LibEvent::Withdraw(to, fec) = event {
+            if !closes(&events[at + 1..], *to) {
+                tells.push(Tell {
+                    to: *to,
+                    kind: TellKind::Release,
+                    fec: *fec,
+                })?;
+            }
+        }
+    }
+    Ok(tells)
+}

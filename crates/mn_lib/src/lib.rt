@@ -1,0 +1,36 @@
+//! The label bindings that a node has heard from its neighbours, and what it must tell them.
+//!
+//! LDP in downstream unsolicited mode (RFC 5036, section 2.6.3) with liberal retention (section 2.6.2.2) and ordered
+//! control (section 2.6.1.2): what any open neighbour says of a FEC is kept, the binding of the next hop is used, and a
+//! node maps a FEC to its neighbours once it can use it. `Lib` takes what happened as a list of events, all as one
+//! change, and answers what must be said, in order:
+//!
+//! ```text
+//!  Opened, Closed      +-----------------------------+
+//!  Map, Withdraw  ---> | heard: by neighbour and FEC | ---> a Release for each Withdraw,
+//!  Next                | hops:  by FEC               |      then Map and Withdraw by FEC and neighbour
+//!                      +-----------------------------+
+//!                                     |
+//!                                     +---> usable: the next hop and its label
+//! ```
+//!
+//! Where memory runs out, the events that were taken are put back.
+//!
+//! - `event`: what happens, and what must be told
+//! - `bindings`: what is kept, and how a list of events is taken
+//! - `row`: what one neighbour said of each FEC
+//! - `undo`: what puts an event back
+//! - `laws`: what is kept is what was said last; two lists of events are one
+#![tactic(auto)]
+
+mod bindings;
+mod event;
+mod laws;
+mod row;
+#[cfg(test)]
+mod tests;
+mod undo;
+
+pub use bindings::Lib;
+pub use event::{LibEvent, Tell, TellKind};
+pub use laws::{lists_of_events_join, what_is_kept_was_said_last};

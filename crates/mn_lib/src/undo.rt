@@ -1,0 +1,13 @@
+use crate::row::Row;
+use mn_base::NodeNo;
+
+/// What puts an event back.
+#[derive(Drop)]
+pub enum Undo {
+    /// What the neighbour said until it opened or closed.
+    Row(NodeNo, Option<Row>),
+    /// What the neighbour had said of the FEC.
+    Label(NodeNo, NodeNo, Option<u32>),
+    /// The FEC's next hop before.
+    Hop(NodeNo, Option<NodeNo>),
+}

@@ -1,0 +1,45 @@
+-- The routes that a VRF holds: by prefix, and of one prefix by preference. RFC 4364, sections 4.3 and 5; RFC 1812, section 5.2.4.3.
+use Rattle.std.specs.Prelude.{ℕ, ◌&&◌, ◌==◌, nat_lt, Bool, true, false, if◌then◌else◌, Option, Some, None, List}
+use Rattle.mn_prefix.specs.Prefix.{AddressBlock, contains}
+use Rattle.mn_base.specs.Ordered.{first_by, one_at, without_one}
+use Rattle.mn_vrf.specs.declared.source.Source.{Source}
+use Rattle.mn_vrf.specs.declared.source.Source.TheVariants.{Own, Near, Far}
+
+-- first the one that is preferred: an own static; then another VRF of the edge, by number; then another edge, by address and
+-- then by distinguisher
+abbrev pub source_before : Source → Source → Bool
+source_before (Own s) (Own r) = false
+source_before (Own s) _ = true
+source_before (Near v s) (Own r) = false
+source_before (Near v s) (Near w r) = nat_lt v.0 w.0
+source_before (Near v s) (Far address rd edge label) = true
+source_before (Far address rd edge label) (Far other other_rd _ _) = first_by address other (nat_lt rd.0 other_rd.0)
+source_before (Far address rd edge label) _ = false
+
+-- by prefix, and of one prefix by preference
+abbrev pub route_before : AddressBlock × Source → AddressBlock × Source → Bool
+route_before route other = first_by route.0.address other.0.address (first_by route.0.length other.0.length (source_before route.1 other.1))
+
+-- of the routes so far and one more, the first of the longest prefix that contains the address
+abbrev pub chosen : ℕ → Option (AddressBlock × Source) → AddressBlock × Source → Option (AddressBlock × Source)
+chosen address None route = if contains route.0 address then Some route else None
+chosen address (Some best) route = if contains route.0 address && nat_lt best.0.length route.0.length then Some route else Some best
+
+abbrev pub same_source : Source → Source → Bool
+same_source (Own s) (Own r) = s.0 == r.0
+same_source (Near v s) (Near w r) = (v.0 == w.0) && (s.0 == r.0)
+same_source (Far address rd edge label) (Far other other_rd other_edge other_label) = (address == other) && ((rd.0 == other_rd.0) && ((edge.0 == other_edge.0) && (label == other_label)))
+same_source _ _ = false
+
+-- what stands in the place of a source is the source
+abbrev pub is_that : Source → Option (AddressBlock × Source) → Bool
+is_that source None = false
+is_that source (Some other) = same_source source other.1
+
+-- the route is held
+abbrev pub is_held : AddressBlock × Source → List (AddressBlock × Source) → Bool
+is_held route routes = is_that route.1 (one_at route_before route routes)
+
+-- without the route that equals this one
+abbrev pub without_route : AddressBlock × Source → List (AddressBlock × Source) → List (AddressBlock × Source)
+without_route route routes = if is_held route routes then without_one route_before route routes else routes

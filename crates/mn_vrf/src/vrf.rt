@@ -1,0 +1,230 @@
+// One VRF, as it is told.
+ghost use Rattle.std.specs.Prelude.{◌≡◌, ℕ, [], true, false, None, Some, OnOk, OnErr, IfOk, slice_get, if◌then◌else◌, option_map};
+ghost use Rattle.mn_prefix.specs.Prefix.{AddressBlock};
+ghost use Rattle.mn_prefix.specs.Table.{longest_match};
+ghost use Rattle.mn_base.specs.Ordered.{with_one, without_one, one_at};
+ghost use Rattle.mn_targets.specs.Targets.{target_set, has_target};
+ghost use Rattle.mn_vrf.specs.Routes.{route_before, without_route};
+ghost use Rattle.mn_vrf.specs.Vrf.{Holding, with_static, without_static, with_imports, with_exports, add_refused, del_refused, set_refused, refusal_of, heads};
+
+use crate::{Routes, Source, StaticRoute, Statics, VrfBad};
+use mn_base::{Rd, Rt, SiteNo, VrfNo};
+use mn_prefix::Prefix;
+use mn_targets::Targets;
+use std::alloc::{AllocError, Global};
+use std::marker::Model;
+
+/// A VRF: its statics, its two sets of targets, and the routes that it holds.
+#[derive(Drop)]
+pub struct Vrf {
+    number: VrfNo,
+    rd: Rd,
+    statics: Statics,
+    imports: Targets,
+    exports: Targets,
+    held: Routes,
+}
+
+impl Model for Vrf {
+    ghost use Rattle.mn_vrf.specs.Vrf.{Holding};
+
+    ghost Value = { Holding };
+
+    ghost view = { λ v. record { vrf = record { number = v.number.0; rd = v.rd; statics = v.statics; imports = v.imports; exports = v.exports }; held = v.held } };
+}
+
+/// Why a set of targets isn't changed, if it isn't.
+fn set_refusal(target: Rt, on: bool, targets: &Targets) -> Option<VrfBad>
+    ensures { result ≡ set_refused target on targets.now }
+{
+    if targets.has(target) {
+        return if on { Some(VrfBad::Unchanged) } else { None };
+    }
+    if !on {
+        return Some(VrfBad::Unchanged);
+    }
+    if targets.as_slice().len() >= 16 {
+        return Some(VrfBad::TargetsFull);
+    }
+    None
+}
+
+/// Changes a set of targets. An `Err` changes nothing.
+fn change_set(target: Rt, on: bool, targets: &mut Targets) -> Result<(), VrfBad>
+    ensures ok { OnOk result (targets.new ≡ target_set target on targets.old) }
+    ensures err { OnErr result (targets.new ≡ targets.old) }
+    ensures refusal { refusal_of result ≡ set_refused target on targets.old }
+{
+    if let Some(bad) = set_refusal(target, on, targets) {
+        return Err(bad);
+    }
+    if on {
+        let Ok(_) = targets.add(target) else {
+            return Err(VrfBad::NoMemory);
+        };
+    } else {
+        targets.remove(target);
+    }
+    Ok(())
+}
+
+impl Vrf {
+    /// Without statics, targets and held routes. It takes no memory.
+    pub fn new(alloc: Global, number: VrfNo, rd: Rd) -> Vrf
+        ensures { result ≡ record { vrf = record { number = number.0; rd = rd; statics = []; imports = []; exports = [] }; held = [] } }
+    {
+        Vrf {
+            number,
+            rd,
+            statics: Statics::new(alloc),
+            imports: Targets::new(alloc),
+            exports: Targets::new(alloc),
+            held: Routes::new(alloc),
+        }
+    }
+
+    /// Its number.
+    pub fn number(&self) -> VrfNo
+        ensures { result ≡ record { 0 = self.now.vrf.number } }
+    {
+        self.number
+    }
+
+    /// Its distinguisher.
+    pub fn rd(&self) -> Rd
+        ensures { result ≡ self.now.vrf.rd }
+    {
+        self.rd
+    }
+
+    /// Has a prefix over a site. An `Err` changes nothing.
+    pub fn add_static(&mut self, prefix: Prefix, site: SiteNo) -> Result<(), VrfBad>
+        ensures ok { OnOk result (self.new ≡ record self.old { vrf = with_static (record { prefix = prefix; site = site.0 }) self.old.vrf }) }
+        ensures err { OnErr result (self.new ≡ self.old) }
+        ensures refusal { refusal_of result ≡ add_refused prefix self.old.vrf }
+    {
+        if let Some(route) = self.statics.of_prefix(prefix) {
+            return Err(VrfBad::PrefixTaken { site: route.site() });
+        }
+        let Ok(()) = self.statics.put(StaticRoute::new(prefix, site)) else {
+            return Err(VrfBad::NoMemory);
+        };
+        Ok(())
+    }
+
+    /// Has a prefix over a site no longer. It takes no memory, and an `Err` changes nothing.
+    pub fn del_static(&mut self, prefix: Prefix, site: SiteNo) -> Result<(), VrfBad>
+        ensures ok { OnOk result (self.new ≡ record self.old { vrf = without_static (record { prefix = prefix; site = site.0 }) self.old.vrf }) }
+        ensures err { OnErr result (self.new ≡ self.old) }
+        ensures refusal { refusal_of result ≡ del_refused prefix site.0 self.old.vrf }
+    {
+        let Some(route) = self.statics.of_prefix(prefix) else {
+            return Err(VrfBad::NoRouteThere);
+        };
+        if route.site().0 != site.0 {
+            return Err(VrfBad::NoRouteThere);
+        }
+        self.statics.take(&StaticRoute::new(prefix, site));
+        Ok(())
+    }
+
+    /// Imports routes with a target, or doesn't. An `Err` changes nothing.
+    pub fn import(&mut self, target: Rt, on: bool) -> Result<(), VrfBad>
+        ensures ok { OnOk result (self.new ≡ record self.old { vrf = with_imports (target_set target on) self.old.vrf }) }
+        ensures err { OnErr result (self.new ≡ self.old) }
+        ensures refusal { refusal_of result ≡ set_refused target on self.old.vrf.imports }
+    {
+        change_set(target, on, &mut self.imports)
+    }
+
+    /// Exports routes with a target, or doesn't. An `Err` changes nothing.
+    pub fn export(&mut self, target: Rt, on: bool) -> Result<(), VrfBad>
+        ensures ok { OnOk result (self.new ≡ record self.old { vrf = with_exports (target_set target on) self.old.vrf }) }
+        ensures err { OnErr result (self.new ≡ self.old) }
+        ensures refusal { refusal_of result ≡ set_refused target on self.old.vrf.exports }
+    {
+        change_set(target, on, &mut self.exports)
+    }
+
+    /// Holds one route more.
+    pub fn offer(&mut self, prefix: Prefix, source: Source) -> Result<(), AllocError>
+        requires free { one_at route_before (prefix, source) self.old.held ≡ None }
+        ensures ok { OnOk result (self.new ≡ record self.old { held = with_one route_before (prefix, source) self.old.held }) }
+        ensures err { OnErr result (self.new ≡ self.old) }
+    {
+        self.held.offer(prefix, source)
+    }
+
+    /// Holds the route no longer, if it is held. It takes no memory.
+    pub fn retract(&mut self, prefix: Prefix, source: &Source)
+        ensures { self.new ≡ record self.old { held = without_route (prefix, source.now) self.old.held } }
+    {
+        if self.held.has(prefix, source) {
+            self.held.retract(prefix, source);
+        }
+    }
+
+    /// Holds a route, in place of one of its prefix that is preferred as much.
+    pub fn replace(&mut self, prefix: Prefix, source: Source) -> Result<(), AllocError>
+        ensures ok { OnOk result (self.new ≡ record self.old { held = with_one route_before (prefix, source) self.old.held }) }
+        ensures err { OnErr result (self.new ≡ self.old) }
+    {
+        self.held.offer(prefix, source)
+    }
+
+    /// Holds none of this prefix that is preferred as much. It takes no memory.
+    pub fn withdraw(&mut self, prefix: Prefix, source: &Source)
+        ensures { self.new ≡ record self.old { held = without_one route_before (prefix, source.now) self.old.held } }
+    {
+        self.held.retract(prefix, source);
+    }
+
+    /// The best of the held routes whose prefix contains the address. It takes no memory.
+    pub fn lookup(&self, address: u32) -> Option<(Prefix, Source)>
+        ensures { result ≡ longest_match address self.now.held }
+    {
+        self.held.lookup(address)
+    }
+
+    /// The held prefix of this number, with the best of its routes. It takes no memory.
+    pub fn held(&self, k: u32) -> Option<(Prefix, Source)>
+        ensures { result ≡ slice_get (heads self.now.held) k }
+    {
+        self.held.held(k)
+    }
+
+    /// The static of this number. It takes no memory.
+    pub fn static_at(&self, k: u32) -> Option<StaticRoute>
+        ensures { result ≡ slice_get self.now.vrf.statics k }
+    {
+        self.statics.at(k)
+    }
+
+    /// Its statics, in the order of their prefixes.
+    pub fn statics(&self) -> &[StaticRoute]
+        ensures { result.now ≡ self.now.vrf.statics }
+    {
+        self.statics.as_slice()
+    }
+
+    /// Holds these routes, and no others.
+    pub fn hold(&mut self, held: Routes)
+        ensures { self.new ≡ record self.old { held = held } }
+    {
+        self.held = held;
+    }
+
+    /// What it imports.
+    pub fn imports(&self) -> &Targets
+        ensures { result.now ≡ self.now.vrf.imports }
+    {
+        &self.imports
+    }
+
+    /// What it exports.
+    pub fn exports(&self) -> &Targets
+        ensures { result.now ≡ self.now.vrf.exports }
+    {
+        &self.exports
+    }
+}
