@@ -7,6 +7,7 @@ use Rattle.std.proofs.lemmas.Bool.Decides.{eqb_tells, leb_tells, nat_tests}
 use Rattle.mn_base.specs.declared.numbers.Rt.{Rt}
 use Rattle.mn_base.specs.declared.states.BgpState.{BgpState}
 use Rattle.mn_base.specs.declared.states.BgpState.TheVariants.{OpenSent, OpenConfirm}
+use Rattle.mn_prefix.specs.Prefix.{IsPrefix}
 use Rattle.mn_topo.specs.declared.sites.SiteDef.{SiteDef}
 use Rattle.mn_topo.specs.declared.vrfs.VrfDef.{VrfDef}
 use Rattle.mn_topo.specs.declared.steps.Step.{Step}
@@ -14,6 +15,7 @@ use Rattle.mn_topo.specs.declared.steps.Step.TheVariants as step
 use Rattle.mn_topo.specs.declared.steps.JournalEntry.{JournalEntry}
 use Rattle.mn_topo.specs.Lawful.{IsLawful, AreTargets}
 use Rattle.mn_topo.specs.Network.{Network}
+use Rattle.mn_topo.specs.SiteTable.{is_lawful_prefix}
 use Rattle.mn_topo.specs.Steps.{fits}
 use Rattle.mn_ledger.specs.declared.refused.Refused.{Refused}
 use Rattle.mn_ledger.specs.declared.refused.Refused.TheVariants as why
@@ -29,6 +31,8 @@ use Rattle.mn_ledger.proofs.GoingBy.{put_here, put_off, pair_here, pair_off}
 use Rattle.mn_ledger.proofs.Members.{In, in_append, in_map, in_filter, in_flat_map, in_range}
 use Rattle.mn_ledger.proofs.Peers.{same_numbers}
 use Rattle.mn_ledger.proofs.Tellings.{Behind, exported}
+use Rattle.mn_ledger.proofs.Choice.{keeps}
+use Rattle.mn_ledger.proofs.Statics.{HasForms}
 use Rattle.mn_ledger.proofs.Tidy.{Rise, RiseAll, sets_rise}
 use Rattle.mn_laws.specs.Accounts.{world_at, packets_at}
 use Rattle.mn_laws.specs.Named.{AreRising, NamesAnAttachment, NamesItsVrf}
@@ -150,7 +154,7 @@ pub bounds_go : (t : Network) (c : Config) (s : Step) → fits t s ≡ true → 
 bounds_go t c (step.AddRoute s p) fit room h = record {
   sites = λ x i. elim (in_append c.statics (record { site = s.0; prefix = p } ∷ []) x i) [
     | inl j ↦ h.sites x j
-    | inr j ↦ elim j [ inl e ↦ subst (λ (y : SiteRoute). y.site < length t.sites) e (ltb-true _ _ fit) | inr z ↦ absurd z ]
+    | inr j ↦ elim j [ inl e ↦ subst (λ (y : SiteRoute). y.site < length t.sites) e (ltb-true _ _ (and_parts (nat_lt s.0 (length t.sites)) (is_lawful_prefix p) fit).0) | inr z ↦ absurd z ]
   ];
   attached = h.attached;
   exports = h.exports;
@@ -201,16 +205,18 @@ pub record IsBehind (t : Network) (c : Config) (v : ℕ) (e : Export) : Type 0 w
   pub vrf : e.vrf ≡ v
   pub site : e.site < length t.sites
   pub of_vrf : vrf_of t e.site ≡ v
+  pub formed : IsPrefix e.prefix.address e.prefix.length
   pub present : c.attached e.site ≡ Some e.attachment
 
-pub is_behind : (t : Network) (c : Config) (v : ℕ) (targets : List ℕ) (e : Export) → IsInBounds t c → Behind t c v targets e → IsBehind t c v e
+pub is_behind : (t : Network) (c : Config) (v : ℕ) (targets : List ℕ) (e : Export) → IsInBounds t c → HasForms c.statics → Behind t c v targets e → IsBehind t c v e
 unfolding Behind
-is_behind t c v targets e h b =
+is_behind t c v targets e h forms b =
     let parts = and_parts (vrf_of t b.0.site == v) (is_some (c.attached b.0.site)) b.2 in
     subst (IsBehind t c v) b.3 (record {
       vrf = refl;
       site = h.sites b.0 b.1;
       of_vrf = same_numbers (vrf_of t b.0.site) v parts.0;
+      formed = forms.formed b.0 b.1;
       present = some_of (c.attached b.0.site) parts.1;
     })
 
@@ -231,12 +237,12 @@ pub record IsExported (t : Network) (c : Config) (edge : ℕ) (e : Export) : Typ
   pub some : 1 ≤ length e.targets
   pub targets : c.exports e.vrf ≡ e.targets
 
-pub is_exported : (t : Network) (c : Config) (edge : ℕ) (e : Export) → IsInBounds t c → In (exports_of t c edge) e → IsExported t c edge e
-is_exported t c edge e h i =
+pub is_exported : (t : Network) (c : Config) (edge : ℕ) (e : Export) → IsInBounds t c → HasForms c.statics → In (exports_of t c edge) e → IsExported t c edge e
+is_exported t c edge e h forms i =
     let m = in_flat_map (λ v. exports_with t c v (c.exports v)) (vrfs_at t edge) e i in
     let v = vrf_in t edge m.0 m.1 in
     let from = exported t c m.0 (c.exports m.0) e m.2 in
-    let b = is_behind t c m.0 (c.exports m.0) e h from in
+    let b = is_behind t c m.0 (c.exports m.0) e h forms from in
     let is : m.0 ≡ e.vrf = sym b.vrf in
     let targets : c.exports m.0 ≡ e.targets = targets_of t c m.0 (c.exports m.0) e from in
     record {
@@ -247,15 +253,16 @@ is_exported t c edge e h i =
       targets = ap c.exports (sym is) ∙ targets;
     }
 
-names_export : (t : Network) (c : Config) (edge : ℕ) (e : Export) → IsInBounds t c → RiseAll c → In (exports_of t c edge) e → NamesAnAttachment t c edge e
-names_export t c edge e h r i =
-    let x = is_exported t c edge e h i in
+names_export : (t : Network) (c : Config) (edge : ℕ) (e : Export) → IsInBounds t c → HasForms c.statics → RiseAll c → In (exports_of t c edge) e → NamesAnAttachment t c edge e
+names_export t c edge e h forms r i =
+    let x = is_exported t c edge e h forms i in
     let given = h.attached e.site e.attachment x.behind.present in
     record {
       vrf = x.vrf;
       at_teller = x.at_edge;
       site = x.behind.site;
       of_vrf = x.behind.of_vrf;
+      formed = x.behind.formed;
       first = given.0;
       given = given.1;
       some = x.some;
@@ -355,6 +362,7 @@ later_named t c s edge (Announce e) h = record {
   at_teller = h.at_teller;
   site = h.site;
   of_vrf = h.of_vrf;
+  formed = h.formed;
   first = h.first;
   given = omega (arith, h.given, attaches_grow c s e.site);
   some = h.some;
@@ -401,8 +409,11 @@ module _ (t : Network) (lawful : IsLawful t) (es : List JournalEntry) (ps : List
       subst (λ (w : World). IsInBounds t w.config) (sym (world_step t es n e.0 e.1))
       (bounds_go t (world_at t es n).config e.0.step done.fitting (has_room t (world_at t es n) (packets_at t es ps n) n e.0.step (bytes_of ps _) done.unrefused) (bounds_at n (omega (arith, h))))
 
+  pub forms_at : (n : ℕ) → HasForms (world_at t es n).config.statics
+  forms_at n = (keeps t (take n es) ps lawful (lawful_at t es ps n journal)).forms
+
   exports_at : (n : ℕ) → n ≤ length es → ExportsNamed t (world_at t es n).config
-  exports_at n h edge e i = names_export t (world_at t es n).config edge e (bounds_at n h) (sets_rise t (take n es) ps lawful (lawful_at t es ps n journal)) i
+  exports_at n h edge e i = names_export t (world_at t es n).config edge e (bounds_at n h) (forms_at n) (sets_rise t (take n es) ps lawful (lawful_at t es ps n journal)) i
 
   pub tellings_at : (n : ℕ) → n ≤ length es → TellingsNamed t (world_at t es n).config (world_at t es n).peerings
   tellings_at zero h = λ edge peer m i. absurd i

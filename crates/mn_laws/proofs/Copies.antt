@@ -150,8 +150,8 @@ entered t v k site b =
     let ready : IsReady k u (length k.verdicts) = new_ready k (home_of t site) in
     enters (Goes k) t v u (length k.verdicts) site b (record {
       falls = λ cause f. inl (dropped k u (length k.verdicts) cause (home_of t site) ready);
-      delivered = λ x m e. inr (delivers k u (length k.verdicts) x.site _ b ready);
-      flies = λ x hop m e q. inl (quiet_verdict k u (length k.verdicts) _ ready (λ c. refl) (hop_over t u (bound (length k.verdicts) x b) (home_of t site) rule.NoLsp (Some hop)) refl refl refl);
+      delivered = λ x p m e. inr (delivers k u (length k.verdicts) x.site _ b ready);
+      flies = λ x hop p m e q. inl (quiet_verdict k u (length k.verdicts) _ ready (λ c. refl) (hop_over t u (bound (length k.verdicts) x b) (home_of t site) rule.NoLsp (Some hop)) refl refl refl);
     })
 
 -- the packet of a frame was not delivered

@@ -3,6 +3,7 @@ use Rattle.std.proofs.Common.{ℕ, zero, suc, ◌≡◌, ◌≢◌, ◌+◌, ◌
 use Rattle.std.specs.Prelude.{◌==◌, ◌&&◌, ◌||◌, not, nat_lt, is_none, is_some, IsTrue}
 use Rattle.std.specs.List.{list_any}
 use Rattle.std.proofs.lemmas.Bool.Decides.{nat_tests}
+use Rattle.std.proofs.lemmas.Option.{same_Some}
 use Rattle.mn_base.specs.declared.drops.Rule.{Rule}
 use Rattle.mn_base.specs.declared.drops.Rule.TheVariants as rule
 use Rattle.mn_ipv4.specs.Header.{is_not_ipv4, is_malformed, is_truncated, has_bad_checksum, good, ttl_of, destination_of}
@@ -13,7 +14,7 @@ use Rattle.mn_ledger.specs.Places.{home_of, vrf_of}
 use Rattle.mn_ledger.specs.World.{World}
 use Rattle.mn_ledger.specs.Transport.{usable}
 use Rattle.mn_ledger.specs.Vpn.{HeldRoute, held, best}
-use Rattle.mn_ledger.specs.Best.{IsBest}
+use Rattle.mn_ledger.specs.Best.{IsBest, NamesTheBest}
 use Rattle.mn_ledger.specs.Packets as packets
 use Rattle.mn_ledger.specs.Packets.{Packets, bound, hop_over, drop_at, deliver, route_by, enter_by}
 use Rattle.mn_ledger.proofs.Members.{In, in_contained, filter_in, passes_none, none_passes}
@@ -83,13 +84,18 @@ some_is (Some x) h = refl
 pub best_is : (routes : List HeldRoute) (address : ℕ) (x : HeldRoute) → best routes address ≡ Some x → IsBest routes address x
 best_is routes address x h = from_unbeaten routes address x (in_first _ x h)
 
-pub may_enter : (t : Network) (w : World) (site : ℕ) (b : List ℕ) (x : HeldRoute) → Passes t w site b → best (routes_at t w site) (destination_of b) ≡ Some x → MayEnter t w site b x
-may_enter t w site b x p h = record {
+-- the best route of the site's VRF for the packet
+abbrev pub IsBestFor : Network → World → ℕ → List ℕ → HeldRoute → Type 0
+IsBestFor t w site b x = best (routes_at t w site) (destination_of b) ≡ Some x
+
+pub may_enter : (t : Network) (w : World) (site : ℕ) (b : List ℕ) (x : HeldRoute) → Passes t w site b → IsBestFor t w site b x → NamesTheBest (routes_at t w site) (destination_of b) → MayEnter t w site b x
+may_enter t w site b x p h names = record {
   attached = some_is (w.config.attached site) p.attached;
   is_good = all_good b p.ipv4 p.formed p.whole p.summed;
   lives = two_left (ttl_of b) p.lives;
   unicast = p.unicast;
   best_route = best_is (routes_at t w site) (destination_of b) x h;
+  only = λ other o. same_Some other x (sym (names.one other o) ∙ h);
 }
 
 abbrev covers : ℕ → HeldRoute → Bool
@@ -134,20 +140,20 @@ no_lsp t w site b x p h far none = record {
 -- what has to be shown where a packet falls at entry, is delivered there, and flies
 pub record AtEntry (P : Packets → Type 0) (t : Network) (w : World) (u : Packets) (j site : ℕ) (b : List ℕ) : Type 0 where
   pub falls : (cause : Rule) → Falls t w site b cause → P (drop_at u j cause (home_of t site))
-  pub delivered : (x : HeldRoute) → MayEnter t w site b x → (x.edge == home_of t site) ≡ true → P (deliver u j x.site (ttl_of b - 1) b)
-  pub flies : (x : HeldRoute) (hop : ℕ × ℕ) → MayEnter t w site b x → (x.edge == home_of t site) ≡ false → usable t w.config w.views w.sessions (home_of t site) x.edge ≡ Some hop
+  pub delivered : (x : HeldRoute) → Passes t w site b → IsBestFor t w site b x → (x.edge == home_of t site) ≡ true → P (deliver u j x.site (ttl_of b - 1) b)
+  pub flies : (x : HeldRoute) (hop : ℕ × ℕ) → Passes t w site b → IsBestFor t w site b x → (x.edge == home_of t site) ≡ false → usable t w.config w.views w.sessions (home_of t site) x.edge ≡ Some hop
       → P (hop_over t u (bound j x b) (home_of t site) rule.NoLsp (Some hop))
 
 hops : (P : Packets → Type 0) (t : Network) (w : World) (u : Packets) (j site : ℕ) (b : List ℕ) (x : HeldRoute) → AtEntry P t w u j site b → Passes t w site b → best (routes_at t w site) (destination_of b) ≡ Some x
     → (x.edge == home_of t site) ≡ false → (o : Option (ℕ × ℕ)) → usable t w.config w.views w.sessions (home_of t site) x.edge ≡ o → P (hop_over t u (bound j x b) (home_of t site) rule.NoLsp o)
 hops P t w u j site b x h p is far None e = h.falls rule.NoLsp (no_lsp t w site b x p is far e)
-hops P t w u j site b x h p is far (Some hop) e = h.flies x hop (may_enter t w site b x p is) far e
+hops P t w u j site b x h p is far (Some hop) e = h.flies x hop p is far e
 
 routes : (P : Packets → Type 0) (t : Network) (w : World) (u : Packets) (j site : ℕ) (b : List ℕ) → AtEntry P t w u j site b → Passes t w site b
     → (o : Option HeldRoute) → best (routes_at t w site) (destination_of b) ≡ o → P (route_by t w u j b (home_of t site) o)
 routes P t w u j site b h p None e = h.falls rule.NoRoute (no_route t w site b p e)
 routes P t w u j site b h p (Some x) e =
-    arms_by P (x.edge == home_of t site) _ _ (λ q. h.delivered x (may_enter t w site b x p e) q) (λ q. hops P t w u j site b x h p e q (usable t w.config w.views w.sessions (home_of t site) x.edge) refl)
+    arms_by P (x.edge == home_of t site) _ _ (λ q. h.delivered x p e q) (λ q. hops P t w u j site b x h p e q (usable t w.config w.views w.sessions (home_of t site) x.edge) refl)
 
 pub enters : (P : Packets → Type 0) (t : Network) (w : World) (u : Packets) (j site : ℕ) (b : List ℕ) → AtEntry P t w u j site b
     → P (enter_by t w u j b (home_of t site) (vrf_of t site) (first_rule (packets.entry_rules (w.config.attached site) b)))

@@ -7,6 +7,7 @@ use Rattle.std.proofs.lemmas.List.{take_all}
 use Rattle.mn_base.specs.declared.states.LdpState.{LdpState}
 use Rattle.mn_base.specs.declared.states.LdpState.TheVariants.{Initialized, OpenSent, OpenRec, Operational}
 use Rattle.mn_base.specs.Wiring.{Wiring, link, nodes_of, sender, receiver}
+use Rattle.mn_prefix.specs.Prefix.{AddressBlock, IsPrefix}
 use Rattle.mn_topo.specs.Lawful.{IsLawful}
 use Rattle.mn_topo.specs.Network.{Network, wiring_of}
 use Rattle.mn_topo.specs.VrfTable.{is_edge}
@@ -24,39 +25,42 @@ use Rattle.mn_ledger.specs.Lawful.{IsLawfulJournal}
 use Rattle.mn_ledger.proofs.GoingBy.{put_here, put_off}
 use Rattle.mn_ledger.proofs.OnePlace.{arms}
 use Rattle.mn_ledger.proofs.Members.{In, in_append, in_map, in_filter, in_flat_map, in_take, in_range, in_contained}
-use Rattle.mn_ledger.proofs.Held.{announced_once, in_believed}
+use Rattle.mn_ledger.proofs.Choice.{keeps}
+use Rattle.mn_ledger.proofs.Statics.{HasForms}
 use Rattle.mn_ledger.proofs.Tellings.{behind}
 use Rattle.mn_laws.specs.Accounts.{world_at, routes_at}
 use Rattle.mn_laws.specs.Named.{NamesANode, NamesAnAttachment, NamesItsSite, NamesWhatExists}
 use Rattle.mn_laws.proofs.At.{world_step, world_whole}
-use Rattle.mn_laws.proofs.Announced.{IsInBounds, IsBehind, is_behind, IsExported, is_exported, TellingsNamed, bounds_at, tellings_at}
+use Rattle.mn_laws.proofs.Announced.{IsInBounds, IsBehind, is_behind, IsExported, is_exported, TellingsNamed, bounds_at, forms_at, tellings_at}
+use Rattle.mn_laws.proofs.Believing.{believed_last, announced_in}
 use Rattle.mn_laws.proofs.There.{vrf_there}
 use Rattle.mn_laws.proofs.Travelling.{HoldsSites}
 
 -- 1. Held routes
 
 -- a site of this edge that is attached
-here_named : (t : Network) (c : Config) (edge v : ℕ) (e : Export) (a : HeldRoute) → IsInBounds t c → IsBehind t c v e → edge_of t v ≡ edge → a.site ≡ e.site → a.attachment ≡ e.attachment → a.edge ≡ edge → NamesItsSite t c edge a
-here_named t c edge v e a h b at site attachment same = record {
+here_named : (t : Network) (c : Config) (edge v : ℕ) (e : Export) (a : HeldRoute) → IsInBounds t c → IsBehind t c v e → edge_of t v ≡ edge → a.site ≡ e.site → a.attachment ≡ e.attachment → a.edge ≡ edge → a.prefix ≡ e.prefix → NamesItsSite t c edge a
+here_named t c edge v e a h b at site attachment same prefix = record {
   site = subst (λ n. n < length t.sites) (sym site) b.site;
   home = ap (home_of t) site ∙ ap (edge_of t) b.of_vrf ∙ at ∙ sym same;
+  formed = subst (λ (p : AddressBlock). IsPrefix p.address p.length) (sym prefix) b.formed;
   first = omega (arith, attachment, (h.attached e.site e.attachment b.present).0);
   given = omega (arith, attachment, ap c.attaches site, (h.attached e.site e.attachment b.present).1);
   present = λ _. ap c.attached site ∙ b.present ∙ ap Some (sym attachment);
 }
 
-own_named : (t : Network) (c : Config) (edge v : ℕ) (a : HeldRoute) → IsInBounds t c → edge_of t v ≡ edge → In (own_routes t c edge v) a → NamesItsSite t c edge a
-own_named t c edge v a h at i =
+own_named : (t : Network) (c : Config) (edge v : ℕ) (a : HeldRoute) → IsInBounds t c → HasForms c.statics → edge_of t v ≡ edge → In (own_routes t c edge v) a → NamesItsSite t c edge a
+own_named t c edge v a h forms at i =
     let m = in_map (held_by edge Own) _ a i in
-    here_named t c edge v m.0 a h (is_behind t c v [] m.0 h (behind t c v [] m.0 m.1)) at (ap (λ (r : HeldRoute). r.site) (sym m.2)) (ap (λ (r : HeldRoute). r.attachment) (sym m.2)) (ap (λ (r : HeldRoute). r.edge) (sym m.2))
+    here_named t c edge v m.0 a h (is_behind t c v [] m.0 h forms (behind t c v [] m.0 m.1)) at (ap (λ (r : HeldRoute). r.site) (sym m.2)) (ap (λ (r : HeldRoute). r.attachment) (sym m.2)) (ap (λ (r : HeldRoute). r.edge) (sym m.2)) (ap (λ (r : HeldRoute). r.prefix) (sym m.2))
 
-near_named : (t : Network) (c : Config) (edge v : ℕ) (a : HeldRoute) → IsInBounds t c → In (near_routes t c edge v) a → NamesItsSite t c edge a
-near_named t c edge v a h i =
+near_named : (t : Network) (c : Config) (edge v : ℕ) (a : HeldRoute) → IsInBounds t c → HasForms c.statics → In (near_routes t c edge v) a → NamesItsSite t c edge a
+near_named t c edge v a h forms i =
     let others : List Export = filter (λ export. not (export.vrf == v)) (exports_of t c edge) in
     let m = in_map (λ (export : Export). held_by edge (Near export.vrf) export) (imported c v others) a i in
     let f = in_filter (λ (export : Export). meet export.targets (c.imports v)) others m.0 m.1 in
-    let x = is_exported t c edge m.0 h (in_filter (λ (export : Export). not (export.vrf == v)) (exports_of t c edge) m.0 f.0).0 in
-    here_named t c edge m.0.vrf m.0 a h x.behind x.at_edge (ap (λ (r : HeldRoute). r.site) (sym m.2)) (ap (λ (r : HeldRoute). r.attachment) (sym m.2)) (ap (λ (r : HeldRoute). r.edge) (sym m.2))
+    let x = is_exported t c edge m.0 h forms (in_filter (λ (export : Export). not (export.vrf == v)) (exports_of t c edge) m.0 f.0).0 in
+    here_named t c edge m.0.vrf m.0 a h x.behind x.at_edge (ap (λ (r : HeldRoute). r.site) (sym m.2)) (ap (λ (r : HeldRoute). r.attachment) (sym m.2)) (ap (λ (r : HeldRoute). r.edge) (sym m.2)) (ap (λ (r : HeldRoute). r.prefix) (sym m.2))
 
 not_same : (a b : ℕ) → not (a == b) ≡ true → a ≢ b
 not_same a b h q = elim (eqb_tells a b) [ inl p ↦ clash (sym (ap not p.0) ∙ h) | inr p ↦ p.1 q ]
@@ -71,31 +75,33 @@ far_named t c p edge v a named i =
     let other : peer ≢ edge = not_same peer edge (in_filter (λ peer. not (peer == edge)) (edges t) peer m.1).1 in
     let n = in_map (λ (export : Export). held_by peer (Far (loopback t peer) (vrf_at t export.vrf).rd.0) export) (imported c v (believed c p edge peer)) a m.2 in
     let b = (in_filter (λ (export : Export). meet export.targets (c.imports v)) (believed c p edge peer) n.0 n.1).0 in
-    let e = elim (announced_once [] (heard_of p edge peer) n.0 (in_believed c p edge peer n.0 b)) as (λ _. NamesAnAttachment t c peer n.0) [ inl j ↦ absurd j | inr j ↦ named peer edge (Announce n.0) (in_take (p.heard edge peer) (p.told peer edge) (Announce n.0) j) ] in
+    let told = announced_in (heard_of p edge peer) n.0 (believed_last c p edge peer n.0 b).1 in
+    let e : NamesAnAttachment t c peer n.0 = named peer edge (Announce n.0) (in_take (p.heard edge peer) (p.told peer edge) (Announce n.0) told) in
     let site : a.site ≡ n.0.site = ap (λ (r : HeldRoute). r.site) (sym n.2) in
     let attachment : a.attachment ≡ n.0.attachment = ap (λ (r : HeldRoute). r.attachment) (sym n.2) in
     let same : a.edge ≡ peer = ap (λ (r : HeldRoute). r.edge) (sym n.2) in
     record {
       site = subst (λ n. n < length t.sites) (sym site) e.site;
       home = ap (home_of t) site ∙ ap (edge_of t) e.of_vrf ∙ e.at_teller ∙ sym same;
+      formed = subst (λ (p : AddressBlock). IsPrefix p.address p.length) (ap (λ (r : HeldRoute). r.prefix) n.2) e.formed;
       first = omega (arith, attachment, e.first);
       given = omega (arith, attachment, ap c.attaches site, e.given);
       present = λ q. absurd (other (sym same ∙ q));
     }
 
-pub held_named : (t : Network) (c : Config) (p : Peerings) (edge v : ℕ) (a : HeldRoute) → IsInBounds t c → TellingsNamed t c p → edge_of t v ≡ edge → In (held t c p edge v) a → NamesItsSite t c edge a
+pub held_named : (t : Network) (c : Config) (p : Peerings) (edge v : ℕ) (a : HeldRoute) → IsInBounds t c → HasForms c.statics → TellingsNamed t c p → edge_of t v ≡ edge → In (held t c p edge v) a → NamesItsSite t c edge a
 unfolding held
-held_named t c p edge v a h named at i = elim (in_append (own_routes t c edge v) (near_routes t c edge v ++ flat_map (far_routes t c p edge v) (filter (λ peer. not (peer == edge)) (edges t))) a i) [
-  | inl j ↦ own_named t c edge v a h at j
+held_named t c p edge v a h forms named at i = elim (in_append (own_routes t c edge v) (near_routes t c edge v ++ flat_map (far_routes t c p edge v) (filter (λ peer. not (peer == edge)) (edges t))) a i) [
+  | inl j ↦ own_named t c edge v a h forms at j
   | inr j ↦ elim (in_append (near_routes t c edge v) (flat_map (far_routes t c p edge v) (filter (λ peer. not (peer == edge)) (edges t))) a j) [
-    | inl k ↦ near_named t c edge v a h k
+    | inl k ↦ near_named t c edge v a h forms k
     | inr k ↦ far_named t c p edge v a named k
   ]
 ]
 
 pub sites_held : (t : Network) → IsLawful t → (es : List JournalEntry) (ps : List (List ℕ)) → IsLawfulJournal t es ps → HoldsSites t es
 sites_held t lawful es ps journal n site x within below i =
-    held_named t (world_at t es n).config (world_at t es n).peerings (home_of t site) (vrf_of t site) x (bounds_at t lawful es ps journal n within) (tellings_at t lawful es ps journal n within) refl i
+    held_named t (world_at t es n).config (world_at t es n).peerings (home_of t site) (vrf_of t site) x (bounds_at t lawful es ps journal n within) (forms_at t lawful es ps journal n) (tellings_at t lawful es ps journal n within) refl i
 
 -- 2. FECs
 
@@ -240,5 +246,5 @@ names_what_exists t es ps lawful journal =
     record {
       ldp = λ l end m c. said_from t es (start t) (λ l node. none_answered t) l end m (in_contained ((world_of t es).sessions.said l end) m c);
       bgp = λ teller peer m c. tellings teller peer m (in_contained ((world_of t es).peerings.told teller peer) m c);
-      routes = λ v route below c. held_named t (world_of t es).config (world_of t es).peerings (edge_of t v) v route bounds tellings refl (in_contained (held t (world_of t es).config (world_of t es).peerings (edge_of t v) v) route c);
+      routes = λ v route below c. held_named t (world_of t es).config (world_of t es).peerings (edge_of t v) v route bounds (keeps t es ps lawful journal).forms tellings refl (in_contained (held t (world_of t es).config (world_of t es).peerings (edge_of t v) v) route c);
     }

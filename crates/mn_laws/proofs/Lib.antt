@@ -17,3 +17,4 @@ pub mod Opening
 pub mod Sums
 pub mod Tallies
 pub mod Counted
+pub mod Believing

@@ -79,8 +79,8 @@ entered t w k site b n lawful there h =
     let g : AreLinked t u = one_more_linked t (before_step k) (home_of t site) h in
     enters (AreLinked t) t w u n site b (record {
       falls = λ cause f. judged_linked t u n _ g tt (drop_at u n cause (home_of t site)) refl;
-      delivered = λ x m e. judged_linked t u n _ g tt (deliver u n x.site _ b) refl;
-      flies = λ x hop m e can. hop_linked t w u (bound n x b) (home_of t site) rule.NoLsp hop g (hop_is t w (home_of t site) x.edge hop lawful (home_there t site lawful there) (apart_back x.edge (home_of t site) e) can).there;
+      delivered = λ x p m e. judged_linked t u n _ g tt (deliver u n x.site _ b) refl;
+      flies = λ x hop p m e can. hop_linked t w u (bound n x b) (home_of t site) rule.NoLsp hop g (hop_is t w (home_of t site) x.edge hop lawful (home_there t site lawful there) (apart_back x.edge (home_of t site) e) can).there;
     })
 
 carried : (t : Network) (w : World) (k : Packets) (l : ℕ) (d : Dir) (place : ℕ) (o : Option Token) → IsLawful t → l < length t.links → AreLinked t k → AreLinked t (carry t w (taken (before_step k) l d place) (receiver (wiring_of t) l d) o)

@@ -74,8 +74,8 @@ entered_off t v w site b j h g =
     let apart : j ≢ length w.verdicts = other_than j (length w.verdicts) h in
     enters (Same j w) t v u (length w.verdicts) site b (record {
       falls = λ cause f. same_on j w u _ first (judged_off u (length w.verdicts) (Dropped cause (record { 0 = home_of t site })) j apart);
-      delivered = λ x m e. same_on j w u _ first (deliver_off u (length w.verdicts) x.site _ b j apart);
-      flies = λ x hop m e q. same_on j w u _ first (hop_off t u (bound (length w.verdicts) x b) (home_of t site) rule.NoLsp (Some hop) j apart);
+      delivered = λ x p m e. same_on j w u _ first (deliver_off u (length w.verdicts) x.site _ b j apart);
+      flies = λ x hop p m e q. same_on j w u _ first (hop_off t u (bound (length w.verdicts) x b) (home_of t site) rule.NoLsp (Some hop) j apart);
     })
 
 carried_off : (t : Network) (v : World) (w : Packets) (l : ℕ) (d : Dir) (place y j : ℕ) (o : Option Token) → ((k : Token) → o ≡ Some k → j ≢ k.packet) → Same j w (carry t v (taken w l d place) y o)

@@ -9,7 +9,7 @@ use Rattle.mn_base.specs.declared.drops.Rule.{Rule}
 use Rattle.mn_base.specs.declared.drops.Rule.TheVariants as rule
 use Rattle.mn_base.specs.declared.links.Dir.{Dir}
 use Rattle.mn_base.specs.declared.numbers.LinkNo.{LinkNo}
-use Rattle.mn_ipv4.specs.Header.{ttl_of, aged}
+use Rattle.mn_ipv4.specs.Header.{ttl_of, destination_of, aged}
 use Rattle.mn_topo.specs.Lawful.{IsLawful}
 use Rattle.mn_topo.specs.Network.{Network}
 use Rattle.mn_topo.specs.Steps.{fits}
@@ -26,13 +26,15 @@ use Rattle.mn_ledger.specs.Vpn.{HeldRoute}
 use Rattle.mn_ledger.specs.Packets as packets
 use Rattle.mn_ledger.specs.Packets.{Token, Packets, channel, away_from, drop_at, deliver, hop_over, bound, enter_by, one_more, before_step}
 use Rattle.mn_ledger.specs.Verdicts.{injections, verdict_on}
+use Rattle.mn_ledger.specs.Best.{NamesTheBest}
+use Rattle.mn_ledger.proofs.Choice.{names_best}
 use Rattle.mn_ledger.proofs.Members.{In, in_contained}
 use Rattle.mn_ledger.proofs.Peers.{same_numbers, two_ways}
 use Rattle.mn_laws.specs.Accounts.{world_at, packets_at, Sending, IsSent, routes_at, MayEnter, path_of, IsItsPath, is_flying}
 use Rattle.mn_laws.specs.Named.{NamesItsSite}
-use Rattle.mn_laws.proofs.At.{bytes_of, packets_step, lawful_step}
+use Rattle.mn_laws.proofs.At.{bytes_of, packets_step, lawful_step, lawful_at}
 use Rattle.mn_laws.proofs.Elsewhere.{judged_here, in_pushed, push_here}
-use Rattle.mn_laws.proofs.Entering.{Falls, AtEntry, enters}
+use Rattle.mn_laws.proofs.Entering.{Falls, may_enter, AtEntry, enters}
 use Rattle.mn_laws.proofs.Moving.{after_step, injected_is, Leaves}
 use Rattle.mn_laws.proofs.There.{home_there, IsHop, hop_is}
 use Rattle.mn_laws.proofs.Fates.{frame_of, HasFlown, IsKnown, placed, none_yet, left_known, leaves_ended, where_it_flies, in_get}
@@ -163,11 +165,14 @@ module _ (t : Network) (lawful : IsLawful t) (es : List JournalEntry) (ps : List
               at_most : {m n : ℕ} → m ≡ n → m ≤ n
               at_most q = omega (arith, q)
 
+  names_one : NamesTheBest (routes_at t (world_at t es s.place) s.site) (destination_of s.bytes)
+  names_one = names_best t (take s.place es) ps lawful (lawful_at t es ps s.place journal) home (vrf_of t s.site) (destination_of s.bytes)
+
   pub entered_known : IsKnown t es ps s (suc s.place)
   entered_known = enters (λ w. packets_at t es ps (suc s.place) ≡ w → IsKnown t es ps s (suc s.place)) t (world_at t es s.place) with_it s.packet s.site s.bytes (record {
     falls = fallen;
-    delivered = delivered_here;
-    flies = flies_off;
+    delivered = λ x p h e now. delivered_here x (may_enter t (world_at t es s.place) s.site s.bytes x p h names_one) e now;
+    flies = λ x hop p h e can now. flies_off x hop (may_enter t (world_at t es s.place) s.site s.bytes x p h names_one) e can now;
   }) entered_to
 
 -- 2. Every step

@@ -61,13 +61,14 @@ pub record IsSent (entries : List JournalEntry) (inputs : List (List ℕ)) (send
 abbrev pub routes_at : Network → World → ℕ → List HeldRoute
 routes_at topology world site = held topology world.config world.peerings (home_of topology site) (vrf_of topology site)
 
--- the packet may enter at the site, and of the routes that the site's VRF holds this is the best one for its destination
+-- the packet may enter at the site, and of the routes that the site's VRF holds this one, and no other, is the best for its destination
 pub record MayEnter (topology : Network) (world : World) (site : ℕ) (bytes : List ℕ) (route : HeldRoute) : Type 0 where
   pub attached : is_some (world.config.attached site) ≡ true
   pub is_good : IsTrue (good bytes)
   pub lives : 2 ≤ ttl_of bytes
   pub unicast : is_unicast (destination_of bytes) ≡ true
   pub best_route : IsBest (routes_at topology world site) (destination_of bytes) route
+  pub only : (other : HeldRoute) → IsBest (routes_at topology world site) (destination_of bytes) other → other ≡ route
 
 -- as it was sent
 abbrev pub IsBoundFor : Network → List JournalEntry → Sending → HeldRoute → Type 0

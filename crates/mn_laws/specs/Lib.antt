@@ -2,3 +2,6 @@ pub mod Deliveries
 pub mod Accounts
 pub mod Named
 pub mod Flight
+pub mod Believed
+pub mod Mentions
+pub mod Ids

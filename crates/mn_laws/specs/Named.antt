@@ -3,6 +3,7 @@ use Rattle.std.specs.Prelude.{◌≡◌, ◌≢◌, ◌<◌, ◌≤◌, ℕ, suc
 use Rattle.std.specs.List.{Contains}
 use Rattle.mn_base.specs.declared.links.Dir.{Dir}
 use Rattle.mn_ipv4.specs.Header.{good, total_length, ttl_of}
+use Rattle.mn_prefix.specs.Prefix.{IsPrefix}
 use Rattle.mn_topo.specs.Network.{Network}
 use Rattle.mn_topo.specs.VrfTable.{is_edge}
 use Rattle.mn_node.specs.Ldp.{Message, Initialization, KeepAlive, Address, Mapping, Withdraw, Release}
@@ -28,13 +29,14 @@ abbrev pub AreRising : ℕ → List ℕ → Type 0
 AreRising low [] = ⊤
 AreRising low (target ∷ targets) = (low ≤ target) × AreRising (suc target) targets
 
--- an announcement is of a VRF of the edge that tells it, over a site of this VRF by an attachment that was given, and has 1 to 16
--- targets in ascending order, each once
+-- an announcement is of a VRF of the edge that tells it, for a prefix behind a site of this VRF, by an attachment that was given, and
+-- has 1 to 16 targets in ascending order, each once
 pub record NamesAnAttachment (topology : Network) (config : Config) (teller : ℕ) (export : Export) : Type 0 where
   pub vrf : export.vrf < length topology.vrfs
   pub at_teller : edge_of topology export.vrf ≡ teller
   pub site : export.site < length topology.sites
   pub of_vrf : vrf_of topology export.site ≡ export.vrf
+  pub formed : IsPrefix export.prefix.address export.prefix.length
   pub first : 1 ≤ export.attachment
   pub given : export.attachment ≤ config.attaches export.site + 1
   pub some : 1 ≤ length export.targets
@@ -53,6 +55,7 @@ NamesItsVrf topology config teller (Unreach v prefix) = (v < length topology.vrf
 pub record NamesItsSite (topology : Network) (config : Config) (edge : ℕ) (route : HeldRoute) : Type 0 where
   pub site : route.site < length topology.sites
   pub home : home_of topology route.site ≡ route.edge
+  pub formed : IsPrefix route.prefix.address route.prefix.length
   pub first : 1 ≤ route.attachment
   pub given : route.attachment ≤ config.attaches route.site + 1
   pub present : route.edge ≡ edge → config.attached route.site ≡ Some route.attachment
