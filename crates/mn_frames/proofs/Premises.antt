@@ -9,6 +9,7 @@ use Rattle.std.specs.Prelude.{◌==◌, ◌&&◌, nat_lt, slice_index, Option, I
 use Rattle.std.specs.List.{Contains, list_all}
 use Rattle.std.specs.Ordering.{nat_cmp, is_eq}
 use Rattle.std.specs.BTreeMap.{is_at}
+use Rattle.std.proofs.lemmas.Option.{same_Some}
 use Rattle.std.proofs.lemmas.Bool.Decides.{nat_tests, eqb_tells}
 use Rattle.mn_base.proofs.Bools.{no, other_test, and_left, and_right, less_tells}
 use Rattle.mn_base.specs.declared.links.Dir.TheVariants.{Forth, Back}
@@ -33,6 +34,7 @@ use Rattle.mn_ledger.specs.Ledger.{world_of, packets_of, after}
 use Rattle.mn_ledger.specs.Lawful.{IsLawfulJournal}
 use Rattle.mn_ledger.specs.Refusal.{in_flight, bytes_flying}
 use Rattle.mn_ledger.specs.Verdicts.{injections}
+use Rattle.mn_laws.specs.Named.{AreBytes}
 use Rattle.mn_ledger.proofs.Members.{In, in_contained, contained_in}
 use Rattle.mn_ledger.proofs.Parts.{knowledge_kept}
 use Rattle.mn_ledger.proofs.TwoLinks.{node_no, link_no, site_no, two_links, at_start, settling, packet}
@@ -249,6 +251,10 @@ its_bytes i = by packet i refl
     by [] i h = omega arith
     by (b ∷ bs) zero h = less_tells b 256 (and_left (nat_lt b 256) _ h)
     by (b ∷ bs) (suc i) h = by bs i (and_right (nat_lt b 256) _ h)
+
+pub the_bytes : AreBytes (packet ∷ [])
+the_bytes zero bytes e i = subst (λ b. slice_index b i < 256) (same_Some packet bytes e) (its_bytes i)
+the_bytes (suc n) bytes e i = absurd (let none : None ≡ Some bytes → ⊥ = (λ q. cc) in none e)
 
 -- 5. Site b is detached, and attached anew
 
