@@ -281,7 +281,8 @@ frames_good t es ps lawful journal each bytes l d token c = on_link (packets_who
         let k = known_at_end t es ps lawful journal s.0 s.2 in
         let flies : verdict_on (packets_at t es ps (length es)) s.0.packet ≡ Flying (record { 0 = l }) d = ap (λ q. verdict_on q s.0.packet) whole ∙ ap (verdict_on (packets_of t es ps)) s.1 ∙ is in
         let f : Flies t es ps s.0 (length es) (record { 0 = l }) = subst (FateIs t es ps s.0 (length es)) flies k.fate in
-        let frame : token ≡ frame_of s.0 f.route (path_of (packets_at t es ps (length es)) s.0.packet) = f.frames (channel l d) token (subst (λ q. In (q.flying (channel l d)) token) (sym whole) i) (sym s.1) in
-        subst (IsGoodFrame t (world_of t es).config (packets_of t es ps) l) (sym frame)
-        (subst (λ (w : World). IsGoodFrame t w.config (packets_of t es ps) l (frame_of s.0 f.route (path_of (packets_at t es ps (length es)) s.0.packet))) (world_whole t es (length es) (omega arith))
+        let frame : Token = frame_of s.0 f.route (path_of (packets_at t es ps (length es)) s.0.packet) in
+        let same : token ≡ frame = f.frames (channel l d) token (subst (λ q. In (q.flying (channel l d)) token) (sym whole) i) (sym s.1) in
+        subst (IsGoodFrame t (world_of t es).config (packets_of t es ps) l) (sym {a = token} {b = frame} same)
+        (subst (λ (w : World). IsGoodFrame t w.config (packets_of t es ps) l frame) (world_whole t es (length es) (omega arith))
         (frame_good t es ps s.0 (record { 0 = l }) lawful s.2 journal k f (subst (λ j. j < length (packets_of t es ps).verdicts) (sym s.1) inside) (bytes s.0.packet s.0.bytes s.2.content)))

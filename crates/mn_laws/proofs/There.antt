@@ -26,7 +26,7 @@ use Rattle.mn_laws.specs.Accounts.{AreJoined, GoesOver}
 
 -- 1. Sites, VRFs and edges
 
-at_all : {A : Type 0} (p : A → Bool) (xs : List A) (i : ℕ) (d : A) → list_all p xs ≡ true → i < length xs → p (slice_index_or xs i d) ≡ true
+pub at_all : {A : Type 0} (p : A → Bool) (xs : List A) (i : ℕ) (d : A) → list_all p xs ≡ true → i < length xs → p (slice_index_or xs i d) ≡ true
 at_all p [] i d h g = absurd (none i g)
   where
     none : (i : ℕ) → i < 0 → ⊥
