@@ -395,7 +395,6 @@ tellings_go t w s h g n = λ edge peer m i. later_named t w.config s edge m (n e
 -- 5. After every step of a lawful journal
 
 module _ (t : Network) (lawful : IsLawful t) (es : List JournalEntry) (ps : List (List ℕ)) (journal : IsLawfulJournal t es ps) where
-
   some_entry : (xs : List JournalEntry) (n : ℕ) → n < length xs → (e : JournalEntry) × (slice_get xs n ≡ Some e)
   some_entry [] n h = absurd (none_below n h)
   some_entry (x ∷ xs) zero h = (x, refl)

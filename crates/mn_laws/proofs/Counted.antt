@@ -31,7 +31,6 @@ use Rattle.mn_laws.proofs.Sums.{total, sum-append, sum-map, sum-flat, total-same
 use Rattle.mn_laws.proofs.Tallies.{weigh, by_notices, by_messages, by_routes, by_frames, by_others, AllOn, others_weighed, frames_weighed, as_many_on, loads_weigh, filter_counts, lengths_of_frames}
 
 module _ (t : Network) (lawful : IsLawful t) (es : List JournalEntry) (ps : List (List ℕ)) (journal : IsLawfulJournal t es ps) where
-
   abbrev items : List Item
   items = (flight_of t es ps).items
 

@@ -77,7 +77,6 @@ not_le m n h = elim (leb_tells m n) [ inl q ↦ absurd (clash h q.1) | inr q ↦
     clash a b = omega (arith, a, b)
 
 module _ (t : Network) (lawful : IsLawful t) (es : List JournalEntry) (ps : List (List ℕ)) (journal : IsLawfulJournal t es ps) where
-
   abbrev items : List Item
   items = (flight_of t es ps).items
 

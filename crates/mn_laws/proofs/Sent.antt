@@ -46,7 +46,6 @@ no e = cc
 -- 1. The step in which it is sent
 
 module _ (t : Network) (lawful : IsLawful t) (es : List JournalEntry) (ps : List (List ℕ)) (journal : IsLawfulJournal t es ps) (holds : HoldsSites t es) (s : Sending) (sent : IsSent es ps s) where
-
   abbrev before : Packets
   before = packets_at t es ps s.place
 
@@ -191,7 +190,6 @@ frame_at None = inl refl
 frame_at (Some k) = inr (k, refl)
 
 module _ (t : Network) (lawful : IsLawful t) (es : List JournalEntry) (ps : List (List ℕ)) (journal : IsLawfulJournal t es ps) (holds : HoldsSites t es) where
-
   -- a step while the packet flies
   flying_step : (s : Sending) (n : ℕ) (e : JournalEntry) (x : Step) → e.step ≡ x → IsSent es ps s → s.place < n → slice_get es n ≡ Some e → IsKnown t es ps s n
       → (l : LinkNo) (d : Dir) → verdict_on (packets_at t es ps n) s.packet ≡ Flying l d → IsKnown t es ps s (suc n)

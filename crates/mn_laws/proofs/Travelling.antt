@@ -176,7 +176,6 @@ length_more p y = length-append p (y ∷ [])
 
 module _ (t : Network) (lawful : IsLawful t) (es : List JournalEntry) (ps : List (List ℕ)) (s : Sending) (n : ℕ) (e : JournalEntry) (l : LinkNo) (d : Dir) (place : ℕ) (k : Takes t es ps s n e l d)
     (carries : e.step ≡ Carry l d place) (at_place : slice_get ((packets_at t es ps n).flying (channel l.0 d)) place ≡ Some (frame_of s k.flies.route (path_of (packets_at t es ps n) s.packet))) where
-
   abbrev path : List ℕ
   path = path_of (packets_at t es ps n) s.packet
 
@@ -300,7 +299,6 @@ module _ (t : Network) (lawful : IsLawful t) (es : List JournalEntry) (ps : List
 -- 5. A frame that is lost, and a link that is cut
 
 module _ (t : Network) (es : List JournalEntry) (ps : List (List ℕ)) (s : Sending) (n : ℕ) (e : JournalEntry) (l : LinkNo) (d : Dir) (k : Takes t es ps s n e l d) where
-
   abbrev path_before : List ℕ
   path_before = path_of (packets_at t es ps n) s.packet
 
