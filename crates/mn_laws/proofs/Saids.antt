@@ -55,7 +55,8 @@ notices_none t _ l node = refl
 abbrev said_now : Network → World → Step → ℕ → ℕ → List Message
 said_now t w s l node = messages_of l node (said_in t w.config w.views w.sessions (after t w s).config (after t w s).views (counted t w.sessions s) s)
 
-made_messages : (t : Network) (w : World) (p q : Packets) (s : Step) (l node : ℕ) → loads_in (Messages l node) (made_in t w (after t w s) p q s) ≡ loads_in (Messages l node) (messages_in t w (after t w s) s)
+made_messages : (t : Network) (w : World) (p q : Packets) (s : Step) (l node : ℕ)
+    → loads_in (Messages l node) (made_in t w (after t w s) p q s) ≡ loads_in (Messages l node) (messages_in t w (after t w s) s)
 made_messages t w p q s l node =
     let on : Channel = Messages l node in
     let notices : List (Channel × Load) = notices_in t s in
@@ -64,7 +65,8 @@ made_messages t w p q s l node =
     let frames : List (Channel × Load) = frames_in p q s in
     loads_in_append on notices (messages ++ (routes ++ frames)) ∙ ap (λ r. r ++ loads_in on (messages ++ (routes ++ frames))) (notices_none t s l node)
     ∙ loads_in_append on messages (routes ++ frames) ∙ ap (λ r. loads_in on messages ++ r) (loads_in_append on routes frames)
-    ∙ ap (λ r. loads_in on messages ++ (r ++ loads_in on frames)) (routes_none l node t w (after t w s) s) ∙ ap (λ r. loads_in on messages ++ r) (frames_none l node p q s) ∙ append-nil (loads_in on messages)
+    ∙ ap (λ r. loads_in on messages ++ (r ++ loads_in on frames)) (routes_none l node t w (after t w s) s)
+    ∙ ap (λ r. loads_in on messages ++ r) (frames_none l node p q s) ∙ append-nil (loads_in on messages)
 
 -- 2. The lives of a session
 
@@ -72,30 +74,54 @@ made_messages t w p q s l node =
 GoesOn : Network → World → Step → ℕ → ℕ → List Message → Type 0
 GoesOn t w s l node new = (earlier : List Message) × (w.sessions.said l node ++ new ≡ earlier ++ (after t w s).sessions.said l node)
 
-cleared : (said : ℕ → ℕ → List Message) (at l node : ℕ) (new : List Message) → (earlier : List Message) × (said l node ++ new ≡ earlier ++ (put said at (λ _. []) l node ++ new))
+cleared : (said : ℕ → ℕ → List Message) (at l node : ℕ) (new : List Message)
+    → (earlier : List Message) × (said l node ++ new ≡ earlier ++ (put said at (λ _. []) l node ++ new))
 cleared said at l node new = elim (eqb_tells l at) [
-  | inl q ↦ (said l node, ap (λ r. said l node ++ r) (sym (ap (λ xs. xs ++ new) (ap (λ m. put said at (λ _. []) m node) q.1 ∙ ap (λ f. f node) (put_here said at (λ _. []))))))
+  | inl q ↦ (
+    said l node,
+    ap (λ r. said l node ++ r)
+        (sym (ap (λ xs. xs ++ new) (ap (λ m. put said at (λ _. []) m node) q.1 ∙ ap (λ f. f node) (put_here said at (λ _. []))))),
+  )
   | inr q ↦ ([], ap (λ xs. xs ++ new) (sym (ap (λ f. f node) (put_off said at (λ _. []) l q.1))))
 ]
 
 -- the loads that a step makes for the end
-step_goes : (t : Network) (w : World) (p q : Packets) (s : Step) (l node : ℕ) → (new : List Message) × (loads_in (Messages l node) (made_in t w (after t w s) p q s) ≡ map (λ message. Says message) new) × GoesOn t w s l node new
+step_goes : (t : Network) (w : World) (p q : Packets) (s : Step) (l node : ℕ)
+    → (new : List Message) × (loads_in (Messages l node) (made_in t w (after t w s) p q s) ≡ map (λ message. Says message) new) × GoesOn t w s l node new
 unfolding sessions_after GoesOn
-step_goes t w p q (LinkUp at) l node =
-    (said_now t w (LinkUp at) l node, made_messages t w p q (LinkUp at) l node ∙ in_messages l node _, cleared w.sessions.said at.0 l node (said_now t w (LinkUp at) l node))
-step_goes t w p q (LinkDown at) l node =
-    (said_now t w (LinkDown at) l node, made_messages t w p q (LinkDown at) l node ∙ in_messages l node _, cleared w.sessions.said at.0 l node (said_now t w (LinkDown at) l node))
-step_goes t w p q (LdpAdmin at on) l node =
-    (said_now t w (LdpAdmin at on) l node, made_messages t w p q (LdpAdmin at on) l node ∙ in_messages l node _, cleared w.sessions.said at.0 l node (said_now t w (LdpAdmin at on) l node))
+step_goes t w p q (LinkUp at) l node = (
+  said_now t w (LinkUp at) l node,
+  made_messages t w p q (LinkUp at) l node
+      ∙ in_messages l node _,
+  cleared w.sessions.said at.0 l node (said_now t w (LinkUp at) l node),
+)
+step_goes t w p q (LinkDown at) l node = (
+  said_now t w (LinkDown at) l node,
+  made_messages t w p q (LinkDown at) l node
+      ∙ in_messages l node _,
+  cleared w.sessions.said at.0 l node (said_now t w (LinkDown at) l node),
+)
+step_goes t w p q (LdpAdmin at on) l node = (
+  said_now t w (LdpAdmin at on) l node,
+  made_messages t w p q (LdpAdmin at on) l node
+      ∙ in_messages l node _,
+  cleared w.sessions.said at.0 l node (said_now t w (LdpAdmin at on) l node),
+)
 step_goes t w p q (Learn n at) l node = (said_now t w (Learn n at) l node, made_messages t w p q (Learn n at) l node ∙ in_messages l node _, ([], refl))
-step_goes t w p q (HearLdp at dir) l node = (said_now t w (HearLdp at dir) l node, made_messages t w p q (HearLdp at dir) l node ∙ in_messages l node _, ([], refl))
+step_goes t w p q (HearLdp at dir) l node = (
+  said_now t w (HearLdp at dir) l node,
+  made_messages t w p q (HearLdp at dir) l node
+      ∙ in_messages l node _,
+  ([], refl),
+)
 step_goes t w p q s l node = ([], made_messages t w p q s l node, ([], append-nil (w.sessions.said l node)))
 
 -- 3. A journal
 
 AllSaid : Network → World → Packets → ℕ → List JournalEntry → List (List ℕ) → ℕ → ℕ → Type 0
 AllSaid t w k n es ps l node =
-    (new : List Message) × (loads_on (Messages l node) (made_from t w k n es ps) ≡ map (λ message. Says message) new) × (earlier : List Message) × (w.sessions.said l node ++ new ≡ earlier ++ (world_from t w es).sessions.said l node)
+    (new : List Message) × (loads_on (Messages l node) (made_from t w k n es ps) ≡ map (λ message. Says message) new) × (earlier : List Message)
+    × (w.sessions.said l node ++ new ≡ earlier ++ (world_from t w es).sessions.said l node)
 
 all_said : (t : Network) (es : List JournalEntry) (w : World) (k : Packets) (n : ℕ) (ps : List (List ℕ)) (l node : ℕ) → AllSaid t w k n es ps l node
 unfolding AllSaid GoesOn
@@ -108,10 +134,12 @@ all_said t (e ∷ es) w k n ps l node =
     let rest = all_said t es v q (n + length new) (left_by e.step ps) l node in (
       here.0 ++ rest.0,
       loads_append (Messages l node) (numbered t e.tick n new) (made_from t v q (n + length new) es (left_by e.step ps))
-          ∙ ap (λ r. r ++ loads_on (Messages l node) (made_from t v q (n + length new) es (left_by e.step ps))) (on_numbered t (Messages l node) e.tick n new ∙ here.1)
+          ∙ ap (λ r. r ++ loads_on (Messages l node) (made_from t v q (n + length new) es (left_by e.step ps)))
+          (on_numbered t (Messages l node) e.tick n new ∙ here.1)
           ∙ ap (λ r. map (λ message. Says message) here.0 ++ r) rest.1 ∙ sym (map-append (λ message. Says message) here.0 rest.0),
       here.2.0 ++ rest.2,
-      sym (append_assoc (w.sessions.said l node) here.0 rest.0) ∙ ap (λ r. r ++ rest.0) here.2.1 ∙ append_assoc here.2.0 (v.sessions.said l node) rest.0 ∙ ap (λ r. here.2.0 ++ r) rest.3
+      sym (append_assoc (w.sessions.said l node) here.0 rest.0) ∙ ap (λ r. r ++ rest.0) here.2.1
+          ∙ append_assoc here.2.0 (v.sessions.said l node) rest.0 ∙ ap (λ r. here.2.0 ++ r) rest.3
           ∙ sym (append_assoc here.2.0 rest.2 ((world_from t v es).sessions.said l node)),
     )
 
@@ -141,7 +169,8 @@ label_ids id (Initialization ∷ ms) h = absurd h.0
 label_ids id (KeepAlive ∷ ms) h = absurd h.0
 label_ids id (Address ∷ ms) h = absurd h.0
 
-full_ids : (id : ℕ) (rest : List Message) → AreLabelMessages rest → ids_after id (Initialization ∷ KeepAlive ∷ Address ∷ rest) ≡ range_with_len 1 (length (Initialization ∷ KeepAlive ∷ Address ∷ rest))
+full_ids : (id : ℕ) (rest : List Message) → AreLabelMessages rest
+    → ids_after id (Initialization ∷ KeepAlive ∷ Address ∷ rest) ≡ range_with_len 1 (length (Initialization ∷ KeepAlive ∷ Address ∷ rest))
 full_ids id rest h = ap (λ r. 1 ∷ 2 ∷ 3 ∷ r) (label_ids 3 rest h)
 
 talk_ids : (id : ℕ) (active : Bool) (heard : ℕ) (said : List Message) → IsTalk active heard said → ids_after id said ≡ range_with_len 1 (length said)
@@ -152,7 +181,8 @@ talk_ids id false (suc zero) said h = ap (ids_after id) h ∙ sym (ap (λ ms. ra
 talk_ids id true (suc (suc more)) said h = ap (ids_after id) h.1 ∙ full_ids id h.0 h.2 ∙ sym (ap (λ ms. range_with_len 1 (length ms)) h.1)
 talk_ids id false (suc (suc more)) said h = ap (ids_after id) h.1 ∙ full_ids id h.0 h.2 ∙ sym (ap (λ ms. range_with_len 1 (length ms)) h.1)
 
-pub says_with_ids : (t : Network) (es : List JournalEntry) (ps : List (List ℕ)) (l node : ℕ) → IsLawful t → IsLawfulJournal t es ps → l < length t.links → is_end (wiring_of t) l node ≡ true → SaysWithIds t es ps l node
+pub says_with_ids : (t : Network) (es : List JournalEntry) (ps : List (List ℕ)) (l node : ℕ) → IsLawful t → IsLawfulJournal t es ps
+    → l < length t.links → is_end (wiring_of t) l node ≡ true → SaysWithIds t es ps l node
 unfolding AllSaid
 says_with_ids t es ps l node lawful journal below at_end =
     let said : List Message = (world_of t es).sessions.said l node in

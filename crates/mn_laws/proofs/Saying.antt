@@ -65,7 +65,9 @@ links_in w node l i =
 in_links : (w : Wiring) (node l : ℕ) → IsLinkOf w node l → In (by_neighbour w node) l
 in_links w node l h =
     flat_in (joining w node) (nodes_of w) (across w l node) l (range_in 0 (length w.loopbacks) (across w l node) (omega arith) (omega (arith, h.other)))
-    (filter_in (λ k. across w k node == across w l node) (links_at w node) l (filter_in (λ k. is_end w k node) (links_of w) l (range_in 0 (length w.ends) l (omega arith) (omega (arith, h.there))) h.at_node) (same_test (across w l node)))
+    (filter_in (λ k. across w k node == across w l node) (links_at w node) l
+    (filter_in (λ k. is_end w k node) (links_of w) l (range_in 0 (length w.ends) l (omega arith) (omega (arith, h.there))) h.at_node)
+    (same_test (across w l node)))
 
 -- 3. One FEC on one link
 
@@ -104,25 +106,30 @@ record IsSaidOn (before later : Knowledge) (node fec : ℕ) (was is : Bool) (l :
   pub operational : is_operational later l ≡ true
   pub mention : IsMention (is_operational before l && was) is fec x.message
 
-on_link : (before later : Knowledge) (node fec : ℕ) (was is : Bool) (l : ℕ) (x : Said) → In (mentioned_on before later node fec was is l) x → IsSaidOn before later node fec was is l x
+on_link : (before later : Knowledge) (node fec : ℕ) (was is : Bool) (l : ℕ) (x : Said) → In (mentioned_on before later node fec was is l) x
+    → IsSaidOn before later node fec was is l x
 on_link before later node fec was is l x i = by_test (is_operational later l) refl i
   where
-    by_test : (b : Bool) → is_operational later l ≡ b → In (if b then said_on l node (mention (is_operational before l && was) is fec) else []) x → IsSaidOn before later node fec was is l x
+    by_test : (b : Bool) → is_operational later l ≡ b → In (if b then said_on l node (mention (is_operational before l && was) is fec) else []) x
+        → IsSaidOn before later node fec was is l x
     by_test true e j =
         let m = in_map (λ message. record { link = l; end = node; message = message }) (mention (is_operational before l && was) is fec) x j in
         record {
           link = ap (λ (y : Said). y.link) (sym m.2);
           by = ap (λ (y : Said). y.end) (sym m.2);
           operational = e;
-          mention = subst (λ (y : Said). IsMention (is_operational before l && was) is fec y.message) m.2 (in_mention (is_operational before l && was) is fec m.0 m.1);
+          mention = subst (λ (y : Said). IsMention (is_operational before l && was) is fec y.message) m.2
+              (in_mention (is_operational before l && was) is fec m.0 m.1);
         }
     by_test false e j = absurd j
 
-link_on : (before later : Knowledge) (node fec : ℕ) (was is : Bool) (l : ℕ) (m : Message) → is_operational later l ≡ true → IsMention (is_operational before l && was) is fec m
+link_on : (before later : Knowledge) (node fec : ℕ) (was is : Bool) (l : ℕ) (m : Message) → is_operational later l ≡ true
+    → IsMention (is_operational before l && was) is fec m
     → In (mentioned_on before later node fec was is l) (record { link = l; end = node; message = m })
 link_on before later node fec was is l m h g =
     subst (λ b. In (if b then said_on l node (mention (is_operational before l && was) is fec) else []) (record { link = l; end = node; message = m })) (sym h)
-    (map_in (λ message. record { link = l; end = node; message = message }) (mention (is_operational before l && was) is fec) m (mention_in (is_operational before l && was) is fec m g))
+    (map_in (λ message. record { link = l; end = node; message = message }) (mention (is_operational before l && was) is fec) m
+    (mention_in (is_operational before l && was) is fec m g))
 
 -- 4. All FECs
 
@@ -133,17 +140,34 @@ record IsSaidFrom (before later : Knowledge) (node : ℕ) (ls : List ℕ) (fec :
   pub among : In ls on
   pub said : IsSaidOn before later node (fec + place) (slice_index_or weres place false) (slice_index_or ares place false) on x
 
-from_list : (before later : Knowledge) (node : ℕ) (ls : List ℕ) (fec : ℕ) (weres ares : List Bool) (x : Said) → In (mentioned_from before later node ls fec weres ares) x → IsSaidFrom before later node ls fec weres ares x
+from_list : (before later : Knowledge) (node : ℕ) (ls : List ℕ) (fec : ℕ) (weres ares : List Bool) (x : Said)
+    → In (mentioned_from before later node ls fec weres ares) x → IsSaidFrom before later node ls fec weres ares x
 from_list before later node ls fec [] ares x i = absurd i
 from_list before later node ls fec (was ∷ weres) [] x i = absurd i
-from_list before later node ls fec (was ∷ weres) (is ∷ ares) x i = elim (in_append (flat_map (mentioned_on before later node fec was is) ls) (mentioned_from before later node ls (fec + 1) weres ares) x i) [
-  | inl j ↦
-      let f = in_flat_map (mentioned_on before later node fec was is) ls x j in
-      record { place = 0; within = omega arith; on = f.0; among = f.1; said = subst (λ n. IsSaidOn before later node n was is f.0 x) (none fec) (on_link before later node fec was is f.0 x f.2) }
-  | inr j ↦
-      let f = from_list before later node ls (fec + 1) weres ares x j in
-      record { place = suc f.place; within = omega (arith, f.within); on = f.on; among = f.among; said = subst (λ n. IsSaidOn before later node n (slice_index_or weres f.place false) (slice_index_or ares f.place false) f.on x) (next fec f.place) f.said }
-]
+from_list before later node ls fec (was ∷ weres)
+    (is ∷ ares) x i = elim (in_append (flat_map (mentioned_on before later node fec was is) ls)
+    (mentioned_from before later node ls (fec + 1) weres ares) x i) [
+      | inl j ↦
+          let f = in_flat_map (mentioned_on before later node fec was is) ls x j in
+          record {
+            place = 0;
+            within = omega arith;
+            on = f.0;
+            among = f.1;
+            said = subst (λ n. IsSaidOn before later node n was is f.0 x) (none fec)
+                (on_link before later node fec was is f.0 x f.2);
+          }
+      | inr j ↦
+          let f = from_list before later node ls (fec + 1) weres ares x j in
+          record {
+            place = suc f.place;
+            within = omega (arith, f.within);
+            on = f.on;
+            among = f.among;
+            said = subst
+                (λ n. IsSaidOn before later node n (slice_index_or weres f.place false) (slice_index_or ares f.place false) f.on x) (next fec f.place) f.said;
+          }
+    ]
   where
     none : (n : ℕ) → n ≡ n + 0
     none n = omega arith
@@ -151,18 +175,23 @@ from_list before later node ls fec (was ∷ weres) (is ∷ ares) x i = elim (in_
     next : (n k : ℕ) → n + 1 + k ≡ n + suc k
     next n k = omega arith
 
-list_from : (before later : Knowledge) (node : ℕ) (ls : List ℕ) (fec : ℕ) (weres ares : List Bool) (place l : ℕ) (m : Message) → place < length weres → place < length ares → In ls l → is_operational later l ≡ true
-    → IsMention (is_operational before l && slice_index_or weres place false) (slice_index_or ares place false) (fec + place) m → In (mentioned_from before later node ls fec weres ares) (record { link = l; end = node; message = m })
+list_from : (before later : Knowledge) (node : ℕ) (ls : List ℕ) (fec : ℕ) (weres ares : List Bool) (place l : ℕ) (m : Message) → place < length weres
+    → place < length ares → In ls l → is_operational later l ≡ true
+    → IsMention (is_operational before l && slice_index_or weres place false) (slice_index_or ares place false) (fec + place) m
+    → In (mentioned_from before later node ls fec weres ares) (record { link = l; end = node; message = m })
 list_from before later node ls fec [] ares place l m h g i o k = absurd (none_below place h)
 list_from before later node ls fec (was ∷ weres) [] place l m h g i o k = absurd (none_below place g)
 list_from before later node ls fec (was ∷ weres) (is ∷ ares) zero l m h g i o k =
-    in_front (flat_map (mentioned_on before later node fec was is) ls) (mentioned_from before later node ls (fec + 1) weres ares) (record { link = l; end = node; message = m })
-    (flat_in (mentioned_on before later node fec was is) ls l (record { link = l; end = node; message = m }) i (link_on before later node fec was is l m o (subst (λ n. IsMention (is_operational before l && was) is n m) (none fec) k)))
+    in_front (flat_map (mentioned_on before later node fec was is) ls) (mentioned_from before later node ls (fec + 1) weres ares)
+    (record { link = l; end = node; message = m })
+    (flat_in (mentioned_on before later node fec was is) ls l (record { link = l; end = node; message = m }) i
+    (link_on before later node fec was is l m o (subst (λ n. IsMention (is_operational before l && was) is n m) (none fec) k)))
   where
     none : (n : ℕ) → n + 0 ≡ n
     none n = omega arith
 list_from before later node ls fec (was ∷ weres) (is ∷ ares) (suc place) l m h g i o k =
-    in_rest (flat_map (mentioned_on before later node fec was is) ls) (mentioned_from before later node ls (fec + 1) weres ares) (record { link = l; end = node; message = m })
+    in_rest (flat_map (mentioned_on before later node fec was is) ls) (mentioned_from before later node ls (fec + 1) weres ares)
+    (record { link = l; end = node; message = m })
     (list_from before later node ls (fec + 1) weres ares place l m (omega (arith, h)) (omega (arith, g)) i o
     (subst (λ n. IsMention (is_operational before l && slice_index_or weres place false) (slice_index_or ares place false) n m) (next fec place) k))
   where
@@ -177,17 +206,21 @@ offered_at w k node fec h = at_range (offers w k node) 0 (length w.loopbacks) fe
     none : (n : ℕ) → 0 + n ≡ n
     none n = omega arith
 
-as_news : (w : Wiring) (before later : Knowledge) (node l fec : ℕ) (m : Message) → fec < length w.loopbacks → IsMention (had_offered w before node l fec) (offers w later node fec) fec m → IsNewsOf w before later node l m
+as_news : (w : Wiring) (before later : Knowledge) (node l fec : ℕ) (m : Message) → fec < length w.loopbacks
+    → IsMention (had_offered w before node l fec) (offers w later node fec) fec m → IsNewsOf w before later node l m
 unfolding IsMention
-as_news w before later node l fec (Mapping f) h k = (subst (λ n. n < length w.loopbacks) (sym k.0) h, ap (offers w later node) k.0 ∙ k.1, ap (had_offered w before node l) k.0 ∙ k.2)
-as_news w before later node l fec (Withdraw f) h k = (subst (λ n. n < length w.loopbacks) (sym k.0) h, ap (offers w later node) k.0 ∙ k.1, ap (had_offered w before node l) k.0 ∙ k.2)
+as_news w before later node l fec
+    (Mapping f) h k = (subst (λ n. n < length w.loopbacks) (sym k.0) h, ap (offers w later node) k.0 ∙ k.1, ap (had_offered w before node l) k.0 ∙ k.2)
+as_news w before later node l fec
+    (Withdraw f) h k = (subst (λ n. n < length w.loopbacks) (sym k.0) h, ap (offers w later node) k.0 ∙ k.1, ap (had_offered w before node l) k.0 ∙ k.2)
 as_news w before later node l fec Initialization h k = absurd k
 as_news w before later node l fec KeepAlive h k = absurd k
 as_news w before later node l fec Address h k = absurd k
 as_news w before later node l fec (Release f) h k = absurd k
 
 -- the FEC of such a message
-news_fec : (w : Wiring) (before later : Knowledge) (node l : ℕ) (m : Message) → IsNewsOf w before later node l m → (fec : ℕ) × (fec < length w.loopbacks) × IsMention (had_offered w before node l fec) (offers w later node fec) fec m
+news_fec : (w : Wiring) (before later : Knowledge) (node l : ℕ) (m : Message) → IsNewsOf w before later node l m
+    → (fec : ℕ) × (fec < length w.loopbacks) × IsMention (had_offered w before node l fec) (offers w later node fec) fec m
 unfolding IsMention
 news_fec w before later node l (Mapping f) h = (f, h.0, (refl, h.1, h.2))
 news_fec w before later node l (Withdraw f) h = (f, h.0, (refl, h.1, h.2))
@@ -216,20 +249,25 @@ behind w before later node x i =
       is_news = subst (λ l. IsNewsOf w before later node l x.message) link
           (as_news w before later node f.on f.place x.message below
           (subst (λ b. IsMention (is_operational before f.on && b) (offers w later node f.place) f.place x.message) (offered_at w before node f.place below)
-          (subst (λ b. IsMention (is_operational before f.on && slice_index_or (offered w before node) f.place false) b f.place x.message) (offered_at w later node f.place below)
-          (subst (λ n. IsMention (is_operational before f.on && slice_index_or (offered w before node) f.place false) (slice_index_or (offered w later node) f.place false) n x.message) (none f.place) f.said.mention))));
+          (subst (λ b. IsMention (is_operational before f.on && slice_index_or (offered w before node) f.place false) b f.place x.message)
+          (offered_at w later node f.place below)
+          (subst (λ n. IsMention (is_operational before f.on && slice_index_or (offered w before node) f.place false)
+          (slice_index_or (offered w later node) f.place false) n x.message) (none f.place) f.said.mention))));
     }
   where
     none : (n : ℕ) → 0 + n ≡ n
     none n = omega arith
 
-all_said : (w : Wiring) (before later : Knowledge) (node l : ℕ) (m : Message) → IsLinkOf w node l → is_operational later l ≡ true → IsNewsOf w before later node l m → In (news w before later node) (record { link = l; end = node; message = m })
+all_said : (w : Wiring) (before later : Knowledge) (node l : ℕ) (m : Message) → IsLinkOf w node l → is_operational later l ≡ true
+    → IsNewsOf w before later node l m → In (news w before later node) (record { link = l; end = node; message = m })
 unfolding news
 all_said w before later node l m on o h =
     let f = news_fec w before later node l m h in
-    list_from before later node (by_neighbour w node) 0 (offered w before node) (offered w later node) f.0 l m (omega (arith, f.1, length_range (offers w before node) 0 (length w.loopbacks)))
+    list_from before later node (by_neighbour w node) 0 (offered w before node) (offered w later node) f.0 l m
+    (omega (arith, f.1, length_range (offers w before node) 0 (length w.loopbacks)))
     (omega (arith, f.1, length_range (offers w later node) 0 (length w.loopbacks))) (in_links w node l on) o
-    (subst (λ n. IsMention (is_operational before l && slice_index_or (offered w before node) f.0 false) (slice_index_or (offered w later node) f.0 false) n m) (none f.0)
+    (subst (λ n. IsMention (is_operational before l && slice_index_or (offered w before node) f.0 false)
+    (slice_index_or (offered w later node) f.0 false) n m) (none f.0)
     (subst (λ b. IsMention (is_operational before l && slice_index_or (offered w before node) f.0 false) b f.0 m) (sym (offered_at w later node f.0 f.1))
     (subst (λ b. IsMention (is_operational before l && b) (offers w later node f.0) f.0 m) (sym (offered_at w before node f.0 f.1)) f.2)))
   where

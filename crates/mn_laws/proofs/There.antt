@@ -39,7 +39,8 @@ vrf_there t site lawful h = ltb-true _ _ (at_all (λ (s : SiteDef). nat_lt s.vrf
 
 pub edge_there : (t : Network) (v : ℕ) → IsLawful t → v < length t.vrfs → edge_of t v < length t.loopbacks
 edge_there t v lawful h =
-    ltb-true _ _ (and_parts (nat_lt (edge_of t v) (length t.loopbacks)) (has_rd_form (vrf_at t v).rd.0) (at_all (is_vrf_of (length t.loopbacks)) t.vrfs v _ lawful.vrfs.formed h)).0
+    ltb-true _ _ (and_parts (nat_lt (edge_of t v) (length t.loopbacks)) (has_rd_form (vrf_at t v).rd.0)
+    (at_all (is_vrf_of (length t.loopbacks)) t.vrfs v _ lawful.vrfs.formed h)).0
 
 pub home_there : (t : Network) (site : ℕ) → IsLawful t → site < length t.sites → home_of t site < length t.loopbacks
 home_there t site lawful h = edge_there t (vrf_of t site) lawful (vrf_there t site lawful h)
@@ -90,16 +91,19 @@ sends_from t l node h = elim (eqb_tells (link (wiring_of t) l).a.0 node) [
   | inr q ↦ rw q.0 (same_numbers (link (wiring_of t) l).b.0 node (sym (ap (λ b. b || ((link (wiring_of t) l).b.0 == node)) q.0) ∙ h))
 ]
 
-pub hop_is : (t : Network) (w : World) (node edge : ℕ) (hop : ℕ × ℕ) → IsLawful t → node < length t.loopbacks → node ≢ edge → usable t w.config w.views w.sessions node edge ≡ Some hop → IsHop t node hop
+pub hop_is : (t : Network) (w : World) (node edge : ℕ) (hop : ℕ × ℕ) → IsLawful t → node < length t.loopbacks → node ≢ edge
+    → usable t w.config w.views w.sessions node edge ≡ Some hop → IsHop t node hop
 hop_is t w node edge hop lawful below apart h =
     let k : Knowledge = knowledge_of (wiring_of t) w.config w.views w.sessions node in
     let is : next (wiring_of t) k.view node edge ≡ Some hop = by_next k edge (next (wiring_of t) k.view node edge) hop h in
-    let n : IsNext (wiring_of t) k.view node edge (Some hop) = subst (IsNext (wiring_of t) k.view node edge) is (next_is (wiring_of t) k.view edge lawful.joins_nodes node below apart) in
+    let n : IsNext (wiring_of t) k.view node edge (Some hop) = subst (IsNext (wiring_of t) k.view node edge) is
+    (next_is (wiring_of t) k.view edge lawful.joins_nodes node below apart) in
     record { there = n.1.there; at_node = n.1.at_node; leads = n.0; sends = sends_from t hop.1 node n.1.at_node }
 
 -- 4. Paths
 
-pub goes_further : (t : Network) (from : ℕ) (nodes : List ℕ) (last next : ℕ) → GoesOver t from nodes last → AreJoined t last next → GoesOver t from (nodes ++ next ∷ []) next
+pub goes_further : (t : Network) (from : ℕ) (nodes : List ℕ) (last next : ℕ) → GoesOver t from nodes last → AreJoined t last next
+    → GoesOver t from (nodes ++ next ∷ []) next
 goes_further t from [] last next h j = (subst (λ n. AreJoined t n next) (sym h) j, refl)
 goes_further t from (node ∷ nodes) last next h j = (h.0, goes_further t node nodes last next h.1 j)
 

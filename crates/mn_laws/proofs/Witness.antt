@@ -74,32 +74,39 @@ it_is_sent = record { entry = at_start (Inject (site_no 0) 1); number = 1; there
 
 -- it is the first delivery, cut to its total length, its TTL less by the three nodes of its path
 pub one_delivery : deliveries_of two_links across_both (packet ∷ []) ≡ record { tick = 0; bytes = aged packet 3 } ∷ []
-unfolding next knowledge_of news sessions_after peerings_after held packets_after is_not_ipv4 is_malformed is_truncated has_bad_checksum good checksum_for with_ttl aged in_flight bytes_flying
+unfolding next knowledge_of news sessions_after peerings_after held packets_after is_not_ipv4 is_malformed is_truncated has_bad_checksum good
+    checksum_for with_ttl aged in_flight bytes_flying
 one_delivery = refl
 
 -- each delivery bears the tick of its step
 abbrev carried_later : List JournalEntry
-carried_later = settling ++ record { tick = 5; step = Inject (site_no 0) 1 } ∷ record { tick = 7; step = Carry (link_no 0) Forth 0 } ∷ record { tick = 9; step = Carry (link_no 1) Forth 0 } ∷ []
+carried_later = settling ++ record { tick = 5; step = Inject (site_no 0) 1 } ∷ record { tick = 7; step = Carry (link_no 0) Forth 0 } ∷
+    record { tick = 9; step = Carry (link_no 1) Forth 0 } ∷ []
 
 pub at_its_tick : deliveries_of two_links carried_later (packet ∷ []) ≡ record { tick = 9; bytes = aged packet 3 } ∷ []
-unfolding next knowledge_of news sessions_after peerings_after held packets_after is_not_ipv4 is_malformed is_truncated has_bad_checksum good checksum_for with_ttl aged in_flight bytes_flying
+unfolding next knowledge_of news sessions_after peerings_after held packets_after is_not_ipv4 is_malformed is_truncated has_bad_checksum good
+    checksum_for with_ttl aged in_flight bytes_flying
 at_its_tick = refl
 
 -- one frame was sent over each link, and none back
 pub one_frame_each : map (λ l. length (frames_sent two_links across_both (packet ∷ []) l Forth)) (0 ∷ 1 ∷ []) ≡ 1 ∷ 1 ∷ []
-unfolding next knowledge_of news sessions_after peerings_after held packets_after is_not_ipv4 is_malformed is_truncated has_bad_checksum good checksum_for with_ttl aged in_flight bytes_flying
+unfolding next knowledge_of news sessions_after peerings_after held packets_after is_not_ipv4 is_malformed is_truncated has_bad_checksum good
+    checksum_for with_ttl aged in_flight bytes_flying
 one_frame_each = refl
 
 pub none_back : frames_sent two_links across_both (packet ∷ []) 0 Back ≡ []
-unfolding next knowledge_of news sessions_after peerings_after held packets_after is_not_ipv4 is_malformed is_truncated has_bad_checksum good checksum_for with_ttl aged in_flight bytes_flying
+unfolding next knowledge_of news sessions_after peerings_after held packets_after is_not_ipv4 is_malformed is_truncated has_bad_checksum good
+    checksum_for with_ttl aged in_flight bytes_flying
 none_back = refl
 
 -- the second of two frames has the number 2, whichever flies on first
 abbrev two_are_sent : List JournalEntry
 two_are_sent = settling ++ at_start (Inject (site_no 0) 1) ∷ at_start (Inject (site_no 0) 1) ∷ at_start (Carry (link_no 0) Forth 1) ∷ []
 
-pub frames_are_numbered : map (frame_number two_links two_are_sent (packet ∷ packet ∷ []) 0 Forth) (frames_sent two_links two_are_sent (packet ∷ packet ∷ []) 0 Forth) ≡ 1 ∷ 2 ∷ []
-unfolding next knowledge_of news sessions_after peerings_after held packets_after is_not_ipv4 is_malformed is_truncated has_bad_checksum good checksum_for with_ttl aged in_flight bytes_flying
+pub frames_are_numbered : map (frame_number two_links two_are_sent (packet ∷ packet ∷ []) 0 Forth)
+    (frames_sent two_links two_are_sent (packet ∷ packet ∷ []) 0 Forth) ≡ 1 ∷ 2 ∷ []
+unfolding next knowledge_of news sessions_after peerings_after held packets_after is_not_ipv4 is_malformed is_truncated has_bad_checksum good
+    checksum_for with_ttl aged in_flight bytes_flying
 frames_are_numbered = refl
 
 -- a second life begins with the id 1 again

@@ -22,8 +22,10 @@ ids_of messages = ids_after 0 messages
 -- of all that an end said on a link the last is what it said in the present life, whose ids are their places, from 1
 pub record SaysWithIds (topology : Network) (entries : List JournalEntry) (inputs : List (List ℕ)) (l end : ℕ) : Type 0 where
   pub earlier : List Message
-  pub all : loads_on (Messages l end) (made_by topology entries inputs) ≡ map (λ message. Says message) (earlier ++ (world_of topology entries).sessions.said l end)
-  pub ids : ids_of (earlier ++ (world_of topology entries).sessions.said l end) ≡ ids_of earlier ++ range_with_len 1 (length ((world_of topology entries).sessions.said l end))
+  pub all : loads_on (Messages l end) (made_by topology entries inputs) ≡ map (λ message. Says message)
+      (earlier ++ (world_of topology entries).sessions.said l end)
+  pub ids : ids_of (earlier ++ (world_of topology entries).sessions.said l end) ≡ ids_of earlier ++ range_with_len 1
+      (length ((world_of topology entries).sessions.said l end))
 
 -- 2. Frames
 

@@ -84,7 +84,8 @@ pub record IsGoodFrame (topology : Network) (config : Config) (packets : Packets
   pub bounded : token.pushed ≤ 254
 
 abbrev pub FramesAreGood : Network → World → Packets → Type 0
-FramesAreGood topology world packets = (l : ℕ) (dir : Dir) (token : Token) → Contains (flying_on packets l dir) token → IsGoodFrame topology world.config packets l token
+FramesAreGood topology world packets = (l : ℕ) (dir : Dir) (token : Token) → Contains (flying_on packets l dir) token
+    → IsGoodFrame topology world.config packets l token
 
 -- 5. After every lawful journal
 
