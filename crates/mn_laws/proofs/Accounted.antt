@@ -1,16 +1,11 @@
 -- Each packet that is sent is accounted for; and what flies is a good packet.
-use Rattle.std.proofs.Common.{ℕ, zero, suc, ◌≡◌, ◌≢◌, ◌+◌, ◌-◌, ◌<◌, ◌≤◌, ◌⊎◌, inl, inr, Bool, true, false, List, [], ◌∷◌, ◌++◌, length, take, refl, arith, sym, ◌∙◌, ap, subst, Option, Some, None}
+use Rattle.std.proofs.Common.{ℕ, zero, suc, ◌≡◌, ◌+◌, ◌-◌, ◌<◌, ◌≤◌, inl, inr, Bool, true, false, List, [], ◌∷◌, ◌++◌, length, take, refl, arith, sym, ◌∙◌, ap, subst, Option, Some, None}
 use Rattle.std.specs.Prelude.{◌==◌, ◌||◌, IsTrue, slice_get, slice_index, slice_index_or}
-use Rattle.std.specs.List.{Contains, list_any}
-use Rattle.std.proofs.lemmas.Bool.Decides.{eqb_tells, leb_tells}
+use Rattle.std.proofs.lemmas.Bool.Decides.{eqb_tells}
 use Rattle.std.proofs.lemmas.List.{length-append, take-append-le, take_all}
 use Rattle.std.proofs.lemmas.Option.{slice_get_within}
-use Rattle.mn_base.specs.declared.drops.Rule.{Rule}
-use Rattle.mn_base.specs.declared.links.Dir.{Dir}
 use Rattle.mn_base.specs.declared.numbers.LinkNo.{LinkNo}
-use Rattle.mn_base.specs.declared.numbers.NodeNo.{NodeNo}
-use Rattle.mn_base.specs.declared.numbers.SiteNo.{SiteNo}
-use Rattle.mn_ipv4.specs.Header.{good, total_length, ttl_of, aged}
+use Rattle.mn_ipv4.specs.Header.{good, ttl_of}
 use Rattle.mn_ipv4.proofs.Laws.{IsGood-from_good, length-aged, ttl_of-aged, total_length-aged, good-aged}
 use Rattle.mn_topo.specs.Lawful.{IsLawful}
 use Rattle.mn_topo.specs.Network.{Network}
@@ -23,17 +18,16 @@ use Rattle.mn_ledger.specs.declared.verdict.Verdict.{Verdict}
 use Rattle.mn_ledger.specs.declared.verdict.Verdict.TheVariants.{Delivered, Dropped, Flying}
 use Rattle.mn_ledger.specs.Places.{vrf_of, edge_of, home_of}
 use Rattle.mn_ledger.specs.World.{World}
-use Rattle.mn_ledger.specs.Vpn.{HeldRoute}
 use Rattle.mn_ledger.specs.Packets.{Token, Packets, channel, flying_on}
-use Rattle.mn_ledger.specs.Ledger.{after, injects, world_of, packets_of}
+use Rattle.mn_ledger.specs.Ledger.{injects, world_of, packets_of}
 use Rattle.mn_ledger.specs.Lawful.{IsLawfulJournal}
-use Rattle.mn_ledger.specs.Verdicts.{one_if, injections, verdict_on, AreInOnePlace}
+use Rattle.mn_ledger.specs.Verdicts.{one_if, injections, verdict_on}
 use Rattle.mn_ledger.proofs.Members.{In, in_contained}
 use Rattle.mn_ledger.proofs.OnePlace.{in_one_place}
 use Rattle.mn_ledger.proofs.Peers.{same_test}
 use Rattle.mn_laws.specs.Deliveries.{deliveries_of}
-use Rattle.mn_laws.specs.Accounts.{world_at, packets_at, Sending, IsSent, routes_at, path_of, IsItsPath, is_flying, IsLastStep, HasArrived, HasFallen, IsOnItsWay, IsFate, IsAccountedFor, IsOneCopy, Accounts}
-use Rattle.mn_laws.specs.Named.{NamesItsSite, AreBytes, IsGoodFrame, FramesAreGood}
+use Rattle.mn_laws.specs.Accounts.{world_at, packets_at, Sending, IsSent, routes_at, path_of, IsItsPath, is_flying, IsLastStep, IsFate, IsAccountedFor, IsOneCopy, Accounts}
+use Rattle.mn_laws.specs.Named.{AreBytes, IsGoodFrame, FramesAreGood}
 use Rattle.mn_laws.proofs.At.{world_step, world_whole, packets_whole, packets_longer}
 use Rattle.mn_laws.proofs.Announced.{attaches_grow}
 use Rattle.mn_laws.proofs.Copies.{AreNumbered, numbered, as_many, listed}

@@ -1,9 +1,9 @@
 -- What was told, and what is held, names VRFs, sites and attachments that exist.
-use Rattle.std.proofs.Common.{ℕ, zero, suc, ◌≡◌, ◌≢◌, ◌+◌, ◌<◌, ◌≤◌, ◌⊎◌, inl, inr, Bool, true, false, cond, List, [], ◌∷◌, ◌++◌, map, filter, length, take, refl, arith, sym, ◌∙◌, ap, subst, Option, Some, None}
-use Rattle.std.specs.Prelude.{◌==◌, ◌&&◌, not, nat_le, nat_lt, if◌then◌else◌, fold, slice_get, slice_index_or, unwrap_or, is_some, ⊤}
+use Rattle.std.proofs.Common.{ℕ, zero, suc, ◌≡◌, ◌+◌, ◌<◌, ◌≤◌, inl, inr, Bool, true, false, cond, List, [], ◌∷◌, ◌++◌, map, filter, length, take, refl, arith, sym, ◌∙◌, ap, subst, Option, Some, None}
+use Rattle.std.specs.Prelude.{◌==◌, not, nat_le, nat_lt, fold, slice_get, slice_index_or, unwrap_or, is_some}
 use Rattle.std.specs.List.{flat_map, list_any, range_with_len, AllByRecursion}
 use Rattle.std.proofs.lemmas.Bool.{and_parts, ltb-true}
-use Rattle.std.proofs.lemmas.Bool.Decides.{eqb_tells, leb_tells, nat_tests}
+use Rattle.std.proofs.lemmas.Bool.Decides.{eqb_tells, leb_tells}
 use Rattle.mn_base.specs.declared.numbers.Rt.{Rt}
 use Rattle.mn_base.specs.declared.states.BgpState.{BgpState}
 use Rattle.mn_base.specs.declared.states.BgpState.TheVariants.{OpenSent, OpenConfirm}
@@ -20,14 +20,14 @@ use Rattle.mn_topo.specs.Steps.{fits}
 use Rattle.mn_ledger.specs.declared.refused.Refused.{Refused}
 use Rattle.mn_ledger.specs.declared.refused.Refused.TheVariants as why
 use Rattle.mn_ledger.specs.Tables.{put, put_pair}
-use Rattle.mn_ledger.specs.Places.{vrf_at, vrf_of, edge_of, home_of, vrfs_at, edges}
+use Rattle.mn_ledger.specs.Places.{vrf_at, vrf_of, edge_of, vrfs_at, edges}
 use Rattle.mn_ledger.specs.World.{SiteRoute, Config, Export, Telling, Open, Alive, Announce, Unreach, Peerings, World}
-use Rattle.mn_ledger.specs.Vpn.{Told, is_present, export_of, present_with, exports_with, exports_of, is_between, tellings_of, told_to, reply, replies, is_for, same_export, withdrawn, announced, changed, steady_peers, news, told_in, counted, peerings_after}
+use Rattle.mn_ledger.specs.Vpn.{Told, exports_with, exports_of, is_between, tellings_of, told_to, reply, replies, is_for, same_export, withdrawn, announced, changed, steady_peers, news, told_in, counted, peerings_after}
 use Rattle.mn_ledger.specs.Packets.{Packets}
-use Rattle.mn_ledger.specs.Ledger.{with_target, ascending, statics_from, is_static, config_after, after, start}
+use Rattle.mn_ledger.specs.Ledger.{with_target, statics_from, is_static, config_after, after, start}
 use Rattle.mn_ledger.specs.Refusal.{is_unchanged, is_empty, static_refusal, is_targets_full, is_spent, is_full, where_holds, first_cause, limits, refusal_at}
 use Rattle.mn_ledger.specs.Lawful.{IsLawfulJournal}
-use Rattle.mn_ledger.proofs.GoingBy.{put_here, put_off, pair_here, pair_off}
+use Rattle.mn_ledger.proofs.GoingBy.{pair_here, pair_off}
 use Rattle.mn_ledger.proofs.Members.{In, in_append, in_map, in_filter, in_flat_map, in_range}
 use Rattle.mn_ledger.proofs.Peers.{same_numbers}
 use Rattle.mn_ledger.proofs.Tellings.{Behind, exported}
@@ -328,7 +328,8 @@ named_changed t old new edge h g m
       | inl j ↦
           let f = in_map (λ (export : Export). Unreach export.vrf export.prefix)
           (filter (λ export. not (list_any (is_for export.vrf export.prefix) (exports_of t new edge))) (exports_of t old edge)) m j in
-          let e = h edge f.0 (in_filter (λ export. not (list_any (is_for export.vrf export.prefix) (exports_of t new edge))) (exports_of t old edge) f.0 f.1).0 in
+          let e = h edge f.0 (in_filter (λ export. not (list_any (is_for export.vrf export.prefix) (exports_of t new edge))) (exports_of t old edge) f.0 f.1).0 i
+                        let e = h edge f.0 (in_filter (λ export. not (list_any (is_for export.vrf export.prefix) (exports_of t new edge))) (exports_of t old edge) f.0 f.1).0 in
           subst (NamesItsVrf t new edge) f.2 (e.vrf, e.at_teller)
       | inr j ↦
           named_announced t new edge (filter (λ export. not (list_any (same_export export) (exports_of t old edge))) (exports_of t new edge))

@@ -24,7 +24,7 @@ use Rattle.mn_ledger.specs.Vpn.{peerings_after, Told, told_to, peers_live, is_es
 use Rattle.mn_ledger.specs.Packets.{Token, Packets, flying_on, packets_after}
 use Rattle.mn_ledger.specs.Ledger.{config_after, after, start, no_packets, next_of, left_by, world_from, world_of}
 use Rattle.mn_ledger.specs.Lawful.{IsLawfulFrom, IsLawfulJournal}
-use Rattle.mn_ledger.specs.Items.{Channel, Notices, Messages, Routes, Frames, Load, Notice, Says, Tells, Carries, Item, Flight, notices_in, message_of, messages_in, route_of, routes_in, frame_by, frame_after, frames_in, last_of, made_in, numbered, left_in_flight, with_made, flight_from, flight_of}
+use Rattle.mn_ledger.specs.Items.{Channel, Notices, Messages, Frames, Load, Notice, Says, Carries, Item, Flight, notices_in, message_of, messages_in, route_of, routes_in, frame_by, frame_after, frames_in, last_of, made_in, numbered, left_in_flight, with_made, flight_from, flight_of}
 use Rattle.mn_ledger.proofs.Members.{In, in_append, in_map, in_filter, in_flat_map, in_range, in_contained}
 use Rattle.mn_ledger.proofs.Turning.{opener, is_end-a, is_end-b, dir_ends}
 use Rattle.mn_ledger.proofs.GoingBy.{pair_here, pair_off}

@@ -1,14 +1,13 @@
 -- Deliveries are numbered from 1, each once; and as many are listed. It holds of every journal, lawful or not.
-use Rattle.std.proofs.Common.{ℕ, zero, suc, ◌≡◌, ◌≢◌, ◌+◌, ◌-◌, ◌<◌, ◌≤◌, ◌⊎◌, inl, inr, Bool, true, false, List, [], ◌∷◌, ◌++◌, length, take, refl, arith, sym, ◌∙◌, ap, subst, Option, Some, None}
-use Rattle.std.specs.Prelude.{◌==◌, slice_get, slice_index_or}
-use Rattle.std.proofs.lemmas.Bool.Decides.{eqb_tells, leb_tells}
+use Rattle.std.proofs.Common.{ℕ, zero, suc, ◌≡◌, ◌≢◌, ◌+◌, ◌-◌, ◌<◌, ◌≤◌, ◌⊎◌, inl, inr, true, false, List, [], ◌∷◌, ◌++◌, length, take, refl, arith, sym, ◌∙◌, ap, subst, Option, Some, None}
+use Rattle.std.specs.Prelude.{◌==◌, slice_get}
+use Rattle.std.proofs.lemmas.Bool.Decides.{eqb_tells}
 use Rattle.std.proofs.lemmas.List.{length-append, length-set, length_push}
 use Rattle.std.proofs.lemmas.Option.{same_Some}
 use Rattle.mn_base.specs.declared.drops.Rule.{Rule}
 use Rattle.mn_base.specs.declared.drops.Rule.TheVariants as rule
 use Rattle.mn_base.specs.declared.links.Dir.{Dir}
 use Rattle.mn_base.specs.declared.links.Dir.TheVariants.{Forth, Back}
-use Rattle.mn_base.specs.declared.numbers.LinkNo.{LinkNo}
 use Rattle.mn_base.specs.Wiring.{sender, receiver}
 use Rattle.mn_topo.specs.Network.{Network, wiring_of}
 use Rattle.mn_topo.specs.declared.steps.Step.{Step}
@@ -22,15 +21,15 @@ use Rattle.mn_ledger.specs.Places.{home_of, vrf_of}
 use Rattle.mn_ledger.specs.World.{World}
 use Rattle.mn_ledger.specs.Packets.{Token, Packets, channel, flying_on, judged, drop_at, visited, deliver, hop_over, bound, entry_rules, enter_by, one_more, taken, carry, lose, cut_each, cut, before_step, packets_after}
 use Rattle.mn_ledger.specs.Ledger.{after, start, no_packets, injects, next_of, left_by, packets_from, packets_of}
-use Rattle.mn_ledger.specs.Verdicts.{one_if, injections, verdict_on, AreInOnePlace}
+use Rattle.mn_ledger.specs.Verdicts.{one_if, verdict_on, AreInOnePlace}
 use Rattle.mn_ledger.proofs.Members.{In}
-use Rattle.mn_ledger.proofs.OnePlace.{loosen, stepped, in_one_place}
+use Rattle.mn_ledger.proofs.OnePlace.{loosen, stepped}
 use Rattle.mn_ledger.proofs.Peers.{same_numbers, same_test, two_ways}
 use Rattle.mn_laws.specs.Deliveries.{Delivery, delivery_at, deliveries_from, deliveries_of}
-use Rattle.mn_laws.specs.Accounts.{is_copy, IsOneCopy}
+use Rattle.mn_laws.specs.Accounts.{is_copy}
 use Rattle.mn_laws.proofs.Elsewhere.{judged_off, judged_here, push_other, cut_counts, cut_others}
-use Rattle.mn_laws.proofs.Entering.{AtEntry, enters}
-use Rattle.mn_laws.proofs.Moving.{after_step, injected_is, carried_is, lost_is, cut_is, AtArrival, arrives}
+use Rattle.mn_laws.proofs.Entering.{enters}
+use Rattle.mn_laws.proofs.Moving.{after_step, injected_is, carried_is, lost_is, cut_is, arrives}
 use Rattle.mn_laws.proofs.Fates.{where_it_flies, flying_inside, in_get}
 
 no : false ≡ true → ⊥

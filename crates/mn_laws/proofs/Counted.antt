@@ -1,7 +1,6 @@
 -- What is in flight is as much as the ledger counts.
-use Rattle.std.proofs.Common.{ℕ, zero, suc, ◌≡◌, ◌≢◌, ◌+◌, ◌-◌, ◌<◌, ◌≤◌, ◌⊎◌, inl, inr, Bool, true, false, List, [], ◌∷◌, ◌++◌, map, filter, length, drop, refl, arith, sym, ◌∙◌, ap, subst}
-use Rattle.std.specs.Prelude.{◌==◌, not, sum}
-use Rattle.std.specs.List.{flat_map, range_with_len}
+use Rattle.std.proofs.Common.{ℕ, ◌≡◌, ◌+◌, ◌-◌, ◌<◌, inl, inr, true, List, [], ◌∷◌, ◌++◌, map, filter, length, drop, refl, arith, sym, ◌∙◌, ap, subst}
+use Rattle.std.specs.Prelude.{not, sum}
 use Rattle.std.proofs.lemmas.Bool.Decides.{eqb_tells}
 use Rattle.std.proofs.lemmas.List.{length-map, length-drop, map-append}
 use Rattle.mn_base.specs.declared.links.Dir.{Dir}
@@ -28,7 +27,7 @@ use Rattle.mn_laws.proofs.Channels.{channels_are, none_to_itself}
 use Rattle.mn_laws.proofs.Opening.{some_item, delivered_open, lost_open}
 use Rattle.mn_laws.proofs.Ordered.{numbers_ascend, flies_in_order}
 use Rattle.mn_laws.proofs.Sums.{total, sum-append, sum-map, sum-flat, total-same}
-use Rattle.mn_laws.proofs.Tallies.{weigh, by_notices, by_messages, by_routes, by_frames, by_others, AllOn, others_weighed, frames_weighed, as_many_on, loads_weigh, filter_counts, lengths_of_frames}
+use Rattle.mn_laws.proofs.Tallies.{weigh, by_notices, by_messages, by_routes, AllOn, others_weighed, frames_weighed, as_many_on, loads_weigh, filter_counts, lengths_of_frames}
 
 module _ (t : Network) (lawful : IsLawful t) (es : List JournalEntry) (ps : List (List ℕ)) (journal : IsLawfulJournal t es ps) where
   abbrev items : List Item

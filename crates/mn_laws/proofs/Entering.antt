@@ -1,5 +1,5 @@
 -- What becomes of a packet as it is sent: it falls to the first rule that applies, reaches a site of the same edge, or flies.
-use Rattle.std.proofs.Common.{ℕ, zero, suc, ◌≡◌, ◌≢◌, ◌+◌, ◌-◌, ◌<◌, ◌≤◌, ◌⊎◌, inl, inr, Bool, true, false, List, [], ◌∷◌, ◌++◌, length, refl, arith, sym, ◌∙◌, ap, subst, Option, Some, None}
+use Rattle.std.proofs.Common.{ℕ, ◌≡◌, ◌-◌, ◌≤◌, inl, inr, Bool, true, false, List, [], ◌∷◌, refl, arith, sym, ◌∙◌, ap, Option, Some, None}
 use Rattle.std.specs.Prelude.{◌==◌, ◌&&◌, ◌||◌, not, nat_lt, is_none, is_some, IsTrue}
 use Rattle.std.specs.List.{list_any}
 use Rattle.std.proofs.lemmas.Bool.Decides.{nat_tests}
@@ -13,7 +13,7 @@ use Rattle.mn_ledger.specs.Entry.{is_unicast, when, first_rule}
 use Rattle.mn_ledger.specs.Places.{home_of, vrf_of}
 use Rattle.mn_ledger.specs.World.{World}
 use Rattle.mn_ledger.specs.Transport.{usable}
-use Rattle.mn_ledger.specs.Vpn.{HeldRoute, held, best}
+use Rattle.mn_ledger.specs.Vpn.{HeldRoute, best}
 use Rattle.mn_ledger.specs.Best.{IsBest, NamesTheBest}
 use Rattle.mn_ledger.specs.Packets as packets
 use Rattle.mn_ledger.specs.Packets.{Packets, bound, hop_over, drop_at, deliver, route_by, enter_by}

@@ -1,17 +1,16 @@
 -- What is known of each packet that was sent, after each step of a lawful journal.
-use Rattle.std.proofs.Common.{ℕ, zero, suc, ◌≡◌, ◌≢◌, ◌+◌, ◌-◌, ◌<◌, ◌≤◌, ◌⊎◌, inl, inr, Bool, true, false, cond, List, [], ◌∷◌, ◌++◌, length, take, refl, arith, sym, ◌∙◌, ap, subst, Option, Some, None}
-use Rattle.std.specs.Prelude.{◌==◌, slice_get, slice_index_or, IsTrue}
+use Rattle.std.proofs.Common.{ℕ, zero, suc, ◌≡◌, ◌≢◌, ◌+◌, ◌-◌, ◌<◌, ◌≤◌, ◌⊎◌, inl, inr, true, false, List, [], ◌∷◌, length, take, refl, arith, sym, ◌∙◌, ap, subst, Option, Some, None}
+use Rattle.std.specs.Prelude.{◌==◌, slice_get, slice_index_or}
 use Rattle.std.proofs.lemmas.Bool.Decides.{eqb_tells, leb_tells}
-use Rattle.std.proofs.lemmas.List.{length-append, take_all}
+use Rattle.std.proofs.lemmas.List.{take_all}
 use Rattle.std.proofs.lemmas.Option.{same_Some}
 use Rattle.mn_base.specs.declared.drops.Rule.{Rule}
-use Rattle.mn_base.specs.declared.drops.Rule.TheVariants as rule
 use Rattle.mn_base.specs.declared.links.Dir.{Dir}
 use Rattle.mn_base.specs.declared.links.Dir.TheVariants.{Forth, Back}
 use Rattle.mn_base.specs.declared.numbers.LinkNo.{LinkNo}
 use Rattle.mn_base.specs.declared.numbers.NodeNo.{NodeNo}
 use Rattle.mn_base.specs.declared.numbers.SiteNo.{SiteNo}
-use Rattle.mn_ipv4.specs.Header.{good, ttl_of, aged}
+use Rattle.mn_ipv4.specs.Header.{ttl_of, aged}
 use Rattle.mn_topo.specs.Network.{Network}
 use Rattle.mn_topo.specs.declared.steps.Step.{Step}
 use Rattle.mn_topo.specs.declared.steps.Step.TheVariants.{LinkDown, Carry, Lose}
@@ -25,9 +24,9 @@ use Rattle.mn_ledger.specs.Ledger.{injects, packets_of}
 use Rattle.mn_ledger.specs.Verdicts.{one_if, injections, times_in, times_by, verdict_on, AreInOnePlace}
 use Rattle.mn_ledger.proofs.Members.{In}
 use Rattle.mn_ledger.proofs.OnePlace.{in_one_place}
-use Rattle.mn_ledger.proofs.Peers.{two_ways, same_numbers, same_test}
-use Rattle.mn_laws.specs.Accounts.{world_at, packets_at, Sending, IsSent, IsBoundFor, path_of, IsItsPath, node_of, is_flying, ttl_left, IsPassedOn, FellAtEntry, FellInFlight}
-use Rattle.mn_laws.proofs.At.{bytes_of, stepped_to, packets_step, injections_step}
+use Rattle.mn_ledger.proofs.Peers.{same_test}
+use Rattle.mn_laws.specs.Accounts.{world_at, packets_at, Sending, IsSent, IsBoundFor, path_of, IsItsPath, is_flying, IsPassedOn, FellAtEntry, FellInFlight}
+use Rattle.mn_laws.proofs.At.{bytes_of, packets_step, injections_step}
 use Rattle.mn_laws.proofs.Elsewhere.{Same}
 use Rattle.mn_laws.proofs.Moving.{Leaves, same_step}
 

@@ -1,39 +1,35 @@
 -- After every step of a lawful journal what a VRF holds, and what an end of a link has said, names what exists.
-use Rattle.std.proofs.Common.{ℕ, zero, suc, ◌≡◌, ◌≢◌, ◌+◌, ◌<◌, ◌≤◌, ◌⊎◌, inl, inr, Bool, true, false, cond, List, [], ◌∷◌, ◌++◌, map, filter, length, take, refl, arith, sym, ◌∙◌, ap, subst, Option, Some, None}
-use Rattle.std.specs.Prelude.{◌==◌, ◌&&◌, not, if◌then◌else◌, slice_get, slice_index_or, ⊤}
+use Rattle.std.proofs.Common.{ℕ, zero, suc, ◌≡◌, ◌≢◌, ◌+◌, ◌<◌, ◌≤◌, inl, inr, Bool, true, false, cond, List, [], ◌∷◌, ◌++◌, map, filter, length, refl, arith, sym, ◌∙◌, ap, subst, Some}
+use Rattle.std.specs.Prelude.{◌==◌, ◌&&◌, not, if◌then◌else◌, slice_index_or}
 use Rattle.std.specs.List.{flat_map, range_with_len}
-use Rattle.std.proofs.lemmas.Bool.Decides.{eqb_tells, leb_tells}
-use Rattle.std.proofs.lemmas.List.{take_all}
+use Rattle.std.proofs.lemmas.Bool.Decides.{eqb_tells}
 use Rattle.mn_base.specs.declared.states.LdpState.{LdpState}
 use Rattle.mn_base.specs.declared.states.LdpState.TheVariants.{Initialized, OpenSent, OpenRec, Operational}
-use Rattle.mn_base.specs.Wiring.{Wiring, link, nodes_of, sender, receiver}
+use Rattle.mn_base.specs.Wiring.{sender, receiver}
 use Rattle.mn_prefix.specs.Prefix.{AddressBlock, IsPrefix}
 use Rattle.mn_topo.specs.Lawful.{IsLawful}
 use Rattle.mn_topo.specs.Network.{Network, wiring_of}
-use Rattle.mn_topo.specs.VrfTable.{is_edge}
 use Rattle.mn_topo.specs.declared.steps.Step.{Step}
 use Rattle.mn_topo.specs.declared.steps.Step.TheVariants.{LinkUp, LinkDown, Learn, LdpAdmin, HearLdp}
 use Rattle.mn_topo.specs.declared.steps.JournalEntry.{JournalEntry}
 use Rattle.mn_node.specs.Ldp.{Message, Initialization, KeepAlive, Address, Mapping, Withdraw, Release, Said, is_by, messages_of, said_on, state_by, answer, Knowledge, is_operational, offers, offered, mention, by_neighbour, mentioned_on, mentioned_from, news}
 use Rattle.mn_ledger.specs.Tables.{put}
 use Rattle.mn_ledger.specs.Places.{loopback, vrf_at, vrf_of, edge_of, home_of, edges}
-use Rattle.mn_ledger.specs.World.{Config, Views, Sessions, Export, Telling, Announce, Peerings, World}
-use Rattle.mn_ledger.specs.Transport.{is_active, lives, opening, answered, replies, speakers, said_in, counted, knowledge_of, views_after, sessions_after}
+use Rattle.mn_ledger.specs.World.{Config, Views, Sessions, Export, Announce, Peerings, World}
+use Rattle.mn_ledger.specs.Transport.{is_active, lives, opening, replies, speakers, said_in, counted, knowledge_of, views_after, sessions_after}
 use Rattle.mn_ledger.specs.Vpn.{HeldRoute, Own, Near, Far, held_by, meet, own_routes, near_routes, far_routes, imported, exports_of, heard_of, believed, held}
 use Rattle.mn_ledger.specs.Ledger.{config_after, after, start, world_from, world_of}
 use Rattle.mn_ledger.specs.Lawful.{IsLawfulJournal}
-use Rattle.mn_ledger.proofs.GoingBy.{put_here, put_off}
 use Rattle.mn_ledger.proofs.OnePlace.{arms}
-use Rattle.mn_ledger.proofs.Members.{In, in_append, in_map, in_filter, in_flat_map, in_take, in_range, in_contained}
+use Rattle.mn_ledger.proofs.Members.{In, in_append, in_map, in_filter, in_flat_map, in_take, in_contained}
 use Rattle.mn_ledger.proofs.Choice.{keeps}
 use Rattle.mn_ledger.proofs.Statics.{HasForms}
 use Rattle.mn_ledger.proofs.Tellings.{behind}
-use Rattle.mn_laws.specs.Accounts.{world_at, routes_at}
+use Rattle.mn_laws.specs.Accounts.{world_at}
 use Rattle.mn_laws.specs.Named.{NamesANode, NamesAnAttachment, NamesItsSite, NamesWhatExists}
-use Rattle.mn_laws.proofs.At.{world_step, world_whole}
-use Rattle.mn_laws.proofs.Announced.{IsInBounds, IsBehind, is_behind, IsExported, is_exported, TellingsNamed, bounds_at, forms_at, tellings_at}
+use Rattle.mn_laws.proofs.At.{world_whole}
+use Rattle.mn_laws.proofs.Announced.{IsInBounds, IsBehind, is_behind, is_exported, TellingsNamed, bounds_at, forms_at, tellings_at}
 use Rattle.mn_laws.proofs.Believing.{believed_last, announced_in}
-use Rattle.mn_laws.proofs.There.{vrf_there}
 use Rattle.mn_laws.proofs.Travelling.{HoldsSites}
 
 -- 1. Held routes

@@ -1,7 +1,6 @@
 -- A step by what it does to packets: which it leaves as they were, and what becomes of a frame that arrives.
-use Rattle.std.proofs.Common.{ℕ, zero, suc, ◌≡◌, ◌≢◌, ◌+◌, ◌-◌, ◌<◌, ◌≤◌, ◌⊎◌, inl, inr, Bool, true, false, List, [], ◌∷◌, ◌++◌, length, refl, arith, sym, ◌∙◌, ap, subst, Option, Some, None}
+use Rattle.std.proofs.Common.{ℕ, ◌≡◌, ◌≢◌, ◌-◌, ◌<◌, true, false, List, length, refl, arith, sym, subst, Option, Some, None}
 use Rattle.std.specs.Prelude.{◌==◌, nat_le, slice_get, ⊤}
-use Rattle.mn_base.specs.declared.drops.Rule.{Rule}
 use Rattle.mn_base.specs.declared.drops.Rule.TheVariants as rule
 use Rattle.mn_base.specs.declared.links.Dir.{Dir}
 use Rattle.mn_base.specs.declared.links.Dir.TheVariants.{Forth, Back}
@@ -10,20 +9,18 @@ use Rattle.mn_base.specs.declared.numbers.SiteNo.{SiteNo}
 use Rattle.mn_base.specs.Wiring.{sender, receiver}
 use Rattle.mn_topo.specs.Network.{Network, wiring_of}
 use Rattle.mn_topo.specs.declared.steps.Step.{Step}
-use Rattle.mn_topo.specs.declared.steps.Step.TheVariants.{LinkUp, LinkDown, Learn, LdpAdmin, HearLdp, BgpUp, BgpDown, HearBgp, AddRoute, DelRoute, Import, Export, Attach, Detach, Inject, Carry, Lose}
-use Rattle.mn_ledger.specs.declared.verdict.Verdict.{Verdict}
-use Rattle.mn_ledger.specs.declared.verdict.Verdict.TheVariants.{Delivered, Dropped, Flying}
+use Rattle.mn_topo.specs.declared.steps.Step.TheVariants.{LinkDown, Inject, Carry, Lose}
+use Rattle.mn_ledger.specs.declared.verdict.Verdict.TheVariants.{Dropped}
 use Rattle.mn_ledger.specs.Entry.{first_rule}
 use Rattle.mn_ledger.specs.Places.{home_of, vrf_of}
 use Rattle.mn_ledger.specs.World.{World}
 use Rattle.mn_ledger.specs.Transport.{usable, sessions_after}
 use Rattle.mn_ledger.specs.Vpn.{peerings_after}
-use Rattle.mn_ledger.specs.Packets.{Token, Packets, channel, flying_on, judged, drop_at, visited, deliver, hop_over, bound, entry_rules, enter_by, one_more, taken, is_attachment, arrive, carry, lose, cut_each, cut, before_step, packets_after}
-use Rattle.mn_ledger.specs.Verdicts.{verdict_on}
+use Rattle.mn_ledger.specs.Packets.{Token, Packets, channel, flying_on, drop_at, visited, deliver, hop_over, bound, entry_rules, enter_by, one_more, taken, is_attachment, arrive, carry, lose, cut, before_step, packets_after}
 use Rattle.mn_ledger.specs.Ledger.{after}
 use Rattle.mn_ledger.proofs.Members.{In}
-use Rattle.mn_laws.proofs.Elsewhere.{Same, unchanged, same_on, judged_off, deliver_off, visited_off, taken_same, hop_off, one_more_off, arms_by, arrived_off, cut_off}
-use Rattle.mn_laws.proofs.Entering.{AtEntry, enters}
+use Rattle.mn_laws.proofs.Elsewhere.{Same, same_on, judged_off, deliver_off, visited_off, taken_same, hop_off, one_more_off, arms_by, arrived_off, cut_off}
+use Rattle.mn_laws.proofs.Entering.{enters}
 
 -- 1. The steps that move packets change no world
 

@@ -1,12 +1,10 @@
 -- What is in flight can be delivered: the step that delivers it fits, and only a full journal refuses it.
-use Rattle.std.proofs.Common.{ℕ, zero, suc, ◌≡◌, ◌≢◌, ◌+◌, ◌-◌, ◌<◌, ◌≤◌, ◌⊎◌, inl, inr, Bool, true, false, cond, List, [], ◌∷◌, ◌++◌, map, length, drop, filter, refl, arith, sym, ap, ◌∙◌, subst, Option, Some, None}
+use Rattle.std.proofs.Common.{ℕ, ◌≡◌, ◌≢◌, ◌-◌, ◌<◌, ◌≤◌, inl, inr, Bool, true, false, List, [], ◌∷◌, length, drop, refl, arith, sym, ap, ◌∙◌, subst, None}
 use Rattle.std.specs.Prelude.{◌==◌, ◌&&◌, ◌||◌, not, nat_le, nat_lt}
-use Rattle.std.specs.List.{Contains}
-use Rattle.std.proofs.lemmas.Bool.Decides.{eqb_tells, leb_tells}
+use Rattle.std.proofs.lemmas.Bool.Decides.{leb_tells}
 use Rattle.std.proofs.lemmas.List.{length-map, length-drop}
-use Rattle.mn_base.proofs.Bools.{no, two_ways, and_on, not_on, less_is, other_test}
+use Rattle.mn_base.proofs.Bools.{no, and_on, not_on, less_is, other_test}
 use Rattle.mn_base.specs.declared.links.Dir.{Dir}
-use Rattle.mn_base.specs.declared.links.Dir.TheVariants.{Forth, Back}
 use Rattle.mn_base.specs.declared.numbers.LinkNo.{LinkNo}
 use Rattle.mn_base.specs.Wiring.{is_end, across, sender, receiver}
 use Rattle.mn_topo.specs.Lawful.{IsLawful}
@@ -14,7 +12,7 @@ use Rattle.mn_topo.specs.Network.{Network, wiring_of}
 use Rattle.mn_topo.specs.Steps.{fits}
 use Rattle.mn_topo.specs.VrfTable.{is_edge}
 use Rattle.mn_topo.specs.declared.steps.Step.{Step}
-use Rattle.mn_topo.specs.declared.steps.Step.TheVariants.{LinkUp, LinkDown, Learn, LdpAdmin, HearLdp, BgpUp, BgpDown, HearBgp, Carry, Lose}
+use Rattle.mn_topo.specs.declared.steps.Step.TheVariants.{LinkUp, Learn, HearLdp, HearBgp, Carry, Lose}
 use Rattle.mn_topo.specs.declared.steps.JournalEntry.{JournalEntry}
 use Rattle.mn_ledger.specs.declared.refused.Refused.{Refused}
 use Rattle.mn_ledger.specs.declared.refused.Refused.TheVariants.{Empty, TooManySteps}
@@ -25,7 +23,7 @@ use Rattle.mn_ledger.specs.Lawful.{IsLawfulJournal}
 use Rattle.mn_ledger.specs.Transport.{lives}
 use Rattle.mn_ledger.specs.Vpn.{peers_live}
 use Rattle.mn_ledger.specs.Turns.{IsInTurn}
-use Rattle.mn_ledger.specs.InFlight.{IsInFlight, is_in_order}
+use Rattle.mn_ledger.specs.InFlight.{IsInFlight}
 use Rattle.mn_ledger.specs.Refusal.{refusal_at, first_cause, where_holds, is_empty, takes_out}
 use Rattle.mn_ledger.specs.Items.{Channel, Notices, Messages, Routes, Frames, Load, Notice, Says, Tells, Carries, Item, same_channel, items_on, loads_on, made_by, flight_of}
 use Rattle.mn_ledger.proofs.Channels.{same_chan}

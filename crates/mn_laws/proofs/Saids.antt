@@ -1,5 +1,5 @@
 -- The ids of LDP messages are their places among what was said in a life.
-use Rattle.std.proofs.Common.{ℕ, zero, suc, ◌≡◌, ◌+◌, ◌<◌, ◌⊎◌, inl, inr, Bool, true, false, List, [], ◌∷◌, ◌++◌, map, length, refl, arith, sym, ◌∙◌, ap, subst, append-nil, append_assoc}
+use Rattle.std.proofs.Common.{ℕ, zero, suc, ◌≡◌, ◌+◌, ◌<◌, ◌⊎◌, inl, inr, Bool, true, false, List, [], ◌∷◌, ◌++◌, map, length, refl, sym, ◌∙◌, ap, append-nil, append_assoc}
 use Rattle.std.specs.Prelude.{if◌then◌else◌, slice_get, Option, Some, None}
 use Rattle.std.specs.List.{range_with_len}
 use Rattle.std.proofs.lemmas.Bool.Decides.{eqb_tells}
@@ -11,16 +11,16 @@ use Rattle.mn_topo.specs.Network.{Network, wiring_of}
 use Rattle.mn_topo.specs.declared.steps.Step.{Step}
 use Rattle.mn_topo.specs.declared.steps.Step.TheVariants.{LinkUp, LinkDown, Learn, LdpAdmin, HearLdp, Inject, Carry}
 use Rattle.mn_topo.specs.declared.steps.JournalEntry.{JournalEntry}
-use Rattle.mn_node.specs.Ldp.{Message, Initialization, KeepAlive, Address, Mapping, Withdraw, Release, Said, messages_of}
+use Rattle.mn_node.specs.Ldp.{Message, Initialization, KeepAlive, Address, Mapping, Withdraw, Release, messages_of}
 use Rattle.mn_ledger.specs.Tables.{put}
-use Rattle.mn_ledger.specs.World.{World, Sessions}
+use Rattle.mn_ledger.specs.World.{World}
 use Rattle.mn_ledger.specs.Packets.{Token, Packets, flying_on, packets_after}
-use Rattle.mn_ledger.specs.Transport.{lives, is_active, said_in, counted, is_transport, sessions_after}
+use Rattle.mn_ledger.specs.Transport.{lives, is_active, said_in, counted, sessions_after}
 use Rattle.mn_ledger.specs.Vpn as vpn
 use Rattle.mn_ledger.specs.Ledger.{after, start, no_packets, next_of, left_by, world_from, world_of}
 use Rattle.mn_ledger.specs.Lawful.{IsLawfulJournal}
-use Rattle.mn_ledger.specs.Turns.{IsLabelMessage, AreLabelMessages, IsTalk}
-use Rattle.mn_ledger.specs.Items.{Channel, Notices, Messages, Load, Notice, Says, Item, loads_on, notices_in, message_of, messages_in, route_of, routes_in, frame_by, frame_after, frames_in, made_in, numbered, made_from, made_by}
+use Rattle.mn_ledger.specs.Turns.{AreLabelMessages, IsTalk}
+use Rattle.mn_ledger.specs.Items.{Channel, Notices, Messages, Load, Notice, Says, loads_on, notices_in, messages_in, route_of, routes_in, frame_after, frames_in, made_in, numbered, made_from}
 use Rattle.mn_ledger.proofs.Channels.{loads_in, loads_append, loads_in_append, on_numbered, none_of, no_frames, in_messages}
 use Rattle.mn_ledger.proofs.GoingBy.{put_here, put_off}
 use Rattle.mn_ledger.proofs.InTurn.{in_turn}

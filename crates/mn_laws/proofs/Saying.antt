@@ -1,7 +1,7 @@
 -- What a node says as its knowledge changes is what has become of its offers.
-use Rattle.std.proofs.Common.{ℕ, zero, suc, ◌≡◌, ◌≢◌, ◌+◌, ◌<◌, ◌≤◌, ◌⊎◌, inl, inr, Bool, true, false, cond, List, [], ◌∷◌, ◌++◌, map, length, refl, arith, sym, ◌∙◌, ap, subst}
+use Rattle.std.proofs.Common.{ℕ, zero, suc, ◌≡◌, ◌+◌, ◌<◌, ◌≤◌, inl, inr, Bool, true, false, List, [], ◌∷◌, map, length, refl, arith, sym, ◌∙◌, ap, subst}
 use Rattle.std.specs.Prelude.{◌==◌, ◌&&◌, if◌then◌else◌, slice_index_or}
-use Rattle.std.specs.List.{flat_map, range_with_len, Contains}
+use Rattle.std.specs.List.{flat_map, range_with_len}
 use Rattle.mn_base.proofs.Bools.{no, two_ways, none_below, same_numbers, same_test}
 use Rattle.mn_base.specs.Wiring.{Wiring, nodes_of, links_of, links_at, joining, is_end, across}
 use Rattle.mn_node.specs.Ldp.{Message, Initialization, KeepAlive, Address, Mapping, Withdraw, Release, Said, said_on, Knowledge, is_operational, offers, offered, mention, by_neighbour, mentioned_on, mentioned_from, news}

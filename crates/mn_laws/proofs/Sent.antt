@@ -1,6 +1,6 @@
 -- A packet that is sent; and what is known of each packet after every step.
-use Rattle.std.proofs.Common.{ℕ, zero, suc, ◌≡◌, ◌≢◌, ◌+◌, ◌-◌, ◌<◌, ◌≤◌, ◌⊎◌, inl, inr, Bool, true, false, List, [], ◌∷◌, ◌++◌, length, take, refl, arith, sym, ◌∙◌, ap, subst, Option, Some, None}
-use Rattle.std.specs.Prelude.{◌==◌, ◌&&◌, nat_le, nat_lt, slice_get, slice_index_or}
+use Rattle.std.proofs.Common.{ℕ, zero, suc, ◌≡◌, ◌≢◌, ◌+◌, ◌-◌, ◌<◌, ◌≤◌, ◌⊎◌, inl, inr, true, false, List, [], ◌∷◌, ◌++◌, length, take, refl, arith, sym, ◌∙◌, ap, subst, Option, Some, None}
+use Rattle.std.specs.Prelude.{◌==◌, nat_le, nat_lt, slice_get, slice_index_or}
 use Rattle.std.proofs.lemmas.Bool.{and_parts, ltb-true}
 use Rattle.std.proofs.lemmas.Bool.Decides.{eqb_tells}
 use Rattle.std.proofs.lemmas.List.{length_push}
@@ -14,7 +14,7 @@ use Rattle.mn_topo.specs.Lawful.{IsLawful}
 use Rattle.mn_topo.specs.Network.{Network}
 use Rattle.mn_topo.specs.Steps.{fits}
 use Rattle.mn_topo.specs.declared.steps.Step.{Step}
-use Rattle.mn_topo.specs.declared.steps.Step.TheVariants.{LinkUp, LinkDown, Learn, LdpAdmin, HearLdp, BgpUp, BgpDown, HearBgp, AddRoute, DelRoute, Import, Export, Attach, Detach, Inject, Carry, Lose}
+use Rattle.mn_topo.specs.declared.steps.Step.TheVariants.{LinkDown, Inject, Carry, Lose}
 use Rattle.mn_topo.specs.declared.steps.JournalEntry.{JournalEntry}
 use Rattle.mn_ledger.specs.declared.verdict.Verdict.{Verdict}
 use Rattle.mn_ledger.specs.declared.verdict.Verdict.TheVariants.{Delivered, Dropped, Flying}
@@ -29,16 +29,16 @@ use Rattle.mn_ledger.specs.Verdicts.{injections, verdict_on}
 use Rattle.mn_ledger.specs.Best.{NamesTheBest}
 use Rattle.mn_ledger.proofs.Choice.{names_best}
 use Rattle.mn_ledger.proofs.Members.{In, in_contained}
-use Rattle.mn_ledger.proofs.Peers.{same_numbers, two_ways}
-use Rattle.mn_laws.specs.Accounts.{world_at, packets_at, Sending, IsSent, routes_at, MayEnter, path_of, IsItsPath, is_flying}
+use Rattle.mn_ledger.proofs.Peers.{same_numbers}
+use Rattle.mn_laws.specs.Accounts.{world_at, packets_at, Sending, IsSent, routes_at, MayEnter, path_of, is_flying}
 use Rattle.mn_laws.specs.Named.{NamesItsSite}
 use Rattle.mn_laws.proofs.At.{bytes_of, packets_step, lawful_step, lawful_at}
 use Rattle.mn_laws.proofs.Elsewhere.{judged_here, in_pushed, push_here}
-use Rattle.mn_laws.proofs.Entering.{Falls, may_enter, AtEntry, enters}
+use Rattle.mn_laws.proofs.Entering.{Falls, may_enter, enters}
 use Rattle.mn_laws.proofs.Moving.{after_step, injected_is, Leaves}
 use Rattle.mn_laws.proofs.There.{home_there, IsHop, hop_is}
 use Rattle.mn_laws.proofs.Fates.{frame_of, HasFlown, IsKnown, placed, none_yet, left_known, leaves_ended, where_it_flies, in_get}
-use Rattle.mn_laws.proofs.Travelling.{HoldsSites, known_by, passed, Takes, takes, carried_known, lost_known, cut_known}
+use Rattle.mn_laws.proofs.Travelling.{HoldsSites, known_by, passed, takes, carried_known, lost_known, cut_known}
 
 no : true ≡ false → ⊥
 no e = cc

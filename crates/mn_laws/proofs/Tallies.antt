@@ -1,27 +1,24 @@
 -- What is in flight, counted item by item, is what the ledger counts by nodes, links and edges.
-use Rattle.std.proofs.Common.{ℕ, zero, suc, ◌≡◌, ◌≢◌, ◌+◌, ◌-◌, ◌*◌, ◌<◌, ◌≤◌, ◌⊎◌, inl, inr, Bool, true, false, cond, List, [], ◌∷◌, ◌++◌, map, filter, length, drop, refl, arith, sym, ◌∙◌, ap, subst}
+use Rattle.std.proofs.Common.{ℕ, ◌≡◌, ◌≢◌, ◌+◌, ◌*◌, ◌<◌, inl, inr, Bool, true, false, cond, List, [], ◌∷◌, map, filter, length, refl, arith, sym, ◌∙◌, ap, subst}
 use Rattle.std.specs.Prelude.{◌==◌, ◌&&◌, ◌||◌, not, nat_lt}
 use Rattle.std.specs.List.{list_all, range_with_len}
 use Rattle.std.proofs.lemmas.Bool.{and_parts, ltb-true}
 use Rattle.std.proofs.lemmas.Bool.Decides.{eqb_tells}
-use Rattle.std.proofs.lemmas.List.{length-map, length-drop, map-append}
 use Rattle.mn_base.proofs.Bools.{no, or_ways, same_test, other_test, same_numbers}
 use Rattle.mn_base.specs.declared.links.Dir.{Dir}
 use Rattle.mn_base.specs.declared.links.Dir.TheVariants.{Forth, Back}
-use Rattle.mn_base.specs.Wiring.{nodes_of, links_of, link, is_end, across}
+use Rattle.mn_base.specs.Wiring.{nodes_of, links_of, link, is_end}
 use Rattle.mn_base.specs.Numbers.{has_rd_form}
 use Rattle.mn_topo.specs.declared.vrfs.VrfDef.{VrfDef}
 use Rattle.mn_topo.specs.Lawful.{IsLawful, is_vrf_of}
 use Rattle.mn_topo.specs.Network.{Network, wiring_of}
 use Rattle.mn_topo.specs.VrfTable.{is_edge}
-use Rattle.mn_ledger.specs.Packets.{Token, channel}
+use Rattle.mn_ledger.specs.Packets.{channel}
 use Rattle.mn_ledger.specs.Places.{edges}
-use Rattle.mn_ledger.specs.Verdicts.{one_if}
 use Rattle.mn_ledger.specs.Items.{Channel, Notices, Messages, Routes, Frames, Load, Notice, Says, Tells, Carries, Item, same_channel, items_on, loads_on}
-use Rattle.mn_ledger.proofs.Members.{In, in_range, in_filter}
+use Rattle.mn_ledger.proofs.Members.{In}
 use Rattle.mn_laws.specs.Flight.{IsOfChannel, is_frame, frame_length}
-use Rattle.mn_laws.proofs.Fates.{one_link}
-use Rattle.mn_laws.proofs.Sums.{total, where_so, total-same, total-add, total-none, total-where, times, total-at, once_there, times-filter, where-both, where-turn}
+use Rattle.mn_laws.proofs.Sums.{total, where_so, total-same, total-add, total-none, times, total-at, once_there, times-filter, where-both}
 
 -- 1. Items on channels
 

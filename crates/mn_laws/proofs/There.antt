@@ -1,26 +1,24 @@
 -- What a lawful topology says by number exists; and a node that can send towards another has a link to its next hop.
-use Rattle.std.proofs.Common.{ℕ, zero, suc, ◌≡◌, ◌≢◌, ◌+◌, ◌<◌, ◌≤◌, ◌⊎◌, inl, inr, Bool, true, false, List, [], ◌∷◌, ◌++◌, length, refl, arith, sym, ◌∙◌, ap, subst, Option, Some, None}
+use Rattle.std.proofs.Common.{ℕ, zero, suc, ◌≡◌, ◌≢◌, ◌<◌, inl, inr, Bool, true, false, List, [], ◌∷◌, ◌++◌, length, refl, arith, sym, ◌∙◌, ap, subst, Option, Some, None}
 use Rattle.std.specs.Prelude.{◌==◌, ◌&&◌, ◌||◌, nat_lt, slice_index_or}
 use Rattle.std.specs.List.{list_all}
 use Rattle.std.proofs.lemmas.Bool.{and_parts, ltb-true}
 use Rattle.std.proofs.lemmas.Bool.Decides.{eqb_tells}
-use Rattle.std.proofs.lemmas.Option.{same_Some}
 use Rattle.mn_base.specs.declared.links.Dir.{Dir}
 use Rattle.mn_base.specs.declared.links.Dir.TheVariants.{Forth, Back}
 use Rattle.mn_base.specs.Numbers.{has_rd_form}
-use Rattle.mn_base.specs.Wiring.{Wiring, link, is_end, across, sender, receiver}
+use Rattle.mn_base.specs.Wiring.{link, is_end, across, sender, receiver}
 use Rattle.mn_base.specs.Paths.{IsNext, next}
 use Rattle.mn_base.proofs.Next.{next_is}
 use Rattle.mn_topo.specs.declared.sites.SiteDef.{SiteDef}
-use Rattle.mn_topo.specs.declared.vrfs.VrfDef.{VrfDef}
 use Rattle.mn_topo.specs.Lawful.{IsLawful, is_vrf_of}
 use Rattle.mn_topo.specs.Network.{Network, wiring_of}
-use Rattle.mn_ledger.specs.Places.{vrf_at, site_at, vrf_of, edge_of, home_of}
+use Rattle.mn_ledger.specs.Places.{vrf_at, vrf_of, edge_of, home_of}
 use Rattle.mn_ledger.specs.World.{World}
 use Rattle.mn_node.specs.Ldp.{Knowledge, hearing, is_operational, is_mapped, usable_over}
 use Rattle.mn_ledger.specs.Transport.{usable, knowledge_of}
 use Rattle.mn_ledger.specs.Packets.{away_from}
-use Rattle.mn_ledger.proofs.Peers.{same_numbers, same_test}
+use Rattle.mn_ledger.proofs.Peers.{same_numbers}
 use Rattle.mn_ledger.proofs.Turning.{dir_ends, across-end}
 use Rattle.mn_laws.specs.Accounts.{AreJoined, GoesOver}
 

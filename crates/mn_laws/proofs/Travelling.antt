@@ -1,46 +1,38 @@
 -- Each step keeps what is known of each packet: a packet that is sent, one that is carried, one that is lost, and a link that is cut.
-use Rattle.std.proofs.Common.{ℕ, zero, suc, ◌≡◌, ◌≢◌, ◌+◌, ◌-◌, ◌<◌, ◌≤◌, ◌⊎◌, inl, inr, Bool, true, false, List, [], ◌∷◌, ◌++◌, length, take, refl, arith, sym, ◌∙◌, ap, subst, Option, Some, None}
+use Rattle.std.proofs.Common.{ℕ, suc, ◌≡◌, ◌≢◌, ◌+◌, ◌-◌, ◌<◌, ◌≤◌, ◌⊎◌, inl, inr, Bool, true, false, List, [], ◌∷◌, ◌++◌, length, take, refl, arith, sym, ◌∙◌, ap, subst, Option, Some, None}
 use Rattle.std.specs.Prelude.{◌==◌, ◌&&◌, ◌||◌, not, nat_le, is_none, slice_get, slice_index_or, IsTrue}
 use Rattle.std.proofs.lemmas.Bool.Decides.{eqb_tells, leb_tells}
 use Rattle.std.proofs.lemmas.List.{length-append}
-use Rattle.std.proofs.lemmas.Option.{slice_get_within, get_or_from_slice_get, same_Some}
 use Rattle.mn_base.specs.declared.drops.Rule.{Rule}
 use Rattle.mn_base.specs.declared.drops.Rule.TheVariants as rule
 use Rattle.mn_base.specs.declared.links.Dir.{Dir}
 use Rattle.mn_base.specs.declared.links.Dir.TheVariants.{Forth, Back}
 use Rattle.mn_base.specs.declared.numbers.LinkNo.{LinkNo}
 use Rattle.mn_base.specs.declared.numbers.NodeNo.{NodeNo}
-use Rattle.mn_base.specs.Wiring.{sender, receiver, across}
-use Rattle.mn_ipv4.specs.Header.{good, ttl_of, aged, destination_of}
+use Rattle.mn_base.specs.Wiring.{sender, receiver}
+use Rattle.mn_ipv4.specs.Header.{good, ttl_of, aged}
 use Rattle.mn_ipv4.proofs.Laws.{IsGood-from_good, length-aged, ttl_of-aged, get_or-aged, good-aged, aged-aged}
 use Rattle.mn_topo.specs.Lawful.{IsLawful}
 use Rattle.mn_topo.specs.Network.{Network, wiring_of}
-use Rattle.mn_topo.specs.Steps.{fits}
-use Rattle.mn_topo.specs.declared.steps.Step.{Step}
-use Rattle.mn_topo.specs.declared.steps.Step.TheVariants.{LinkDown, Inject, Carry, Lose}
+use Rattle.mn_topo.specs.declared.steps.Step.TheVariants.{LinkDown, Carry, Lose}
 use Rattle.mn_topo.specs.declared.steps.JournalEntry.{JournalEntry}
 use Rattle.mn_ledger.specs.declared.verdict.Verdict.{Verdict}
 use Rattle.mn_ledger.specs.declared.verdict.Verdict.TheVariants.{Delivered, Dropped, Flying}
-use Rattle.mn_ledger.specs.Places.{home_of, vrf_of}
-use Rattle.mn_ledger.specs.Tables.{put}
+use Rattle.mn_ledger.specs.Places.{home_of}
 use Rattle.mn_ledger.specs.World.{World}
 use Rattle.mn_ledger.specs.Transport.{usable}
 use Rattle.mn_ledger.specs.Vpn.{HeldRoute}
-use Rattle.mn_ledger.specs.Lawful.{IsLawfulJournal}
-use Rattle.mn_ledger.specs.Packets.{Token, Packets, channel, flying_on, away_from, judged, drop_at, visited, deliver, hop_over, bound, one_more, taken, is_attachment, arrive, carry, lose, cut_each, cut, before_step}
-use Rattle.mn_ledger.specs.Ledger.{injects}
+use Rattle.mn_ledger.specs.Packets.{Token, Packets, channel, flying_on, away_from, drop_at, visited, deliver, hop_over, taken, is_attachment, arrive, carry, lose, cut, before_step}
 use Rattle.mn_ledger.specs.Verdicts.{injections, verdict_on}
-use Rattle.mn_ledger.proofs.Members.{In, in_contained}
-use Rattle.mn_ledger.proofs.GoingBy.{put_here, put_off}
+use Rattle.mn_ledger.proofs.Members.{In}
 use Rattle.mn_ledger.proofs.OnePlace.{loosen}
 use Rattle.mn_ledger.proofs.Peers.{same_numbers}
-use Rattle.mn_laws.specs.Accounts.{world_at, packets_at, Sending, IsSent, IsBoundFor, routes_at, MayEnter, AreJoined, GoesOver, path_of, IsItsPath, node_of, is_flying, ttl_left, IsPassedOn, FallsTo, arrival_rules, applies_at_arrival, EndsInFlight, FellAtEntry, FellInFlight}
+use Rattle.mn_laws.specs.Accounts.{world_at, packets_at, Sending, IsSent, routes_at, AreJoined, GoesOver, path_of, IsItsPath, node_of, is_flying, ttl_left, IsPassedOn, FallsTo, arrival_rules, applies_at_arrival, EndsInFlight}
 use Rattle.mn_laws.specs.Named.{NamesItsSite}
-use Rattle.mn_laws.proofs.At.{bytes_of, stepped_to, packets_step, lawful_step}
-use Rattle.mn_laws.proofs.Elsewhere.{Same, judged_here, visited_here, cut_here, cut_others, cut_paths, cut_counts, cut_off, in_pushed}
-use Rattle.mn_laws.proofs.Entering.{Falls, AtEntry, enters}
-use Rattle.mn_laws.proofs.Moving.{after_step, injected_is, carried_is, lost_is, cut_is, Leaves, AtArrival, arrives}
-use Rattle.mn_laws.proofs.There.{home_there, receiver_there, joined_over, IsHop, hop_is, goes_further}
+use Rattle.mn_laws.proofs.At.{bytes_of, packets_step}
+use Rattle.mn_laws.proofs.Elsewhere.{judged_here, visited_here, cut_here, cut_others, cut_paths, cut_counts, cut_off, in_pushed}
+use Rattle.mn_laws.proofs.Moving.{after_step, carried_is, lost_is, cut_is, arrives}
+use Rattle.mn_laws.proofs.There.{receiver_there, joined_over, IsHop, hop_is, goes_further}
 use Rattle.mn_laws.proofs.Fates as fates
 use Rattle.mn_laws.proofs.Fates.{frame_of, HasFlown, Flies, Ends, Arrives, FateIs, IsKnown, placed, in_verdicts, in_paths, in_counts, where_it_flies, some_frame, none_yet, stays_known, left_known, flown_on, in_get, one_link}
 

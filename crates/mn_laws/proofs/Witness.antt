@@ -4,23 +4,22 @@ use Rattle.std.proofs.lemmas.Bool.{ltb-true}
 use Rattle.std.proofs.lemmas.Bool.Decides.{leb_tells}
 use Rattle.std.proofs.lemmas.Option.{same_Some}
 use Rattle.std.specs.List.{list_all}
-use Rattle.std.specs.Prelude.{◌≡◌, refl, List, [], ◌∷◌, ◌++◌, length, map, slice_get, slice_index, nat_lt, Some, true}
+use Rattle.std.specs.Prelude.{◌≡◌, refl, List, [], ◌∷◌, ◌++◌, length, map, slice_index, nat_lt, Some, true}
 use Rattle.mn_base.specs.Paths.{next}
 use Rattle.mn_base.specs.Wiring.{is_end}
 use Rattle.mn_base.specs.declared.links.Dir.TheVariants.{Forth, Back}
 use Rattle.mn_ipv4.specs.Header.{is_not_ipv4, is_malformed, is_truncated, has_bad_checksum, good, checksum_for, with_ttl, aged}
 use Rattle.mn_topo.specs.Lawful.{IsLawful}
 use Rattle.mn_topo.specs.Network.{wiring_of}
-use Rattle.mn_topo.specs.declared.steps.Step.TheVariants.{LinkUp, LdpAdmin, HearLdp, Inject, Carry}
+use Rattle.mn_topo.specs.declared.steps.Step.TheVariants.{Inject, Carry}
 use Rattle.mn_topo.specs.declared.steps.JournalEntry.{JournalEntry}
-use Rattle.mn_node.specs.Ldp.{Message, Initialization, KeepAlive, Address, Mapping, news}
+use Rattle.mn_node.specs.Ldp.{Initialization, KeepAlive, Address, Mapping, news}
 use Rattle.mn_ledger.specs.Lawful.{IsLawfulJournal}
 use Rattle.mn_ledger.specs.Packets.{packets_after}
 use Rattle.mn_ledger.specs.Refusal.{in_flight, bytes_flying}
 use Rattle.mn_ledger.specs.Transport.{knowledge_of, sessions_after}
 use Rattle.mn_ledger.specs.Verdicts.{injections}
 use Rattle.mn_ledger.specs.Vpn.{peerings_after, held}
-use Rattle.mn_ledger.specs.Ledger.{world_of}
 use Rattle.mn_ledger.proofs.TwoLinks.{link_no, site_no, two_links, at_start, settling, packet, across_both, the_run_is_lawful, the_topology_is_lawful}
 use Rattle.mn_laws.specs.Accounts.{Sending, IsSent}
 use Rattle.mn_laws.specs.Deliveries.{deliveries_of}

@@ -1,5 +1,5 @@
 -- What a message, a held route or a packet on its way names exists.
-use Rattle.std.specs.Prelude.{◌≡◌, ◌≢◌, ◌<◌, ◌≤◌, ℕ, suc, ◌+◌, true, IsTrue, List, [], ◌∷◌, length, slice_index, slice_get, Some, ⊤}
+use Rattle.std.specs.Prelude.{◌≡◌, ◌<◌, ◌≤◌, ℕ, suc, ◌+◌, true, IsTrue, List, [], ◌∷◌, length, slice_index, slice_get, Some, ⊤}
 use Rattle.std.specs.List.{Contains}
 use Rattle.mn_base.specs.declared.links.Dir.{Dir}
 use Rattle.mn_ipv4.specs.Header.{good, total_length, ttl_of}
