@@ -328,8 +328,8 @@ named_changed t old new edge h g m
       | inl j ↦
           let f = in_map (λ (export : Export). Unreach export.vrf export.prefix)
           (filter (λ export. not (list_any (is_for export.vrf export.prefix) (exports_of t new edge))) (exports_of t old edge)) m j in
-          let e = h edge f.0 (in_filter (λ export. not (list_any (is_for export.vrf export.prefix) (exports_of t new edge))) (exports_of t old edge) f.0 f.1).0 i
-                        let e = h edge f.0 (in_filter (λ export. not (list_any (is_for export.vrf export.prefix) (exports_of t new edge))) (exports_of t old edge) f.0 f.1).0 in
+          let e = h edge f.0
+          (in_filter (λ export. not (list_any (is_for export.vrf export.prefix) (exports_of t new edge))) (exports_of t old edge) f.0 f.1).0 in
           subst (NamesItsVrf t new edge) f.2 (e.vrf, e.at_teller)
       | inr j ↦
           named_announced t new edge (filter (λ export. not (list_any (same_export export) (exports_of t old edge))) (exports_of t new edge))
