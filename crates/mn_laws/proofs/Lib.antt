@@ -1,0 +1,23 @@
+pub mod At
+pub mod Elsewhere
+pub mod Entering
+pub mod Moving
+pub mod There
+pub mod Fates
+pub mod Travelling
+pub mod Sent
+pub mod Copies
+pub mod Announced
+pub mod Holding
+pub mod Accounted
+pub mod Linked
+pub mod Channels
+pub mod Ordered
+pub mod Opening
+pub mod Sums
+pub mod Tallies
+pub mod Counted
+pub mod Believing
+pub mod Saying
+pub mod Saids
+mod Witness
