@@ -246,8 +246,8 @@ step_again network (HearLdp link direction) lawful fit is = hear_ldp network lin
 step_again network (BgpUp a b) lawful fit is = bgp_up network a b lawful fit
 step_again network (BgpDown a b) lawful fit is = bgp_down network a b lawful fit
 step_again network (HearBgp a b) lawful fit is = hear_bgp network a b lawful fit
-step_again network (AddRoute site prefix) lawful fit is = add_route network site prefix lawful (ltb-true _ _ fit) is
-step_again network (DelRoute site prefix) lawful fit is = del_route network site prefix lawful (ltb-true _ _ fit) is
+step_again network (AddRoute site prefix) lawful fit is = add_route network site prefix lawful (ltb-true _ _ (and_parts _ _ fit).0) is
+step_again network (DelRoute site prefix) lawful fit is = del_route network site prefix lawful (ltb-true _ _ (and_parts _ _ fit).0) is
 step_again network (Import vrf target on) lawful fit is = let both = and_parts _ _ fit in imports network vrf target on lawful (ltb-true _ _ both.0) both.1
 step_again network (Export vrf target on) lawful fit is = let both = and_parts _ _ fit in exports network vrf target on lawful (ltb-true _ _ both.0) both.1
 step_again network (Attach site) lawful fit is = attach network site lawful (ltb-true _ _ fit)
