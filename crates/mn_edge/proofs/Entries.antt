@@ -3,25 +3,14 @@ use Rattle.std.proofs.Common.{◌≡◌, ℕ, ◌<◌, Bool, true, false, cond, 
 use Rattle.std.proofs.lemmas.List.{get_or-map, map-set, length-map, append-nil}
 use Rattle.std.specs.declared.alloc.Global.{Global}
 use Rattle.std.specs.Option.{option_map_or}
-use Rattle.std.specs.Ordering.{nat_cmp, is_eq, ordering_then}
-use Rattle.std.specs.Cmp.{nat_cmp_is}
-use Rattle.std.specs.Cmp.Lexicographic.{slice_cmp, nat_list_cmp_total, texts_ties}
-use Rattle.std.specs.declared.cmp.Ordering.TheVariants.{Equal}
+use Rattle.std.specs.Cmp.Lexicographic.{nat_list_cmp_total, texts_ties}
 use Rattle.std.specs.FinMap.{get-from_entries, from_entries, from_entries_push, slice_cmp-IsAntisymmetric, nat_cmp-IsAntisymmetric}
 use lib.Pointwise.{pointwise}
 use Rattle.mn_edge.specs.Files.{Files, file, with_file}
 use Rattle.mn_edge.specs.Memory.{extended, files_of}
 use Rattle.mn_edge.specs.Place.{bytes_at, entry, IsAt}
 use Rattle.mn_edge.specs.Written.{same_name, pairs}
-use Rattle.mn_edge.proofs.Laying.{same_name-eq, same_files, file-with_file}
-
--- a name is the same as itself
-slice-same : (a : List ℕ) → slice_cmp nat_cmp a a ≡ Equal
-slice-same [] = refl
-slice-same (x ∷ xs) = ap (λ r. ordering_then r (slice_cmp nat_cmp xs xs)) (sym (nat_cmp_is x x Equal refl)) ∙ slice-same xs
-
-pub same_name-refl : (a : List ℕ) → same_name a a ≡ true
-same_name-refl a = ap is_eq (slice-same a)
+use Rattle.mn_edge.specs.FileLaws.{same_name-eq, same_name-refl, same_files, file-with_file}
 
 -- equal texts are the same name
 pub text-eq : (a b : List ℕ) → pointwise nat_eq a b ≡ true → a ≡ b

@@ -2,43 +2,10 @@
 use Rattle.std.proofs.Common.{◌≡◌, ℕ, ◌+◌, ◌<◌, Bool, true, false, cond, ◌||◌, ◌&&◌, List, [], ◌∷◌, ◌++◌, take, drop, length, Option, Some, refl, sym, ◌∙◌, ap, subst, inl, inr, get_or, zero, suc, String, Vec, string_bytes, arith, append_assoc, if◌then◌else◌}
 use Rattle.std.proofs.lemmas.Grind.{flat_map-append}
 use Rattle.std.proofs.lemmas.List.{take-append-drop, append-nil, take_more, get_or-map}
-use Rattle.std.specs.Ordering.{nat_cmp, is_eq}
-use Rattle.std.specs.Cmp.Lexicographic.{slice_cmp, nat_list_cmp_total}
-use Rattle.std.specs.declared.cmp.Ordering.{Ordering}
-use Rattle.std.specs.declared.cmp.Ordering.TheVariants.{Less, Equal, Greater}
-use Rattle.std.specs.FinMap.{get-insert, same_map, slice_cmp-IsAntisymmetric, nat_cmp-IsAntisymmetric}
 use Rattle.std.specs.declared.alloc.Global.{Global}
 use Rattle.mn_edge.specs.Files.{Files, file, with_file, Grows, MayBegin, MayGrow}
-use Rattle.mn_edge.specs.Written.{same_name, is_known, all_known, bytes_for, each, written, laid, IsPrefix, IsPart, PartWritten, texts, pairs}
-
--- the same name is the same bytes
-pub same_name-eq : (a b : List ℕ) → same_name a b ≡ true → a ≡ b
-same_name-eq a b h = slice_cmp-IsAntisymmetric nat_cmp-IsAntisymmetric a b (equal (slice_cmp nat_cmp a b) h)
-  where
-    equal : (r : Ordering) → is_eq r ≡ true → r ≡ Equal
-    equal Less h = cc
-    equal Equal h = refl
-    equal Greater h = cc
-
--- two maps with the same bytes under every name are one
-pub same_files : (a b : Files) → ((q : List ℕ) → file a q ≡ file b q) → a ≡ b
-same_files a b h = same_map nat_list_cmp_total (slice_cmp-IsAntisymmetric nat_cmp-IsAntisymmetric) a b h
-
--- what a name has after one file is made anew
-pub file-with_file : (m : Files) (name bytes q : List ℕ) → file (with_file m name bytes) q ≡ cond (same_name q name) (Some bytes) (file m q)
-file-with_file m name bytes q = get-insert nat_list_cmp_total m name bytes q
-
--- what a name has once files are laid over
-pub file-laid : (f : List ℕ → List ℕ) (names : List (List ℕ)) (m : Files) (q : List ℕ) → file (laid (each f names) m) q ≡ cond (is_known names q) (Some (f q)) (file m q)
-file-laid f [] m q = refl
-file-laid f (n ∷ ns) m q = file-with_file (laid (each f ns) m) n (f n) q ∙ step (file-laid f ns m q) (same_name q n) refl
-  where
-    step : file (laid (each f ns) m) q ≡ cond (is_known ns q) (Some (f q)) (file m q) → (b : Bool) → same_name q n ≡ b → cond b (Some (f n)) (file (laid (each f ns) m) q) ≡ cond (b || is_known ns q) (Some (f q)) (file m q)
-    step rest true h = ap (λ x. Some (f x)) (sym (same_name-eq q n h))
-    step rest false h = rest
-
-pub file-laid_there : (f : List ℕ → List ℕ) (names : List (List ℕ)) (m : Files) (q : List ℕ) → is_known names q ≡ true → file (laid (each f names) m) q ≡ Some (f q)
-file-laid_there f names m q h = file-laid f names m q ∙ ap (λ b. cond b (Some (f q)) (file m q)) h
+use Rattle.mn_edge.specs.FileLaws.{same_name-eq, same_files, file-with_file, file-laid, file-laid_there}
+use Rattle.mn_edge.specs.Written.{same_name, is_known, all_known, bytes_for, each, written, laid, IsPrefix, IsPart, PartWritten, Stands, texts, pairs}
 
 is_known-push : (names : List (List ℕ)) (n q : List ℕ) → is_known (names ++ n ∷ []) q ≡ (same_name q n || is_known names q)
 is_known-push [] n q = refl
@@ -86,21 +53,12 @@ bytes_for-push done p q = flat_map-append (λ p. if same_name q p.0 then p.1 els
 bytes_for-more : (done later : List (List ℕ × List ℕ)) (q : List ℕ) → IsPrefix (bytes_for done q) (bytes_for (done ++ later) q)
 bytes_for-more done later q = (bytes_for later q, sym (flat_map-append (λ p. if same_name q p.0 then p.1 else []) done later))
 
-prefix_nil : (b : List ℕ) → IsPrefix [] b
-prefix_nil b = (b, refl)
-
 prefix_trans : (a b c : List ℕ) → IsPrefix a b → IsPrefix b c → IsPrefix a c
 prefix_trans a b c (r, e) (s, f) = (r ++ s, sym (append_assoc a r s) ∙ ap (λ l. l ++ s) e ∙ f)
 
 prefix_if : (a piece : List ℕ) (n : ℕ) (b : Bool) → IsPrefix (a ++ (if b then take n piece else [])) (a ++ (if b then piece else []))
 prefix_if a piece n true = (drop n piece, append_assoc a (take n piece) (drop n piece) ∙ ap (λ l. a ++ l) (take-append-drop n piece))
 prefix_if a piece n false = ([], append-nil (a ++ []))
-
--- the first few files, each with a first part of its bytes
-part_take : (f g : List ℕ → List ℕ) (names : List (List ℕ)) (k : ℕ) → ((q : List ℕ) → IsPrefix (f q) (g q)) → IsPart (each f (take k names)) (each g names)
-part_take f g names zero h = tt
-part_take f g [] (suc k) h = tt
-part_take f g (n ∷ ns) (suc k) h = (refl, h n, part_take f g ns k h)
 
 part_all : (f g : List ℕ → List ℕ) (names : List (List ℕ)) → ((q : List ℕ) → IsPrefix (f q) (g q)) → IsPart (each f names) (each g names)
 part_all f g [] h = tt
@@ -118,11 +76,9 @@ begun names m i name after within is done =
     done ∙ ap Some (laid-push (bytes_for []) (take i names) m name ∙ ap (λ l. laid (written l []) m) (ap (λ n. take i names ++ n ∷ []) is ∙ sym (take_more names i name within)))
 
 -- a begin that was refused
-pub begin_part : (names : List (List ℕ)) (pieces : List (List ℕ × List ℕ)) (m : Files) (i : ℕ) (name : List ℕ) (after : Option Files) → i < length names → name ≡ get_or names i name → MayBegin (laid (written (take i names) []) m) name after → PartWritten (written names pieces) m after
-begin_part names pieces m i name after within is (inl same) =
-    record { stands = written (take i names) []; is_part = part_take (bytes_for []) (bytes_for pieces) names i (λ q. prefix_nil _); after_is = same }
-begin_part names pieces m i name after within is (inr done) =
-    record { stands = written (take (i + 1) names) []; is_part = part_take (bytes_for []) (bytes_for pieces) names (i + 1) (λ q. prefix_nil _); after_is = begun names m i name after within is done }
+pub few_begun : (names : List (List ℕ)) (m : Files) (i : ℕ) (name : List ℕ) (after : Option Files) → i < length names → name ≡ get_or names i name → MayBegin (laid (written (take i names) []) m) name after → (n : ℕ) × Stands (take n names) [] m after
+few_begun names m i name after within is (inl same) = (i, same)
+few_begun names m i name after within is (inr done) = (i + 1, begun names m i name after within is done)
 
 -- an append of any piece to one of the files
 grown_by : (names : List (List ℕ)) (done : List (List ℕ × List ℕ)) (m : Files) (name piece : List ℕ) (after : Option Files) → is_known names name ≡ true → Grows (laid (written names done) m) name piece after → after ≡ Some (laid (each (λ q. bytes_for done q ++ (if same_name q name then piece else [])) names) m)

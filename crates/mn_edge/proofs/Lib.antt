@@ -1,3 +1,5 @@
 pub mod Laying
 pub mod Fetching
 pub mod Entries
+pub mod Waits
+pub mod Gathering

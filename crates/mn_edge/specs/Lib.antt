@@ -2,5 +2,10 @@ pub mod Files
 pub mod Faults
 pub mod Reading
 pub mod Written
+pub mod FileLaws
 pub mod Memory
 pub mod Place
+pub mod Kept
+pub mod KeptLaws
+pub mod Laid
+pub mod Waiting

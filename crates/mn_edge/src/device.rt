@@ -1,5 +1,5 @@
 // The two devices, and how a call on one goes wrong.
-ghost use Rattle.std.specs.Prelude.{◌≡◌, ◌≤◌, ◌++◌, [], List, ℕ, Option, Some, length, take, IfOk, OnOk, OnErr};
+ghost use Rattle.std.specs.Prelude.{◌≡◌, ◌≤◌, ◌++◌, [], List, ℕ, None, Option, Some, length, take, IfOk, OnOk, OnErr};
 ghost use Rattle.std.specs.Option.{ForSome};
 ghost use Rattle.mn_edge.specs.declared.device.DeviceBad.TheVariants.{NoMemory};
 ghost use Rattle.mn_edge.specs.Faults.{Counted};
@@ -32,7 +32,7 @@ impl<T: Drop> From<AllocFailed<T>> for DeviceBad {
     }
 }
 
-/// Files by name.
+/// Files by name. A shelf that tells nothing of them goes on so: each call says it by `silent`.
 pub trait Shelf {
     /// The files and their bytes, where the shelf tells them.
     ghost files: { Self → Option Files };
@@ -51,6 +51,7 @@ pub trait Shelf {
         ensures content { IfOk result (λ n.
             ForSome (files self.old) (λ m. Fetched m name.now at n buf.new)) }
         ensures same { files self.new ≡ files self.old }
+        ensures silent { files self.old ≡ None → files self.new ≡ None }
         ensures reads { Counted (read_faults self.old) (read_faults self.new) result }
         ensures writes { write_faults self.new ≡ write_faults self.old };
 
@@ -61,6 +62,7 @@ pub trait Shelf {
             ForSome (files self.old) (λ m. files self.new ≡ Some (with_file m name.now []))) }
         ensures refused { OnErr result (
             ForSome (files self.old) (λ m. MayBegin m name.now (files self.new))) }
+        ensures silent { files self.old ≡ None → files self.new ≡ None }
         ensures writes { Counted (write_faults self.old) (write_faults self.new) result }
         ensures reads { read_faults self.new ≡ read_faults self.old };
 
@@ -71,6 +73,7 @@ pub trait Shelf {
             ForSome (files self.old) (λ m. Grows m name.now piece.now (files self.new))) }
         ensures refused { OnErr result (
             ForSome (files self.old) (λ m. MayGrow m name.now piece.now (files self.new))) }
+        ensures silent { files self.old ≡ None → files self.new ≡ None }
         ensures writes { Counted (write_faults self.old) (write_faults self.new) result }
         ensures reads { read_faults self.new ≡ read_faults self.old };
 }

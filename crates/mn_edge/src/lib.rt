@@ -8,19 +8,23 @@
 //! answer touches a count. So a program that ends well, with all counts as they were, met no fault.
 //!
 //! Whole files are read by [`read_all`], and written in pieces by [`write_all`] and [`append_all`], which say
-//! of a file that was cut short how it begins.
+//! of a file that was cut short how it begins. Files that grow by many small pieces go through a [`Gather`],
+//! which holds up to 64 KiB over all of them, and so makes few appends.
 #![tactic(auto)]
 
-mod device;
-mod memory;
-mod named;
+mod device; // the two traits
+mod gather; // files that grow by small pieces
+mod held; // the arena of a gather
+mod memory; // both devices in memory
+mod named; // files by name, for the shelf in memory
 mod read;
 mod write;
 
 pub use device::{DeviceBad, Shelf, Sink};
+pub use gather::Gather;
 pub use memory::{MemShelf, MemSink};
 pub use read::{Content, read_all};
-pub use write::{append_all, write_all};
+pub use write::{append_all, begin_all, write_all};
 
 #[cfg(test)]
 mod tests;

@@ -1,5 +1,5 @@
 // Devices in memory. Their calls are numbered from 1, of all methods together, and those of a list fail.
-ghost use Rattle.std.specs.Prelude.{◌≡◌, ◌≢◌, ℕ, ◌≤◌, ◌<◌, ◌++◌, ◌||◌, [], Err, Some, length, take, drop, if◌then◌else◌, is_ok, IsTrue, IfOk, OnOk, OnErr, option_copied};
+ghost use Rattle.std.specs.Prelude.{◌≡◌, ◌≢◌, ℕ, ◌≤◌, ◌<◌, ◌++◌, ◌||◌, [], Err, None, Some, length, take, drop, if◌then◌else◌, is_ok, IsTrue, IfOk, OnOk, OnErr, option_copied};
 ghost use Rattle.std.specs.Option.{ForSome};
 ghost use Rattle.mn_edge.specs.declared.device.DeviceBad.TheVariants.{NoMemory};
 ghost use Rattle.mn_edge.specs.Faults.{Counted};
@@ -66,6 +66,13 @@ impl MemShelf {
     {
         self.files.get(name)
     }
+
+    /// The calls so far, of all methods together, up to 2^64 - 1.
+    pub fn calls(&self) -> u64
+        ensures { result ≡ self.now.calls }
+    {
+        self.calls
+    }
 }
 
 /// Puts the bytes from a place on at the front of the buffer.
@@ -96,6 +103,7 @@ impl Shelf for MemShelf {
         ensures content { IfOk result (λ n.
             ForSome (Some self.old.files) (λ m. Fetched m name.now at n buf.new)) }
         ensures same { Some self.new.files ≡ Some self.old.files }
+        ensures silent { Some self.old.files ≡ None → Some self.new.files ≡ None }
         ensures reads { Counted self.old.read_faults self.new.read_faults result }
         ensures writes { self.new.write_faults ≡ self.old.write_faults }
 
@@ -121,6 +129,7 @@ impl Shelf for MemShelf {
             Some self.new.files ≡ Some (with_file m name.now []))) }
         ensures refused { OnErr result (ForSome (Some self.old.files) (λ m.
             MayBegin m name.now (Some self.new.files))) }
+        ensures silent { Some self.old.files ≡ None → Some self.new.files ≡ None }
         ensures writes { Counted self.old.write_faults self.new.write_faults result }
         ensures reads { self.new.read_faults ≡ self.old.read_faults }
 
@@ -145,6 +154,7 @@ impl Shelf for MemShelf {
             Grows m name.now piece.now (Some self.new.files))) }
         ensures refused { OnErr result (ForSome (Some self.old.files) (λ m.
             MayGrow m name.now piece.now (Some self.new.files))) }
+        ensures silent { Some self.old.files ≡ None → Some self.new.files ≡ None }
         ensures writes { Counted self.old.write_faults self.new.write_faults result }
         ensures reads { self.new.read_faults ≡ self.old.read_faults }
 

@@ -1,8 +1,12 @@
 // The devices in memory, and the calls over any device, with ample memory.
-ghost use Rattle.std.specs.Prelude.{◌≡◌, ◌∷◌, [], None, IfOk, IsTrue, codes};
+ghost use Rattle.std.specs.Prelude.{◌≡◌, ◌∷◌, ◌<◌, [], None, IfOk, IsTrue, codes, length};
+ghost use Rattle.mn_edge.specs.Memory.{all_differ};
 ghost use Rattle.mn_edge.specs.Written.{all_known, pairs, texts};
 
-use crate::{Content, DeviceBad, MemShelf, MemSink, Shelf, Sink, append_all, read_all, write_all};
+use crate::{
+    Content, DeviceBad, Gather, MemShelf, MemSink, Shelf, Sink, append_all, begin_all, read_all,
+    write_all,
+};
 use std::alloc::{AllocError, Global};
 use std::test::Fail;
 
@@ -67,7 +71,9 @@ fn of_one(alloc: Global, value: u8, count: usize) -> Result<Vec<u8>, AllocError>
 }
 
 fn names(alloc: Global) -> Result<Vec<String>, AllocError>
-    ensures { IfOk result (λ v. texts v.items ≡ codes "x" ∷ codes "y" ∷ []) }
+    ensures texts { IfOk result (λ v. texts v.items ≡ codes "x" ∷ codes "y" ∷ []) }
+    ensures differ { IfOk result (λ v. IsTrue (all_differ (texts v.items))) }
+    ensures two { IfOk result (λ v. length v.items ≡ 2) }
 {
     let mut names = Vec::new(alloc);
     names.push(String::from_str(alloc, "x")?)?;
@@ -240,5 +246,96 @@ fn writing_ends_at_the_first_fault(rt: HostRuntime) -> Result<(), Fail> {
     assert!(rt; shelf.file("x") == Some(b"one".as_slice()));
     assert!(rt; shelf.file("y") == Some(b"t".as_slice()));
     assert!(rt; shelf.file("a") == Some(b"hello".as_slice()));
+    Ok(())
+}
+
+/// Two files that have begun on a shelf, and what is held for them.
+#[derive(Drop)]
+struct Two {
+    shelf: MemShelf,
+    names: Vec<String>,
+    gather: Gather,
+    ghost two: { (length gather ≡ 2) × (length names.items ≡ 2) × IsTrue (all_differ (texts names.items)) },
+}
+
+impl Two {
+    fn new(alloc: Global, failing: &[u64]) -> Result<Two, DeviceBad> {
+        let mut shelf = shelf(alloc, failing)?;
+        let names = names(alloc)?;
+        begin_all(&mut shelf, &names)?;
+        let gather = Gather::new(alloc, 2)?;
+        Ok(Two {
+            shelf,
+            names,
+            gather,
+        })
+    }
+
+    fn put(&mut self, file: u32, piece: &[u8]) -> Result<(), DeviceBad>
+        requires { file < 2 }
+    {
+        self.gather.put(&mut self.shelf, &self.names, file, piece)
+    }
+
+    fn end(&mut self) -> Result<(), DeviceBad> {
+        self.gather.end(&mut self.shelf, &self.names)
+    }
+
+    /// How many bytes the file has on the shelf.
+    fn len(&self, name: &str) -> usize {
+        self.shelf.file(name).map_or(0, |bytes| bytes.len())
+    }
+}
+
+// Two begins go before the puts. Each file gets one append.
+#[test]
+fn small_pieces_wait_until_the_end(rt: HostRuntime) -> Result<(), Fail> {
+    let mut files = Two::new(rt.alloc(), &[])?;
+    files.put(1, b"one")?;
+    files.put(0, b"two")?;
+    files.put(1, b"ten")?;
+    assert!(rt; files.shelf.calls() == 2);
+    files.end()?;
+    assert!(rt; files.shelf.calls() == 4);
+    assert!(rt; files.shelf.file("x") == Some(b"two".as_slice()));
+    assert!(rt; files.shelf.file("y") == Some(b"oneten".as_slice()));
+    files.end()?;
+    assert!(rt; files.shelf.calls() == 4);
+    Ok(())
+}
+
+// Of ten bytes six have room, and the other four wait. Of 140,000 more 65,532 have room behind them, then
+// 65,536, and the rest waits.
+#[test]
+fn a_full_gather_is_appended(rt: HostRuntime) -> Result<(), Fail> {
+    let alloc = rt.alloc();
+    let mut files = Two::new(alloc, &[])?;
+    files.put(0, &of_one(alloc, 7, 65_530)?)?;
+    assert!(rt; files.shelf.calls() == 2);
+    files.put(1, b"0123456789")?;
+    assert!(rt; files.shelf.calls() == 4);
+    assert!(rt; files.len("x") == 65_530);
+    assert!(rt; files.shelf.file("y") == Some(b"012345".as_slice()));
+    files.put(0, &of_one(alloc, 9, 140_000)?)?;
+    assert!(rt; files.shelf.calls() == 7);
+    assert!(rt; files.len("x") == 65_530 + 65_532 + 65_536);
+    assert!(rt; files.shelf.file("y") == Some(b"0123456789".as_slice()));
+    files.end()?;
+    assert!(rt; files.shelf.calls() == 8);
+    assert!(rt; files.len("x") == 65_530 + 140_000);
+    Ok(())
+}
+
+// The third call appends to the first file, and keeps half of its piece.
+#[test]
+fn after_a_fault_nothing_is_held(rt: HostRuntime) -> Result<(), Fail> {
+    let mut files = Two::new(rt.alloc(), &[3])?;
+    files.put(0, b"four")?;
+    files.put(1, b"one")?;
+    assert!(rt; files.end() == Err(DeviceBad::Failed));
+    assert!(rt; files.shelf.file("x") == Some(b"fo".as_slice()));
+    assert!(rt; files.shelf.file("y") == Some(b"".as_slice()));
+    files.end()?;
+    assert!(rt; files.shelf.calls() == 3);
     Ok(())
 }

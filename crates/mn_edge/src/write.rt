@@ -1,11 +1,27 @@
 // Files, written in pieces.
-ghost use Rattle.std.specs.Prelude.{◌≡◌, ◌++◌, List, ℕ, Some, OnOk, OnErr, IsTrue};
+ghost use Rattle.std.specs.Prelude.{◌≡◌, ◌++◌, [], List, ℕ, None, Some, OnOk, OnErr, IsTrue, take};
 ghost use Rattle.std.specs.Option.{ForSome};
 ghost use Rattle.mn_edge.specs.Faults.{Counted};
 ghost use Rattle.mn_edge.specs.Files.{Files};
 ghost use Rattle.mn_edge.specs.Written.{PartWritten, Stands, all_known, laid, pairs, texts, written};
 
 use crate::{DeviceBad, Shelf};
+
+/// Begins the files of these names in order. It ends at the first refusal, when the first few stand, empty.
+pub fn begin_all<S: Shelf>(shelf: &mut S, names: &[String]) -> Result<(), DeviceBad>
+    ensures begun { OnOk result (ForSome (S.files shelf.old) (λ m.
+        Stands (texts names.now) [] m (S.files shelf.new))) }
+    ensures part { OnErr result (ForSome (S.files shelf.old) (λ m.
+        (n : ℕ) × Stands (take n (texts names.now)) [] m (S.files shelf.new))) }
+    ensures silent { S.files shelf.old ≡ None → S.files shelf.new ≡ None }
+    ensures writes { Counted (S.write_faults shelf.old) (S.write_faults shelf.new) result }
+    ensures reads { S.read_faults shelf.new ≡ S.read_faults shelf.old }
+{
+    for name in names {
+        shelf.begin(name.as_str())?;
+    }
+    Ok(())
+}
 
 /// Begins the files of these names in order, and then appends the pieces in order, each to the file that it
 /// names. It ends at the first refusal.
@@ -22,9 +38,7 @@ pub fn write_all<S: Shelf>(
     ensures writes { Counted (S.write_faults shelf.old) (S.write_faults shelf.new) result }
     ensures reads { S.read_faults shelf.new ≡ S.read_faults shelf.old }
 {
-    for name in names {
-        shelf.begin(name.as_str())?;
-    }
+    begin_all(shelf, names)?;
     append_all(shelf, pieces)
 }
 

@@ -1,9 +1,9 @@
 -- What was told, and what is held, names VRFs, sites and attachments that exist.
-use Rattle.std.proofs.Common.{ℕ, zero, suc, ◌≡◌, ◌≢◌, ◌+◌, ◌<◌, ◌≤◌, ◌⊎◌, inl, inr, Bool, true, false, cond, List, [], ◌∷◌, ◌++◌, map, filter, length, take, refl, arith, sym, ◌∙◌, ap, subst, Option, Some, None}
-use Rattle.std.specs.Prelude.{◌==◌, ◌&&◌, not, nat_le, nat_lt, if◌then◌else◌, fold, slice_get, slice_index_or, unwrap_or, is_some, ⊤}
+use Rattle.std.proofs.Common.{ℕ, zero, suc, ◌≡◌, ◌+◌, ◌<◌, ◌≤◌, inl, inr, Bool, true, false, cond, List, [], ◌∷◌, ◌++◌, map, filter, length, take, refl, arith, sym, ◌∙◌, ap, subst, Option, Some, None}
+use Rattle.std.specs.Prelude.{◌==◌, not, nat_le, nat_lt, fold, slice_get, slice_index_or, unwrap_or, is_some}
 use Rattle.std.specs.List.{flat_map, list_any, range_with_len, AllByRecursion}
 use Rattle.std.proofs.lemmas.Bool.{and_parts, ltb-true}
-use Rattle.std.proofs.lemmas.Bool.Decides.{eqb_tells, leb_tells, nat_tests}
+use Rattle.std.proofs.lemmas.Bool.Decides.{eqb_tells, leb_tells}
 use Rattle.mn_base.specs.declared.numbers.Rt.{Rt}
 use Rattle.mn_base.specs.declared.states.BgpState.{BgpState}
 use Rattle.mn_base.specs.declared.states.BgpState.TheVariants.{OpenSent, OpenConfirm}
@@ -20,14 +20,14 @@ use Rattle.mn_topo.specs.Steps.{fits}
 use Rattle.mn_ledger.specs.declared.refused.Refused.{Refused}
 use Rattle.mn_ledger.specs.declared.refused.Refused.TheVariants as why
 use Rattle.mn_ledger.specs.Tables.{put, put_pair}
-use Rattle.mn_ledger.specs.Places.{vrf_at, vrf_of, edge_of, home_of, vrfs_at, edges}
+use Rattle.mn_ledger.specs.Places.{vrf_at, vrf_of, edge_of, vrfs_at, edges}
 use Rattle.mn_ledger.specs.World.{SiteRoute, Config, Export, Telling, Open, Alive, Announce, Unreach, Peerings, World}
-use Rattle.mn_ledger.specs.Vpn.{Told, is_present, export_of, present_with, exports_with, exports_of, is_between, tellings_of, told_to, reply, replies, is_for, same_export, withdrawn, announced, changed, steady_peers, news, told_in, counted, peerings_after}
+use Rattle.mn_ledger.specs.Vpn.{Told, exports_with, exports_of, is_between, tellings_of, told_to, reply, replies, is_for, same_export, withdrawn, announced, changed, steady_peers, news, told_in, counted, peerings_after}
 use Rattle.mn_ledger.specs.Packets.{Packets}
-use Rattle.mn_ledger.specs.Ledger.{with_target, ascending, statics_from, is_static, config_after, after, start}
+use Rattle.mn_ledger.specs.Ledger.{with_target, statics_from, is_static, config_after, after, start}
 use Rattle.mn_ledger.specs.Refusal.{is_unchanged, is_empty, static_refusal, is_targets_full, is_spent, is_full, where_holds, first_cause, limits, refusal_at}
 use Rattle.mn_ledger.specs.Lawful.{IsLawfulJournal}
-use Rattle.mn_ledger.proofs.GoingBy.{put_here, put_off, pair_here, pair_off}
+use Rattle.mn_ledger.proofs.GoingBy.{pair_here, pair_off}
 use Rattle.mn_ledger.proofs.Members.{In, in_append, in_map, in_filter, in_flat_map, in_range}
 use Rattle.mn_ledger.proofs.Peers.{same_numbers}
 use Rattle.mn_ledger.proofs.Tellings.{Behind, exported}
@@ -112,8 +112,10 @@ pub has_room : (t : Network) (w : World) (k : Packets) (n : ℕ) (s : Step) (b :
 has_room t w k n s b h =
     let one = first_none (is_unchanged w.config s) why.Unchanged (where_holds (is_empty t w k s) why.Empty ∷ limits t w k n s b) h in
     let two = first_none (is_empty t w k s) why.Empty (limits t w k n s b) one.1 in
-    let rest : List (Option Refused) = where_holds (is_spent t w.config s) why.LabelsSpent ∷ where_holds (is_full t w k s b) why.NetFull ∷ where_holds (nat_le 4000000 n) why.TooManySteps ∷ [] in
-    (first_none (is_targets_full w.config s) why.TargetsFull rest (static_none (static_refusal t w.config s) (where_holds (is_targets_full w.config s) why.TargetsFull ∷ rest) two.1)).0
+    let rest : List (Option Refused) = where_holds (is_spent t w.config s) why.LabelsSpent ∷ where_holds (is_full t w k s b) why.NetFull ∷ where_holds
+    (nat_le 4000000 n) why.TooManySteps ∷ [] in
+    (first_none (is_targets_full w.config s) why.TargetsFull rest
+    (static_none (static_refusal t w.config s) (where_holds (is_targets_full w.config s) why.TargetsFull ∷ rest) two.1)).0
 
 put_few : (f : ℕ → List ℕ) (k : ℕ) (xs : List ℕ) → ((v : ℕ) → length (f v) ≤ 16) → length xs ≤ 16 → (v : ℕ) → length (put f k xs v) ≤ 16
 put_few f k xs h g v = split (v == k)
@@ -132,7 +134,8 @@ set_few : (x : ℕ) (on : Bool) (xs : List ℕ) → length xs ≤ 16 → (on ≡
 set_few x true xs h g = omega (arith, with_one_length x xs, less_16 (length xs) (g refl))
 set_few x false xs h g = omega (arith, h, fewer (λ other. not (x == other)) xs)
 
-put_some : (f : ℕ → Option ℕ) (g : ℕ → ℕ) (k m : ℕ) (o : Option ℕ) → ((s n : ℕ) → f s ≡ Some n → (1 ≤ n) × (n ≤ g s + 1)) → ((n : ℕ) → o ≡ Some n → (1 ≤ n) × (n ≤ m + 1))
+put_some : (f : ℕ → Option ℕ) (g : ℕ → ℕ) (k m : ℕ) (o : Option ℕ) → ((s n : ℕ) → f s ≡ Some n → (1 ≤ n) × (n ≤ g s + 1))
+    → ((n : ℕ) → o ≡ Some n → (1 ≤ n) × (n ≤ m + 1))
     → (s n : ℕ) → put f k o s ≡ Some n → (1 ≤ n) × (n ≤ put g k m s + 1)
 put_some f g k m o h p s n = split (s == k)
   where
@@ -143,7 +146,8 @@ put_some f g k m o h p s n = split (s == k)
 none_some : (n : ℕ) → None ≡ Some n → ⊥
 none_some n h = cc
 
-put_none : (f : ℕ → Option ℕ) (g : ℕ → ℕ) (k : ℕ) → ((s n : ℕ) → f s ≡ Some n → (1 ≤ n) × (n ≤ g s + 1)) → (s n : ℕ) → put f k None s ≡ Some n → (1 ≤ n) × (n ≤ g s + 1)
+put_none : (f : ℕ → Option ℕ) (g : ℕ → ℕ) (k : ℕ) → ((s n : ℕ) → f s ≡ Some n → (1 ≤ n) × (n ≤ g s + 1)) → (s n : ℕ) → put f k None s ≡ Some n
+    → (1 ≤ n) × (n ≤ g s + 1)
 put_none f g k h s n = split (s == k)
   where
     split : (b : Bool) → cond b None (f s) ≡ Some n → (1 ≤ n) × (n ≤ g s + 1)
@@ -154,12 +158,17 @@ pub bounds_go : (t : Network) (c : Config) (s : Step) → fits t s ≡ true → 
 bounds_go t c (step.AddRoute s p) fit room h = record {
   sites = λ x i. elim (in_append c.statics (record { site = s.0; prefix = p } ∷ []) x i) [
     | inl j ↦ h.sites x j
-    | inr j ↦ elim j [ inl e ↦ subst (λ (y : SiteRoute). y.site < length t.sites) e (ltb-true _ _ (and_parts (nat_lt s.0 (length t.sites)) (is_lawful_prefix p) fit).0) | inr z ↦ absurd z ]
+    | inr j ↦ elim j [
+      | inl e ↦ subst (λ (y : SiteRoute). y.site < length t.sites) e
+          (ltb-true _ _ (and_parts (nat_lt s.0 (length t.sites)) (is_lawful_prefix p) fit).0)
+      | inr z ↦ absurd z
+    ]
   ];
   attached = h.attached;
   exports = h.exports;
 }
-bounds_go t c (step.DelRoute s p) fit room h = record { sites = λ x i. h.sites x (in_filter (λ static. not (is_static s.0 p static)) c.statics x i).0; attached = h.attached; exports = h.exports }
+bounds_go t c (step.DelRoute s p) fit room
+    h = record { sites = λ x i. h.sites x (in_filter (λ static. not (is_static s.0 p static)) c.statics x i).0; attached = h.attached; exports = h.exports }
 bounds_go t c (step.Export v x on) fit room h = record {
   sites = h.sites;
   attached = h.attached;
@@ -171,7 +180,8 @@ bounds_go t c (step.Export v x on) fit room h = record {
     only false e r = cc
 bounds_go t c (step.Attach s) fit room h = record {
   sites = h.sites;
-  attached = put_some c.attached c.attaches s.0 (c.attaches s.0 + 1) (Some (c.attaches s.0 + 2)) h.attached (λ n e. let is : c.attaches s.0 + 2 ≡ n = some_is (c.attaches s.0 + 2) n e in (omega (arith, is), omega (arith, is)));
+  attached = put_some c.attached c.attaches s.0 (c.attaches s.0 + 1) (Some (c.attaches s.0 + 2)) h.attached
+      (λ n e. let is : c.attaches s.0 + 2 ≡ n = some_is (c.attaches s.0 + 2) n e in (omega (arith, is), omega (arith, is)));
   exports = h.exports;
 }
 bounds_go t c (step.Detach s) fit room h = record { sites = h.sites; attached = put_none c.attached c.attaches s.0 h.attached; exports = h.exports }
@@ -208,7 +218,8 @@ pub record IsBehind (t : Network) (c : Config) (v : ℕ) (e : Export) : Type 0 w
   pub formed : IsPrefix e.prefix.address e.prefix.length
   pub present : c.attached e.site ≡ Some e.attachment
 
-pub is_behind : (t : Network) (c : Config) (v : ℕ) (targets : List ℕ) (e : Export) → IsInBounds t c → HasForms c.statics → Behind t c v targets e → IsBehind t c v e
+pub is_behind : (t : Network) (c : Config) (v : ℕ) (targets : List ℕ) (e : Export) → IsInBounds t c → HasForms c.statics → Behind t c v targets e
+    → IsBehind t c v e
 unfolding Behind
 is_behind t c v targets e h forms b =
     let parts = and_parts (vrf_of t b.0.site == v) (is_some (c.attached b.0.site)) b.2 in
@@ -253,7 +264,8 @@ is_exported t c edge e h forms i =
       targets = ap c.exports (sym is) ∙ targets;
     }
 
-names_export : (t : Network) (c : Config) (edge : ℕ) (e : Export) → IsInBounds t c → HasForms c.statics → RiseAll c → In (exports_of t c edge) e → NamesAnAttachment t c edge e
+names_export : (t : Network) (c : Config) (edge : ℕ) (e : Export) → IsInBounds t c → HasForms c.statics → RiseAll c → In (exports_of t c edge) e
+    → NamesAnAttachment t c edge e
 names_export t c edge e h forms r i =
     let x = is_exported t c edge e h forms i in
     let given = h.attached e.site e.attachment x.behind.present in
@@ -281,48 +293,59 @@ AllTold t c xs = (x : Told) → In xs x → NamesItsVrf t c x.teller x.telling
 abbrev ExportsNamed : Network → Config → Type 0
 ExportsNamed t c = (edge : ℕ) (e : Export) → In (exports_of t c edge) e → NamesAnAttachment t c edge e
 
-named_announced : (t : Network) (c : Config) (edge : ℕ) (es : List Export) → ((e : Export) → In es e → NamesAnAttachment t c edge e) → AllNamed t c edge (map (λ export. Announce export) es)
+named_announced : (t : Network) (c : Config) (edge : ℕ) (es : List Export) → ((e : Export) → In es e → NamesAnAttachment t c edge e)
+    → AllNamed t c edge (map (λ export. Announce export) es)
 named_announced t c edge es h m i = let f = in_map (λ export. Announce export) es m i in subst (NamesItsVrf t c edge) f.2 (h f.0 f.1)
 
 one_named : (t : Network) (c : Config) (edge : ℕ) (m : Telling) → NamesItsVrf t c edge m → AllNamed t c edge (m ∷ [])
 one_named t c edge m g x i = elim i [ inl e ↦ subst (NamesItsVrf t c edge) e g | inr j ↦ absurd j ]
 
-named_reply : (t : Network) (c : Config) (edge : ℕ) (state : BgpState) (m : Telling) → ExportsNamed t c → AllNamed t c edge (reply state m (exports_of t c edge))
+named_reply : (t : Network) (c : Config) (edge : ℕ) (state : BgpState) (m : Telling) → ExportsNamed t c
+    → AllNamed t c edge (reply state m (exports_of t c edge))
 named_reply t c edge OpenSent Open h = one_named t c edge Alive tt
 named_reply t c edge OpenConfirm Alive h = named_announced t c edge (exports_of t c edge) (h edge)
 named_reply t c edge _ _ h = λ x i. absurd i
 
 named_told_to : (t : Network) (c : Config) (a b : ℕ) (ms : List Telling) → AllNamed t c a ms → AllTold t c (told_to a b ms)
-named_told_to t c a b ms h x i = let f = in_map (λ telling. record { teller = a; peer = b; telling = telling }) ms x i in subst (λ (y : Told). NamesItsVrf t c y.teller y.telling) f.2 (h f.0 f.1)
+named_told_to t c a b ms h x i = let f = in_map (λ telling. record { teller = a; peer = b; telling = telling }) ms x i in subst
+    (λ (y : Told). NamesItsVrf t c y.teller y.telling) f.2 (h f.0 f.1)
 
 join_told : (t : Network) (c : Config) (xs ys : List Told) → AllTold t c xs → AllTold t c ys → AllTold t c (xs ++ ys)
 join_told t c xs ys h g x i = elim (in_append xs ys x i) [ inl j ↦ h x j | inr j ↦ g x j ]
 
 named_replies : (t : Network) (c : Config) (k : Peerings) (s : Step) → ExportsNamed t c → AllTold t c (replies t c k s)
 named_replies t c k (step.BgpUp a b) h =
-    join_told t c (told_to a.0 b.0 (Open ∷ [])) (told_to b.0 a.0 (Open ∷ [])) (named_told_to t c a.0 b.0 (Open ∷ []) (one_named t c a.0 Open tt)) (named_told_to t c b.0 a.0 (Open ∷ []) (one_named t c b.0 Open tt))
+    join_told t c (told_to a.0 b.0 (Open ∷ [])) (told_to b.0 a.0 (Open ∷ [])) (named_told_to t c a.0 b.0 (Open ∷ []) (one_named t c a.0 Open tt))
+    (named_told_to t c b.0 a.0 (Open ∷ []) (one_named t c b.0 Open tt))
 named_replies t c k (step.HearBgp a b) h = named_told_to t c b.0 a.0 (reply _ _ (exports_of t c b.0)) (named_reply t c b.0 _ _ h)
 named_replies t c k _ h = λ x i. absurd i
 
 -- what went was exported before
-named_changed : (t : Network) (old new : Config) (edge : ℕ) → ExportsNamed t old → ExportsNamed t new → AllNamed t new edge (changed (exports_of t old edge) (exports_of t new edge))
-named_changed t old new edge h g m i = elim (in_append (withdrawn (exports_of t old edge) (exports_of t new edge)) (announced (exports_of t old edge) (exports_of t new edge)) m i) [
-  | inl j ↦
-      let f = in_map (λ (export : Export). Unreach export.vrf export.prefix) (filter (λ export. not (list_any (is_for export.vrf export.prefix) (exports_of t new edge))) (exports_of t old edge)) m j in
-      let e = h edge f.0 (in_filter (λ export. not (list_any (is_for export.vrf export.prefix) (exports_of t new edge))) (exports_of t old edge) f.0 f.1).0 in
-      subst (NamesItsVrf t new edge) f.2 (e.vrf, e.at_teller)
-  | inr j ↦
-      named_announced t new edge (filter (λ export. not (list_any (same_export export) (exports_of t old edge))) (exports_of t new edge))
-      (λ e k. g edge e (in_filter (λ export. not (list_any (same_export export) (exports_of t old edge))) (exports_of t new edge) e k).0) m j
-]
+named_changed : (t : Network) (old new : Config) (edge : ℕ) → ExportsNamed t old → ExportsNamed t new
+    → AllNamed t new edge (changed (exports_of t old edge) (exports_of t new edge))
+named_changed t old new edge h g m
+    i = elim (in_append (withdrawn (exports_of t old edge) (exports_of t new edge)) (announced (exports_of t old edge) (exports_of t new edge)) m i) [
+      | inl j ↦
+          let f = in_map (λ (export : Export). Unreach export.vrf export.prefix)
+          (filter (λ export. not (list_any (is_for export.vrf export.prefix) (exports_of t new edge))) (exports_of t old edge)) m j in
+          let e = h edge f.0
+          (in_filter (λ export. not (list_any (is_for export.vrf export.prefix) (exports_of t new edge))) (exports_of t old edge) f.0 f.1).0 in
+          subst (NamesItsVrf t new edge) f.2 (e.vrf, e.at_teller)
+      | inr j ↦
+          named_announced t new edge (filter (λ export. not (list_any (same_export export) (exports_of t old edge))) (exports_of t new edge))
+          (λ e k. g edge e (in_filter (λ export. not (list_any (same_export export) (exports_of t old edge))) (exports_of t new edge) e k).0) m j
+    ]
 
-named_news : (t : Network) (c : Config) (p : Peerings) (new : Config) (k : Peerings) (edge : ℕ) → ExportsNamed t c → ExportsNamed t new → AllTold t new (news t c p new k edge)
+named_news : (t : Network) (c : Config) (p : Peerings) (new : Config) (k : Peerings) (edge : ℕ) → ExportsNamed t c → ExportsNamed t new
+    → AllTold t new (news t c p new k edge)
 named_news t c p new k edge h g x i =
-    let f = in_flat_map (λ telling. map (λ peer. record { teller = edge; peer = peer; telling = telling }) (steady_peers t c p new k edge)) (changed (exports_of t c edge) (exports_of t new edge)) x i in
+    let f = in_flat_map (λ telling. map (λ peer. record { teller = edge; peer = peer; telling = telling }) (steady_peers t c p new k edge))
+    (changed (exports_of t c edge) (exports_of t new edge)) x i in
     let r = in_map (λ peer. record { teller = edge; peer = peer; telling = f.0 }) (steady_peers t c p new k edge) x f.2 in
     subst (λ (y : Told). NamesItsVrf t new y.teller y.telling) r.2 (named_changed t c new edge h g f.0 f.1)
 
-named_told : (t : Network) (c : Config) (p : Peerings) (new : Config) (k : Peerings) (s : Step) → ExportsNamed t c → ExportsNamed t new → AllTold t new (told_in t c p new k s)
+named_told : (t : Network) (c : Config) (p : Peerings) (new : Config) (k : Peerings) (s : Step) → ExportsNamed t c → ExportsNamed t new
+    → AllTold t new (told_in t c p new k s)
 named_told t c p new k s h g =
     join_told t new (replies t new p s) (flat_map (news t c p new k) (edges t)) (named_replies t new p s g)
     (λ x i. let f = in_flat_map (news t c p new k) (edges t) x i in named_news t c p new k f.0 h g x f.2)
@@ -348,8 +371,10 @@ in_cleared f a b edge peer m i = elim (eqb_tells edge a) [
 ]
 
 still_named : (t : Network) (c : Config) (p : Peerings) (s : Step) → TellingsNamed t c p → TellingsNamed t c (counted p s)
-still_named t c p (step.BgpUp a b) h = λ edge peer m i. h edge peer m (in_cleared p.told a.0 b.0 edge peer m (in_cleared (put_pair p.told a.0 b.0 []) b.0 a.0 edge peer m i))
-still_named t c p (step.BgpDown a b) h = λ edge peer m i. h edge peer m (in_cleared p.told a.0 b.0 edge peer m (in_cleared (put_pair p.told a.0 b.0 []) b.0 a.0 edge peer m i))
+still_named t c p (step.BgpUp a b) h = λ edge peer m i. h edge peer m
+    (in_cleared p.told a.0 b.0 edge peer m (in_cleared (put_pair p.told a.0 b.0 []) b.0 a.0 edge peer m i))
+still_named t c p (step.BgpDown a b) h = λ edge peer m i. h edge peer m
+    (in_cleared p.told a.0 b.0 edge peer m (in_cleared (put_pair p.told a.0 b.0 []) b.0 a.0 edge peer m i))
 still_named t c p _ h = h
 
 -- what was named by an attachment is named by one later
@@ -371,15 +396,19 @@ later_named t c s edge (Announce e) h = record {
 }
 
 told_go_on : (t : Network) (c : Config) (p : Peerings) (s : Step) → ExportsNamed t c → ExportsNamed t (config_after c s) → TellingsNamed t c p
-    → (edge peer : ℕ) (m : Telling) → In ((counted p s).told edge peer ++ tellings_of edge peer (told_in t c p (config_after c s) (counted p s) s)) m → NamesItsVrf t (config_after c s) edge m
-told_go_on t c p s h g named edge peer m i = elim (in_append ((counted p s).told edge peer) (tellings_of edge peer (told_in t c p (config_after c s) (counted p s) s)) m i) [
-  | inl j ↦ later_named t c s edge m (still_named t c p s named edge peer m j)
-  | inr j ↦
-      let f = in_tellings edge peer (told_in t c p (config_after c s) (counted p s) s) m j in
-      subst (NamesItsVrf t (config_after c s) edge) f.3 (subst (λ n. NamesItsVrf t (config_after c s) n f.0.telling) f.2 (named_told t c p (config_after c s) (counted p s) s h g f.0 f.1))
-]
+    → (edge peer : ℕ) (m : Telling) → In ((counted p s).told edge peer ++ tellings_of edge peer (told_in t c p (config_after c s) (counted p s) s)) m
+    → NamesItsVrf t (config_after c s) edge m
+told_go_on t c p s h g named edge peer m
+    i = elim (in_append ((counted p s).told edge peer) (tellings_of edge peer (told_in t c p (config_after c s) (counted p s) s)) m i) [
+      | inl j ↦ later_named t c s edge m (still_named t c p s named edge peer m j)
+      | inr j ↦
+          let f = in_tellings edge peer (told_in t c p (config_after c s) (counted p s) s) m j in
+          subst (NamesItsVrf t (config_after c s) edge) f.3
+          (subst (λ n. NamesItsVrf t (config_after c s) n f.0.telling) f.2 (named_told t c p (config_after c s) (counted p s) s h g f.0 f.1))
+    ]
 
-tellings_go : (t : Network) (w : World) (s : Step) → ExportsNamed t w.config → ExportsNamed t (config_after w.config s) → TellingsNamed t w.config w.peerings → TellingsNamed t (after t w s).config (after t w s).peerings
+tellings_go : (t : Network) (w : World) (s : Step) → ExportsNamed t w.config → ExportsNamed t (config_after w.config s)
+    → TellingsNamed t w.config w.peerings → TellingsNamed t (after t w s).config (after t w s).peerings
 unfolding peerings_after
 tellings_go t w (step.BgpUp a b) h g n = told_go_on t w.config w.peerings (step.BgpUp a b) h g n
 tellings_go t w (step.BgpDown a b) h g n = told_go_on t w.config w.peerings (step.BgpDown a b) h g n
@@ -395,7 +424,6 @@ tellings_go t w s h g n = λ edge peer m i. later_named t w.config s edge m (n e
 -- 5. After every step of a lawful journal
 
 module _ (t : Network) (lawful : IsLawful t) (es : List JournalEntry) (ps : List (List ℕ)) (journal : IsLawfulJournal t es ps) where
-
   some_entry : (xs : List JournalEntry) (n : ℕ) → n < length xs → (e : JournalEntry) × (slice_get xs n ≡ Some e)
   some_entry [] n h = absurd (none_below n h)
   some_entry (x ∷ xs) zero h = (x, refl)
@@ -407,13 +435,15 @@ module _ (t : Network) (lawful : IsLawful t) (es : List JournalEntry) (ps : List
       let e = some_entry es n (omega (arith, h)) in
       let done : IsDone t (world_at t es n) (packets_at t es ps n) n e.0.step (bytes_of ps _) = lawful_step t es ps n e.0 e.1 journal in
       subst (λ (w : World). IsInBounds t w.config) (sym (world_step t es n e.0 e.1))
-      (bounds_go t (world_at t es n).config e.0.step done.fitting (has_room t (world_at t es n) (packets_at t es ps n) n e.0.step (bytes_of ps _) done.unrefused) (bounds_at n (omega (arith, h))))
+      (bounds_go t (world_at t es n).config e.0.step done.fitting
+      (has_room t (world_at t es n) (packets_at t es ps n) n e.0.step (bytes_of ps _) done.unrefused) (bounds_at n (omega (arith, h))))
 
   pub forms_at : (n : ℕ) → HasForms (world_at t es n).config.statics
   forms_at n = (keeps t (take n es) ps lawful (lawful_at t es ps n journal)).forms
 
   exports_at : (n : ℕ) → n ≤ length es → ExportsNamed t (world_at t es n).config
-  exports_at n h edge e i = names_export t (world_at t es n).config edge e (bounds_at n h) (forms_at n) (sets_rise t (take n es) ps lawful (lawful_at t es ps n journal)) i
+  exports_at n h edge e i = names_export t (world_at t es n).config edge e (bounds_at n h) (forms_at n)
+      (sets_rise t (take n es) ps lawful (lawful_at t es ps n journal)) i
 
   pub tellings_at : (n : ℕ) → n ≤ length es → TellingsNamed t (world_at t es n).config (world_at t es n).peerings
   tellings_at zero h = λ edge peer m i. absurd i
@@ -421,4 +451,5 @@ module _ (t : Network) (lawful : IsLawful t) (es : List JournalEntry) (ps : List
       let e = some_entry es n (omega (arith, h)) in
       let now : world_at t es (suc n) ≡ after t (world_at t es n) e.0.step = world_step t es n e.0 e.1 in
       subst (λ (w : World). TellingsNamed t w.config w.peerings) (sym now)
-      (tellings_go t (world_at t es n) e.0.step (exports_at n (omega (arith, h))) (subst (λ (w : World). ExportsNamed t w.config) now (exports_at (suc n) h)) (tellings_at n (omega (arith, h))))
+      (tellings_go t (world_at t es n) e.0.step (exports_at n (omega (arith, h)))
+      (subst (λ (w : World). ExportsNamed t w.config) now (exports_at (suc n) h)) (tellings_at n (omega (arith, h))))

@@ -1,7 +1,7 @@
 -- What is believed is what was announced last.
-use Rattle.std.proofs.Common.{ℕ, zero, suc, ◌≡◌, ◌≢◌, ◌+◌, ◌<◌, ◌≤◌, ◌⊎◌, inl, inr, Bool, true, false, cond, List, [], ◌∷◌, ◌++◌, filter, refl, arith, sym, ◌∙◌, ap, subst}
+use Rattle.std.proofs.Common.{ℕ, ◌≡◌, ◌⊎◌, inl, inr, Bool, true, false, List, [], ◌∷◌, ◌++◌, filter, refl, sym, ◌∙◌, ap, subst}
 use Rattle.std.specs.Prelude.{◌==◌, ◌&&◌, ◌||◌, not, if◌then◌else◌}
-use Rattle.std.specs.List.{list_any, Contains}
+use Rattle.std.specs.List.{list_any}
 use Rattle.std.proofs.lemmas.Bool.Decides.{eqb_tells}
 use Rattle.mn_base.proofs.Bools.{no, or_off, not_true, not_on, other_test}
 use Rattle.mn_prefix.specs.Prefix.{AddressBlock, same_prefix}
@@ -39,7 +39,8 @@ one_earlier m ms x h = record { before = m ∷ h.before; after = h.after; split 
 none_more : (m : Telling) (ms : List Telling) (x : Export) → mentions x.vrf x.prefix m ≡ false → Unmentioned ms x → Unmentioned (m ∷ ms) x
 none_more m ms x h g = ap (λ b. b || list_any (mentions x.vrf x.prefix) ms) h ∙ g
 
-kept_through : (m : Telling) (es fs : List Export) (ms : List Telling) (x : Export) → (In fs x → Unmentioned ms x → LastOrBefore es (m ∷ ms) x) → LastOrBefore fs ms x → LastOrBefore es (m ∷ ms) x
+kept_through : (m : Telling) (es fs : List Export) (ms : List Telling) (x : Export) → (In fs x → Unmentioned ms x → LastOrBefore es (m ∷ ms) x)
+    → LastOrBefore fs ms x → LastOrBefore es (m ∷ ms) x
 kept_through m es fs ms x h g = elim g [ inl l ↦ inl (one_earlier m ms x l) | inr k ↦ h k.0 k.1 ]
 
 from_believed : (es : List Export) (ms : List Telling) (x : Export) → In (believed_from es ms) x → LastOrBefore es ms x
@@ -68,17 +69,20 @@ from_believed es (Alive ∷ ms) x i = kept_through Alive es es ms x (λ j none. 
 
 still_in : (es : List Export) (m : Telling) (x : Export) → mentions x.vrf x.prefix m ≡ false → In es x → In (believed_after es m) x
 still_in es (Announce e) x h i =
-    in_front (filter (λ other. not (is_for e.vrf e.prefix other)) es) (e ∷ []) x (filter_in (λ other. not (is_for e.vrf e.prefix other)) es x i (not_on (is_for e.vrf e.prefix x) (both_turned e.vrf x.vrf e.prefix x.prefix ∙ h)))
+    in_front (filter (λ other. not (is_for e.vrf e.prefix other)) es) (e ∷ []) x
+    (filter_in (λ other. not (is_for e.vrf e.prefix other)) es x i (not_on (is_for e.vrf e.prefix x) (both_turned e.vrf x.vrf e.prefix x.prefix ∙ h)))
 still_in es (Unreach v p) x h i = filter_in (λ other. not (is_for v p other)) es x i (not_on (is_for v p x) (both_turned v x.vrf p x.prefix ∙ h))
 still_in es Open x h i = i
 still_in es Alive x h i = i
 
 kept_on : (es : List Export) (ms : List Telling) (x : Export) → In es x → Unmentioned ms x → In (believed_from es ms) x
 kept_on es [] x i h = i
-kept_on es (m ∷ ms) x i h = let parts = or_off (mentions x.vrf x.prefix m) (list_any (mentions x.vrf x.prefix) ms) h in kept_on (believed_after es m) ms x (still_in es m x parts.0 i) parts.1
+kept_on es (m ∷ ms) x i h = let parts = or_off (mentions x.vrf x.prefix m) (list_any (mentions x.vrf x.prefix) ms) h in kept_on
+    (believed_after es m) ms x (still_in es m x parts.0 i) parts.1
 
 announced : (es : List Export) (before after : List Telling) (x : Export) → Unmentioned after x → In (believed_from es (before ++ Announce x ∷ after)) x
-announced es [] after x h = kept_on (believed_after es (Announce x)) after x (in_rest (filter (λ other. not (is_for x.vrf x.prefix other)) es) (x ∷ []) x (inl refl)) h
+announced es [] after x h = kept_on (believed_after es (Announce x)) after x
+    (in_rest (filter (λ other. not (is_for x.vrf x.prefix other)) es) (x ∷ []) x (inl refl)) h
 announced es (m ∷ before) after x h = announced (believed_after es m) before after x h
 
 -- 4. Where the session lives
@@ -94,7 +98,8 @@ in_live false xs x h i = absurd (no h)
 last_of : (ms : List Telling) (x : Export) → LastOrBefore [] ms x → IsLastMention ms x
 last_of ms x h = elim h [ inl l ↦ l | inr k ↦ absurd k.0 ]
 
-pub believed_last : (c : Config) (p : Peerings) (edge peer : ℕ) (x : Export) → In (believed c p edge peer) x → (peers_live c edge peer ≡ true) × IsLastMention (heard_of p edge peer) x
+pub believed_last : (c : Config) (p : Peerings) (edge peer : ℕ) (x : Export) → In (believed c p edge peer) x
+    → (peers_live c edge peer ≡ true) × IsLastMention (heard_of p edge peer) x
 believed_last c p edge peer x i =
     let l = live_in (peers_live c edge peer) (believed_from [] (heard_of p edge peer)) x i in
     (l.0, last_of (heard_of p edge peer) x (from_believed [] (heard_of p edge peer) x l.1))
@@ -108,5 +113,6 @@ believes_last_mentions c p edge peer x = record {
   live = λ h. (believed_last c p edge peer x (in_contained (believed c p edge peer) x h)).0;
   mentioned = λ h. (believed_last c p edge peer x (in_contained (believed c p edge peer) x h)).1;
   believed = λ live h. contained_in (believed c p edge peer) x
-      (in_live (peers_live c edge peer) (believed_from [] (heard_of p edge peer)) x live (subst (λ ms. In (believed_from [] ms) x) (sym h.split) (announced [] h.before h.after x h.last)));
+      (in_live (peers_live c edge peer) (believed_from [] (heard_of p edge peer)) x live
+      (subst (λ ms. In (believed_from [] ms) x) (sym h.split) (announced [] h.before h.after x h.last)));
 }

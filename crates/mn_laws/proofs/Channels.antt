@@ -24,7 +24,7 @@ use Rattle.mn_ledger.specs.Vpn.{peerings_after, Told, told_to, peers_live, is_es
 use Rattle.mn_ledger.specs.Packets.{Token, Packets, flying_on, packets_after}
 use Rattle.mn_ledger.specs.Ledger.{config_after, after, start, no_packets, next_of, left_by, world_from, world_of}
 use Rattle.mn_ledger.specs.Lawful.{IsLawfulFrom, IsLawfulJournal}
-use Rattle.mn_ledger.specs.Items.{Channel, Notices, Messages, Routes, Frames, Load, Notice, Says, Tells, Carries, Item, Flight, notices_in, message_of, messages_in, route_of, routes_in, frame_by, frame_after, frames_in, last_of, made_in, numbered, left_in_flight, with_made, flight_from, flight_of}
+use Rattle.mn_ledger.specs.Items.{Channel, Notices, Messages, Frames, Load, Notice, Says, Carries, Item, Flight, notices_in, message_of, messages_in, route_of, routes_in, frame_by, frame_after, frames_in, last_of, made_in, numbered, left_in_flight, with_made, flight_from, flight_of}
 use Rattle.mn_ledger.proofs.Members.{In, in_append, in_map, in_filter, in_flat_map, in_range, in_contained}
 use Rattle.mn_ledger.proofs.Turning.{opener, is_end-a, is_end-b, dir_ends}
 use Rattle.mn_ledger.proofs.GoingBy.{pair_here, pair_off}
@@ -54,7 +54,8 @@ both-said : (t : Network) (xs ys : List Said) → AllSaid t xs → AllSaid t ys 
 both-said t xs ys h g x i = elim (in_append xs ys x i) [ inl j ↦ h x j | inr j ↦ g x j ]
 
 on-link : (t : Network) (l n : ℕ) (ms : List Message) → l < length t.links → is_end (wiring_of t) l n ≡ true → AllSaid t (said_on l n ms)
-on-link t l n ms h e x i = let m = in_map (λ message. record { link = l; end = n; message = message }) ms x i in subst (λ (y : Said). IsOfChannel t (Messages y.link y.end) (Says y.message)) m.2 (h, e)
+on-link t l n ms h e x i = let m = in_map (λ message. record { link = l; end = n; message = message }) ms x i in subst
+    (λ (y : Said). IsOfChannel t (Messages y.link y.end) (Says y.message)) m.2 (h, e)
 
 opener-end : (t : Network) (l : ℕ) → is_end (wiring_of t) l (opener t l) ≡ true
 opener-end t l = either (is_active t l (link (wiring_of t) l).a.0)
@@ -82,14 +83,17 @@ if-said : (t : Network) (b : Bool) (xs : List Said) → AllSaid t xs → AllSaid
 if-said t true xs h = h
 if-said t false xs h = λ x i. absurd i
 
-from-said : (t : Network) (before now : Knowledge) (n : ℕ) (ks : List ℕ) → ((l : ℕ) → In ks l → (l < length t.links) × (is_end (wiring_of t) l n ≡ true)) → (fec : ℕ) (weres ares : List Bool) → AllSaid t (mentioned_from before now n ks fec weres ares)
+from-said : (t : Network) (before now : Knowledge) (n : ℕ) (ks : List ℕ)
+    → ((l : ℕ) → In ks l → (l < length t.links) × (is_end (wiring_of t) l n ≡ true)) → (fec : ℕ) (weres ares : List Bool)
+    → AllSaid t (mentioned_from before now n ks fec weres ares)
 from-said t before now n ks at fec [] ares = λ x i. absurd i
 from-said t before now n ks at fec (was ∷ weres) [] = λ x i. absurd i
 from-said t before now n ks at fec (was ∷ weres) (is ∷ ares) =
     both-said t (flat_map (mentioned_on before now n fec was is) ks) (mentioned_from before now n ks (fec + 1) weres ares)
     (λ x i.
     let m = in_flat_map (mentioned_on before now n fec was is) ks x i in
-    if-said t (is_operational now m.0) (said_on m.0 n (mention (is_operational before m.0 && was) is fec)) (on-link t m.0 n (mention (is_operational before m.0 && was) is fec) (at m.0 m.1).0 (at m.0 m.1).1) x m.2)
+    if-said t (is_operational now m.0) (said_on m.0 n (mention (is_operational before m.0 && was) is fec))
+    (on-link t m.0 n (mention (is_operational before m.0 && was) is fec) (at m.0 m.1).0 (at m.0 m.1).1) x m.2)
     (from-said t before now n ks at (fec + 1) weres ares)
 
 neighbour-links : (w : Wiring) (n l : ℕ) → In (by_neighbour w n) l → (l < length w.ends) × (is_end w l n ≡ true)
@@ -101,11 +105,14 @@ neighbour-links w n l i =
 
 news-said : (t : Network) (before now : Knowledge) (n : ℕ) → AllSaid t (news (wiring_of t) before now n)
 unfolding news
-news-said t before now n = from-said t before now n (by_neighbour (wiring_of t) n) (λ l i. neighbour-links (wiring_of t) n l i) 0 (offered (wiring_of t) before n) (offered (wiring_of t) now n)
+news-said t before now n = from-said t before now n (by_neighbour (wiring_of t) n) (λ l i. neighbour-links (wiring_of t) n l i) 0
+    (offered (wiring_of t) before n) (offered (wiring_of t) now n)
 
-all-said : (t : Network) (c new : Config) (v nv : Views) (s k : Sessions) (st : Step) → EndsDiffer (wiring_of t) → fits t st ≡ true → AllSaid t (said_in t c v s new nv k st)
+all-said : (t : Network) (c new : Config) (v nv : Views) (s k : Sessions) (st : Step) → EndsDiffer (wiring_of t) → fits t st ≡ true
+    → AllSaid t (said_in t c v s new nv k st)
 all-said t c new v nv s k st differ fit = both-said t (replies t new s st) _ (replies-said t new s st differ fit)
-    (λ x i. let m = in_flat_map (λ node. news (wiring_of t) (knowledge_of (wiring_of t) c v s node) (knowledge_of (wiring_of t) new nv k node) node) (speakers (wiring_of t) st) x i in
+    (λ x i. let m = in_flat_map (λ node. news (wiring_of t) (knowledge_of (wiring_of t) c v s node) (knowledge_of (wiring_of t) new nv k node) node)
+    (speakers (wiring_of t) st) x i in
     news-said t (knowledge_of (wiring_of t) c v s m.0) (knowledge_of (wiring_of t) new nv k m.0) m.0 x m.2)
 
 -- 2. What is told is told by an edge to another
@@ -130,7 +137,8 @@ abbrev AllTold : Network → List Told → Type 0
 AllTold t xs = (x : Told) → In xs x → AreEdges t x.teller x.peer
 
 told-between : (t : Network) (a b : ℕ) (ms : List Telling) → AreEdges t a b → AllTold t (told_to a b ms)
-told-between t a b ms h x i = let m = in_map (λ telling. record { teller = a; peer = b; telling = telling }) ms x i in subst (λ (y : Told). AreEdges t y.teller y.peer) m.2 h
+told-between t a b ms h x i = let m = in_map (λ telling. record { teller = a; peer = b; telling = telling }) ms x i in subst
+    (λ (y : Told). AreEdges t y.teller y.peer) m.2 h
 
 edges-fit : (t : Network) (a b : ℕ) → ((is_edge t.vrfs a && is_edge t.vrfs b) && not (a == b)) ≡ true → AreEdges t a b
 edges-fit t a b fit =
@@ -157,13 +165,15 @@ told-replies t c p _ fit = λ x i. absurd i
 
 told-news : (t : Network) (c : Config) (p : Peerings) (new : Config) (k : Peerings) (e : ℕ) → JoinEdges t c → AllTold t (vpn.news t c p new k e)
 told-news t c p new k e h x i =
-    let m = in_flat_map (λ telling. map (λ peer. record { teller = e; peer = peer; telling = telling }) (steady_peers t c p new k e)) (changed (exports_of t c e) (exports_of t new e)) x i in
+    let m = in_flat_map (λ telling. map (λ peer. record { teller = e; peer = peer; telling = telling }) (steady_peers t c p new k e))
+    (changed (exports_of t c e) (exports_of t new e)) x i in
     let n = in_map (λ peer. record { teller = e; peer = peer; telling = m.0 }) (steady_peers t c p new k e) x m.2 in
     let f = in_filter (λ peer. is_established c p e peer && is_established new k e peer) (nodes_of (wiring_of t)) n.0 n.1 in
     let live : peers_live c e n.0 ≡ true = (and-both _ _ (and-both _ _ f.1).0).0 in
     subst (λ (y : Told). AreEdges t y.teller y.peer) n.2 (live-edges t c e n.0 h live)
 
-all-told : (t : Network) (c : Config) (p : Peerings) (new : Config) (k : Peerings) (st : Step) → fits t st ≡ true → JoinEdges t c → AllTold t (vpn.told_in t c p new k st)
+all-told : (t : Network) (c : Config) (p : Peerings) (new : Config) (k : Peerings) (st : Step) → fits t st ≡ true → JoinEdges t c
+    → AllTold t (vpn.told_in t c p new k st)
 all-told t c p new k st fit h x i = elim (in_append (vpn.replies t new p st) (flat_map (vpn.news t c p new k) (edges t)) x i) [
   | inl j ↦ told-replies t new p st fit x j
   | inr j ↦ let m = in_flat_map (vpn.news t c p new k) (edges t) x j in told-news t c p new k m.0 h x m.2
@@ -202,7 +212,8 @@ if-made t true xs h = h
 if-made t false xs h = λ x i. absurd i
 
 frame-made : (t : Network) (p : Packets) (v : Verdict) → IsLinked t v → AllMade t (frame_by p v)
-frame-made t p (Flying l dir) h x i = let m = in_map (λ token. (Frames l.0 dir, Carries token)) (last_of (flying_on p l.0 dir)) x i in subst (λ (y : Channel × Load). IsOfChannel t y.0 y.1) m.2 h
+frame-made t p (Flying l dir) h x i = let m = in_map (λ token. (Frames l.0 dir, Carries token)) (last_of (flying_on p l.0 dir)) x i in subst
+    (λ (y : Channel × Load). IsOfChannel t y.0 y.1) m.2 h
 frame-made t p (Delivered s n c) h x i = absurd i
 frame-made t p (Dropped r n) h x i = absurd i
 
@@ -215,13 +226,18 @@ frames-made t p q (step.Inject s n) h = frame-made t q _ (h (length p.verdicts))
 frames-made t p q (step.Carry l dir place) h = option-made t q (slice_get (flying_on p l.0 dir) place) h
 frames-made t p q _ h = λ x i. absurd i
 
-step-made : (t : Network) (w v : World) (p q : Packets) (st : Step) → EndsDiffer (wiring_of t) → fits t st ≡ true → JoinEdges t w.config → AreLinked t q → AllMade t (made_in t w v p q st)
+step-made : (t : Network) (w v : World) (p q : Packets) (st : Step) → EndsDiffer (wiring_of t) → fits t st ≡ true → JoinEdges t w.config
+    → AreLinked t q → AllMade t (made_in t w v p q st)
 step-made t w v p q st differ fit h linked x i = elim (in_append (notices_in t st) (messages_in t w v st ++ (routes_in t w v st ++ frames_in p q st)) x i) [
   | inl j ↦ notices-made t st fit x j
   | inr j ↦ elim (in_append (messages_in t w v st) (routes_in t w v st ++ frames_in p q st) x j) [
-    | inl k ↦ if-made t (is_transport st) (map message_of said) (λ y m. let f = in_map message_of said y m in subst (λ (z : Channel × Load). IsOfChannel t z.0 z.1) f.2 (all-said t w.config v.config w.views v.views w.sessions (counted t w.sessions st) st differ fit f.0 f.1)) x k
+    | inl k ↦ if-made t (is_transport st) (map message_of said)
+        (λ y m. let f = in_map message_of said y m in subst (λ (z : Channel × Load). IsOfChannel t z.0 z.1) f.2
+        (all-said t w.config v.config w.views v.views w.sessions (counted t w.sessions st) st differ fit f.0 f.1)) x k
     | inr k ↦ elim (in_append (routes_in t w v st) (frames_in p q st) x k) [
-      | inl r ↦ if-made t (is_routing st) (map route_of told) (λ y m. let f = in_map route_of told y m in subst (λ (z : Channel × Load). IsOfChannel t z.0 z.1) f.2 (all-told t w.config w.peerings v.config (vpn.counted w.peerings st) st fit h f.0 f.1)) x r
+      | inl r ↦ if-made t (is_routing st) (map route_of told)
+          (λ y m. let f = in_map route_of told y m in subst (λ (z : Channel × Load). IsOfChannel t z.0 z.1) f.2
+          (all-told t w.config w.peerings v.config (vpn.counted w.peerings st) st fit h f.0 f.1)) x r
       | inr r ↦ frames-made t p q st linked x r
     ]
   ]
@@ -245,22 +261,27 @@ numbered-on t tick n (m ∷ ms) h x i = elim i [
   | inr j ↦ numbered-on t tick (n + 1) ms (λ y k. h y (inr k)) x j
 ]
 
-channels-on : (t : Network) → IsLawful t → (es : List JournalEntry) (tick : ℕ) (w : World) (k : Packets) (i : ℕ) (flight : Flight) (ps : List (List ℕ)) → IsLawfulFrom t tick w k i es ps → JoinEdges t w.config → AreLinked t k → AllOn t flight.items → AllOn t (flight_from t w k flight es ps).items
+channels-on : (t : Network) → IsLawful t
+    → (es : List JournalEntry) (tick : ℕ) (w : World) (k : Packets) (i : ℕ) (flight : Flight) (ps : List (List ℕ)) → IsLawfulFrom t tick w k i es ps
+    → JoinEdges t w.config → AreLinked t k → AllOn t flight.items → AllOn t (flight_from t w k flight es ps).items
 channels-on t fine [] tick w k i flight ps lawful joins linked h = h
 channels-on t fine (e ∷ es) tick w k i flight ps lawful joins linked h =
     let then_world : World = after t w e.step in
     let packets : Packets = packets_after t then_world k e.step (next_of ps) in
     let new : List (Channel × Load) = made_in t w then_world k packets e.step in
     let later : AreLinked t packets = linked_step t w k e.step (next_of ps) fine lawful.0 linked in
-    channels-on t fine es e.tick then_world packets (i + 1) (with_made t e.tick new e.step flight) (left_by e.step ps) lawful.3 (joins-step t w.config e.step lawful.0 joins) later
+    channels-on t fine es e.tick then_world packets (i + 1) (with_made t e.tick new e.step flight) (left_by e.step ps) lawful.3
+    (joins-step t w.config e.step lawful.0 joins) later
     (λ x j. elim (in_append (left_in_flight t e.step flight.items) (numbered t e.tick flight.made new) x j) [
       | inl m ↦ h x (in_left t e.step flight.items x m)
       | inr m ↦ numbered-on t e.tick flight.made new (step-made t w then_world k packets e.step fine.ends_differ lawful.0 joins later) x m
     ])
 
-pub channels_are : (t : Network) (es : List JournalEntry) (ps : List (List ℕ)) (item : Item) → IsLawful t → IsLawfulJournal t es ps → Contains (flight_of t es ps).items item → IsOfChannel t item.on item.load
+pub channels_are : (t : Network) (es : List JournalEntry) (ps : List (List ℕ)) (item : Item) → IsLawful t → IsLawfulJournal t es ps
+    → Contains (flight_of t es ps).items item → IsOfChannel t item.on item.load
 channels_are t es ps item lawful journal c =
-    channels-on t lawful es 0 (start t) no_packets 0 (record { made = 0; items = [] }) ps journal (λ a b live. absurd (clash (sym live))) (none_linked t) (λ x i. absurd i) item (in_contained (flight_of t es ps).items item c)
+    channels-on t lawful es 0 (start t) no_packets 0 (record { made = 0; items = [] }) ps journal (λ a b live. absurd (clash (sym live)))
+    (none_linked t) (λ x i. absurd i) item (in_contained (flight_of t es ps).items item c)
 
 -- 5. No edge tells itself anything
 
@@ -268,7 +289,8 @@ none_between : (t : Network) (edge : ℕ) (xs : List Told) → AllTold t xs → 
 none_between t edge [] h = refl
 none_between t edge (x ∷ xs) h = by_test (vpn.is_between edge edge x) refl (none_between t edge xs (λ y i. h y (inr i)))
   where
-    by_test : (b : Bool) → vpn.is_between edge edge x ≡ b → vpn.tellings_of edge edge xs ≡ [] → map (λ (told : Told). told.telling) (cond b (x ∷ filter (vpn.is_between edge edge) xs) (filter (vpn.is_between edge edge) xs)) ≡ []
+    by_test : (b : Bool) → vpn.is_between edge edge x ≡ b → vpn.tellings_of edge edge xs ≡ []
+        → map (λ (told : Told). told.telling) (cond b (x ∷ filter (vpn.is_between edge edge) xs) (filter (vpn.is_between edge edge) xs)) ≡ []
     by_test true e rest =
         let parts = and-both (x.teller == edge) (x.peer == edge) e in
         absurd ((h x (inl refl)).2 (same_numbers x.teller edge parts.0 ∙ sym (same_numbers x.peer edge parts.1)))
@@ -292,10 +314,13 @@ still_none p (step.BgpDown a b) h edge = cleared (put_pair p.told a.0 b.0 []) b.
 still_none p _ h edge = h edge
 
 none_go_on : (t : Network) (w : World) (st : Step) → fits t st ≡ true → JoinEdges t w.config → NoneToItself w.peerings
-    → (edge : ℕ) → (vpn.counted w.peerings st).told edge edge ++ vpn.tellings_of edge edge (vpn.told_in t w.config w.peerings (config_after w.config st) (vpn.counted w.peerings st) st) ≡ []
+    → (edge : ℕ) → (vpn.counted w.peerings st).told edge edge ++ vpn.tellings_of edge edge
+    (vpn.told_in t w.config w.peerings (config_after w.config st) (vpn.counted w.peerings st) st) ≡ []
 none_go_on t w st fit joins h edge =
-    ap (λ xs. xs ++ vpn.tellings_of edge edge (vpn.told_in t w.config w.peerings (config_after w.config st) (vpn.counted w.peerings st) st)) (still_none w.peerings st h edge)
-    ∙ none_between t edge (vpn.told_in t w.config w.peerings (config_after w.config st) (vpn.counted w.peerings st) st) (all-told t w.config w.peerings (config_after w.config st) (vpn.counted w.peerings st) st fit joins)
+    ap (λ xs. xs ++ vpn.tellings_of edge edge (vpn.told_in t w.config w.peerings (config_after w.config st) (vpn.counted w.peerings st) st))
+    (still_none w.peerings st h edge)
+    ∙ none_between t edge (vpn.told_in t w.config w.peerings (config_after w.config st) (vpn.counted w.peerings st) st)
+    (all-told t w.config w.peerings (config_after w.config st) (vpn.counted w.peerings st) st fit joins)
 
 none_go : (t : Network) (w : World) (st : Step) → fits t st ≡ true → JoinEdges t w.config → NoneToItself w.peerings → NoneToItself (after t w st).peerings
 unfolding peerings_after
@@ -310,10 +335,13 @@ none_go t w (step.Attach a) fit joins h = none_go_on t w (step.Attach a) fit joi
 none_go t w (step.Detach a) fit joins h = none_go_on t w (step.Detach a) fit joins h
 none_go t w _ fit joins h = h
 
-none_from : (t : Network) (es : List JournalEntry) (tick : ℕ) (w : World) (k : Packets) (i : ℕ) (ps : List (List ℕ)) → IsLawfulFrom t tick w k i es ps → JoinEdges t w.config → NoneToItself w.peerings → NoneToItself (world_from t w es).peerings
+none_from : (t : Network) (es : List JournalEntry) (tick : ℕ) (w : World) (k : Packets) (i : ℕ) (ps : List (List ℕ)) → IsLawfulFrom t tick w k i es ps
+    → JoinEdges t w.config → NoneToItself w.peerings → NoneToItself (world_from t w es).peerings
 none_from t [] tick w k i ps lawful joins h = h
 none_from t (e ∷ es) tick w k i ps lawful joins h =
-    none_from t es e.tick (after t w e.step) (packets_after t (after t w e.step) k e.step (next_of ps)) (i + 1) (left_by e.step ps) lawful.3 (joins-step t w.config e.step lawful.0 joins) (none_go t w e.step lawful.0 joins h)
+    none_from t es e.tick (after t w e.step) (packets_after t (after t w e.step) k e.step (next_of ps)) (i + 1) (left_by e.step ps) lawful.3
+    (joins-step t w.config e.step lawful.0 joins) (none_go t w e.step lawful.0 joins h)
 
-pub none_to_itself : (t : Network) (es : List JournalEntry) (ps : List (List ℕ)) → IsLawfulJournal t es ps → (edge : ℕ) → (world_of t es).peerings.told edge edge ≡ []
+pub none_to_itself : (t : Network) (es : List JournalEntry) (ps : List (List ℕ)) → IsLawfulJournal t es ps → (edge : ℕ)
+    → (world_of t es).peerings.told edge edge ≡ []
 none_to_itself t es ps journal = none_from t es 0 (start t) no_packets 0 ps journal (λ a b live. absurd (clash (sym live))) (λ edge. refl)

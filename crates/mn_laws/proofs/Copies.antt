@@ -1,14 +1,13 @@
 -- Deliveries are numbered from 1, each once; and as many are listed. It holds of every journal, lawful or not.
-use Rattle.std.proofs.Common.{ℕ, zero, suc, ◌≡◌, ◌≢◌, ◌+◌, ◌-◌, ◌<◌, ◌≤◌, ◌⊎◌, inl, inr, Bool, true, false, List, [], ◌∷◌, ◌++◌, length, take, refl, arith, sym, ◌∙◌, ap, subst, Option, Some, None}
-use Rattle.std.specs.Prelude.{◌==◌, slice_get, slice_index_or}
-use Rattle.std.proofs.lemmas.Bool.Decides.{eqb_tells, leb_tells}
+use Rattle.std.proofs.Common.{ℕ, zero, suc, ◌≡◌, ◌≢◌, ◌+◌, ◌-◌, ◌<◌, ◌≤◌, ◌⊎◌, inl, inr, true, false, List, [], ◌∷◌, ◌++◌, length, take, refl, arith, sym, ◌∙◌, ap, subst, Option, Some, None}
+use Rattle.std.specs.Prelude.{◌==◌, slice_get}
+use Rattle.std.proofs.lemmas.Bool.Decides.{eqb_tells}
 use Rattle.std.proofs.lemmas.List.{length-append, length-set, length_push}
 use Rattle.std.proofs.lemmas.Option.{same_Some}
 use Rattle.mn_base.specs.declared.drops.Rule.{Rule}
 use Rattle.mn_base.specs.declared.drops.Rule.TheVariants as rule
 use Rattle.mn_base.specs.declared.links.Dir.{Dir}
 use Rattle.mn_base.specs.declared.links.Dir.TheVariants.{Forth, Back}
-use Rattle.mn_base.specs.declared.numbers.LinkNo.{LinkNo}
 use Rattle.mn_base.specs.Wiring.{sender, receiver}
 use Rattle.mn_topo.specs.Network.{Network, wiring_of}
 use Rattle.mn_topo.specs.declared.steps.Step.{Step}
@@ -22,15 +21,15 @@ use Rattle.mn_ledger.specs.Places.{home_of, vrf_of}
 use Rattle.mn_ledger.specs.World.{World}
 use Rattle.mn_ledger.specs.Packets.{Token, Packets, channel, flying_on, judged, drop_at, visited, deliver, hop_over, bound, entry_rules, enter_by, one_more, taken, carry, lose, cut_each, cut, before_step, packets_after}
 use Rattle.mn_ledger.specs.Ledger.{after, start, no_packets, injects, next_of, left_by, packets_from, packets_of}
-use Rattle.mn_ledger.specs.Verdicts.{one_if, injections, verdict_on, AreInOnePlace}
+use Rattle.mn_ledger.specs.Verdicts.{one_if, verdict_on, AreInOnePlace}
 use Rattle.mn_ledger.proofs.Members.{In}
-use Rattle.mn_ledger.proofs.OnePlace.{loosen, stepped, in_one_place}
+use Rattle.mn_ledger.proofs.OnePlace.{loosen, stepped}
 use Rattle.mn_ledger.proofs.Peers.{same_numbers, same_test, two_ways}
 use Rattle.mn_laws.specs.Deliveries.{Delivery, delivery_at, deliveries_from, deliveries_of}
-use Rattle.mn_laws.specs.Accounts.{is_copy, IsOneCopy}
+use Rattle.mn_laws.specs.Accounts.{is_copy}
 use Rattle.mn_laws.proofs.Elsewhere.{judged_off, judged_here, push_other, cut_counts, cut_others}
-use Rattle.mn_laws.proofs.Entering.{AtEntry, enters}
-use Rattle.mn_laws.proofs.Moving.{after_step, injected_is, carried_is, lost_is, cut_is, AtArrival, arrives}
+use Rattle.mn_laws.proofs.Entering.{enters}
+use Rattle.mn_laws.proofs.Moving.{after_step, injected_is, carried_is, lost_is, cut_is, arrives}
 use Rattle.mn_laws.proofs.Fates.{where_it_flies, flying_inside, in_get}
 
 no : false ≡ true → ⊥
@@ -76,7 +75,8 @@ set_length : (u : Packets) (p : ℕ) (v : Verdict) → length (judged u p v).ver
 set_length u p v = length-set u.verdicts p v
 
 -- a verdict that is no delivery
-quiet_verdict : (k u : Packets) (p : ℕ) (v : Verdict) → IsReady k u p → ((c : ℕ) → is_copy c v ≡ false) → (w : Packets) → w.verdicts ≡ (judged u p v).verdicts → w.copies ≡ u.copies → w.delivered ≡ u.delivered → IsQuiet k w
+quiet_verdict : (k u : Packets) (p : ℕ) (v : Verdict) → IsReady k u p → ((c : ℕ) → is_copy c v ≡ false) → (w : Packets)
+    → w.verdicts ≡ (judged u p v).verdicts → w.copies ≡ u.copies → w.delivered ≡ u.delivered → IsQuiet k w
 quiet_verdict k u p v r none w verdicts copies delivered = record {
   copies = copies ∙ r.copies;
   delivered = delivered ∙ r.delivered;
@@ -144,18 +144,23 @@ new_ready k e = record {
     less : (j : ℕ) → j ≢ length k.verdicts → j < length (k.verdicts ++ Dropped rule.Lost (record { 0 = e }) ∷ []) → j < length k.verdicts
     less j d h = omega (arith, d, h, length_push k.verdicts (Dropped rule.Lost (record { 0 = e })))
 
-entered : (t : Network) (v : World) (k : Packets) (site : ℕ) (b : List ℕ) → Goes k (enter_by t v (one_more (before_step k) (home_of t site)) (length k.verdicts) b (home_of t site) (vrf_of t site) (first_rule (entry_rules (v.config.attached site) b)))
+entered : (t : Network) (v : World) (k : Packets) (site : ℕ) (b : List ℕ)
+    → Goes k (enter_by t v (one_more (before_step k) (home_of t site)) (length k.verdicts) b (home_of t site) (vrf_of t site)
+    (first_rule (entry_rules (v.config.attached site) b)))
 entered t v k site b =
     let u : Packets = one_more (before_step k) (home_of t site) in
     let ready : IsReady k u (length k.verdicts) = new_ready k (home_of t site) in
     enters (Goes k) t v u (length k.verdicts) site b (record {
       falls = λ cause f. inl (dropped k u (length k.verdicts) cause (home_of t site) ready);
       delivered = λ x p m e. inr (delivers k u (length k.verdicts) x.site _ b ready);
-      flies = λ x hop p m e q. inl (quiet_verdict k u (length k.verdicts) _ ready (λ c. refl) (hop_over t u (bound (length k.verdicts) x b) (home_of t site) rule.NoLsp (Some hop)) refl refl refl);
+      flies = λ x hop p m e q. inl
+          (quiet_verdict k u (length k.verdicts) _ ready (λ c. refl)
+          (hop_over t u (bound (length k.verdicts) x b) (home_of t site) rule.NoLsp (Some hop)) refl refl refl);
     })
 
 -- the packet of a frame was not delivered
-frame_ready : (k : Packets) (count : ℕ) (f : Token) (c place : ℕ) (u : Packets) → AreInOnePlace k count → slice_get (k.flying c) place ≡ Some f → u.verdicts ≡ k.verdicts → u.copies ≡ k.copies → u.delivered ≡ None
+frame_ready : (k : Packets) (count : ℕ) (f : Token) (c place : ℕ) (u : Packets) → AreInOnePlace k count → slice_get (k.flying c) place ≡ Some f
+    → u.verdicts ≡ k.verdicts → u.copies ≡ k.copies → u.delivered ≡ None
     → ((n : ℕ) → is_copy n (verdict_on k f.packet) ≡ false) → IsReady k u f.packet
 frame_ready k count f c place u one at verdicts copies delivered free = record {
   copies = copies;
@@ -166,7 +171,8 @@ frame_ready k count f c place u one at verdicts copies delivered free = record {
   free = λ n h. free n;
 }
 
-flying_free : (k : Packets) (count : ℕ) (l : ℕ) (d : Dir) (place : ℕ) (f : Token) → AreInOnePlace k count → slice_get (flying_on k l d) place ≡ Some f → (n : ℕ) → is_copy n (verdict_on k f.packet) ≡ false
+flying_free : (k : Packets) (count : ℕ) (l : ℕ) (d : Dir) (place : ℕ) (f : Token) → AreInOnePlace k count → slice_get (flying_on k l d) place ≡ Some f
+    → (n : ℕ) → is_copy n (verdict_on k f.packet) ≡ false
 flying_free k count l d place f one at n = ap (is_copy n) (where_it_flies k count (record { 0 = l }) d f one (in_get (flying_on k l d) place f at))
 
 quiet_as : (k w : Packets) → w.verdicts ≡ k.verdicts → w.copies ≡ k.copies → w.delivered ≡ None → IsQuiet k w
@@ -177,7 +183,8 @@ quiet_as k w verdicts copies delivered = record {
   on = λ c j h g. (subst (λ vs. j < length vs) (sym verdicts) h, ap (λ vs. is_copy c (verdict_on (record w { verdicts = vs }) j)) verdicts ∙ g);
 }
 
-carried : (t : Network) (v : World) (k : Packets) (count l : ℕ) (d : Dir) (place y : ℕ) (o : Option Token) → AreInOnePlace k count → slice_get (flying_on k l d) place ≡ o → Goes k (carry t v (taken (before_step k) l d place) y o)
+carried : (t : Network) (v : World) (k : Packets) (count l : ℕ) (d : Dir) (place y : ℕ) (o : Option Token) → AreInOnePlace k count
+    → slice_get (flying_on k l d) place ≡ o → Goes k (carry t v (taken (before_step k) l d place) y o)
 carried t v k count l d place y None one at = inl (quiet_as k (taken (before_step k) l d place) refl refl refl)
 carried t v k count l d place y (Some f) one at =
     let u : Packets = visited (taken (before_step k) l d place) f.packet y in
@@ -187,10 +194,12 @@ carried t v k count l d place y (Some f) one at =
       delivered = λ a b c. inr (delivers k u f.packet f.site _ f.bytes ready);
       gone = λ a b c. inl (dropped k u f.packet rule.SiteGone y ready);
       stuck = λ a b c. inl (dropped k u f.packet rule.NoEntry y ready);
-      flies = λ a b hop c. inl (quiet_verdict k u f.packet _ ready (λ n. refl) (hop_over t u (record f { ttl = f.ttl - 1 }) y rule.NoEntry (Some hop)) refl refl refl);
+      flies = λ a b hop c. inl
+          (quiet_verdict k u f.packet _ ready (λ n. refl) (hop_over t u (record f { ttl = f.ttl - 1 }) y rule.NoEntry (Some hop)) refl refl refl);
     })
 
-lost : (k : Packets) (count l : ℕ) (d : Dir) (place n : ℕ) (o : Option Token) → AreInOnePlace k count → slice_get (flying_on k l d) place ≡ o → IsQuiet k (lose (taken (before_step k) l d place) n o)
+lost : (k : Packets) (count l : ℕ) (d : Dir) (place n : ℕ) (o : Option Token) → AreInOnePlace k count → slice_get (flying_on k l d) place ≡ o
+    → IsQuiet k (lose (taken (before_step k) l d place) n o)
 lost k count l d place n None one at = quiet_as k (taken (before_step k) l d place) refl refl refl
 lost k count l d place n (Some f) one at =
     let u : Packets = taken (before_step k) l d place in
@@ -213,14 +222,23 @@ cut_quiet (f ∷ ks) w c n none h =
     let u : Packets = record w { flying = put w.flying c ks } in
     let v : Packets = drop_at u f.packet rule.LinkCut n in
     let first = h f (inl refl) in
-    let ready : IsReady w u f.packet = record { copies = refl; delivered = none; inside = first.0; grows = omega arith; others = λ j d g. (g, refl); free = λ m g. first.1 m } in
-    quiet_on w v (cut_each v c n ks) (dropped w u f.packet rule.LinkCut n ready) (cut_quiet ks v c n none (λ g i. (subst (λ m. g.packet < m) (sym (set_length u f.packet (Dropped rule.LinkCut (record { 0 = n })))) (h g (inr i)).0, other g (h g (inr i)).1 first.0)))
+    let ready : IsReady w u
+    f.packet = record { copies = refl; delivered = none; inside = first.0; grows = omega arith; others = λ j d g. (g, refl); free = λ m g. first.1 m } in
+    quiet_on w v (cut_each v c n ks) (dropped w u f.packet rule.LinkCut n ready)
+    (cut_quiet ks v c n none
+    (λ g i. (
+      subst (λ m. g.packet < m) (sym (set_length u f.packet (Dropped rule.LinkCut (record { 0 = n })))) (h g (inr i)).0,
+      other g
+          (h g (inr i)).1 first.0,
+    )))
   where
-    other : (g : Token) → ((m : ℕ) → is_copy m (verdict_on w g.packet) ≡ false) → f.packet < length w.verdicts → (m : ℕ) → is_copy m (verdict_on (drop_at (record w { flying = put w.flying c ks }) f.packet rule.LinkCut n) g.packet) ≡ false
+    other : (g : Token) → ((m : ℕ) → is_copy m (verdict_on w g.packet) ≡ false) → f.packet < length w.verdicts → (m : ℕ)
+        → is_copy m (verdict_on (drop_at (record w { flying = put w.flying c ks }) f.packet rule.LinkCut n) g.packet) ≡ false
     other g free inside m = elim (eqb_tells g.packet f.packet) [
       | inl q ↦ ap (λ j. is_copy m (verdict_on (drop_at (record w { flying = put w.flying c ks }) f.packet rule.LinkCut n) j)) q.1
           ∙ ap (is_copy m) (judged_here (record w { flying = put w.flying c ks }) f.packet (Dropped rule.LinkCut (record { 0 = n })) inside)
-      | inr q ↦ ap (is_copy m) (judged_off (record w { flying = put w.flying c ks }) f.packet (Dropped rule.LinkCut (record { 0 = n })) g.packet q.1).verdict ∙ free m
+      | inr q ↦ ap (is_copy m)
+          (judged_off (record w { flying = put w.flying c ks }) f.packet (Dropped rule.LinkCut (record { 0 = n })) g.packet q.1).verdict ∙ free m
     ]
 
 -- no frame's packet was delivered
@@ -236,10 +254,15 @@ both_cut t k count l one =
     let counts = cut_counts (flying_on w l Forth) w (channel l Forth) (sender (wiring_of t) l Forth) in
     let quiet : IsQuiet w first = cut_quiet (flying_on w l Forth) w (channel l Forth) (sender (wiring_of t) l Forth) refl (on_link k count l Forth one) in
     let left : NoneDelivered first (flying_on first l Back) = λ f i.
-    let old = on_link k count l Back one f (subst (λ xs. In xs f) (cut_others (flying_on w l Forth) w (channel l Forth) (sender (wiring_of t) l Forth) (channel l Back) apart) i) in
-    let inside : f.packet < length first.verdicts = subst (λ m. f.packet < m) (sym counts.2) old.0 in
-    (inside, λ n. elim (two_ways (is_copy n (verdict_on first f.packet))) [ inl q ↦ absurd (no (sym (old.1 n) ∙ (quiet.back n f.packet inside q).1)) | inr q ↦ q ]) in
-    quiet_on k w _ (quiet_as k w refl refl refl) (quiet_on w first _ quiet (cut_quiet (flying_on first l Back) first (channel l Back) (sender (wiring_of t) l Back) quiet.delivered left))
+    let old = on_link k count l Back one f
+    (subst (λ xs. In xs f) (cut_others (flying_on w l Forth) w (channel l Forth) (sender (wiring_of t) l Forth) (channel l Back) apart) i) in
+    let inside : f.packet < length first.verdicts = subst (λ m. f.packet < m) (sym counts.2) old.0 in (
+      inside,
+      λ n. elim (two_ways (is_copy n (verdict_on first f.packet)))
+          [ inl q ↦ absurd (no (sym (old.1 n) ∙ (quiet.back n f.packet inside q).1)) | inr q ↦ q ],
+    ) in
+    quiet_on k w _ (quiet_as k w refl refl refl)
+    (quiet_on w first _ quiet (cut_quiet (flying_on first l Back) first (channel l Back) (sender (wiring_of t) l Back) quiet.delivered left))
   where
     apart : channel l Back ≢ channel l Forth
     apart h = omega (arith, h)
@@ -247,8 +270,10 @@ both_cut t k count l one =
 pub goes : (t : Network) (w : World) (k : Packets) (count : ℕ) (s : Step) (b : List ℕ) → AreInOnePlace k count → Goes k (after_step t w k s b)
 unfolding packets_after
 goes t w k count (Inject r number) b one = subst (Goes k) (sym (injected_is t w k r number b)) (entered t w k r.0 b)
-goes t w k count (Carry l d place) b one = subst (Goes k) (sym (carried_is t w k l d place b)) (carried t w k count l.0 d place (receiver (wiring_of t) l.0 d) (slice_get (flying_on k l.0 d) place) one refl)
-goes t w k count (Lose l d place) b one = inl (subst (IsQuiet k) (sym (lost_is t w k l d place b)) (lost k count l.0 d place (sender (wiring_of t) l.0 d) (slice_get (flying_on k l.0 d) place) one refl))
+goes t w k count (Carry l d place) b one = subst (Goes k) (sym (carried_is t w k l d place b))
+    (carried t w k count l.0 d place (receiver (wiring_of t) l.0 d) (slice_get (flying_on k l.0 d) place) one refl)
+goes t w k count (Lose l d place) b one = inl
+    (subst (IsQuiet k) (sym (lost_is t w k l d place b)) (lost k count l.0 d place (sender (wiring_of t) l.0 d) (slice_get (flying_on k l.0 d) place) one refl))
 goes t w k count (LinkDown l) b one = inl (subst (IsQuiet k) (sym (cut_is t w k l b)) (both_cut t k count l.0 one))
 goes t w k count _ b one = inl (quiet_as k (before_step k) refl refl refl)
 
@@ -281,10 +306,12 @@ delivers_numbered k w d h = record { upper = upper; each = each; once = once }
       | inr q ↦ by_old (h.each c low (omega (arith, high, d.copies, q.1)))
     ]
       where
-        by_old : (p : ℕ) × (p < length k.verdicts) × (is_copy c (verdict_on k p) ≡ true) → (p : ℕ) × (p < length w.verdicts) × (is_copy c (verdict_on w p) ≡ true)
+        by_old : (p : ℕ) × (p < length k.verdicts) × (is_copy c (verdict_on k p) ≡ true)
+            → (p : ℕ) × (p < length w.verdicts) × (is_copy c (verdict_on w p) ≡ true)
         by_old old = elim (eqb_tells old.0 d.packet) [
           | inl q ↦ absurd (no (sym (d.free c (subst (λ m. m < length k.verdicts) q.1 old.1)) ∙ ap (λ m. is_copy c (verdict_on k m)) (sym q.1) ∙ old.2))
-          | inr q ↦ let within : old.0 < length w.verdicts = omega (arith, old.1, d.grows) in (old.0, within, ap (is_copy c) (d.back old.0 q.1 within).1 ∙ old.2)
+          | inr q ↦ let within : old.0 < length w.verdicts = omega (arith, old.1, d.grows) in
+              (old.0, within, ap (is_copy c) (d.back old.0 q.1 within).1 ∙ old.2)
         ]
 
     -- one that isn't the packet has an earlier number
@@ -302,22 +329,30 @@ delivers_numbered k w d h = record { upper = upper; each = each; once = once }
       ]
       | inr q ↦ elim (eqb_tells j d.packet) [
         | inl r ↦ absurd (earlier c i q.1 g e (d.one c (ap (λ m. is_copy c (verdict_on w m)) (sym r.1) ∙ x)))
-        | inr r ↦ let one = d.back i q.1 g in let two = d.back j r.1 f in h.once c i j one.0 two.0 (ap (is_copy c) (sym one.1) ∙ e) (ap (is_copy c) (sym two.1) ∙ x)
+        | inr r ↦ let one = d.back i q.1 g in let two = d.back j r.1 f in h.once c i j one.0 two.0 (ap (is_copy c) (sym one.1) ∙ e)
+            (ap (is_copy c) (sym two.1) ∙ x)
       ]
     ]
 
 numbered_step : (k w : Packets) → Goes k w → AreNumbered k → AreNumbered w
 numbered_step k w g h = elim g [ inl q ↦ quiet_numbered k w q h | inr d ↦ delivers_numbered k w d h ]
 
-numbered_from : (t : Network) (es : List JournalEntry) (w : World) (k : Packets) (count : ℕ) (ps : List (List ℕ)) → AreInOnePlace k count → AreNumbered k → AreNumbered (packets_from t w k es ps)
+numbered_from : (t : Network) (es : List JournalEntry) (w : World) (k : Packets) (count : ℕ) (ps : List (List ℕ)) → AreInOnePlace k count
+    → AreNumbered k → AreNumbered (packets_from t w k es ps)
 numbered_from t [] w k count ps one h = h
 numbered_from t (e ∷ es) w k count ps one h =
     let v : World = after t w e.step in
     let q : Packets = packets_after t v k e.step (next_of ps) in
-    numbered_from t es v q (one_if (injects e.step) + count) (left_by e.step ps) (stepped t v k e.step (next_of ps) count one) (numbered_step k q (goes t w k count e.step (next_of ps) one) h)
+    numbered_from t es v q (one_if (injects e.step) + count) (left_by e.step ps) (stepped t v k e.step (next_of ps) count one)
+    (numbered_step k q (goes t w k count e.step (next_of ps) one) h)
 
 none_numbered : AreNumbered no_packets
-none_numbered = record { upper = λ c j h e. absurd (none_below j h); each = λ c low high. absurd (none c low high); once = λ c i j h g e f. absurd (none_below i h) }
+none_numbered = record {
+  upper = λ c j h e. absurd (none_below j h);
+  each = λ c low high. absurd (none c low high);
+  once = λ c i j h g e f. absurd
+      (none_below i h);
+}
   where
     none : (c : ℕ) → 1 ≤ c → c ≤ 0 → ⊥
     none c h g = omega (arith, h, g)
@@ -336,7 +371,8 @@ counted_step k w tick g = elim g [
   | inr d ↦ omega (arith, d.copies, ap (λ o. length (delivery_at tick o)) d.delivered.1)
 ]
 
-as_many_from : (t : Network) (es : List JournalEntry) (w : World) (k : Packets) (count : ℕ) (ps : List (List ℕ)) → AreInOnePlace k count → (packets_from t w k es ps).copies ≡ k.copies + length (deliveries_from t w k es ps)
+as_many_from : (t : Network) (es : List JournalEntry) (w : World) (k : Packets) (count : ℕ) (ps : List (List ℕ)) → AreInOnePlace k count
+    → (packets_from t w k es ps).copies ≡ k.copies + length (deliveries_from t w k es ps)
 as_many_from t [] w k count ps one = omega arith
 as_many_from t (e ∷ es) w k count ps one =
     let v : World = after t w e.step in
@@ -349,7 +385,8 @@ as_many_from t (e ∷ es) w k count ps one =
     )
 
 pub as_many : (t : Network) (es : List JournalEntry) (ps : List (List ℕ)) → (packets_of t es ps).copies ≡ length (deliveries_of t es ps)
-as_many t es ps = let all : (packets_of t es ps).copies ≡ 0 + length (deliveries_of t es ps) = as_many_from t es (start t) no_packets 0 ps nowhere in omega (arith, all)
+as_many t es ps = let all : (packets_of t es ps).copies ≡ 0 + length (deliveries_of t es ps) = as_many_from t es
+    (start t) no_packets 0 ps nowhere in omega (arith, all)
 
 get_past : {A : Type 0} (xs ys : List A) (i : ℕ) → slice_get (xs ++ ys) (length xs + i) ≡ slice_get ys i
 get_past [] ys i = ap (slice_get ys) (none i)
@@ -364,13 +401,15 @@ get_past (x ∷ xs) ys i = ap (slice_get (x ∷ (xs ++ ys))) (one (length xs) i)
 no_entry : (e : JournalEntry) → None ≡ Some e → ⊥
 no_entry e h = cc
 
-listed_from : (t : Network) (es : List JournalEntry) (n : ℕ) (e : JournalEntry) (b : List ℕ) (w : World) (k : Packets) (ps : List (List ℕ)) → slice_get es n ≡ Some e → (packets_from t w k (take (suc n) es) ps).delivered ≡ Some b
+listed_from : (t : Network) (es : List JournalEntry) (n : ℕ) (e : JournalEntry) (b : List ℕ) (w : World) (k : Packets) (ps : List (List ℕ))
+    → slice_get es n ≡ Some e → (packets_from t w k (take (suc n) es) ps).delivered ≡ Some b
     → slice_get (deliveries_from t w k es ps) (length (deliveries_from t w k (take n es) ps)) ≡ Some (record { tick = e.tick; bytes = b })
 listed_from t [] n e b w k ps h d = absurd (no_entry e h)
 listed_from t (x ∷ es) zero e b w k ps h d =
     let v : World = after t w x.step in
     let q : Packets = packets_after t v k x.step (next_of ps) in
-    ap (λ o. slice_get (delivery_at x.tick o ++ deliveries_from t v q es (left_by x.step ps)) 0) d ∙ ap (λ (y : JournalEntry). Some (record { tick = y.tick; bytes = b })) (same_Some x e h)
+    ap (λ o. slice_get (delivery_at x.tick o ++ deliveries_from t v q es (left_by x.step ps)) 0) d
+    ∙ ap (λ (y : JournalEntry). Some (record { tick = y.tick; bytes = b })) (same_Some x e h)
 listed_from t (x ∷ es) (suc n) e b w k ps h d =
     let v : World = after t w x.step in
     let q : Packets = packets_after t v k x.step (next_of ps) in
@@ -380,6 +419,7 @@ listed_from t (x ∷ es) (suc n) e b w k ps h d =
     ∙ listed_from t es n e b v q (left_by x.step ps) h d
 
 -- the delivery of a step is listed at the number of deliveries before it
-pub listed : (t : Network) (es : List JournalEntry) (ps : List (List ℕ)) (n : ℕ) (e : JournalEntry) (b : List ℕ) → slice_get es n ≡ Some e → (packets_of t (take (suc n) es) ps).delivered ≡ Some b
+pub listed : (t : Network) (es : List JournalEntry) (ps : List (List ℕ)) (n : ℕ) (e : JournalEntry) (b : List ℕ) → slice_get es n ≡ Some e
+    → (packets_of t (take (suc n) es) ps).delivered ≡ Some b
     → slice_get (deliveries_of t es ps) (packets_of t (take n es) ps).copies ≡ Some (record { tick = e.tick; bytes = b })
 listed t es ps n e b h d = ap (slice_get (deliveries_of t es ps)) (as_many t (take n es) ps) ∙ listed_from t es n e b (start t) no_packets ps h d

@@ -1,7 +1,6 @@
 -- What is in flight is as much as the ledger counts.
-use Rattle.std.proofs.Common.{ℕ, zero, suc, ◌≡◌, ◌≢◌, ◌+◌, ◌-◌, ◌<◌, ◌≤◌, ◌⊎◌, inl, inr, Bool, true, false, List, [], ◌∷◌, ◌++◌, map, filter, length, drop, refl, arith, sym, ◌∙◌, ap, subst}
-use Rattle.std.specs.Prelude.{◌==◌, not, sum}
-use Rattle.std.specs.List.{flat_map, range_with_len}
+use Rattle.std.proofs.Common.{ℕ, ◌≡◌, ◌+◌, ◌-◌, ◌<◌, inl, inr, true, List, [], ◌∷◌, ◌++◌, map, filter, length, drop, refl, arith, sym, ◌∙◌, ap, subst}
+use Rattle.std.specs.Prelude.{not, sum}
 use Rattle.std.proofs.lemmas.Bool.Decides.{eqb_tells}
 use Rattle.std.proofs.lemmas.List.{length-map, length-drop, map-append}
 use Rattle.mn_base.specs.declared.links.Dir.{Dir}
@@ -28,10 +27,9 @@ use Rattle.mn_laws.proofs.Channels.{channels_are, none_to_itself}
 use Rattle.mn_laws.proofs.Opening.{some_item, delivered_open, lost_open}
 use Rattle.mn_laws.proofs.Ordered.{numbers_ascend, flies_in_order}
 use Rattle.mn_laws.proofs.Sums.{total, sum-append, sum-map, sum-flat, total-same}
-use Rattle.mn_laws.proofs.Tallies.{weigh, by_notices, by_messages, by_routes, by_frames, by_others, AllOn, others_weighed, frames_weighed, as_many_on, loads_weigh, filter_counts, lengths_of_frames}
+use Rattle.mn_laws.proofs.Tallies.{weigh, by_notices, by_messages, by_routes, AllOn, others_weighed, frames_weighed, as_many_on, loads_weigh, filter_counts, lengths_of_frames}
 
 module _ (t : Network) (lawful : IsLawful t) (es : List JournalEntry) (ps : List (List ℕ)) (journal : IsLawfulJournal t es ps) where
-
   abbrev items : List Item
   items = (flight_of t es ps).items
 
@@ -67,18 +65,21 @@ module _ (t : Network) (lawful : IsLawful t) (es : List JournalEntry) (ps : List
   notices_are : by_notices t many ≡ notices_unlearned t world.views
   notices_are =
       total-same _ (λ node. sum (map (λ l. world.views.changes l - world.views.learned node l) (links_of (wiring_of t)))) (nodes_of (wiring_of t))
-      (λ node i. total-same _ (λ l. world.views.changes l - world.views.learned node l) (links_of (wiring_of t)) (λ l j. notice_count l node (node_there node i)) ∙ sym (sum-map (λ l. world.views.changes l - world.views.learned node l) (links_of (wiring_of t))))
+      (λ node i. total-same _ (λ l. world.views.changes l - world.views.learned node l) (links_of (wiring_of t))
+      (λ l j. notice_count l node (node_there node i)) ∙ sym (sum-map (λ l. world.views.changes l - world.views.learned node l) (links_of (wiring_of t))))
       ∙ sym (sum-flat (λ node. map (λ l. world.views.changes l - world.views.learned node l) (links_of (wiring_of t))) (nodes_of (wiring_of t)))
 
   -- 2. Messages of LDP
 
-  message_count : (l node : ℕ) → l < length t.links → is_end (wiring_of t) l node ≡ true → many (Messages l node) ≡ length (world.sessions.said l node) - world.sessions.heard l (across (wiring_of t) l node)
+  message_count : (l node : ℕ) → l < length t.links → is_end (wiring_of t) l node ≡ true
+      → many (Messages l node) ≡ length (world.sessions.said l node) - world.sessions.heard l (across (wiring_of t) l node)
   message_count l node below at_end =
       many_loads (Messages l node) ∙ ap length (flight.messages l node below at_end)
       ∙ length-map (drop (world.sessions.heard l (across (wiring_of t) l node)) (world.sessions.said l node)) (λ message. Says message)
       ∙ length-drop (world.sessions.heard l (across (wiring_of t) l node)) (world.sessions.said l node)
 
-  messages_over : (l : ℕ) → l < length t.links → many (Messages l (link (wiring_of t) l).a.0) + many (Messages l (link (wiring_of t) l).b.0) ≡ unheard_over t world.sessions l
+  messages_over : (l : ℕ) → l < length t.links
+      → many (Messages l (link (wiring_of t) l).a.0) + many (Messages l (link (wiring_of t) l).b.0) ≡ unheard_over t world.sessions l
   messages_over l below =
       let a : ℕ = (link (wiring_of t) l).a.0 in
       let b : ℕ = (link (wiring_of t) l).b.0 in
@@ -91,7 +92,8 @@ module _ (t : Network) (lawful : IsLawful t) (es : List JournalEntry) (ps : List
       )
 
   messages_are : by_messages t many ≡ sum (map (unheard_over t world.sessions) (links_of (wiring_of t)))
-  messages_are = total-same _ (unheard_over t world.sessions) (links_of (wiring_of t)) (λ l i. messages_over l (link_there l i)) ∙ sym (sum-map (unheard_over t world.sessions) (links_of (wiring_of t)))
+  messages_are = total-same _ (unheard_over t world.sessions) (links_of (wiring_of t)) (λ l i. messages_over l (link_there l i))
+      ∙ sym (sum-map (unheard_over t world.sessions) (links_of (wiring_of t)))
 
   -- 3. Messages of BGP
 
@@ -117,7 +119,9 @@ module _ (t : Network) (lawful : IsLawful t) (es : List JournalEntry) (ps : List
   route_count : (edge peer : ℕ) → many (Routes peer edge) ≡ length (world.peerings.told peer edge) - world.peerings.heard edge peer
   route_count edge peer = elim (eqb_tells peer edge) [
     | inl q ↦
-        ap (λ n. many (Routes n edge)) q.1 ∙ none_on edge ∙ sym (none_left (world.peerings.heard edge peer) (ap (λ n. length (world.peerings.told n edge)) q.1 ∙ ap length (none_to_itself t es ps journal edge)))
+        ap (λ n. many (Routes n edge)) q.1 ∙ none_on edge
+        ∙ sym (none_left (world.peerings.heard edge peer)
+        (ap (λ n. length (world.peerings.told n edge)) q.1 ∙ ap length (none_to_itself t es ps journal edge)))
     | inr q ↦
         many_loads (Routes peer edge) ∙ ap length (flight.routes peer edge q.1)
         ∙ length-map (drop (world.peerings.heard edge peer) (world.peerings.told peer edge)) (λ telling. Tells telling)
@@ -154,12 +158,15 @@ module _ (t : Network) (lawful : IsLawful t) (es : List JournalEntry) (ps : List
 
   frame_weigh : (l : ℕ) (d : Dir) → weigh (λ x. frame_length x.load) items (Frames l d) ≡ lengths (flying_on packets l d)
   frame_weigh l d =
-      loads_weigh frame_length items (Frames l d) ∙ ap (total frame_length) (flight.frames l d) ∙ carried (flying_on packets l d) ∙ sym (sum-map (λ (token : Token). total_length token.bytes) (flying_on packets l d))
+      loads_weigh frame_length items (Frames l d) ∙ ap (total frame_length) (flight.frames l d) ∙ carried (flying_on packets l d)
+      ∙ sym (sum-map (λ (token : Token). total_length token.bytes) (flying_on packets l d))
 
-  both_ways : (l : ℕ) → lengths (flying_on packets l Forth ++ flying_on packets l Back) ≡ lengths (flying_on packets l Forth) + lengths (flying_on packets l Back)
+  both_ways : (l : ℕ) → lengths (flying_on packets l Forth ++ flying_on packets l Back) ≡ lengths (flying_on packets l Forth) + lengths
+      (flying_on packets l Back)
   both_ways l =
       ap sum (map-append (λ (token : Token). total_length token.bytes) (flying_on packets l Forth) (flying_on packets l Back))
-      ∙ sum-append (map (λ (token : Token). total_length token.bytes) (flying_on packets l Forth)) (map (λ (token : Token). total_length token.bytes) (flying_on packets l Back))
+      ∙ sum-append (map (λ (token : Token). total_length token.bytes) (flying_on packets l Forth))
+      (map (λ (token : Token). total_length token.bytes) (flying_on packets l Back))
 
   frames_measured : sum (map (λ item. frame_length item.load) items) ≡ bytes_flying t packets
   unfolding bytes_flying
@@ -168,7 +175,8 @@ module _ (t : Network) (lawful : IsLawful t) (es : List JournalEntry) (ps : List
       ∙ total-same _ (λ l. lengths (flying_on packets l Forth ++ flying_on packets l Back)) (links_of (wiring_of t)) (λ l i. both l)
       ∙ sym (sum-flat (λ l. map (λ (token : Token). total_length token.bytes) (flying_on packets l Forth ++ flying_on packets l Back)) (links_of (wiring_of t)))
     where
-      both : (l : ℕ) → weigh (λ x. frame_length x.load) items (Frames l Forth) + weigh (λ x. frame_length x.load) items (Frames l Back) ≡ lengths (flying_on packets l Forth ++ flying_on packets l Back)
+      both : (l : ℕ) → weigh (λ x. frame_length x.load) items (Frames l Forth) + weigh (λ x. frame_length x.load) items (Frames l Back) ≡ lengths
+          (flying_on packets l Forth ++ flying_on packets l Back)
       both l = omega (arith, frame_weigh l Forth, frame_weigh l Back, both_ways l)
 
 pub flies_as_counted : (t : Network) (es : List JournalEntry) (ps : List (List ℕ)) → IsLawful t → IsLawfulJournal t es ps → FliesAsCounted t es ps

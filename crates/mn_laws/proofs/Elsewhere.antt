@@ -1,6 +1,6 @@
 -- What a step leaves as it was: verdict, path and frames of each packet that it doesn't touch.
-use Rattle.std.proofs.Common.{ℕ, zero, suc, ◌≡◌, ◌≢◌, ◌+◌, ◌-◌, ◌<◌, ◌≤◌, ◌⊎◌, inl, inr, Bool, true, false, cond, List, [], ◌∷◌, ◌++◌, length, get_or, refl, arith, sym, ◌∙◌, ap, subst, Option, Some, None}
-use Rattle.std.specs.Prelude.{◌==◌, nat_le, slice_get, slice_index_or, slice_set}
+use Rattle.std.proofs.Common.{ℕ, zero, suc, ◌≡◌, ◌≢◌, ◌-◌, ◌<◌, ◌≤◌, ◌⊎◌, inl, inr, Bool, true, false, List, [], ◌∷◌, ◌++◌, length, refl, arith, sym, ◌∙◌, ap, subst, Option, Some, None}
+use Rattle.std.specs.Prelude.{◌==◌, nat_le, slice_index_or, slice_set}
 use Rattle.std.proofs.lemmas.Grind.{common_steps}
 use Rattle.std.proofs.lemmas.Bool.Decides.{eqb_tells, leb_tells}
 use Rattle.mn_base.specs.declared.drops.Rule.{Rule}
@@ -13,7 +13,7 @@ use Rattle.mn_ledger.specs.Tables.{put}
 use Rattle.mn_ledger.specs.World.{World}
 use Rattle.mn_ledger.specs.Transport.{usable}
 use Rattle.mn_ledger.specs.Packets.{Token, Packets, channel, flying_on, away_from, judged, drop_at, visited, deliver, hop_over, one_more, without_place, taken, is_attachment, leave, arrive, cut_each}
-use Rattle.mn_ledger.specs.Verdicts.{one_if, times_in, verdict_on}
+use Rattle.mn_ledger.specs.Verdicts.{verdict_on}
 use Rattle.mn_ledger.proofs.GoingBy.{put_here, put_off}
 use Rattle.mn_ledger.proofs.Members.{In, in_append}
 use Rattle.mn_laws.specs.Accounts.{path_of}
@@ -141,17 +141,20 @@ arms_by P false x y p q = q refl
 
 pub left_off : (v : World) (w : Packets) (k : Token) (y j : ℕ) → j ≢ k.packet → Same j w (leave v w k y)
 left_off v w k y j h =
-    arms_by (λ x. Same j w x) (is_attachment (v.config.attached k.site) k.attachment) _ _ (λ e. deliver_off w k.packet k.site (k.ttl - 1) k.bytes j h) (λ e. judged_off w k.packet (Dropped rule.SiteGone (record { 0 = y })) j h)
+    arms_by (λ x. Same j w x) (is_attachment (v.config.attached k.site) k.attachment) _ _ (λ e. deliver_off w k.packet k.site (k.ttl - 1) k.bytes j h)
+    (λ e. judged_off w k.packet (Dropped rule.SiteGone (record { 0 = y })) j h)
 
 pub arrived_off : (t : Network) (v : World) (w : Packets) (k : Token) (y j : ℕ) → j ≢ k.packet → Same j w (arrive t v w k y)
 arrived_off t v w k y j h =
     arms_by (λ x. Same j w x) (nat_le k.ttl 1) _ _ (λ e. judged_off w k.packet (Dropped rule.TtlExpired (record { 0 = y })) j h)
-    (λ e. arms_by (λ x. Same j w x) (y == k.edge) _ _ (λ e. left_off v w k y j h) (λ e. hop_off t w (record k { ttl = k.ttl - 1 }) y rule.NoEntry (usable t v.config v.views v.sessions y k.edge) j h))
+    (λ e. arms_by (λ x. Same j w x) (y == k.edge) _ _ (λ e. left_off v w k y j h)
+    (λ e. hop_off t w (record k { ttl = k.ttl - 1 }) y rule.NoEntry (usable t v.config v.views v.sessions y k.edge) j h))
 
 -- 5. A link that is cut
 
 -- the frames of a channel end: a packet that was among them is dropped, and another one is as before
-pub cut_off : (ks : List Token) (w : Packets) (c n j : ℕ) → ((k : Token) → In ks k → k.packet ≢ j) → ((k : Token) → In ks k → In (w.flying c) k) → Same j w (cut_each w c n ks)
+pub cut_off : (ks : List Token) (w : Packets) (c n j : ℕ) → ((k : Token) → In ks k → k.packet ≢ j) → ((k : Token) → In ks k → In (w.flying c) k)
+    → Same j w (cut_each w c n ks)
 cut_off [] w c n j h g = unchanged j w
 cut_off (k ∷ ks) w c n j h g =
     let u : Packets = record w { flying = put w.flying c ks } in
@@ -162,19 +165,23 @@ cut_off (k ∷ ks) w c n j h g =
     (cut_off ks v c n j (λ x i. h x (inr i)) (λ x i. subst (λ xs. In xs x) (sym (put_here w.flying c ks)) i)))
 
 -- once it is dropped so, it stays so
-cut_kept : (ks : List Token) (w : Packets) (c n j : ℕ) → j < length w.verdicts → verdict_on w j ≡ Dropped rule.LinkCut (record { 0 = n }) → verdict_on (cut_each w c n ks) j ≡ Dropped rule.LinkCut (record { 0 = n })
+cut_kept : (ks : List Token) (w : Packets) (c n j : ℕ) → j < length w.verdicts → verdict_on w j ≡ Dropped rule.LinkCut (record { 0 = n })
+    → verdict_on (cut_each w c n ks) j ≡ Dropped rule.LinkCut (record { 0 = n })
 cut_kept [] w c n j b h = h
 cut_kept (k ∷ ks) w c n j b h =
     let u : Packets = record w { flying = put w.flying c ks } in
-    cut_kept ks (drop_at u k.packet rule.LinkCut n) c n j (subst (λ m. j < m) (sym (set_length w.verdicts k.packet (Dropped rule.LinkCut (record { 0 = n })))) b) (elim (eqb_tells j k.packet) [
-      | inl q ↦ ap (verdict_on (drop_at u k.packet rule.LinkCut n)) q.1 ∙ judged_here u k.packet (Dropped rule.LinkCut (record { 0 = n })) (subst (λ m. m < length w.verdicts) q.1 b)
+    cut_kept ks (drop_at u k.packet rule.LinkCut n) c n j
+    (subst (λ m. j < m) (sym (set_length w.verdicts k.packet (Dropped rule.LinkCut (record { 0 = n })))) b) (elim (eqb_tells j k.packet) [
+      | inl q ↦ ap (verdict_on (drop_at u k.packet rule.LinkCut n)) q.1
+          ∙ judged_here u k.packet (Dropped rule.LinkCut (record { 0 = n })) (subst (λ m. m < length w.verdicts) q.1 b)
       | inr q ↦ (judged_off u k.packet (Dropped rule.LinkCut (record { 0 = n })) j q.1).verdict ∙ h
     ])
   where
     set_length : {A : Type 0} (xs : List A) (i : ℕ) (v : A) → length (slice_set xs i v) ≡ length xs
     set_length xs i v = grind (arith, common_steps)
 
-pub cut_here : (ks : List Token) (w : Packets) (c n : ℕ) (x : Token) → In ks x → x.packet < length w.verdicts → verdict_on (cut_each w c n ks) x.packet ≡ Dropped rule.LinkCut (record { 0 = n })
+pub cut_here : (ks : List Token) (w : Packets) (c n : ℕ) (x : Token) → In ks x → x.packet < length w.verdicts
+    → verdict_on (cut_each w c n ks) x.packet ≡ Dropped rule.LinkCut (record { 0 = n })
 cut_here [] w c n x i b = absurd i
 cut_here (k ∷ ks) w c n x i b =
     let u : Packets = record w { flying = put w.flying c ks } in
@@ -183,7 +190,9 @@ cut_here (k ∷ ks) w c n x i b =
     elim i [
       | inl e ↦
           let same : k.packet ≡ x.packet = ap (λ (y : Token). y.packet) e in
-          cut_kept ks v c n x.packet within (ap (verdict_on v) (sym same) ∙ judged_here u k.packet (Dropped rule.LinkCut (record { 0 = n })) (subst (λ m. m < length w.verdicts) (sym same) b))
+          cut_kept ks v c n x.packet within
+          (ap (verdict_on v) (sym same)
+          ∙ judged_here u k.packet (Dropped rule.LinkCut (record { 0 = n })) (subst (λ m. m < length w.verdicts) (sym same) b))
       | inr m ↦ cut_here ks v c n x m within
     ]
   where
@@ -200,7 +209,8 @@ pub cut_paths : (ks : List Token) (w : Packets) (c n : ℕ) → (cut_each w c n 
 cut_paths [] w c n = refl
 cut_paths (k ∷ ks) w c n = cut_paths ks (drop_at (record w { flying = put w.flying c ks }) k.packet rule.LinkCut n) c n
 
-pub cut_counts : (ks : List Token) (w : Packets) (c n : ℕ) → ((cut_each w c n ks).copies ≡ w.copies) × ((cut_each w c n ks).delivered ≡ w.delivered) × (length (cut_each w c n ks).verdicts ≡ length w.verdicts)
+pub cut_counts : (ks : List Token) (w : Packets) (c n : ℕ) → ((cut_each w c n ks).copies ≡ w.copies) × ((cut_each w c n ks).delivered ≡ w.delivered)
+    × (length (cut_each w c n ks).verdicts ≡ length w.verdicts)
 cut_counts [] w c n = (refl, refl, refl)
 cut_counts (k ∷ ks) w c n =
     let u : Packets = record w { flying = put w.flying c ks } in

@@ -1,5 +1,5 @@
 -- What becomes of a packet as it is sent: it falls to the first rule that applies, reaches a site of the same edge, or flies.
-use Rattle.std.proofs.Common.{ℕ, zero, suc, ◌≡◌, ◌≢◌, ◌+◌, ◌-◌, ◌<◌, ◌≤◌, ◌⊎◌, inl, inr, Bool, true, false, List, [], ◌∷◌, ◌++◌, length, refl, arith, sym, ◌∙◌, ap, subst, Option, Some, None}
+use Rattle.std.proofs.Common.{ℕ, ◌≡◌, ◌-◌, ◌≤◌, inl, inr, Bool, true, false, List, [], ◌∷◌, refl, arith, sym, ◌∙◌, ap, Option, Some, None}
 use Rattle.std.specs.Prelude.{◌==◌, ◌&&◌, ◌||◌, not, nat_lt, is_none, is_some, IsTrue}
 use Rattle.std.specs.List.{list_any}
 use Rattle.std.proofs.lemmas.Bool.Decides.{nat_tests}
@@ -13,7 +13,7 @@ use Rattle.mn_ledger.specs.Entry.{is_unicast, when, first_rule}
 use Rattle.mn_ledger.specs.Places.{home_of, vrf_of}
 use Rattle.mn_ledger.specs.World.{World}
 use Rattle.mn_ledger.specs.Transport.{usable}
-use Rattle.mn_ledger.specs.Vpn.{HeldRoute, held, best}
+use Rattle.mn_ledger.specs.Vpn.{HeldRoute, best}
 use Rattle.mn_ledger.specs.Best.{IsBest, NamesTheBest}
 use Rattle.mn_ledger.specs.Packets as packets
 use Rattle.mn_ledger.specs.Packets.{Packets, bound, hop_over, drop_at, deliver, route_by, enter_by}
@@ -46,22 +46,73 @@ Tells t w site b (Some cause) = Falls t w site b cause
 Tells t w site b None = Passes t w site b
 
 tells_by : (t : Network) (w : World) (site : ℕ) (b : List ℕ) (o p q r s u v : Bool)
-    → is_none (w.config.attached site) ≡ o → is_not_ipv4 b ≡ p → is_malformed b ≡ q → is_truncated b ≡ r → has_bad_checksum b ≡ s → nat_lt (ttl_of b) 2 ≡ u → is_unicast (destination_of b) ≡ v
-    → Tells t w site b (first_rule (when o rule.SiteDown ∷ when p rule.NotIpv4 ∷ when q rule.Malformed ∷ when r rule.Truncated ∷ when s rule.BadChecksum ∷ when u rule.TtlExpired ∷ when (not v) rule.NotUnicast ∷ []))
+    → is_none (w.config.attached site) ≡ o → is_not_ipv4 b ≡ p → is_malformed b ≡ q → is_truncated b ≡ r → has_bad_checksum b ≡ s
+    → nat_lt (ttl_of b) 2 ≡ u → is_unicast (destination_of b) ≡ v
+    → Tells t w site b (first_rule
+    (when o rule.SiteDown ∷ when p rule.NotIpv4 ∷ when q rule.Malformed ∷ when r rule.Truncated ∷ when s rule.BadChecksum ∷ when u
+    rule.TtlExpired ∷ when (not v) rule.NotUnicast ∷ []))
 tells_by t w site b true p q r s u v g a c d e f h =
-    record { earlier = []; later = rule.NotIpv4 ∷ rule.Malformed ∷ rule.Truncated ∷ rule.BadChecksum ∷ rule.TtlExpired ∷ rule.NotUnicast ∷ rule.NoRoute ∷ rule.NoLsp ∷ []; order = refl; here = g; not_before = refl }
+    record {
+      earlier = [];
+      later = rule.NotIpv4 ∷ rule.Malformed ∷ rule.Truncated ∷ rule.BadChecksum ∷ rule.TtlExpired ∷ rule.NotUnicast ∷
+          rule.NoRoute ∷ rule.NoLsp ∷ [];
+      order = refl;
+      here = g;
+      not_before = refl;
+    }
 tells_by t w site b false true q r s u v g a c d e f h =
-    record { earlier = rule.SiteDown ∷ []; later = rule.Malformed ∷ rule.Truncated ∷ rule.BadChecksum ∷ rule.TtlExpired ∷ rule.NotUnicast ∷ rule.NoRoute ∷ rule.NoLsp ∷ []; order = refl; here = a; not_before = rw g refl }
+    record {
+      earlier = rule.SiteDown ∷ [];
+      later = rule.Malformed ∷ rule.Truncated ∷ rule.BadChecksum ∷ rule.TtlExpired ∷ rule.NotUnicast ∷
+          rule.NoRoute ∷ rule.NoLsp ∷ [];
+      order = refl;
+      here = a;
+      not_before = rw g refl;
+    }
 tells_by t w site b false false true r s u v g a c d e f h =
-    record { earlier = rule.SiteDown ∷ rule.NotIpv4 ∷ []; later = rule.Truncated ∷ rule.BadChecksum ∷ rule.TtlExpired ∷ rule.NotUnicast ∷ rule.NoRoute ∷ rule.NoLsp ∷ []; order = refl; here = c; not_before = rw (g, a) refl }
+    record {
+      earlier = rule.SiteDown ∷ rule.NotIpv4 ∷ [];
+      later = rule.Truncated ∷ rule.BadChecksum ∷ rule.TtlExpired ∷ rule.NotUnicast ∷
+          rule.NoRoute ∷ rule.NoLsp ∷ [];
+      order = refl;
+      here = c;
+      not_before = rw (g, a) refl;
+    }
 tells_by t w site b false false false true s u v g a c d e f h =
-    record { earlier = rule.SiteDown ∷ rule.NotIpv4 ∷ rule.Malformed ∷ []; later = rule.BadChecksum ∷ rule.TtlExpired ∷ rule.NotUnicast ∷ rule.NoRoute ∷ rule.NoLsp ∷ []; order = refl; here = d; not_before = rw (g, a, c) refl }
+    record {
+      earlier = rule.SiteDown ∷ rule.NotIpv4 ∷ rule.Malformed ∷ [];
+      later = rule.BadChecksum ∷ rule.TtlExpired ∷ rule.NotUnicast ∷
+          rule.NoRoute ∷ rule.NoLsp ∷ [];
+      order = refl;
+      here = d;
+      not_before = rw (g, a, c) refl;
+    }
 tells_by t w site b false false false false true u v g a c d e f h =
-    record { earlier = rule.SiteDown ∷ rule.NotIpv4 ∷ rule.Malformed ∷ rule.Truncated ∷ []; later = rule.TtlExpired ∷ rule.NotUnicast ∷ rule.NoRoute ∷ rule.NoLsp ∷ []; order = refl; here = e; not_before = rw (g, a, c, d) refl }
+    record {
+      earlier = rule.SiteDown ∷ rule.NotIpv4 ∷ rule.Malformed ∷ rule.Truncated ∷ [];
+      later = rule.TtlExpired ∷ rule.NotUnicast ∷ rule.NoRoute ∷
+          rule.NoLsp ∷ [];
+      order = refl;
+      here = e;
+      not_before = rw (g, a, c, d) refl;
+    }
 tells_by t w site b false false false false false true v g a c d e f h =
-    record { earlier = rule.SiteDown ∷ rule.NotIpv4 ∷ rule.Malformed ∷ rule.Truncated ∷ rule.BadChecksum ∷ []; later = rule.NotUnicast ∷ rule.NoRoute ∷ rule.NoLsp ∷ []; order = refl; here = f; not_before = rw (g, a, c, d, e) refl }
+    record {
+      earlier = rule.SiteDown ∷ rule.NotIpv4 ∷ rule.Malformed ∷ rule.Truncated ∷ rule.BadChecksum ∷ [];
+      later = rule.NotUnicast ∷
+          rule.NoRoute ∷ rule.NoLsp ∷ [];
+      order = refl;
+      here = f;
+      not_before = rw (g, a, c, d, e) refl;
+    }
 tells_by t w site b false false false false false false false g a c d e f h =
-    record { earlier = rule.SiteDown ∷ rule.NotIpv4 ∷ rule.Malformed ∷ rule.Truncated ∷ rule.BadChecksum ∷ rule.TtlExpired ∷ []; later = rule.NoRoute ∷ rule.NoLsp ∷ []; order = refl; here = ap not h; not_before = rw (g, a, c, d, e, f) refl }
+    record {
+      earlier = rule.SiteDown ∷ rule.NotIpv4 ∷ rule.Malformed ∷ rule.Truncated ∷ rule.BadChecksum ∷ rule.TtlExpired ∷ [];
+      later = rule.NoRoute ∷ rule.NoLsp ∷ [];
+      order = refl;
+      here = ap not h;
+      not_before = rw (g, a, c, d, e, f) refl;
+    }
 tells_by t w site b false false false false false false true g a c d e f h =
     record { attached = g; ipv4 = a; formed = c; whole = d; summed = e; lives = f; unicast = h }
 
@@ -88,7 +139,8 @@ best_is routes address x h = from_unbeaten routes address x (in_first _ x h)
 abbrev pub IsBestFor : Network → World → ℕ → List ℕ → HeldRoute → Type 0
 IsBestFor t w site b x = best (routes_at t w site) (destination_of b) ≡ Some x
 
-pub may_enter : (t : Network) (w : World) (site : ℕ) (b : List ℕ) (x : HeldRoute) → Passes t w site b → IsBestFor t w site b x → NamesTheBest (routes_at t w site) (destination_of b) → MayEnter t w site b x
+pub may_enter : (t : Network) (w : World) (site : ℕ) (b : List ℕ) (x : HeldRoute) → Passes t w site b → IsBestFor t w site b x
+    → NamesTheBest (routes_at t w site) (destination_of b) → MayEnter t w site b x
 may_enter t w site b x p h names = record {
   attached = some_is (w.config.attached site) p.attached;
   is_good = all_good b p.ipv4 p.formed p.whole p.summed;
@@ -105,12 +157,14 @@ any_passes : {A : Type 0} (p : A → Bool) (xs : List A) (x : A) → In xs x →
 any_passes p xs x i h = elim (two_ways (list_any p xs)) [ inl q ↦ q | inr q ↦ absurd (no (sym h ∙ none_passes p xs x q i)) ]
 
 none_covers : (routes : List HeldRoute) (address : ℕ) → best routes address ≡ None → list_any (covers address) routes ≡ false
-none_covers routes address h = passes_none (covers address) routes (λ x i. elim (two_ways (covers address x)) [ inl q ↦ absurd (none_matches routes address h x (filter_in (covers address) routes x i q)) | inr q ↦ q ])
+none_covers routes address h = passes_none (covers address) routes
+    (λ x i. elim (two_ways (covers address x)) [ inl q ↦ absurd (none_matches routes address h x (filter_in (covers address) routes x i q)) | inr q ↦ q ])
 
 some_covers : (routes : List HeldRoute) (address : ℕ) (x : HeldRoute) → best routes address ≡ Some x → list_any (covers address) routes ≡ true
 some_covers routes address x h = let b = best_is routes address x h in any_passes (covers address) routes x (in_contained routes x b.held) b.matches
 
-no_route : (t : Network) (w : World) (site : ℕ) (b : List ℕ) → Passes t w site b → best (routes_at t w site) (destination_of b) ≡ None → Falls t w site b rule.NoRoute
+no_route : (t : Network) (w : World) (site : ℕ) (b : List ℕ) → Passes t w site b → best (routes_at t w site) (destination_of b) ≡ None
+    → Falls t w site b rule.NoRoute
 no_route t w site b p h = record {
   earlier = rule.SiteDown ∷ rule.NotIpv4 ∷ rule.Malformed ∷ rule.Truncated ∷ rule.BadChecksum ∷ rule.TtlExpired ∷ rule.NotUnicast ∷ [];
   later = rule.NoLsp ∷ [];
@@ -119,10 +173,12 @@ no_route t w site b p h = record {
   not_before = before _ _ _ _ _ _ _ p.attached p.ipv4 p.formed p.whole p.summed p.lives p.unicast;
 }
   where
-    before : (a c d e f g h : Bool) → a ≡ false → c ≡ false → d ≡ false → e ≡ false → f ≡ false → g ≡ false → h ≡ true → (a || (c || (d || (e || (f || (g || (not h || false))))))) ≡ false
+    before : (a c d e f g h : Bool) → a ≡ false → c ≡ false → d ≡ false → e ≡ false → f ≡ false → g ≡ false → h ≡ true
+        → (a || (c || (d || (e || (f || (g || (not h || false))))))) ≡ false
     before a c d e f g h i j k l m n o = rw (i, j, k, l, m, n, o) refl
 
-no_lsp : (t : Network) (w : World) (site : ℕ) (b : List ℕ) (x : HeldRoute) → Passes t w site b → best (routes_at t w site) (destination_of b) ≡ Some x → (x.edge == home_of t site) ≡ false
+no_lsp : (t : Network) (w : World) (site : ℕ) (b : List ℕ) (x : HeldRoute) → Passes t w site b → best (routes_at t w site) (destination_of b) ≡ Some x
+    → (x.edge == home_of t site) ≡ false
     → usable t w.config w.views w.sessions (home_of t site) x.edge ≡ None → Falls t w site b rule.NoLsp
 no_lsp t w site b x p h far none = record {
   earlier = rule.SiteDown ∷ rule.NotIpv4 ∷ rule.Malformed ∷ rule.Truncated ∷ rule.BadChecksum ∷ rule.TtlExpired ∷ rule.NotUnicast ∷ rule.NoRoute ∷ [];
@@ -132,7 +188,8 @@ no_lsp t w site b x p h far none = record {
   not_before = before _ _ _ _ _ _ _ _ p.attached p.ipv4 p.formed p.whole p.summed p.lives p.unicast (some_covers (routes_at t w site) (destination_of b) x h);
 }
   where
-    before : (a c d e f g h r : Bool) → a ≡ false → c ≡ false → d ≡ false → e ≡ false → f ≡ false → g ≡ false → h ≡ true → r ≡ true → (a || (c || (d || (e || (f || (g || (not h || (not r || false)))))))) ≡ false
+    before : (a c d e f g h r : Bool) → a ≡ false → c ≡ false → d ≡ false → e ≡ false → f ≡ false → g ≡ false → h ≡ true → r ≡ true
+        → (a || (c || (d || (e || (f || (g || (not h || (not r || false)))))))) ≡ false
     before a c d e f g h r i j k l m n o q = rw (i, j, k, l, m, n, o, q) refl
 
 -- 3. What becomes of it
@@ -141,11 +198,14 @@ no_lsp t w site b x p h far none = record {
 pub record AtEntry (P : Packets → Type 0) (t : Network) (w : World) (u : Packets) (j site : ℕ) (b : List ℕ) : Type 0 where
   pub falls : (cause : Rule) → Falls t w site b cause → P (drop_at u j cause (home_of t site))
   pub delivered : (x : HeldRoute) → Passes t w site b → IsBestFor t w site b x → (x.edge == home_of t site) ≡ true → P (deliver u j x.site (ttl_of b - 1) b)
-  pub flies : (x : HeldRoute) (hop : ℕ × ℕ) → Passes t w site b → IsBestFor t w site b x → (x.edge == home_of t site) ≡ false → usable t w.config w.views w.sessions (home_of t site) x.edge ≡ Some hop
+  pub flies : (x : HeldRoute) (hop : ℕ × ℕ) → Passes t w site b → IsBestFor t w site b x → (x.edge == home_of t site) ≡ false
+      → usable t w.config w.views w.sessions (home_of t site) x.edge ≡ Some hop
       → P (hop_over t u (bound j x b) (home_of t site) rule.NoLsp (Some hop))
 
-hops : (P : Packets → Type 0) (t : Network) (w : World) (u : Packets) (j site : ℕ) (b : List ℕ) (x : HeldRoute) → AtEntry P t w u j site b → Passes t w site b → best (routes_at t w site) (destination_of b) ≡ Some x
-    → (x.edge == home_of t site) ≡ false → (o : Option (ℕ × ℕ)) → usable t w.config w.views w.sessions (home_of t site) x.edge ≡ o → P (hop_over t u (bound j x b) (home_of t site) rule.NoLsp o)
+hops : (P : Packets → Type 0) (t : Network) (w : World) (u : Packets) (j site : ℕ) (b : List ℕ) (x : HeldRoute) → AtEntry P t w u j site b
+    → Passes t w site b → best (routes_at t w site) (destination_of b) ≡ Some x
+    → (x.edge == home_of t site) ≡ false → (o : Option (ℕ × ℕ)) → usable t w.config w.views w.sessions (home_of t site) x.edge ≡ o
+    → P (hop_over t u (bound j x b) (home_of t site) rule.NoLsp o)
 hops P t w u j site b x h p is far None e = h.falls rule.NoLsp (no_lsp t w site b x p is far e)
 hops P t w u j site b x h p is far (Some hop) e = h.flies x hop p is far e
 
@@ -153,7 +213,8 @@ routes : (P : Packets → Type 0) (t : Network) (w : World) (u : Packets) (j sit
     → (o : Option HeldRoute) → best (routes_at t w site) (destination_of b) ≡ o → P (route_by t w u j b (home_of t site) o)
 routes P t w u j site b h p None e = h.falls rule.NoRoute (no_route t w site b p e)
 routes P t w u j site b h p (Some x) e =
-    arms_by P (x.edge == home_of t site) _ _ (λ q. h.delivered x p e q) (λ q. hops P t w u j site b x h p e q (usable t w.config w.views w.sessions (home_of t site) x.edge) refl)
+    arms_by P (x.edge == home_of t site) _ _ (λ q. h.delivered x p e q)
+    (λ q. hops P t w u j site b x h p e q (usable t w.config w.views w.sessions (home_of t site) x.edge) refl)
 
 pub enters : (P : Packets → Type 0) (t : Network) (w : World) (u : Packets) (j site : ℕ) (b : List ℕ) → AtEntry P t w u j site b
     → P (enter_by t w u j b (home_of t site) (vrf_of t site) (first_rule (packets.entry_rules (w.config.attached site) b)))

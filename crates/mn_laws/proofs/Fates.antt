@@ -1,17 +1,16 @@
 -- What is known of each packet that was sent, after each step of a lawful journal.
-use Rattle.std.proofs.Common.{ℕ, zero, suc, ◌≡◌, ◌≢◌, ◌+◌, ◌-◌, ◌<◌, ◌≤◌, ◌⊎◌, inl, inr, Bool, true, false, cond, List, [], ◌∷◌, ◌++◌, length, take, refl, arith, sym, ◌∙◌, ap, subst, Option, Some, None}
-use Rattle.std.specs.Prelude.{◌==◌, slice_get, slice_index_or, IsTrue}
+use Rattle.std.proofs.Common.{ℕ, zero, suc, ◌≡◌, ◌≢◌, ◌+◌, ◌-◌, ◌<◌, ◌≤◌, ◌⊎◌, inl, inr, true, false, List, [], ◌∷◌, length, take, refl, arith, sym, ◌∙◌, ap, subst, Option, Some, None}
+use Rattle.std.specs.Prelude.{◌==◌, slice_get, slice_index_or}
 use Rattle.std.proofs.lemmas.Bool.Decides.{eqb_tells, leb_tells}
-use Rattle.std.proofs.lemmas.List.{length-append, take_all}
+use Rattle.std.proofs.lemmas.List.{take_all}
 use Rattle.std.proofs.lemmas.Option.{same_Some}
 use Rattle.mn_base.specs.declared.drops.Rule.{Rule}
-use Rattle.mn_base.specs.declared.drops.Rule.TheVariants as rule
 use Rattle.mn_base.specs.declared.links.Dir.{Dir}
 use Rattle.mn_base.specs.declared.links.Dir.TheVariants.{Forth, Back}
 use Rattle.mn_base.specs.declared.numbers.LinkNo.{LinkNo}
 use Rattle.mn_base.specs.declared.numbers.NodeNo.{NodeNo}
 use Rattle.mn_base.specs.declared.numbers.SiteNo.{SiteNo}
-use Rattle.mn_ipv4.specs.Header.{good, ttl_of, aged}
+use Rattle.mn_ipv4.specs.Header.{ttl_of, aged}
 use Rattle.mn_topo.specs.Network.{Network}
 use Rattle.mn_topo.specs.declared.steps.Step.{Step}
 use Rattle.mn_topo.specs.declared.steps.Step.TheVariants.{LinkDown, Carry, Lose}
@@ -25,9 +24,9 @@ use Rattle.mn_ledger.specs.Ledger.{injects, packets_of}
 use Rattle.mn_ledger.specs.Verdicts.{one_if, injections, times_in, times_by, verdict_on, AreInOnePlace}
 use Rattle.mn_ledger.proofs.Members.{In}
 use Rattle.mn_ledger.proofs.OnePlace.{in_one_place}
-use Rattle.mn_ledger.proofs.Peers.{two_ways, same_numbers, same_test}
-use Rattle.mn_laws.specs.Accounts.{world_at, packets_at, Sending, IsSent, IsBoundFor, path_of, IsItsPath, node_of, is_flying, ttl_left, IsPassedOn, FellAtEntry, FellInFlight}
-use Rattle.mn_laws.proofs.At.{bytes_of, stepped_to, packets_step, injections_step}
+use Rattle.mn_ledger.proofs.Peers.{same_test}
+use Rattle.mn_laws.specs.Accounts.{world_at, packets_at, Sending, IsSent, IsBoundFor, path_of, IsItsPath, is_flying, IsPassedOn, FellAtEntry, FellInFlight}
+use Rattle.mn_laws.proofs.At.{bytes_of, packets_step, injections_step}
 use Rattle.mn_laws.proofs.Elsewhere.{Same}
 use Rattle.mn_laws.proofs.Moving.{Leaves, same_step}
 
@@ -35,7 +34,17 @@ use Rattle.mn_laws.proofs.Moving.{Leaves, same_step}
 
 -- the frame of the packet that was at these nodes, bound for the route
 abbrev pub frame_of : Sending → HeldRoute → List ℕ → Token
-frame_of s route path = record { packet = s.packet; edge = route.edge; site = route.site; attachment = route.attachment; pushed = ttl_of s.bytes - 1; ttl = ttl_of s.bytes - length path; bytes = aged s.bytes 1 }
+frame_of s route path =
+    record {
+      packet = s.packet;
+      edge = route.edge;
+      site = route.site;
+      attachment = route.attachment;
+      pushed = ttl_of s.bytes - 1;
+      ttl = ttl_of s.bytes
+          - length path;
+      bytes = aged s.bytes 1;
+    }
 
 -- until now it has flown
 abbrev pub HasFlown : Network → List JournalEntry → List (List ℕ) → Sending → ℕ → Type 0
@@ -48,7 +57,8 @@ pub record Flies (t : Network) (es : List JournalEntry) (ps : List (List ℕ)) (
   pub home : home_of t route.site ≡ route.edge
   pub there : l.0 < length t.links
   pub left : length (path_of (packets_at t es ps n) s.packet) < ttl_of s.bytes
-  pub frames : (c : ℕ) (k : Token) → In ((packets_at t es ps n).flying c) k → k.packet ≡ s.packet → k ≡ frame_of s route (path_of (packets_at t es ps n) s.packet)
+  pub frames : (c : ℕ) (k : Token) → In ((packets_at t es ps n).flying c) k → k.packet ≡ s.packet
+      → k ≡ frame_of s route (path_of (packets_at t es ps n) s.packet)
   pub flown : HasFlown t es ps s n
 
 -- the step that gave it this verdict
@@ -107,10 +117,12 @@ pub sent_before : (es : List JournalEntry) (ps : List (List ℕ)) (s : Sending) 
 sent_before es ps s n h below =
     omega (arith, h.earlier, injections_step es s.place h.entry h.there, ap (λ x. one_if (injects x)) h.injects, injections_grow es (suc s.place) n below)
 
-pub in_verdicts : (t : Network) (es : List JournalEntry) (ps : List (List ℕ)) (s : Sending) (n : ℕ) → IsSent es ps s → s.place < n → s.packet < length (packets_at t es ps n).verdicts
+pub in_verdicts : (t : Network) (es : List JournalEntry) (ps : List (List ℕ)) (s : Sending) (n : ℕ) → IsSent es ps s → s.place < n
+    → s.packet < length (packets_at t es ps n).verdicts
 in_verdicts t es ps s n h below = omega (arith, sent_before es ps s n h below, (placed t es ps n).verdicts)
 
-pub in_paths : (t : Network) (es : List JournalEntry) (ps : List (List ℕ)) (s : Sending) (n : ℕ) → IsSent es ps s → s.place < n → s.packet < length (packets_at t es ps n).paths
+pub in_paths : (t : Network) (es : List JournalEntry) (ps : List (List ℕ)) (s : Sending) (n : ℕ) → IsSent es ps s → s.place < n
+    → s.packet < length (packets_at t es ps n).paths
 in_paths t es ps s n h below = omega (arith, sent_before es ps s n h below, (placed t es ps n).paths)
 
 -- 3. Its frames
@@ -148,9 +160,11 @@ not_one : 1 ≤ 0 → ⊥
 not_one h = omega (arith, h)
 
 -- a frame on a channel says where its packet flies
-pub where_it_flies : (w : Packets) (count : ℕ) (l : LinkNo) (d : Dir) (k : Token) → AreInOnePlace w count → In (w.flying (channel l.0 d)) k → verdict_on w k.packet ≡ Flying l d
+pub where_it_flies : (w : Packets) (count : ℕ) (l : LinkNo) (d : Dir) (k : Token) → AreInOnePlace w count → In (w.flying (channel l.0 d)) k
+    → verdict_on w k.packet ≡ Flying l d
 where_it_flies w count l d k one i =
-    let f = flies_on (verdict_on w k.packet) (channel l.0 d) (subst (λ n. 1 ≤ n) (one.places k.packet (channel l.0 d)) (in_counts k.packet (w.flying (channel l.0 d)) k i refl)) in
+    let f = flies_on (verdict_on w k.packet) (channel l.0 d)
+    (subst (λ n. 1 ≤ n) (one.places k.packet (channel l.0 d)) (in_counts k.packet (w.flying (channel l.0 d)) k i refl)) in
     let same = one_link f.0.0 l.0 f.1 d f.3 in
     f.2 ∙ ap (λ n. Flying (record { 0 = n }) f.1) same.0 ∙ ap (Flying l) same.1
 
@@ -176,15 +190,19 @@ pub no_frame : (w : Packets) (count j c : ℕ) (k : Token) → AreInOnePlace w c
 no_frame w count j c k one ended i e = not_one (subst (λ n. 1 ≤ n) (one.places j c ∙ no_flying (verdict_on w j) c ended) (in_counts j (w.flying c) k i e))
 
 -- one that flies has a frame
-pub some_frame : (w : Packets) (count j : ℕ) (l : LinkNo) (d : Dir) → AreInOnePlace w count → verdict_on w j ≡ Flying l d → (k : Token) × In (w.flying (channel l.0 d)) k × (k.packet ≡ j)
+pub some_frame : (w : Packets) (count j : ℕ) (l : LinkNo) (d : Dir) → AreInOnePlace w count → verdict_on w j ≡ Flying l d
+    → (k : Token) × In (w.flying (channel l.0 d)) k × (k.packet ≡ j)
 some_frame w count j l d one h =
-    some_counted j (w.flying (channel l.0 d)) (subst (λ n. 1 ≤ n) (sym (one.places j (channel l.0 d) ∙ ap (λ v. times_by v (channel l.0 d)) h ∙ one_same (channel l.0 d))) (omega arith))
+    some_counted j (w.flying (channel l.0 d))
+    (subst (λ n. 1 ≤ n) (sym (one.places j (channel l.0 d) ∙ ap (λ v. times_by v (channel l.0 d)) h ∙ one_same (channel l.0 d))) (omega arith))
 
 -- a frame of a packet that is still to be sent isn't there
-past_flying : (t : Network) (es : List JournalEntry) (ps : List (List ℕ)) (n j : ℕ) → injections (take n es) ≤ j → is_flying (verdict_on (packets_at t es ps n) j) ≡ false
+past_flying : (t : Network) (es : List JournalEntry) (ps : List (List ℕ)) (n j : ℕ) → injections (take n es) ≤ j
+    → is_flying (verdict_on (packets_at t es ps n) j) ≡ false
 past_flying t es ps n j h = ap is_flying (past_none (packets_at t es ps n).verdicts j (omega (arith, h, (placed t es ps n).verdicts)))
 
-pub none_yet : (t : Network) (es : List JournalEntry) (ps : List (List ℕ)) (n j c : ℕ) (k : Token) → injections (take n es) ≤ j → In ((packets_at t es ps n).flying c) k → k.packet ≢ j
+pub none_yet : (t : Network) (es : List JournalEntry) (ps : List (List ℕ)) (n j c : ℕ) (k : Token) → injections (take n es) ≤ j
+    → In ((packets_at t es ps n).flying c) k → k.packet ≢ j
 none_yet t es ps n j c k h = no_frame (packets_at t es ps n) (injections (take n es)) j c k (placed t es ps n) (past_flying t es ps n j h)
 
 -- 4. A step that leaves the packet
@@ -194,21 +212,33 @@ in_get [] i x h = cc
 in_get (y ∷ ys) zero x h = inl (same_Some y x h)
 in_get (y ∷ ys) (suc i) x h = inr (in_get ys i x h)
 
-same_at : (t : Network) (es : List JournalEntry) (ps : List (List ℕ)) (s : Sending) (n : ℕ) (e : JournalEntry) → IsSent es ps s → s.place < n → slice_get es n ≡ Some e → Leaves s.packet (packets_at t es ps n) e.step
+same_at : (t : Network) (es : List JournalEntry) (ps : List (List ℕ)) (s : Sending) (n : ℕ) (e : JournalEntry) → IsSent es ps s → s.place < n
+    → slice_get es n ≡ Some e → Leaves s.packet (packets_at t es ps n) e.step
     → Same s.packet (packets_at t es ps n) (packets_at t es ps (suc n))
 same_at t es ps s n e sent below there leaves =
     subst (Same s.packet (packets_at t es ps n)) (sym (packets_step t es ps n e there))
-    (same_step t (world_at t es n) (packets_at t es ps n) e.step (bytes_of ps (injections (take n es))) s.packet (in_verdicts t es ps s n sent below) (in_paths t es ps s n sent below) leaves)
+    (same_step t (world_at t es n) (packets_at t es ps n) e.step (bytes_of ps (injections (take n es))) s.packet (in_verdicts t es ps s n sent below)
+    (in_paths t es ps s n sent below) leaves)
 
 -- an end that stands, one step later
-later_fate : (t : Network) (es : List JournalEntry) (ps : List (List ℕ)) (s : Sending) (n : ℕ) (v : Verdict) → is_flying v ≡ false → path_of (packets_at t es ps (suc n)) s.packet ≡ path_of (packets_at t es ps n) s.packet
+later_fate : (t : Network) (es : List JournalEntry) (ps : List (List ℕ)) (s : Sending) (n : ℕ) (v : Verdict) → is_flying v ≡ false
+    → path_of (packets_at t es ps (suc n)) s.packet ≡ path_of (packets_at t es ps n) s.packet
     → FateIs t es ps s n v → FateIs t es ps s (suc n) v
 later_fate t es ps s n (Flying l d) ended path f = absurd (no ended)
 later_fate t es ps s n (Delivered site ttl copy) ended path f = record {
   route = f.route;
   bound = f.bound;
   to_site = f.to_site;
-  ends = record { when = f.ends.when; entry = f.ends.entry; there = f.ends.there; sent = f.ends.sent; past = omega (arith, f.ends.past); flown = f.ends.flown; first = f.ends.first };
+  ends = record {
+    when = f.ends.when;
+    entry = f.ends.entry;
+    there = f.ends.there;
+    sent = f.ends.sent;
+    past = omega
+        (arith, f.ends.past);
+    flown = f.ends.flown;
+    first = f.ends.first;
+  };
   attached = f.attached;
   lowered = ap (λ p. ttl + length p) path ∙ f.lowered;
   counted = f.counted;
@@ -217,12 +247,22 @@ later_fate t es ps s n (Delivered site ttl copy) ended path f = record {
   passed_on = f.passed_on;
 }
 later_fate t es ps s n (Dropped cause node) ended path f = record {
-  ends = record { when = f.ends.when; entry = f.ends.entry; there = f.ends.there; sent = f.ends.sent; past = omega (arith, f.ends.past); flown = f.ends.flown; first = f.ends.first };
+  ends = record {
+    when = f.ends.when;
+    entry = f.ends.entry;
+    there = f.ends.there;
+    sent = f.ends.sent;
+    past = omega
+        (arith, f.ends.past);
+    flown = f.ends.flown;
+    first = f.ends.first;
+  };
   how = f.how;
 }
 
 -- until now, and now
-pub flown_on : (t : Network) (es : List JournalEntry) (ps : List (List ℕ)) (s : Sending) (n : ℕ) → HasFlown t es ps s n → is_flying (verdict_on (packets_at t es ps (suc n)) s.packet) ≡ true → HasFlown t es ps s (suc n)
+pub flown_on : (t : Network) (es : List JournalEntry) (ps : List (List ℕ)) (s : Sending) (n : ℕ) → HasFlown t es ps s n
+    → is_flying (verdict_on (packets_at t es ps (suc n)) s.packet) ≡ true → HasFlown t es ps s (suc n)
 flown_on t es ps s n h now count sent low = elim (eqb_tells count (suc n)) [
   | inl q ↦ subst (λ m. is_flying (verdict_on (packets_at t es ps m) s.packet) ≡ true) (sym q.1) now
   | inr q ↦ h count sent (below_it count n low q.1)
@@ -232,7 +272,8 @@ flown_on t es ps s n h now count sent low = elim (eqb_tells count (suc n)) [
     below_it m n h d = omega (arith, h, d)
 
 -- a flight that goes on as it was
-same_fate : (t : Network) (es : List JournalEntry) (ps : List (List ℕ)) (s : Sending) (n : ℕ) (l : LinkNo) (d : Dir) → Same s.packet (packets_at t es ps n) (packets_at t es ps (suc n)) → verdict_on (packets_at t es ps n) s.packet ≡ Flying l d
+same_fate : (t : Network) (es : List JournalEntry) (ps : List (List ℕ)) (s : Sending) (n : ℕ) (l : LinkNo) (d : Dir)
+    → Same s.packet (packets_at t es ps n) (packets_at t es ps (suc n)) → verdict_on (packets_at t es ps n) s.packet ≡ Flying l d
     → Flies t es ps s n l → Flies t es ps s (suc n) l
 same_fate t es ps s n l d same is f = record {
   route = f.route;
@@ -244,9 +285,11 @@ same_fate t es ps s n l d same is f = record {
   flown = flown_on t es ps s n f.flown (ap is_flying (same.verdict ∙ is));
 }
 
-pub stays_known : (t : Network) (es : List JournalEntry) (ps : List (List ℕ)) (s : Sending) (n : ℕ) → Same s.packet (packets_at t es ps n) (packets_at t es ps (suc n)) → IsKnown t es ps s n → IsKnown t es ps s (suc n)
+pub stays_known : (t : Network) (es : List JournalEntry) (ps : List (List ℕ)) (s : Sending) (n : ℕ)
+    → Same s.packet (packets_at t es ps n) (packets_at t es ps (suc n)) → IsKnown t es ps s n → IsKnown t es ps s (suc n)
 stays_known t es ps s n same h = record {
-  way = subst (λ v. IsItsPath t s.site v (path_of (packets_at t es ps (suc n)) s.packet)) (sym same.verdict) (subst (IsItsPath t s.site (verdict_on (packets_at t es ps n) s.packet)) (sym same.path) h.way);
+  way = subst (λ v. IsItsPath t s.site v (path_of (packets_at t es ps (suc n)) s.packet)) (sym same.verdict)
+      (subst (IsItsPath t s.site (verdict_on (packets_at t es ps n) s.packet)) (sym same.path) h.way);
   fate = subst (FateIs t es ps s (suc n)) (sym same.verdict) (by_verdict (verdict_on (packets_at t es ps n) s.packet) refl h.fate);
 }
   where
@@ -256,14 +299,16 @@ stays_known t es ps s n same h = record {
     by_verdict (Dropped cause node) e f = later_fate t es ps s n (Dropped cause node) refl same.path f
 
 -- a step that takes none of its frames leaves it
-pub left_known : (t : Network) (es : List JournalEntry) (ps : List (List ℕ)) (s : Sending) (n : ℕ) (e : JournalEntry) → IsSent es ps s → s.place < n → slice_get es n ≡ Some e → Leaves s.packet (packets_at t es ps n) e.step
+pub left_known : (t : Network) (es : List JournalEntry) (ps : List (List ℕ)) (s : Sending) (n : ℕ) (e : JournalEntry) → IsSent es ps s → s.place < n
+    → slice_get es n ≡ Some e → Leaves s.packet (packets_at t es ps n) e.step
     → IsKnown t es ps s n → IsKnown t es ps s (suc n)
 left_known t es ps s n e sent below there leaves h = stays_known t es ps s n (same_at t es ps s n e sent below there leaves) h
 
 -- 5. What has ended stays
 
 -- no step takes a frame of a packet that doesn't fly
-pub leaves_ended : (t : Network) (es : List JournalEntry) (ps : List (List ℕ)) (j n : ℕ) (e : JournalEntry) → is_flying (verdict_on (packets_at t es ps n) j) ≡ false → Leaves j (packets_at t es ps n) e.step
+pub leaves_ended : (t : Network) (es : List JournalEntry) (ps : List (List ℕ)) (j n : ℕ) (e : JournalEntry)
+    → is_flying (verdict_on (packets_at t es ps n) j) ≡ false → Leaves j (packets_at t es ps n) e.step
 leaves_ended t es ps j n e ended = by_step e.step
   where
     off : (c : ℕ) (k : Token) → In ((packets_at t es ps n).flying c) k → k.packet ≢ j
@@ -279,28 +324,36 @@ leaves_ended t es ps j n e ended = by_step e.step
     by_step _ = tt
 
 -- from one place on
-ended_goes : (t : Network) (es : List JournalEntry) (ps : List (List ℕ)) (s : Sending) (n more : ℕ) → IsSent es ps s → s.place < n → is_flying (verdict_on (packets_at t es ps n) s.packet) ≡ false
-    → (verdict_on (packets_at t es ps (more + n)) s.packet ≡ verdict_on (packets_at t es ps n) s.packet) × (path_of (packets_at t es ps (more + n)) s.packet ≡ path_of (packets_at t es ps n) s.packet)
-ended_goes t es ps s n zero sent below ended = (ap (λ m. verdict_on (packets_at t es ps m) s.packet) (none n), ap (λ m. path_of (packets_at t es ps m) s.packet) (none n))
+ended_goes : (t : Network) (es : List JournalEntry) (ps : List (List ℕ)) (s : Sending) (n more : ℕ) → IsSent es ps s → s.place < n
+    → is_flying (verdict_on (packets_at t es ps n) s.packet) ≡ false
+    → (verdict_on (packets_at t es ps (more + n)) s.packet ≡ verdict_on (packets_at t es ps n) s.packet)
+    × (path_of (packets_at t es ps (more + n)) s.packet ≡ path_of (packets_at t es ps n) s.packet)
+ended_goes t es ps s n zero sent below
+    ended = (ap (λ m. verdict_on (packets_at t es ps m) s.packet) (none n), ap (λ m. path_of (packets_at t es ps m) s.packet) (none n))
   where
     none : (n : ℕ) → 0 + n ≡ n
     none n = omega arith
 ended_goes t es ps s n (suc more) sent below ended =
     let h = ended_goes t es ps s n more sent below ended in
     let here : is_flying (verdict_on (packets_at t es ps (more + n)) s.packet) ≡ false = ap is_flying h.0 ∙ ended in
-    let step = one (slice_get es (more + n)) refl here in
-    (ap (λ m. verdict_on (packets_at t es ps m) s.packet) (next more n) ∙ step.0 ∙ h.0, ap (λ m. path_of (packets_at t es ps m) s.packet) (next more n) ∙ step.1 ∙ h.1)
+    let step = one (slice_get es (more + n)) refl here in (
+      ap (λ m. verdict_on (packets_at t es ps m) s.packet) (next more n) ∙ step.0
+          ∙ h.0,
+      ap (λ m. path_of (packets_at t es ps m) s.packet) (next more n) ∙ step.1 ∙ h.1,
+    )
   where
     next : (m n : ℕ) → suc m + n ≡ suc (m + n)
     next m n = omega arith
 
     one : (o : Option JournalEntry) → slice_get es (more + n) ≡ o → is_flying (verdict_on (packets_at t es ps (more + n)) s.packet) ≡ false
-        → (verdict_on (packets_at t es ps (suc (more + n))) s.packet ≡ verdict_on (packets_at t es ps (more + n)) s.packet) × (path_of (packets_at t es ps (suc (more + n))) s.packet ≡ path_of (packets_at t es ps (more + n)) s.packet)
+        → (verdict_on (packets_at t es ps (suc (more + n))) s.packet ≡ verdict_on (packets_at t es ps (more + n)) s.packet)
+        × (path_of (packets_at t es ps (suc (more + n))) s.packet ≡ path_of (packets_at t es ps (more + n)) s.packet)
     one (Some e) there ended =
         let same = same_at t es ps s (more + n) e sent (omega (arith, below)) there (leaves_ended t es ps s.packet (more + n) e ended) in
         (same.verdict, same.path)
     one None there ended =
-        let past : (packets_at t es ps (suc (more + n))) ≡ packets_at t es ps (more + n) = ap (λ xs. packets_of t xs ps) (take_all (suc (more + n)) es (omega (arith, out (more + n) there)) ∙ sym (take_all (more + n) es (out (more + n) there))) in
+        let past : (packets_at t es ps (suc (more + n))) ≡ packets_at t es ps (more + n) = ap (λ xs. packets_of t xs ps)
+        (take_all (suc (more + n)) es (omega (arith, out (more + n) there)) ∙ sym (take_all (more + n) es (out (more + n) there))) in
         (ap (λ q. verdict_on q s.packet) past, ap (λ q. path_of q s.packet) past)
       where
         out : (i : ℕ) → slice_get es i ≡ None → length es ≤ i
@@ -314,10 +367,13 @@ ended_goes t es ps s n (suc more) sent below ended =
                 there_is (x ∷ xs) zero h g = cc
                 there_is (x ∷ xs) (suc i) h g = there_is xs i (omega (arith, h)) g
 
-pub ended_stays : (t : Network) (es : List JournalEntry) (ps : List (List ℕ)) (s : Sending) (n m : ℕ) → IsSent es ps s → s.place < n → n ≤ m → is_flying (verdict_on (packets_at t es ps n) s.packet) ≡ false
-    → (verdict_on (packets_at t es ps m) s.packet ≡ verdict_on (packets_at t es ps n) s.packet) × (path_of (packets_at t es ps m) s.packet ≡ path_of (packets_at t es ps n) s.packet)
+pub ended_stays : (t : Network) (es : List JournalEntry) (ps : List (List ℕ)) (s : Sending) (n m : ℕ) → IsSent es ps s → s.place < n → n ≤ m
+    → is_flying (verdict_on (packets_at t es ps n) s.packet) ≡ false
+    → (verdict_on (packets_at t es ps m) s.packet ≡ verdict_on (packets_at t es ps n) s.packet)
+    × (path_of (packets_at t es ps m) s.packet ≡ path_of (packets_at t es ps n) s.packet)
 ended_stays t es ps s n m sent below le ended =
-    subst (λ i. (verdict_on (packets_at t es ps i) s.packet ≡ verdict_on (packets_at t es ps n) s.packet) × (path_of (packets_at t es ps i) s.packet ≡ path_of (packets_at t es ps n) s.packet)) (back m n le)
+    subst (λ i. (verdict_on (packets_at t es ps i) s.packet ≡ verdict_on (packets_at t es ps n) s.packet)
+    × (path_of (packets_at t es ps i) s.packet ≡ path_of (packets_at t es ps n) s.packet)) (back m n le)
     (ended_goes t es ps s n (m - n) sent below ended)
   where
     back : (m n : ℕ) → n ≤ m → m - n + n ≡ m

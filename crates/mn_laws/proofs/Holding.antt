@@ -1,45 +1,42 @@
 -- After every step of a lawful journal what a VRF holds, and what an end of a link has said, names what exists.
-use Rattle.std.proofs.Common.{ℕ, zero, suc, ◌≡◌, ◌≢◌, ◌+◌, ◌<◌, ◌≤◌, ◌⊎◌, inl, inr, Bool, true, false, cond, List, [], ◌∷◌, ◌++◌, map, filter, length, take, refl, arith, sym, ◌∙◌, ap, subst, Option, Some, None}
-use Rattle.std.specs.Prelude.{◌==◌, ◌&&◌, not, if◌then◌else◌, slice_get, slice_index_or, ⊤}
+use Rattle.std.proofs.Common.{ℕ, zero, suc, ◌≡◌, ◌≢◌, ◌+◌, ◌<◌, ◌≤◌, inl, inr, Bool, true, false, cond, List, [], ◌∷◌, ◌++◌, map, filter, length, refl, arith, sym, ◌∙◌, ap, subst, Some}
+use Rattle.std.specs.Prelude.{◌==◌, ◌&&◌, not, if◌then◌else◌, slice_index_or}
 use Rattle.std.specs.List.{flat_map, range_with_len}
-use Rattle.std.proofs.lemmas.Bool.Decides.{eqb_tells, leb_tells}
-use Rattle.std.proofs.lemmas.List.{take_all}
+use Rattle.std.proofs.lemmas.Bool.Decides.{eqb_tells}
 use Rattle.mn_base.specs.declared.states.LdpState.{LdpState}
 use Rattle.mn_base.specs.declared.states.LdpState.TheVariants.{Initialized, OpenSent, OpenRec, Operational}
-use Rattle.mn_base.specs.Wiring.{Wiring, link, nodes_of, sender, receiver}
+use Rattle.mn_base.specs.Wiring.{sender, receiver}
 use Rattle.mn_prefix.specs.Prefix.{AddressBlock, IsPrefix}
 use Rattle.mn_topo.specs.Lawful.{IsLawful}
 use Rattle.mn_topo.specs.Network.{Network, wiring_of}
-use Rattle.mn_topo.specs.VrfTable.{is_edge}
 use Rattle.mn_topo.specs.declared.steps.Step.{Step}
 use Rattle.mn_topo.specs.declared.steps.Step.TheVariants.{LinkUp, LinkDown, Learn, LdpAdmin, HearLdp}
 use Rattle.mn_topo.specs.declared.steps.JournalEntry.{JournalEntry}
 use Rattle.mn_node.specs.Ldp.{Message, Initialization, KeepAlive, Address, Mapping, Withdraw, Release, Said, is_by, messages_of, said_on, state_by, answer, Knowledge, is_operational, offers, offered, mention, by_neighbour, mentioned_on, mentioned_from, news}
 use Rattle.mn_ledger.specs.Tables.{put}
 use Rattle.mn_ledger.specs.Places.{loopback, vrf_at, vrf_of, edge_of, home_of, edges}
-use Rattle.mn_ledger.specs.World.{Config, Views, Sessions, Export, Telling, Announce, Peerings, World}
-use Rattle.mn_ledger.specs.Transport.{is_active, lives, opening, answered, replies, speakers, said_in, counted, knowledge_of, views_after, sessions_after}
+use Rattle.mn_ledger.specs.World.{Config, Views, Sessions, Export, Announce, Peerings, World}
+use Rattle.mn_ledger.specs.Transport.{is_active, lives, opening, replies, speakers, said_in, counted, knowledge_of, views_after, sessions_after}
 use Rattle.mn_ledger.specs.Vpn.{HeldRoute, Own, Near, Far, held_by, meet, own_routes, near_routes, far_routes, imported, exports_of, heard_of, believed, held}
 use Rattle.mn_ledger.specs.Ledger.{config_after, after, start, world_from, world_of}
 use Rattle.mn_ledger.specs.Lawful.{IsLawfulJournal}
-use Rattle.mn_ledger.proofs.GoingBy.{put_here, put_off}
 use Rattle.mn_ledger.proofs.OnePlace.{arms}
-use Rattle.mn_ledger.proofs.Members.{In, in_append, in_map, in_filter, in_flat_map, in_take, in_range, in_contained}
+use Rattle.mn_ledger.proofs.Members.{In, in_append, in_map, in_filter, in_flat_map, in_take, in_contained}
 use Rattle.mn_ledger.proofs.Choice.{keeps}
 use Rattle.mn_ledger.proofs.Statics.{HasForms}
 use Rattle.mn_ledger.proofs.Tellings.{behind}
-use Rattle.mn_laws.specs.Accounts.{world_at, routes_at}
+use Rattle.mn_laws.specs.Accounts.{world_at}
 use Rattle.mn_laws.specs.Named.{NamesANode, NamesAnAttachment, NamesItsSite, NamesWhatExists}
-use Rattle.mn_laws.proofs.At.{world_step, world_whole}
-use Rattle.mn_laws.proofs.Announced.{IsInBounds, IsBehind, is_behind, IsExported, is_exported, TellingsNamed, bounds_at, forms_at, tellings_at}
+use Rattle.mn_laws.proofs.At.{world_whole}
+use Rattle.mn_laws.proofs.Announced.{IsInBounds, IsBehind, is_behind, is_exported, TellingsNamed, bounds_at, forms_at, tellings_at}
 use Rattle.mn_laws.proofs.Believing.{believed_last, announced_in}
-use Rattle.mn_laws.proofs.There.{vrf_there}
 use Rattle.mn_laws.proofs.Travelling.{HoldsSites}
 
 -- 1. Held routes
 
 -- a site of this edge that is attached
-here_named : (t : Network) (c : Config) (edge v : ℕ) (e : Export) (a : HeldRoute) → IsInBounds t c → IsBehind t c v e → edge_of t v ≡ edge → a.site ≡ e.site → a.attachment ≡ e.attachment → a.edge ≡ edge → a.prefix ≡ e.prefix → NamesItsSite t c edge a
+here_named : (t : Network) (c : Config) (edge v : ℕ) (e : Export) (a : HeldRoute) → IsInBounds t c → IsBehind t c v e → edge_of t v ≡ edge
+    → a.site ≡ e.site → a.attachment ≡ e.attachment → a.edge ≡ edge → a.prefix ≡ e.prefix → NamesItsSite t c edge a
 here_named t c edge v e a h b at site attachment same prefix = record {
   site = subst (λ n. n < length t.sites) (sym site) b.site;
   home = ap (home_of t) site ∙ ap (edge_of t) b.of_vrf ∙ at ∙ sym same;
@@ -49,18 +46,22 @@ here_named t c edge v e a h b at site attachment same prefix = record {
   present = λ _. ap c.attached site ∙ b.present ∙ ap Some (sym attachment);
 }
 
-own_named : (t : Network) (c : Config) (edge v : ℕ) (a : HeldRoute) → IsInBounds t c → HasForms c.statics → edge_of t v ≡ edge → In (own_routes t c edge v) a → NamesItsSite t c edge a
+own_named : (t : Network) (c : Config) (edge v : ℕ) (a : HeldRoute) → IsInBounds t c → HasForms c.statics → edge_of t v ≡ edge
+    → In (own_routes t c edge v) a → NamesItsSite t c edge a
 own_named t c edge v a h forms at i =
     let m = in_map (held_by edge Own) _ a i in
-    here_named t c edge v m.0 a h (is_behind t c v [] m.0 h forms (behind t c v [] m.0 m.1)) at (ap (λ (r : HeldRoute). r.site) (sym m.2)) (ap (λ (r : HeldRoute). r.attachment) (sym m.2)) (ap (λ (r : HeldRoute). r.edge) (sym m.2)) (ap (λ (r : HeldRoute). r.prefix) (sym m.2))
+    here_named t c edge v m.0 a h (is_behind t c v [] m.0 h forms (behind t c v [] m.0 m.1)) at (ap (λ (r : HeldRoute). r.site) (sym m.2))
+    (ap (λ (r : HeldRoute). r.attachment) (sym m.2)) (ap (λ (r : HeldRoute). r.edge) (sym m.2)) (ap (λ (r : HeldRoute). r.prefix) (sym m.2))
 
-near_named : (t : Network) (c : Config) (edge v : ℕ) (a : HeldRoute) → IsInBounds t c → HasForms c.statics → In (near_routes t c edge v) a → NamesItsSite t c edge a
+near_named : (t : Network) (c : Config) (edge v : ℕ) (a : HeldRoute) → IsInBounds t c → HasForms c.statics → In (near_routes t c edge v) a
+    → NamesItsSite t c edge a
 near_named t c edge v a h forms i =
     let others : List Export = filter (λ export. not (export.vrf == v)) (exports_of t c edge) in
     let m = in_map (λ (export : Export). held_by edge (Near export.vrf) export) (imported c v others) a i in
     let f = in_filter (λ (export : Export). meet export.targets (c.imports v)) others m.0 m.1 in
     let x = is_exported t c edge m.0 h forms (in_filter (λ (export : Export). not (export.vrf == v)) (exports_of t c edge) m.0 f.0).0 in
-    here_named t c edge m.0.vrf m.0 a h x.behind x.at_edge (ap (λ (r : HeldRoute). r.site) (sym m.2)) (ap (λ (r : HeldRoute). r.attachment) (sym m.2)) (ap (λ (r : HeldRoute). r.edge) (sym m.2)) (ap (λ (r : HeldRoute). r.prefix) (sym m.2))
+    here_named t c edge m.0.vrf m.0 a h x.behind x.at_edge (ap (λ (r : HeldRoute). r.site) (sym m.2)) (ap (λ (r : HeldRoute). r.attachment) (sym m.2))
+    (ap (λ (r : HeldRoute). r.edge) (sym m.2)) (ap (λ (r : HeldRoute). r.prefix) (sym m.2))
 
 not_same : (a b : ℕ) → not (a == b) ≡ true → a ≢ b
 not_same a b h q = elim (eqb_tells a b) [ inl p ↦ clash (sym (ap not p.0) ∙ h) | inr p ↦ p.1 q ]
@@ -68,12 +69,14 @@ not_same a b h q = elim (eqb_tells a b) [ inl p ↦ clash (sym (ap not p.0) ∙ 
     clash : false ≡ true → ⊥
     clash e = cc
 
-far_named : (t : Network) (c : Config) (p : Peerings) (edge v : ℕ) (a : HeldRoute) → TellingsNamed t c p → In (flat_map (far_routes t c p edge v) (filter (λ peer. not (peer == edge)) (edges t))) a → NamesItsSite t c edge a
+far_named : (t : Network) (c : Config) (p : Peerings) (edge v : ℕ) (a : HeldRoute) → TellingsNamed t c p
+    → In (flat_map (far_routes t c p edge v) (filter (λ peer. not (peer == edge)) (edges t))) a → NamesItsSite t c edge a
 far_named t c p edge v a named i =
     let m = in_flat_map (far_routes t c p edge v) (filter (λ peer. not (peer == edge)) (edges t)) a i in
     let peer : ℕ = m.0 in
     let other : peer ≢ edge = not_same peer edge (in_filter (λ peer. not (peer == edge)) (edges t) peer m.1).1 in
-    let n = in_map (λ (export : Export). held_by peer (Far (loopback t peer) (vrf_at t export.vrf).rd.0) export) (imported c v (believed c p edge peer)) a m.2 in
+    let n = in_map (λ (export : Export). held_by peer (Far (loopback t peer) (vrf_at t export.vrf).rd.0) export)
+    (imported c v (believed c p edge peer)) a m.2 in
     let b = (in_filter (λ (export : Export). meet export.targets (c.imports v)) (believed c p edge peer) n.0 n.1).0 in
     let told = announced_in (heard_of p edge peer) n.0 (believed_last c p edge peer n.0 b).1 in
     let e : NamesAnAttachment t c peer n.0 = named peer edge (Announce n.0) (in_take (p.heard edge peer) (p.told peer edge) (Announce n.0) told) in
@@ -89,19 +92,23 @@ far_named t c p edge v a named i =
       present = λ q. absurd (other (sym same ∙ q));
     }
 
-pub held_named : (t : Network) (c : Config) (p : Peerings) (edge v : ℕ) (a : HeldRoute) → IsInBounds t c → HasForms c.statics → TellingsNamed t c p → edge_of t v ≡ edge → In (held t c p edge v) a → NamesItsSite t c edge a
+pub held_named : (t : Network) (c : Config) (p : Peerings) (edge v : ℕ) (a : HeldRoute) → IsInBounds t c → HasForms c.statics → TellingsNamed t c p
+    → edge_of t v ≡ edge → In (held t c p edge v) a → NamesItsSite t c edge a
 unfolding held
-held_named t c p edge v a h forms named at i = elim (in_append (own_routes t c edge v) (near_routes t c edge v ++ flat_map (far_routes t c p edge v) (filter (λ peer. not (peer == edge)) (edges t))) a i) [
-  | inl j ↦ own_named t c edge v a h forms at j
-  | inr j ↦ elim (in_append (near_routes t c edge v) (flat_map (far_routes t c p edge v) (filter (λ peer. not (peer == edge)) (edges t))) a j) [
-    | inl k ↦ near_named t c edge v a h forms k
-    | inr k ↦ far_named t c p edge v a named k
-  ]
-]
+held_named t c p edge v a h forms named at
+    i = elim (in_append (own_routes t c edge v)
+    (near_routes t c edge v ++ flat_map (far_routes t c p edge v) (filter (λ peer. not (peer == edge)) (edges t))) a i) [
+      | inl j ↦ own_named t c edge v a h forms at j
+      | inr j ↦ elim (in_append (near_routes t c edge v) (flat_map (far_routes t c p edge v) (filter (λ peer. not (peer == edge)) (edges t))) a j) [
+        | inl k ↦ near_named t c edge v a h forms k
+        | inr k ↦ far_named t c p edge v a named k
+      ]
+    ]
 
 pub sites_held : (t : Network) → IsLawful t → (es : List JournalEntry) (ps : List (List ℕ)) → IsLawfulJournal t es ps → HoldsSites t es
 sites_held t lawful es ps journal n site x within below i =
-    held_named t (world_at t es n).config (world_at t es n).peerings (home_of t site) (vrf_of t site) x (bounds_at t lawful es ps journal n within) (forms_at t lawful es ps journal n) (tellings_at t lawful es ps journal n within) refl i
+    held_named t (world_at t es n).config (world_at t es n).peerings (home_of t site) (vrf_of t site) x (bounds_at t lawful es ps journal n within)
+    (forms_at t lawful es ps journal n) (tellings_at t lawful es ps journal n within) refl i
 
 -- 2. FECs
 
@@ -118,7 +125,8 @@ none_said : (t : Network) → AllSaid t []
 none_said t x i = absurd i
 
 said_nodes : (t : Network) (l node : ℕ) (ms : List Message) → AllNodes t ms → AllSaid t (said_on l node ms)
-said_nodes t l node ms h x i = let f = in_map (λ message. record { link = l; end = node; message = message }) ms x i in subst (λ (y : Said). NamesANode t y.message) f.2 (h f.0 f.1)
+said_nodes t l node ms h x i = let f = in_map (λ message. record { link = l; end = node; message = message }) ms x i in subst
+    (λ (y : Said). NamesANode t y.message) f.2 (h f.0 f.1)
 
 join_said : (t : Network) (xs ys : List Said) → AllSaid t xs → AllSaid t ys → AllSaid t (xs ++ ys)
 join_said t xs ys h g x i = elim (in_append xs ys x i) [ inl j ↦ h x j | inr j ↦ g x j ]
@@ -133,18 +141,22 @@ if_said : (t : Network) (b : Bool) (xs : List Said) → AllSaid t xs → AllSaid
 if_said t true xs h = h
 if_said t false xs h = none_said t
 
-links_nodes : (t : Network) (before later : Knowledge) (node fec : ℕ) (was is : Bool) (ls : List ℕ) → fec < length t.loopbacks → AllSaid t (flat_map (mentioned_on before later node fec was is) ls)
+links_nodes : (t : Network) (before later : Knowledge) (node fec : ℕ) (was is : Bool) (ls : List ℕ) → fec < length t.loopbacks
+    → AllSaid t (flat_map (mentioned_on before later node fec was is) ls)
 links_nodes t before later node fec was is [] h = none_said t
 links_nodes t before later node fec was is (l ∷ ls) h =
     join_said t (mentioned_on before later node fec was is l) (flat_map (mentioned_on before later node fec was is) ls)
-    (if_said t (is_operational later l) (said_on l node (mention (is_operational before l && was) is fec)) (said_nodes t l node (mention (is_operational before l && was) is fec) (mention_nodes t (is_operational before l && was) is fec h)))
+    (if_said t (is_operational later l) (said_on l node (mention (is_operational before l && was) is fec))
+    (said_nodes t l node (mention (is_operational before l && was) is fec) (mention_nodes t (is_operational before l && was) is fec h)))
     (links_nodes t before later node fec was is ls h)
 
-from_nodes : (t : Network) (before later : Knowledge) (node : ℕ) (ls : List ℕ) (fec : ℕ) (weres ares : List Bool) → fec + length ares ≤ length t.loopbacks → AllSaid t (mentioned_from before later node ls fec weres ares)
+from_nodes : (t : Network) (before later : Knowledge) (node : ℕ) (ls : List ℕ) (fec : ℕ) (weres ares : List Bool)
+    → fec + length ares ≤ length t.loopbacks → AllSaid t (mentioned_from before later node ls fec weres ares)
 from_nodes t before later node ls fec [] ares h = none_said t
 from_nodes t before later node ls fec (was ∷ weres) [] h = none_said t
 from_nodes t before later node ls fec (was ∷ weres) (is ∷ ares) h =
-    join_said t (flat_map (mentioned_on before later node fec was is) ls) (mentioned_from before later node ls (fec + 1) weres ares) (links_nodes t before later node fec was is ls (omega (arith, h)))
+    join_said t (flat_map (mentioned_on before later node fec was is) ls) (mentioned_from before later node ls (fec + 1) weres ares)
+    (links_nodes t before later node fec was is ls (omega (arith, h)))
     (from_nodes t before later node ls (fec + 1) weres ares (omega (arith, h)))
 
 length_range : {A : Type 0} (f : ℕ → A) (a n : ℕ) → length (map f (range_with_len a n)) ≡ n
@@ -154,7 +166,8 @@ length_range f a (suc n) = ap suc (length_range f (a + 1) n)
 news_nodes : (t : Network) (was now : Knowledge) (node : ℕ) → AllSaid t (news (wiring_of t) was now node)
 unfolding news
 news_nodes t was now node =
-    from_nodes t was now node (by_neighbour (wiring_of t) node) 0 (offered (wiring_of t) was node) (offered (wiring_of t) now node) (omega (arith, length_range (offers (wiring_of t) now node) 0 (length t.loopbacks)))
+    from_nodes t was now node (by_neighbour (wiring_of t) node) 0 (offered (wiring_of t) was node) (offered (wiring_of t) now node)
+    (omega (arith, length_range (offers (wiring_of t) now node) 0 (length t.loopbacks)))
 
 -- an answer names the FEC that was heard
 none_answered : (t : Network) → AllNodes t []
@@ -188,13 +201,18 @@ replies_nodes t c s (HearLdp l dir) h =
     let node : ℕ = receiver (wiring_of t) l.0 dir in
     let other : ℕ = sender (wiring_of t) l.0 dir in
     said_nodes t l.0 node (answer (state_by (is_active t l.0 node) (s.heard l.0 node)) (slice_index_or (s.said l.0 other) (s.heard l.0 node) Address))
-    (answer_nodes t (state_by (is_active t l.0 node) (s.heard l.0 node)) (slice_index_or (s.said l.0 other) (s.heard l.0 node) Address) (nth_nodes t (s.said l.0 other) (s.heard l.0 node) (h l.0 other)))
+    (answer_nodes t (state_by (is_active t l.0 node) (s.heard l.0 node)) (slice_index_or (s.said l.0 other) (s.heard l.0 node) Address)
+    (nth_nodes t (s.said l.0 other) (s.heard l.0 node) (h l.0 other)))
 replies_nodes t c s _ h = none_said t
 
-said_in_nodes : (t : Network) (c : Config) (v : Views) (s : Sessions) (new : Config) (nv : Views) (k : Sessions) (x : Step) → SaidNamed t s → AllSaid t (said_in t c v s new nv k x)
+said_in_nodes : (t : Network) (c : Config) (v : Views) (s : Sessions) (new : Config) (nv : Views) (k : Sessions) (x : Step) → SaidNamed t s
+    → AllSaid t (said_in t c v s new nv k x)
 said_in_nodes t c v s new nv k x h =
-    join_said t (replies t new s x) (flat_map (λ node. news (wiring_of t) (knowledge_of (wiring_of t) c v s node) (knowledge_of (wiring_of t) new nv k node) node) (speakers (wiring_of t) x)) (replies_nodes t new s x h)
-    (λ y i. let f = in_flat_map (λ node. news (wiring_of t) (knowledge_of (wiring_of t) c v s node) (knowledge_of (wiring_of t) new nv k node) node) (speakers (wiring_of t) x) y i in
+    join_said t (replies t new s x)
+    (flat_map (λ node. news (wiring_of t) (knowledge_of (wiring_of t) c v s node) (knowledge_of (wiring_of t) new nv k node) node)
+    (speakers (wiring_of t) x)) (replies_nodes t new s x h)
+    (λ y i. let f = in_flat_map (λ node. news (wiring_of t) (knowledge_of (wiring_of t) c v s node) (knowledge_of (wiring_of t) new nv k node) node)
+    (speakers (wiring_of t) x) y i in
     news_nodes t (knowledge_of (wiring_of t) c v s f.0) (knowledge_of (wiring_of t) new nv k f.0) f.0 y f.2)
 
 messages_nodes : (t : Network) (l node : ℕ) (xs : List Said) → AllSaid t xs → AllNodes t (messages_of l node xs)
@@ -215,12 +233,15 @@ still_named t s (LinkDown at) h = λ l node. cleared t s.said at.0 l node (h l n
 still_named t s (LdpAdmin at on) h = λ l node. cleared t s.said at.0 l node (h l node)
 still_named t s _ h = h
 
-said_go_on : (t : Network) (w : World) (x : Step) → SaidNamed t w.sessions → (l node : ℕ) → AllNodes t ((counted t w.sessions x).said l node ++ messages_of l node (said_in t w.config w.views w.sessions (config_after w.config x) (views_after w.views x) (counted t w.sessions x) x))
+said_go_on : (t : Network) (w : World) (x : Step) → SaidNamed t w.sessions → (l node : ℕ)
+    → AllNodes t ((counted t w.sessions x).said l node ++ messages_of l node
+    (said_in t w.config w.views w.sessions (config_after w.config x) (views_after w.views x) (counted t w.sessions x) x))
 said_go_on t w x h l node m i =
     let new : List Said = said_in t w.config w.views w.sessions (config_after w.config x) (views_after w.views x) (counted t w.sessions x) x in
     elim (in_append ((counted t w.sessions x).said l node) (messages_of l node new) m i) [
       | inl j ↦ still_named t w.sessions x h l node m j
-      | inr j ↦ messages_nodes t l node new (said_in_nodes t w.config w.views w.sessions (config_after w.config x) (views_after w.views x) (counted t w.sessions x) x h) m j
+      | inr j ↦ messages_nodes t l node new
+          (said_in_nodes t w.config w.views w.sessions (config_after w.config x) (views_after w.views x) (counted t w.sessions x) x h) m j
     ]
 
 said_go : (t : Network) (w : World) (x : Step) → SaidNamed t w.sessions → SaidNamed t (after t w x).sessions
@@ -241,10 +262,13 @@ said_from t (e ∷ es) w h = said_from t es (after t w e.step) (said_go t w e.st
 pub names_what_exists : (t : Network) (es : List JournalEntry) (ps : List (List ℕ)) → IsLawful t → IsLawfulJournal t es ps → NamesWhatExists t (world_of t es)
 names_what_exists t es ps lawful journal =
     let whole : world_at t es (length es) ≡ world_of t es = world_whole t es (length es) (omega arith) in
-    let bounds : IsInBounds t (world_of t es).config = subst (λ (w : World). IsInBounds t w.config) whole (bounds_at t lawful es ps journal (length es) (omega arith)) in
-    let tellings : TellingsNamed t (world_of t es).config (world_of t es).peerings = subst (λ (w : World). TellingsNamed t w.config w.peerings) whole (tellings_at t lawful es ps journal (length es) (omega arith)) in
+    let bounds : IsInBounds t (world_of t es).config = subst (λ (w : World). IsInBounds t w.config) whole
+    (bounds_at t lawful es ps journal (length es) (omega arith)) in
+    let tellings : TellingsNamed t (world_of t es).config (world_of t es).peerings = subst (λ (w : World). TellingsNamed t w.config w.peerings) whole
+    (tellings_at t lawful es ps journal (length es) (omega arith)) in
     record {
       ldp = λ l end m c. said_from t es (start t) (λ l node. none_answered t) l end m (in_contained ((world_of t es).sessions.said l end) m c);
       bgp = λ teller peer m c. tellings teller peer m (in_contained ((world_of t es).peerings.told teller peer) m c);
-      routes = λ v route below c. held_named t (world_of t es).config (world_of t es).peerings (edge_of t v) v route bounds (keeps t es ps lawful journal).forms tellings refl (in_contained (held t (world_of t es).config (world_of t es).peerings (edge_of t v) v) route c);
+      routes = λ v route below c. held_named t (world_of t es).config (world_of t es).peerings (edge_of t v) v route bounds
+          (keeps t es ps lawful journal).forms tellings refl (in_contained (held t (world_of t es).config (world_of t es).peerings (edge_of t v) v) route c);
     }

@@ -18,3 +18,6 @@ pub mod Sums
 pub mod Tallies
 pub mod Counted
 pub mod Believing
+pub mod Saying
+pub mod Saids
+mod Witness

@@ -1,33 +1,30 @@
 -- Each packet that flies does so over a link of the network.
-use Rattle.std.proofs.Common.{ℕ, zero, suc, ◌≡◌, ◌≢◌, ◌+◌, ◌-◌, ◌<◌, ◌≤◌, ◌⊎◌, inl, inr, Bool, true, false, List, [], ◌∷◌, ◌++◌, length, refl, arith, sym, ◌∙◌, ap, subst, Option, Some, None}
-use Rattle.std.specs.Prelude.{◌==◌, ◌&&◌, nat_le, nat_lt, slice_get}
+use Rattle.std.proofs.Common.{ℕ, zero, suc, ◌≡◌, ◌≢◌, ◌-◌, ◌<◌, inl, inr, true, false, List, [], ◌∷◌, ◌++◌, length, refl, sym, ◌∙◌, ap, subst, Option, Some, None}
+use Rattle.std.specs.Prelude.{◌==◌, nat_le, nat_lt, slice_get}
 use Rattle.std.proofs.lemmas.Bool.{and_parts, ltb-true}
 use Rattle.std.proofs.lemmas.Bool.Decides.{eqb_tells}
 use Rattle.mn_base.specs.declared.drops.Rule.{Rule}
 use Rattle.mn_base.specs.declared.drops.Rule.TheVariants as rule
 use Rattle.mn_base.specs.declared.links.Dir.{Dir}
 use Rattle.mn_base.specs.declared.links.Dir.TheVariants.{Forth, Back}
-use Rattle.mn_base.specs.declared.numbers.LinkNo.{LinkNo}
 use Rattle.mn_base.specs.Wiring.{sender, receiver}
 use Rattle.mn_topo.specs.Lawful.{IsLawful}
 use Rattle.mn_topo.specs.Network.{Network, wiring_of}
 use Rattle.mn_topo.specs.Steps.{fits}
 use Rattle.mn_topo.specs.declared.steps.Step.{Step}
 use Rattle.mn_topo.specs.declared.steps.Step.TheVariants.{LinkDown, Inject, Carry, Lose}
-use Rattle.mn_topo.specs.declared.steps.JournalEntry.{JournalEntry}
 use Rattle.mn_ledger.specs.declared.verdict.Verdict.{Verdict}
-use Rattle.mn_ledger.specs.declared.verdict.Verdict.TheVariants.{Delivered, Dropped, Flying}
+use Rattle.mn_ledger.specs.declared.verdict.Verdict.TheVariants.{Dropped, Flying}
 use Rattle.mn_ledger.specs.Entry.{first_rule}
 use Rattle.mn_ledger.specs.Tables.{put}
 use Rattle.mn_ledger.specs.Places.{home_of, vrf_of}
 use Rattle.mn_ledger.specs.World.{World}
 use Rattle.mn_ledger.specs.Packets.{Token, Packets, channel, flying_on, away_from, judged, drop_at, visited, deliver, hop_over, bound, entry_rules, enter_by, one_more, taken, carry, lose, cut_each, cut, before_step, packets_after}
-use Rattle.mn_ledger.specs.Ledger.{after, start, no_packets, injects, next_of, left_by, packets_from, packets_of, world_from}
-use Rattle.mn_ledger.specs.Lawful.{IsLawfulFrom, IsLawfulJournal}
+use Rattle.mn_ledger.specs.Ledger.{no_packets}
 use Rattle.mn_ledger.specs.Verdicts.{verdict_on}
-use Rattle.mn_laws.proofs.Elsewhere.{judged_off, push_other, set_verdict}
-use Rattle.mn_laws.proofs.Entering.{AtEntry, enters}
-use Rattle.mn_laws.proofs.Moving.{after_step, injected_is, carried_is, lost_is, cut_is, AtArrival, arrives}
+use Rattle.mn_laws.proofs.Elsewhere.{set_verdict}
+use Rattle.mn_laws.proofs.Entering.{enters}
+use Rattle.mn_laws.proofs.Moving.{after_step, injected_is, carried_is, lost_is, cut_is, arrives}
 use Rattle.mn_laws.proofs.There.{home_there, receiver_there, hop_is}
 
 no : false ≡ true → ⊥
@@ -41,9 +38,11 @@ IsLinked t _ = Unit {0}
 abbrev pub AreLinked : Network → Packets → Type 0
 AreLinked t w = (j : ℕ) → IsLinked t (verdict_on w j)
 
-judged_linked : (t : Network) (u : Packets) (p : ℕ) (v : Verdict) → AreLinked t u → IsLinked t v → (w : Packets) → w.verdicts ≡ (judged u p v).verdicts → AreLinked t w
+judged_linked : (t : Network) (u : Packets) (p : ℕ) (v : Verdict) → AreLinked t u → IsLinked t v → (w : Packets)
+    → w.verdicts ≡ (judged u p v).verdicts → AreLinked t w
 judged_linked t u p v h g w e j =
-    subst (IsLinked t) (ap (λ vs. verdict_on (record w { verdicts = vs }) j) (sym e)) (elim (set_verdict u p v j) [ inl q ↦ subst (IsLinked t) (sym q) g | inr q ↦ subst (IsLinked t) (sym q) (h j) ])
+    subst (IsLinked t) (ap (λ vs. verdict_on (record w { verdicts = vs }) j) (sym e))
+    (elim (set_verdict u p v j) [ inl q ↦ subst (IsLinked t) (sym q) g | inr q ↦ subst (IsLinked t) (sym q) (h j) ])
 
 same_linked : (t : Network) (u w : Packets) → w.verdicts ≡ u.verdicts → AreLinked t u → AreLinked t w
 same_linked t u w e h j = subst (IsLinked t) (ap (λ vs. verdict_on (record w { verdicts = vs }) j) (sym e)) (h j)
@@ -57,14 +56,17 @@ one_more_linked t u e h j = subst (IsLinked t) (sym (at u.verdicts j)) (tail u.v
     at : (vs : List Verdict) (j : ℕ) → verdict_on (record u { verdicts = vs ++ lost ∷ [] }) j ≡ verdict_on (record u { verdicts = vs ++ lost ∷ [] }) j
     at vs j = refl
 
-    tail : (vs : List Verdict) (j : ℕ) → IsLinked t (verdict_on (record u { verdicts = vs }) j) → IsLinked t (verdict_on (record u { verdicts = vs ++ lost ∷ [] }) j)
+    tail : (vs : List Verdict) (j : ℕ) → IsLinked t (verdict_on (record u { verdicts = vs }) j)
+        → IsLinked t (verdict_on (record u { verdicts = vs ++ lost ∷ [] }) j)
     tail [] zero g = tt
     tail [] (suc j) g = tt
     tail (v ∷ vs) zero g = g
     tail (v ∷ vs) (suc j) g = tail vs j g
 
-hop_linked : (t : Network) (w : World) (u : Packets) (k : Token) (node : ℕ) (cause : Rule) (hop : ℕ × ℕ) → AreLinked t u → hop.1 < length t.links → AreLinked t (hop_over t u k node cause (Some hop))
-hop_linked t w u k node cause hop h there = judged_linked t u k.packet (Flying (record { 0 = hop.1 }) (away_from t hop.1 node)) h there (hop_over t u k node cause (Some hop)) refl
+hop_linked : (t : Network) (w : World) (u : Packets) (k : Token) (node : ℕ) (cause : Rule) (hop : ℕ × ℕ) → AreLinked t u → hop.1 < length t.links
+    → AreLinked t (hop_over t u k node cause (Some hop))
+hop_linked t w u k node cause hop h there = judged_linked t u k.packet (Flying (record { 0 = hop.1 }) (away_from t hop.1 node)) h there
+    (hop_over t u k node cause (Some hop)) refl
 
 apart : (a b : ℕ) → (a == b) ≡ false → a ≢ b
 apart a b h q = elim (eqb_tells a b) [ inl p ↦ no (sym h ∙ p.0) | inr p ↦ p.1 q ]
@@ -73,17 +75,20 @@ apart_back : (a b : ℕ) → (a == b) ≡ false → b ≢ a
 apart_back a b h q = apart a b h (sym q)
 
 entered : (t : Network) (w : World) (k : Packets) (site : ℕ) (b : List ℕ) (n : ℕ) → IsLawful t → site < length t.sites → AreLinked t k
-    → AreLinked t (enter_by t w (one_more (before_step k) (home_of t site)) n b (home_of t site) (vrf_of t site) (first_rule (entry_rules (w.config.attached site) b)))
+    → AreLinked t (enter_by t w (one_more (before_step k) (home_of t site)) n b (home_of t site) (vrf_of t site)
+    (first_rule (entry_rules (w.config.attached site) b)))
 entered t w k site b n lawful there h =
     let u : Packets = one_more (before_step k) (home_of t site) in
     let g : AreLinked t u = one_more_linked t (before_step k) (home_of t site) h in
     enters (AreLinked t) t w u n site b (record {
       falls = λ cause f. judged_linked t u n _ g tt (drop_at u n cause (home_of t site)) refl;
       delivered = λ x p m e. judged_linked t u n _ g tt (deliver u n x.site _ b) refl;
-      flies = λ x hop p m e can. hop_linked t w u (bound n x b) (home_of t site) rule.NoLsp hop g (hop_is t w (home_of t site) x.edge hop lawful (home_there t site lawful there) (apart_back x.edge (home_of t site) e) can).there;
+      flies = λ x hop p m e can. hop_linked t w u (bound n x b) (home_of t site) rule.NoLsp hop g
+          (hop_is t w (home_of t site) x.edge hop lawful (home_there t site lawful there) (apart_back x.edge (home_of t site) e) can).there;
     })
 
-carried : (t : Network) (w : World) (k : Packets) (l : ℕ) (d : Dir) (place : ℕ) (o : Option Token) → IsLawful t → l < length t.links → AreLinked t k → AreLinked t (carry t w (taken (before_step k) l d place) (receiver (wiring_of t) l d) o)
+carried : (t : Network) (w : World) (k : Packets) (l : ℕ) (d : Dir) (place : ℕ) (o : Option Token) → IsLawful t → l < length t.links → AreLinked t k
+    → AreLinked t (carry t w (taken (before_step k) l d place) (receiver (wiring_of t) l d) o)
 carried t w k l d place None lawful there h = h
 carried t w k l d place (Some f) lawful there h =
     let y : ℕ = receiver (wiring_of t) l d in
@@ -93,25 +98,32 @@ carried t w k l d place (Some f) lawful there h =
       delivered = λ a b c. judged_linked t u f.packet _ h tt (deliver u f.packet f.site _ f.bytes) refl;
       gone = λ a b c. judged_linked t u f.packet _ h tt (drop_at u f.packet rule.SiteGone y) refl;
       stuck = λ a b c. judged_linked t u f.packet _ h tt (drop_at u f.packet rule.NoEntry y) refl;
-      flies = λ a b hop can. hop_linked t w u (record f { ttl = f.ttl - 1 }) y rule.NoEntry hop h (hop_is t w y f.edge hop lawful (receiver_there t l d lawful there) (apart y f.edge b) can).there;
+      flies = λ a b hop can. hop_linked t w u (record f { ttl = f.ttl - 1 }) y rule.NoEntry hop h
+          (hop_is t w y f.edge hop lawful (receiver_there t l d lawful there) (apart y f.edge b) can).there;
     })
 
 lost : (t : Network) (k : Packets) (l : ℕ) (d : Dir) (place n : ℕ) (o : Option Token) → AreLinked t k → AreLinked t (lose (taken (before_step k) l d place) n o)
 lost t k l d place n None h = h
-lost t k l d place n (Some f) h = judged_linked t (taken (before_step k) l d place) f.packet _ h tt (drop_at (taken (before_step k) l d place) f.packet rule.Lost n) refl
+lost t k l d place n (Some f) h = judged_linked t (taken (before_step k) l d place) f.packet _ h tt
+    (drop_at (taken (before_step k) l d place) f.packet rule.Lost n) refl
 
 cut_linked : (t : Network) (ks : List Token) (w : Packets) (c n : ℕ) → AreLinked t w → AreLinked t (cut_each w c n ks)
 cut_linked t [] w c n h = h
 cut_linked t (f ∷ ks) w c n h =
     let u : Packets = record w { flying = put w.flying c ks } in
-    cut_linked t ks (drop_at u f.packet rule.LinkCut n) c n (judged_linked t u f.packet (Dropped rule.LinkCut (record { 0 = n })) h tt (drop_at u f.packet rule.LinkCut n) refl)
+    cut_linked t ks (drop_at u f.packet rule.LinkCut n) c n
+    (judged_linked t u f.packet (Dropped rule.LinkCut (record { 0 = n })) h tt (drop_at u f.packet rule.LinkCut n) refl)
 
-pub linked_step : (t : Network) (w : World) (k : Packets) (s : Step) (b : List ℕ) → IsLawful t → fits t s ≡ true → AreLinked t k → AreLinked t (after_step t w k s b)
+pub linked_step : (t : Network) (w : World) (k : Packets) (s : Step) (b : List ℕ) → IsLawful t → fits t s ≡ true → AreLinked t k
+    → AreLinked t (after_step t w k s b)
 unfolding packets_after
 linked_step t w k (Inject r number) b lawful fit h =
-    subst (AreLinked t) (sym (injected_is t w k r number b)) (entered t w k r.0 b (length k.verdicts) lawful (ltb-true _ _ (and_parts (nat_lt r.0 (length t.sites)) (nat_le 1 number) fit).0) h)
-linked_step t w k (Carry l d place) b lawful fit h = subst (AreLinked t) (sym (carried_is t w k l d place b)) (carried t w k l.0 d place (slice_get (flying_on k l.0 d) place) lawful (ltb-true _ _ fit) h)
-linked_step t w k (Lose l d place) b lawful fit h = subst (AreLinked t) (sym (lost_is t w k l d place b)) (lost t k l.0 d place (sender (wiring_of t) l.0 d) (slice_get (flying_on k l.0 d) place) h)
+    subst (AreLinked t) (sym (injected_is t w k r number b))
+    (entered t w k r.0 b (length k.verdicts) lawful (ltb-true _ _ (and_parts (nat_lt r.0 (length t.sites)) (nat_le 1 number) fit).0) h)
+linked_step t w k (Carry l d place) b lawful fit h = subst (AreLinked t) (sym (carried_is t w k l d place b))
+    (carried t w k l.0 d place (slice_get (flying_on k l.0 d) place) lawful (ltb-true _ _ fit) h)
+linked_step t w k (Lose l d place) b lawful fit h = subst (AreLinked t) (sym (lost_is t w k l d place b))
+    (lost t k l.0 d place (sender (wiring_of t) l.0 d) (slice_get (flying_on k l.0 d) place) h)
 linked_step t w k (LinkDown l) b lawful fit h =
     subst (AreLinked t) (sym (cut_is t w k l b))
     (cut_linked t (flying_on (cut t (before_step k) l.0 Forth) l.0 Back) (cut t (before_step k) l.0 Forth) (channel l.0 Back) (sender (wiring_of t) l.0 Back)

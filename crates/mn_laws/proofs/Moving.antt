@@ -1,7 +1,6 @@
 -- A step by what it does to packets: which it leaves as they were, and what becomes of a frame that arrives.
-use Rattle.std.proofs.Common.{ℕ, zero, suc, ◌≡◌, ◌≢◌, ◌+◌, ◌-◌, ◌<◌, ◌≤◌, ◌⊎◌, inl, inr, Bool, true, false, List, [], ◌∷◌, ◌++◌, length, refl, arith, sym, ◌∙◌, ap, subst, Option, Some, None}
+use Rattle.std.proofs.Common.{ℕ, ◌≡◌, ◌≢◌, ◌-◌, ◌<◌, true, false, List, length, refl, arith, sym, subst, Option, Some, None}
 use Rattle.std.specs.Prelude.{◌==◌, nat_le, slice_get, ⊤}
-use Rattle.mn_base.specs.declared.drops.Rule.{Rule}
 use Rattle.mn_base.specs.declared.drops.Rule.TheVariants as rule
 use Rattle.mn_base.specs.declared.links.Dir.{Dir}
 use Rattle.mn_base.specs.declared.links.Dir.TheVariants.{Forth, Back}
@@ -10,20 +9,18 @@ use Rattle.mn_base.specs.declared.numbers.SiteNo.{SiteNo}
 use Rattle.mn_base.specs.Wiring.{sender, receiver}
 use Rattle.mn_topo.specs.Network.{Network, wiring_of}
 use Rattle.mn_topo.specs.declared.steps.Step.{Step}
-use Rattle.mn_topo.specs.declared.steps.Step.TheVariants.{LinkUp, LinkDown, Learn, LdpAdmin, HearLdp, BgpUp, BgpDown, HearBgp, AddRoute, DelRoute, Import, Export, Attach, Detach, Inject, Carry, Lose}
-use Rattle.mn_ledger.specs.declared.verdict.Verdict.{Verdict}
-use Rattle.mn_ledger.specs.declared.verdict.Verdict.TheVariants.{Delivered, Dropped, Flying}
+use Rattle.mn_topo.specs.declared.steps.Step.TheVariants.{LinkDown, Inject, Carry, Lose}
+use Rattle.mn_ledger.specs.declared.verdict.Verdict.TheVariants.{Dropped}
 use Rattle.mn_ledger.specs.Entry.{first_rule}
 use Rattle.mn_ledger.specs.Places.{home_of, vrf_of}
 use Rattle.mn_ledger.specs.World.{World}
 use Rattle.mn_ledger.specs.Transport.{usable, sessions_after}
 use Rattle.mn_ledger.specs.Vpn.{peerings_after}
-use Rattle.mn_ledger.specs.Packets.{Token, Packets, channel, flying_on, judged, drop_at, visited, deliver, hop_over, bound, entry_rules, enter_by, one_more, taken, is_attachment, arrive, carry, lose, cut_each, cut, before_step, packets_after}
-use Rattle.mn_ledger.specs.Verdicts.{verdict_on}
+use Rattle.mn_ledger.specs.Packets.{Token, Packets, channel, flying_on, drop_at, visited, deliver, hop_over, bound, entry_rules, enter_by, one_more, taken, is_attachment, arrive, carry, lose, cut, before_step, packets_after}
 use Rattle.mn_ledger.specs.Ledger.{after}
 use Rattle.mn_ledger.proofs.Members.{In}
-use Rattle.mn_laws.proofs.Elsewhere.{Same, unchanged, same_on, judged_off, deliver_off, visited_off, taken_same, hop_off, one_more_off, arms_by, arrived_off, cut_off}
-use Rattle.mn_laws.proofs.Entering.{AtEntry, enters}
+use Rattle.mn_laws.proofs.Elsewhere.{Same, same_on, judged_off, deliver_off, visited_off, taken_same, hop_off, one_more_off, arms_by, arrived_off, cut_off}
+use Rattle.mn_laws.proofs.Entering.{enters}
 
 -- 1. The steps that move packets change no world
 
@@ -33,7 +30,8 @@ after_step t w k s b = packets_after t (after t w s) k s b
 
 pub injected_is : (t : Network) (w : World) (k : Packets) (r : SiteNo) (number : ℕ) (b : List ℕ)
     → after_step t w k (Inject r number) b
-    ≡ enter_by t w (one_more (before_step k) (home_of t r.0)) (length k.verdicts) b (home_of t r.0) (vrf_of t r.0) (first_rule (entry_rules (w.config.attached r.0) b))
+    ≡ enter_by t w (one_more (before_step k) (home_of t r.0)) (length k.verdicts) b (home_of t r.0) (vrf_of t r.0)
+    (first_rule (entry_rules (w.config.attached r.0) b))
 unfolding packets_after sessions_after peerings_after
 injected_is t w k r number b = refl
 
@@ -47,7 +45,8 @@ pub lost_is : (t : Network) (w : World) (k : Packets) (l : LinkNo) (d : Dir) (pl
 unfolding packets_after
 lost_is t w k l d place b = refl
 
-pub cut_is : (t : Network) (w : World) (k : Packets) (l : LinkNo) (b : List ℕ) → after_step t w k (LinkDown l) b ≡ cut t (cut t (before_step k) l.0 Forth) l.0 Back
+pub cut_is : (t : Network) (w : World) (k : Packets) (l : LinkNo) (b : List ℕ)
+    → after_step t w k (LinkDown l) b ≡ cut t (cut t (before_step k) l.0 Forth) l.0 Back
 unfolding packets_after
 cut_is t w k l b = refl
 
@@ -67,7 +66,8 @@ other_than : (n m : ℕ) → n < m → n ≢ m
 other_than n m h e = omega (arith, h, e)
 
 entered_off : (t : Network) (v : World) (w : Packets) (site : ℕ) (b : List ℕ) (j : ℕ) → j < length w.verdicts → j < length w.paths
-    → Same j w (enter_by t v (one_more w (home_of t site)) (length w.verdicts) b (home_of t site) (vrf_of t site) (first_rule (entry_rules (v.config.attached site) b)))
+    → Same j w (enter_by t v (one_more w (home_of t site)) (length w.verdicts) b (home_of t site) (vrf_of t site)
+    (first_rule (entry_rules (v.config.attached site) b)))
 entered_off t v w site b j h g =
     let u : Packets = one_more w (home_of t site) in
     let first : Same j w u = one_more_off w (home_of t site) j h g in
@@ -78,15 +78,19 @@ entered_off t v w site b j h g =
       flies = λ x hop p m e q. same_on j w u _ first (hop_off t u (bound (length w.verdicts) x b) (home_of t site) rule.NoLsp (Some hop) j apart);
     })
 
-carried_off : (t : Network) (v : World) (w : Packets) (l : ℕ) (d : Dir) (place y j : ℕ) (o : Option Token) → ((k : Token) → o ≡ Some k → j ≢ k.packet) → Same j w (carry t v (taken w l d place) y o)
+carried_off : (t : Network) (v : World) (w : Packets) (l : ℕ) (d : Dir) (place y j : ℕ) (o : Option Token) → ((k : Token) → o ≡ Some k → j ≢ k.packet)
+    → Same j w (carry t v (taken w l d place) y o)
 carried_off t v w l d place y j None h = taken_same w l d place j
 carried_off t v w l d place y j (Some k) h =
     same_on j w (taken w l d place) _ (taken_same w l d place j)
-    (same_on j (taken w l d place) (visited (taken w l d place) k.packet y) _ (visited_off (taken w l d place) k.packet y j (h k refl)) (arrived_off t v (visited (taken w l d place) k.packet y) k y j (h k refl)))
+    (same_on j (taken w l d place) (visited (taken w l d place) k.packet y) _ (visited_off (taken w l d place) k.packet y j (h k refl))
+    (arrived_off t v (visited (taken w l d place) k.packet y) k y j (h k refl)))
 
-lost_off : (w : Packets) (l : ℕ) (d : Dir) (place n j : ℕ) (o : Option Token) → ((k : Token) → o ≡ Some k → j ≢ k.packet) → Same j w (lose (taken w l d place) n o)
+lost_off : (w : Packets) (l : ℕ) (d : Dir) (place n j : ℕ) (o : Option Token) → ((k : Token) → o ≡ Some k → j ≢ k.packet)
+    → Same j w (lose (taken w l d place) n o)
 lost_off w l d place n j None h = taken_same w l d place j
-lost_off w l d place n j (Some k) h = same_on j w (taken w l d place) _ (taken_same w l d place j) (judged_off (taken w l d place) k.packet (Dropped rule.Lost (record { 0 = n })) j (h k refl))
+lost_off w l d place n j (Some k) h = same_on j w (taken w l d place) _ (taken_same w l d place j)
+    (judged_off (taken w l d place) k.packet (Dropped rule.Lost (record { 0 = n })) j (h k refl))
 
 one_cut : (t : Network) (w : Packets) (l : ℕ) (d : Dir) (j : ℕ) → ((k : Token) → In (flying_on w l d) k → k.packet ≢ j) → Same j w (cut t w l d)
 one_cut t w l d j h = cut_off (flying_on w l d) w (channel l d) (sender (wiring_of t) l d) j h (λ k i. i)
@@ -96,14 +100,21 @@ both_cut t w l j h =
     let first : Same j w (cut t w l Forth) = one_cut t w l Forth j (h Forth) in
     same_on j w (cut t w l Forth) _ first (one_cut t (cut t w l Forth) l Back j (λ k i e. h Back k (first.frames (channel l Back) k i e) e))
 
-pub same_step : (t : Network) (w : World) (k : Packets) (s : Step) (b : List ℕ) (j : ℕ) → j < length k.verdicts → j < length k.paths → Leaves j k s → Same j k (after_step t w k s b)
+pub same_step : (t : Network) (w : World) (k : Packets) (s : Step) (b : List ℕ) (j : ℕ) → j < length k.verdicts → j < length k.paths → Leaves j k s
+    → Same j k (after_step t w k s b)
 unfolding packets_after
-same_step t w k (Inject r number) b j h g n = subst (Same j k) (sym (injected_is t w k r number b)) (same_on j k (before_step k) _ (begun j k) (entered_off t w (before_step k) r.0 b j h g))
+same_step t w k (Inject r number) b j h g n = subst (Same j k) (sym (injected_is t w k r number b))
+    (same_on j k (before_step k) _ (begun j k) (entered_off t w (before_step k) r.0 b j h g))
 same_step t w k (Carry l d place) b j h g n =
-    subst (Same j k) (sym (carried_is t w k l d place b)) (same_on j k (before_step k) _ (begun j k) (carried_off t w (before_step k) l.0 d place (receiver (wiring_of t) l.0 d) j (slice_get (flying_on k l.0 d) place) n))
+    subst (Same j k) (sym (carried_is t w k l d place b))
+    (same_on j k (before_step k) _ (begun j k)
+    (carried_off t w (before_step k) l.0 d place (receiver (wiring_of t) l.0 d) j (slice_get (flying_on k l.0 d) place) n))
 same_step t w k (Lose l d place) b j h g n =
-    subst (Same j k) (sym (lost_is t w k l d place b)) (same_on j k (before_step k) _ (begun j k) (lost_off (before_step k) l.0 d place (sender (wiring_of t) l.0 d) j (slice_get (flying_on k l.0 d) place) n))
-same_step t w k (LinkDown l) b j h g n = subst (Same j k) (sym (cut_is t w k l b)) (same_on j k (before_step k) _ (begun j k) (both_cut t (before_step k) l.0 j n))
+    subst (Same j k) (sym (lost_is t w k l d place b))
+    (same_on j k (before_step k) _ (begun j k)
+    (lost_off (before_step k) l.0 d place (sender (wiring_of t) l.0 d) j (slice_get (flying_on k l.0 d) place) n))
+same_step t w k (LinkDown l) b j h g n = subst (Same j k) (sym (cut_is t w k l b))
+    (same_on j k (before_step k) _ (begun j k) (both_cut t (before_step k) l.0 j n))
 same_step t w k _ b j h g n = begun j k
 
 -- 3. A frame that arrives
@@ -111,12 +122,16 @@ same_step t w k _ b j h g n = begun j k
 -- what has to be shown of a frame that comes to a node, by what becomes of it
 pub record AtArrival (P : Packets → Type 0) (t : Network) (w : World) (u : Packets) (k : Token) (y : ℕ) : Type 0 where
   pub expires : nat_le k.ttl 1 ≡ true → P (drop_at u k.packet rule.TtlExpired y)
-  pub delivered : nat_le k.ttl 1 ≡ false → (y == k.edge) ≡ true → is_attachment (w.config.attached k.site) k.attachment ≡ true → P (deliver u k.packet k.site (k.ttl - 1) k.bytes)
-  pub gone : nat_le k.ttl 1 ≡ false → (y == k.edge) ≡ true → is_attachment (w.config.attached k.site) k.attachment ≡ false → P (drop_at u k.packet rule.SiteGone y)
+  pub delivered : nat_le k.ttl 1 ≡ false → (y == k.edge) ≡ true → is_attachment (w.config.attached k.site) k.attachment ≡ true
+      → P (deliver u k.packet k.site (k.ttl - 1) k.bytes)
+  pub gone : nat_le k.ttl 1 ≡ false → (y == k.edge) ≡ true → is_attachment (w.config.attached k.site) k.attachment ≡ false
+      → P (drop_at u k.packet rule.SiteGone y)
   pub stuck : nat_le k.ttl 1 ≡ false → (y == k.edge) ≡ false → usable t w.config w.views w.sessions y k.edge ≡ None → P (drop_at u k.packet rule.NoEntry y)
-  pub flies : nat_le k.ttl 1 ≡ false → (y == k.edge) ≡ false → (hop : ℕ × ℕ) → usable t w.config w.views w.sessions y k.edge ≡ Some hop → P (hop_over t u (record k { ttl = k.ttl - 1 }) y rule.NoEntry (Some hop))
+  pub flies : nat_le k.ttl 1 ≡ false → (y == k.edge) ≡ false → (hop : ℕ × ℕ) → usable t w.config w.views w.sessions y k.edge ≡ Some hop
+      → P (hop_over t u (record k { ttl = k.ttl - 1 }) y rule.NoEntry (Some hop))
 
-hops : (P : Packets → Type 0) (t : Network) (w : World) (u : Packets) (k : Token) (y : ℕ) → AtArrival P t w u k y → nat_le k.ttl 1 ≡ false → (y == k.edge) ≡ false
+hops : (P : Packets → Type 0) (t : Network) (w : World) (u : Packets) (k : Token) (y : ℕ) → AtArrival P t w u k y → nat_le k.ttl 1 ≡ false
+    → (y == k.edge) ≡ false
     → (o : Option (ℕ × ℕ)) → usable t w.config w.views w.sessions y k.edge ≡ o → P (hop_over t u (record k { ttl = k.ttl - 1 }) y rule.NoEntry o)
 hops P t w u k y h a b None e = h.stuck a b e
 hops P t w u k y h a b (Some hop) e = h.flies a b hop e

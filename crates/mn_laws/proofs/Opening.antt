@@ -1,12 +1,10 @@
 -- What is in flight can be delivered: the step that delivers it fits, and only a full journal refuses it.
-use Rattle.std.proofs.Common.{ℕ, zero, suc, ◌≡◌, ◌≢◌, ◌+◌, ◌-◌, ◌<◌, ◌≤◌, ◌⊎◌, inl, inr, Bool, true, false, cond, List, [], ◌∷◌, ◌++◌, map, length, drop, filter, refl, arith, sym, ap, ◌∙◌, subst, Option, Some, None}
+use Rattle.std.proofs.Common.{ℕ, ◌≡◌, ◌≢◌, ◌-◌, ◌<◌, ◌≤◌, inl, inr, Bool, true, false, List, [], ◌∷◌, length, drop, refl, arith, sym, ap, ◌∙◌, subst, None}
 use Rattle.std.specs.Prelude.{◌==◌, ◌&&◌, ◌||◌, not, nat_le, nat_lt}
-use Rattle.std.specs.List.{Contains}
-use Rattle.std.proofs.lemmas.Bool.Decides.{eqb_tells, leb_tells}
+use Rattle.std.proofs.lemmas.Bool.Decides.{leb_tells}
 use Rattle.std.proofs.lemmas.List.{length-map, length-drop}
-use Rattle.mn_base.proofs.Bools.{no, two_ways, and_on, not_on, less_is, other_test}
+use Rattle.mn_base.proofs.Bools.{no, and_on, not_on, less_is, other_test}
 use Rattle.mn_base.specs.declared.links.Dir.{Dir}
-use Rattle.mn_base.specs.declared.links.Dir.TheVariants.{Forth, Back}
 use Rattle.mn_base.specs.declared.numbers.LinkNo.{LinkNo}
 use Rattle.mn_base.specs.Wiring.{is_end, across, sender, receiver}
 use Rattle.mn_topo.specs.Lawful.{IsLawful}
@@ -14,7 +12,7 @@ use Rattle.mn_topo.specs.Network.{Network, wiring_of}
 use Rattle.mn_topo.specs.Steps.{fits}
 use Rattle.mn_topo.specs.VrfTable.{is_edge}
 use Rattle.mn_topo.specs.declared.steps.Step.{Step}
-use Rattle.mn_topo.specs.declared.steps.Step.TheVariants.{LinkUp, LinkDown, Learn, LdpAdmin, HearLdp, BgpUp, BgpDown, HearBgp, Carry, Lose}
+use Rattle.mn_topo.specs.declared.steps.Step.TheVariants.{LinkUp, Learn, HearLdp, HearBgp, Carry, Lose}
 use Rattle.mn_topo.specs.declared.steps.JournalEntry.{JournalEntry}
 use Rattle.mn_ledger.specs.declared.refused.Refused.{Refused}
 use Rattle.mn_ledger.specs.declared.refused.Refused.TheVariants.{Empty, TooManySteps}
@@ -25,7 +23,7 @@ use Rattle.mn_ledger.specs.Lawful.{IsLawfulJournal}
 use Rattle.mn_ledger.specs.Transport.{lives}
 use Rattle.mn_ledger.specs.Vpn.{peers_live}
 use Rattle.mn_ledger.specs.Turns.{IsInTurn}
-use Rattle.mn_ledger.specs.InFlight.{IsInFlight, is_in_order}
+use Rattle.mn_ledger.specs.InFlight.{IsInFlight}
 use Rattle.mn_ledger.specs.Refusal.{refusal_at, first_cause, where_holds, is_empty, takes_out}
 use Rattle.mn_ledger.specs.Items.{Channel, Notices, Messages, Routes, Frames, Load, Notice, Says, Tells, Carries, Item, same_channel, items_on, loads_on, made_by, flight_of}
 use Rattle.mn_ledger.proofs.Channels.{same_chan}
@@ -49,7 +47,8 @@ past_empty : (e b : Bool) (c : Refused) → e ≡ false → first_cause (where_h
 past_empty false b c h = last_cause b c
 past_empty true b c h = absurd (no (sym h))
 
-pub takes_open : (t : Network) (w : World) (k : Packets) (n : ℕ) (s : Step) (b : List ℕ) → takes_out s ≡ true → is_empty t w k s ≡ false → refusal_at t w k n s b ≡ where_holds (nat_le 4000000 n) TooManySteps
+pub takes_open : (t : Network) (w : World) (k : Packets) (n : ℕ) (s : Step) (b : List ℕ) → takes_out s ≡ true → is_empty t w k s ≡ false
+    → refusal_at t w k n s b ≡ where_holds (nat_le 4000000 n) TooManySteps
 takes_open t w k n (Learn node l) b h e = past_empty (is_empty t w k (Learn node l)) (nat_le 4000000 n) TooManySteps e
 takes_open t w k n (HearLdp l d) b h e = past_empty (is_empty t w k (HearLdp l d)) (nat_le 4000000 n) TooManySteps e
 takes_open t w k n (HearBgp x y) b h e = past_empty (is_empty t w k (HearBgp x y)) (nat_le 4000000 n) TooManySteps e
@@ -77,7 +76,6 @@ not_le m n h = elim (leb_tells m n) [ inl q ↦ absurd (clash h q.1) | inr q ↦
     clash a b = omega (arith, a, b)
 
 module _ (t : Network) (lawful : IsLawful t) (es : List JournalEntry) (ps : List (List ℕ)) (journal : IsLawfulJournal t es ps) where
-
   abbrev items : List Item
   items = (flight_of t es ps).items
 
@@ -101,38 +99,55 @@ module _ (t : Network) (lawful : IsLawful t) (es : List JournalEntry) (ps : List
   open_by : (s : Step) → fits t s ≡ true → takes_out s ≡ true → is_empty t world (packets_of t es ps) s ≡ false → IsOpen t es ps s
   open_by s fit takes there = record { fitting = fit; refused = takes_open t world (packets_of t es ps) (length es) s [] takes there }
 
-  learn_open : (l node : ℕ) → l < length t.links → node < length t.loopbacks → 0 < length (items_on (Notices l node) items) → IsOpen t es ps (Learn (record { 0 = node }) (record { 0 = l }))
+  learn_open : (l node : ℕ) → l < length t.links → node < length t.loopbacks → 0 < length (items_on (Notices l node) items)
+      → IsOpen t es ps (Learn (record { 0 = node }) (record { 0 = l }))
   learn_open l node below there some =
-      open_by (Learn (record { 0 = node }) (record { 0 = l })) (and_on (nat_lt node (length t.loopbacks)) (nat_lt l (length t.links)) (less_is node (length t.loopbacks) there) (less_is l (length t.links) below)) refl
+      open_by (Learn (record { 0 = node }) (record { 0 = l }))
+      (and_on (nat_lt node (length t.loopbacks)) (nat_lt l (length t.links)) (less_is node (length t.loopbacks) there)
+      (less_is l (length t.links) below)) refl
       (not_le (world.views.changes l) (world.views.learned node l) (omega (arith, flight.notices l node there, as_many (Notices l node), some)))
 
   live_or : (alive b : Bool) → (alive ≡ false → ⊥) → b ≡ false → (not alive || b) ≡ false
   live_or true b h e = e
   live_or false b h e = absurd (h refl)
 
-  hear_open : (l node : ℕ) → l < length t.links → is_end (wiring_of t) l node ≡ true → 0 < length (items_on (Messages l node) items) → IsOpen t es ps (HearLdp (record { 0 = l }) (away_from t l node))
+  hear_open : (l node : ℕ) → l < length t.links → is_end (wiring_of t) l node ≡ true → 0 < length (items_on (Messages l node) items)
+      → IsOpen t es ps (HearLdp (record { 0 = l }) (away_from t l node))
   hear_open l node below at_end some =
       let dir : Dir = away_from t l node in
       let from : sender (wiring_of t) l dir ≡ node = sends_from t l node at_end in
-      let to : across (wiring_of t) l node ≡ receiver (wiring_of t) l dir = ap (across (wiring_of t) l) (sym from ∙ sym (dir_ends (wiring_of t) l dir (lawful.ends_differ l below)).1) ∙ (across-end (wiring_of t) l (receiver (wiring_of t) l dir) (lawful.ends_differ l below) (dir_ends (wiring_of t) l dir (lawful.ends_differ l below)).0).1 in
+      let to : across (wiring_of t) l node ≡ receiver (wiring_of t) l dir = ap (across (wiring_of t) l)
+      (sym from ∙ sym (dir_ends (wiring_of t) l dir (lawful.ends_differ l below)).1)
+      ∙ (across-end (wiring_of t) l (receiver (wiring_of t) l dir) (lawful.ends_differ l below)
+      (dir_ends (wiring_of t) l dir (lawful.ends_differ l below)).0).1 in
       let count : length (loads_on (Messages l node) items) ≡ length (world.sessions.said l node) - world.sessions.heard l (across (wiring_of t) l node) =
-      ap length (flight.messages l node below at_end) ∙ length-map (drop (world.sessions.heard l (across (wiring_of t) l node)) (world.sessions.said l node)) (λ message. Says message) ∙ length-drop (world.sessions.heard l (across (wiring_of t) l node)) (world.sessions.said l node) in
-      let more : world.sessions.heard l (across (wiring_of t) l node) < length (world.sessions.said l node) = omega (arith, count, as_many (Messages l node), some) in
+      ap length (flight.messages l node below at_end)
+      ∙ length-map (drop (world.sessions.heard l (across (wiring_of t) l node)) (world.sessions.said l node)) (λ message. Says message)
+      ∙ length-drop (world.sessions.heard l (across (wiring_of t) l node)) (world.sessions.said l node) in
+      let more : world.sessions.heard l (across (wiring_of t) l node) < length (world.sessions.said l node) = omega
+      (arith, count, as_many (Messages l node), some) in
       open_by (HearLdp (record { 0 = l }) dir) (less_is l (length t.links) below) refl
-      (live_or (lives world.config l) _ (λ dead. silent (world.sessions.heard l (across (wiring_of t) l node)) (ap length ((turn.ldp l node below at_end).silent dead).0) more)
-      (not_le (length (world.sessions.said l (sender (wiring_of t) l dir))) (world.sessions.heard l (receiver (wiring_of t) l dir)) (omega (arith, more, ap (λ n. length (world.sessions.said l n)) from, ap (world.sessions.heard l) to))))
+      (live_or (lives world.config l) _
+      (λ dead. silent (world.sessions.heard l (across (wiring_of t) l node)) (ap length ((turn.ldp l node below at_end).silent dead).0) more)
+      (not_le (length (world.sessions.said l (sender (wiring_of t) l dir))) (world.sessions.heard l (receiver (wiring_of t) l dir))
+      (omega (arith, more, ap (λ n. length (world.sessions.said l n)) from, ap (world.sessions.heard l) to))))
     where
       silent : (h : ℕ) → length (world.sessions.said l node) ≡ 0 → h < length (world.sessions.said l node) → ⊥
       silent h e m = omega (arith, e, m)
 
-  tell_open : (edge peer : ℕ) → is_edge t.vrfs edge ≡ true → is_edge t.vrfs peer ≡ true → edge ≢ peer → 0 < length (items_on (Routes edge peer) items) → IsOpen t es ps (HearBgp (record { 0 = edge }) (record { 0 = peer }))
+  tell_open : (edge peer : ℕ) → is_edge t.vrfs edge ≡ true → is_edge t.vrfs peer ≡ true → edge ≢ peer → 0 < length (items_on (Routes edge peer) items)
+      → IsOpen t es ps (HearBgp (record { 0 = edge }) (record { 0 = peer }))
   tell_open edge peer one other apart some =
       let count : length (loads_on (Routes edge peer) items) ≡ length (world.peerings.told edge peer) - world.peerings.heard peer edge =
-      ap length (flight.routes edge peer apart) ∙ length-map (drop (world.peerings.heard peer edge) (world.peerings.told edge peer)) (λ telling. Tells telling) ∙ length-drop (world.peerings.heard peer edge) (world.peerings.told edge peer) in
+      ap length (flight.routes edge peer apart)
+      ∙ length-map (drop (world.peerings.heard peer edge) (world.peerings.told edge peer)) (λ telling. Tells telling)
+      ∙ length-drop (world.peerings.heard peer edge) (world.peerings.told edge peer) in
       let more : world.peerings.heard peer edge < length (world.peerings.told edge peer) = omega (arith, count, as_many (Routes edge peer), some) in
       open_by (HearBgp (record { 0 = edge }) (record { 0 = peer }))
-      (and_on (is_edge t.vrfs edge && is_edge t.vrfs peer) (not (edge == peer)) (and_on (is_edge t.vrfs edge) (is_edge t.vrfs peer) one other) (not_on (edge == peer) (other_test edge peer apart))) refl
-      (live_or (peers_live world.config edge peer) _ (λ dead. untold (world.peerings.heard peer edge) (ap length ((turn.bgp edge peer apart).silent dead).0) more)
+      (and_on (is_edge t.vrfs edge && is_edge t.vrfs peer) (not (edge == peer)) (and_on (is_edge t.vrfs edge) (is_edge t.vrfs peer) one other)
+      (not_on (edge == peer) (other_test edge peer apart))) refl
+      (live_or (peers_live world.config edge peer) _
+      (λ dead. untold (world.peerings.heard peer edge) (ap length ((turn.bgp edge peer apart).silent dead).0) more)
       (not_le (length (world.peerings.told edge peer)) (world.peerings.heard peer edge) more))
     where
       untold : (h : ℕ) → length (world.peerings.told edge peer) ≡ 0 → h < length (world.peerings.told edge peer) → ⊥
@@ -150,11 +165,13 @@ module _ (t : Network) (lawful : IsLawful t) (es : List JournalEntry) (ps : List
       by_channel (Messages k n) load h e = absurd (no e)
       by_channel (Routes k n) load h e = absurd (no e)
 
-  frames_there : (l : ℕ) (d : Dir) (place : ℕ) → place < length (items_on (Frames l d) items) → (l < length t.links) × (nat_le (length (flying_on (packets_of t es ps) l d)) place ≡ false)
+  frames_there : (l : ℕ) (d : Dir) (place : ℕ) → place < length (items_on (Frames l d) items)
+      → (l < length t.links) × (nat_le (length (flying_on (packets_of t es ps) l d)) place ≡ false)
   frames_there l d place h =
       let x = some_item (Frames l d) items place h in (
         frame_there l d x.0 x.1 x.2,
-        not_le (length (flying_on (packets_of t es ps) l d)) place (omega (arith, h, as_many (Frames l d), ap length (flight.frames l d), length-map (flying_on (packets_of t es ps) l d) (λ token. Carries token))),
+        not_le (length (flying_on (packets_of t es ps) l d)) place
+            (omega (arith, h, as_many (Frames l d), ap length (flight.frames l d), length-map (flying_on (packets_of t es ps) l d) (λ token. Carries token))),
       )
 
   pub lost_open : (l : LinkNo) (d : Dir) (place : ℕ) → place < length (items_on (Frames l.0 d) items) → IsOpen t es ps (Lose l d place)

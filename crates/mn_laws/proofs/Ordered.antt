@@ -1,5 +1,5 @@
 -- What flies stands in the order in which it was made: no item was made before those in front of it.
-use Rattle.std.proofs.Common.{ℕ, zero, suc, ◌≡◌, ◌+◌, ◌<◌, ◌≤◌, Bool, true, false, cond, not, List, [], ◌∷◌, ◌++◌, length, filter, refl, arith, sym, ap, ◌∙◌, subst}
+use Rattle.std.proofs.Common.{ℕ, zero, suc, ◌+◌, ◌≤◌, Bool, true, false, cond, not, List, [], ◌∷◌, ◌++◌, filter, arith}
 use Rattle.std.specs.List.{AllByRecursion}
 use Rattle.mn_base.specs.Wiring.{sender}
 use Rattle.mn_topo.specs.Network.{Network, wiring_of}
@@ -33,7 +33,8 @@ MadeBy t now items = AllByRecursion (λ item. item.due ≤ now + delay_on t item
 abbrev pub NoneLater : Network → Item → List Item → Type 0
 NoneLater t x ys = AllByRecursion (λ other. x.due + delay_on t other.on ≤ other.due + delay_on t x.on) ys
 
-later_all : (t : Network) (x : Item) (now tick n : ℕ) (xs : List (Channel × Load)) → now ≤ tick → x.due ≤ now + delay_on t x.on → NoneLater t x (numbered t tick n xs)
+later_all : (t : Network) (x : Item) (now tick n : ℕ) (xs : List (Channel × Load)) → now ≤ tick → x.due ≤ now + delay_on t x.on
+    → NoneLater t x (numbered t tick n xs)
 later_all t x now tick n [] h g = tt
 later_all t x now tick n (m ∷ ms) h g = (omega (arith, h, g), later_all t x now tick (n + 1) ms h g)
 
@@ -49,14 +50,19 @@ in_order : (t : Network) (tick n : ℕ) (xs : List (Channel × Load)) → AreMad
 in_order t tick n [] = tt
 in_order t tick n (m ∷ ms) = (same tick (n + 1) ms, in_order t tick (n + 1) ms)
   where
-    same : (tick n : ℕ) (ms : List (Channel × Load)) → AllByRecursion (λ other. tick + delay_on t m.0 + delay_on t other.on ≤ other.due + delay_on t m.0) (numbered t tick n ms)
+    same : (tick n : ℕ) (ms : List (Channel × Load))
+        → AllByRecursion (λ other. tick + delay_on t m.0 + delay_on t other.on ≤ other.due + delay_on t m.0) (numbered t tick n ms)
     same tick n [] = tt
     same tick n (k ∷ ks) = (omega arith, same tick (n + 1) ks)
 
-order_both : (t : Network) (now tick n : ℕ) (xs : List Item) (new : List (Channel × Load)) → now ≤ tick → MadeBy t now xs → AreMadeInOrder t xs → AreMadeInOrder t (xs ++ numbered t tick n new)
+order_both : (t : Network) (now tick n : ℕ) (xs : List Item) (new : List (Channel × Load)) → now ≤ tick → MadeBy t now xs → AreMadeInOrder t xs
+    → AreMadeInOrder t (xs ++ numbered t tick n new)
 order_both t now tick n [] new h by order = in_order t tick n new
-order_both t now tick n (x ∷ xs) new h by order =
-    (all_both (λ other. x.due + delay_on t other.on ≤ other.due + delay_on t x.on) xs (numbered t tick n new) order.0 (later_all t x now tick n new h by.0), order_both t now tick n xs new h by.1 order.1)
+order_both t now tick n (x ∷ xs) new h by order = (
+  all_both (λ other. x.due + delay_on t other.on ≤ other.due + delay_on t x.on) xs (numbered t tick n new) order.0
+      (later_all t x now tick n new h by.0),
+  order_both t now tick n xs new h by.1 order.1,
+)
 
 by_later : (t : Network) (now tick : ℕ) (xs : List Item) → now ≤ tick → MadeBy t now xs → MadeBy t tick xs
 by_later t now tick [] h by = tt
@@ -79,7 +85,8 @@ all_without P on zero (x ∷ xs) h = by (same_channel on x.on) (all_without P on
     by false g = (h.0, g)
 all_without P on (suc n) (x ∷ xs) h = (h.0, by (same_channel on x.on) (all_without P on n xs h.1) (all_without P on (suc n) xs h.1))
   where
-    by : (b : Bool) → AllByRecursion P (without on n xs) → AllByRecursion P (without on (suc n) xs) → AllByRecursion P (cond b (without on n xs) (without on (suc n) xs))
+    by : (b : Bool) → AllByRecursion P (without on n xs) → AllByRecursion P (without on (suc n) xs)
+        → AllByRecursion P (cond b (without on n xs) (without on (suc n) xs))
     by true f g = f
     by false f g = g
 
@@ -100,7 +107,8 @@ order_without t on zero (x ∷ xs) h = by (same_channel on x.on) (order_without 
     by false g = (all_without (λ other. x.due + delay_on t other.on ≤ other.due + delay_on t x.on) on zero xs h.0, g)
 order_without t on (suc n) (x ∷ xs) h = by (same_channel on x.on) (order_without t on n xs h.1) (order_without t on (suc n) xs h.1)
   where
-    by : (b : Bool) → AreMadeInOrder t (without on n xs) → AreMadeInOrder t (without on (suc n) xs) → AreMadeInOrder t (x ∷ cond b (without on n xs) (without on (suc n) xs))
+    by : (b : Bool) → AreMadeInOrder t (without on n xs) → AreMadeInOrder t (without on (suc n) xs)
+        → AreMadeInOrder t (x ∷ cond b (without on n xs) (without on (suc n) xs))
     by true f g = (all_without (λ other. x.due + delay_on t other.on ≤ other.due + delay_on t x.on) on n xs h.0, f)
     by false f g = (all_without (λ other. x.due + delay_on t other.on ≤ other.due + delay_on t x.on) on (suc n) xs h.0, g)
 
@@ -127,7 +135,8 @@ left_order t now (BgpUp a b) xs h = filtered t now (λ item. not (is_between a.0
 left_order t now (BgpDown a b) xs h = filtered t now (λ item. not (is_between a.0 b.0 item.on)) xs h
 left_order t now _ xs h = h
 
-order_from : (t : Network) (es : List JournalEntry) (tick : ℕ) (w : World) (k : Packets) (i : ℕ) (f : Flight) (ps : List (List ℕ)) → IsLawfulFrom t tick w k i es ps → FliesInOrder t tick f.items → AreMadeInOrder t (flight_from t w k f es ps).items
+order_from : (t : Network) (es : List JournalEntry) (tick : ℕ) (w : World) (k : Packets) (i : ℕ) (f : Flight) (ps : List (List ℕ))
+    → IsLawfulFrom t tick w k i es ps → FliesInOrder t tick f.items → AreMadeInOrder t (flight_from t w k f es ps).items
 order_from t [] tick w k i f ps lawful h = h.1
 order_from t (e ∷ es) tick w k i f ps lawful h =
     let v : World = after t w e.step in
@@ -135,7 +144,8 @@ order_from t (e ∷ es) tick w k i f ps lawful h =
     let new : List (Channel × Load) = made_in t w v k q e.step in
     let left : FliesInOrder t tick (left_in_flight t e.step f.items) = left_order t tick e.step f.items h in
     order_from t es e.tick v q (i + 1) (with_made t e.tick new e.step f) (left_by e.step ps) lawful.3 (
-      all_both (λ item. item.due ≤ e.tick + delay_on t item.on) (left_in_flight t e.step f.items) (numbered t e.tick f.made new) (by_later t tick e.tick (left_in_flight t e.step f.items) lawful.1 left.0) (made_now_by t e.tick f.made new),
+      all_both (λ item. item.due ≤ e.tick + delay_on t item.on) (left_in_flight t e.step f.items) (numbered t e.tick f.made new)
+          (by_later t tick e.tick (left_in_flight t e.step f.items) lawful.1 left.0) (made_now_by t e.tick f.made new),
       order_both t tick e.tick f.made (left_in_flight t e.step f.items) new lawful.1 left.0 left.1,
     )
 

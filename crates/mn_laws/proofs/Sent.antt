@@ -1,6 +1,6 @@
 -- A packet that is sent; and what is known of each packet after every step.
-use Rattle.std.proofs.Common.{ℕ, zero, suc, ◌≡◌, ◌≢◌, ◌+◌, ◌-◌, ◌<◌, ◌≤◌, ◌⊎◌, inl, inr, Bool, true, false, List, [], ◌∷◌, ◌++◌, length, take, refl, arith, sym, ◌∙◌, ap, subst, Option, Some, None}
-use Rattle.std.specs.Prelude.{◌==◌, ◌&&◌, nat_le, nat_lt, slice_get, slice_index_or}
+use Rattle.std.proofs.Common.{ℕ, zero, suc, ◌≡◌, ◌≢◌, ◌+◌, ◌-◌, ◌<◌, ◌≤◌, ◌⊎◌, inl, inr, true, false, List, [], ◌∷◌, ◌++◌, length, take, refl, arith, sym, ◌∙◌, ap, subst, Option, Some, None}
+use Rattle.std.specs.Prelude.{◌==◌, nat_le, nat_lt, slice_get, slice_index_or}
 use Rattle.std.proofs.lemmas.Bool.{and_parts, ltb-true}
 use Rattle.std.proofs.lemmas.Bool.Decides.{eqb_tells}
 use Rattle.std.proofs.lemmas.List.{length_push}
@@ -14,7 +14,7 @@ use Rattle.mn_topo.specs.Lawful.{IsLawful}
 use Rattle.mn_topo.specs.Network.{Network}
 use Rattle.mn_topo.specs.Steps.{fits}
 use Rattle.mn_topo.specs.declared.steps.Step.{Step}
-use Rattle.mn_topo.specs.declared.steps.Step.TheVariants.{LinkUp, LinkDown, Learn, LdpAdmin, HearLdp, BgpUp, BgpDown, HearBgp, AddRoute, DelRoute, Import, Export, Attach, Detach, Inject, Carry, Lose}
+use Rattle.mn_topo.specs.declared.steps.Step.TheVariants.{LinkDown, Inject, Carry, Lose}
 use Rattle.mn_topo.specs.declared.steps.JournalEntry.{JournalEntry}
 use Rattle.mn_ledger.specs.declared.verdict.Verdict.{Verdict}
 use Rattle.mn_ledger.specs.declared.verdict.Verdict.TheVariants.{Delivered, Dropped, Flying}
@@ -29,24 +29,24 @@ use Rattle.mn_ledger.specs.Verdicts.{injections, verdict_on}
 use Rattle.mn_ledger.specs.Best.{NamesTheBest}
 use Rattle.mn_ledger.proofs.Choice.{names_best}
 use Rattle.mn_ledger.proofs.Members.{In, in_contained}
-use Rattle.mn_ledger.proofs.Peers.{same_numbers, two_ways}
-use Rattle.mn_laws.specs.Accounts.{world_at, packets_at, Sending, IsSent, routes_at, MayEnter, path_of, IsItsPath, is_flying}
+use Rattle.mn_ledger.proofs.Peers.{same_numbers}
+use Rattle.mn_laws.specs.Accounts.{world_at, packets_at, Sending, IsSent, routes_at, MayEnter, path_of, is_flying}
 use Rattle.mn_laws.specs.Named.{NamesItsSite}
 use Rattle.mn_laws.proofs.At.{bytes_of, packets_step, lawful_step, lawful_at}
 use Rattle.mn_laws.proofs.Elsewhere.{judged_here, in_pushed, push_here}
-use Rattle.mn_laws.proofs.Entering.{Falls, may_enter, AtEntry, enters}
+use Rattle.mn_laws.proofs.Entering.{Falls, may_enter, enters}
 use Rattle.mn_laws.proofs.Moving.{after_step, injected_is, Leaves}
 use Rattle.mn_laws.proofs.There.{home_there, IsHop, hop_is}
 use Rattle.mn_laws.proofs.Fates.{frame_of, HasFlown, IsKnown, placed, none_yet, left_known, leaves_ended, where_it_flies, in_get}
-use Rattle.mn_laws.proofs.Travelling.{HoldsSites, known_by, passed, Takes, takes, carried_known, lost_known, cut_known}
+use Rattle.mn_laws.proofs.Travelling.{HoldsSites, known_by, passed, takes, carried_known, lost_known, cut_known}
 
 no : true ≡ false → ⊥
 no e = cc
 
 -- 1. The step in which it is sent
 
-module _ (t : Network) (lawful : IsLawful t) (es : List JournalEntry) (ps : List (List ℕ)) (journal : IsLawfulJournal t es ps) (holds : HoldsSites t es) (s : Sending) (sent : IsSent es ps s) where
-
+module _ (t : Network) (lawful : IsLawful t) (es : List JournalEntry) (ps : List (List ℕ)) (journal : IsLawfulJournal t es ps)
+    (holds : HoldsSites t es) (s : Sending) (sent : IsSent es ps s) where
   abbrev before : Packets
   before = packets_at t es ps s.place
 
@@ -65,22 +65,26 @@ module _ (t : Network) (lawful : IsLawful t) (es : List JournalEntry) (ps : List
 
   path_is : path_of with_it s.packet ≡ home ∷ []
   path_is =
-      ap (λ j. slice_index_or (before.paths ++ (home ∷ []) ∷ []) j []) (sym ((placed t es ps s.place).paths ∙ sent.earlier)) ∙ push_here before.paths (home ∷ []) []
+      ap (λ j. slice_index_or (before.paths ++ (home ∷ []) ∷ []) j []) (sym ((placed t es ps s.place).paths ∙ sent.earlier))
+      ∙ push_here before.paths (home ∷ []) []
 
   bytes_are : bytes_of ps (injections (take s.place es)) ≡ s.bytes
   bytes_are = ap (bytes_of ps) sent.earlier ∙ get_or_from_slice_get ps s.packet s.bytes [] sent.content
 
   pub site_there : s.site < length t.sites
   site_there =
-      ltb-true _ _ (and_parts (nat_lt s.site (length t.sites)) (nat_le 1 sent.number) (ap (fits t) (sym sent.injects) ∙ (lawful_step t es ps s.place sent.entry sent.there journal).fitting)).0
+      ltb-true _ _ (and_parts (nat_lt s.site (length t.sites)) (nat_le 1 sent.number)
+      (ap (fits t) (sym sent.injects) ∙ (lawful_step t es ps s.place sent.entry sent.there journal).fitting)).0
 
-  entered_to : packets_at t es ps (suc s.place) ≡ enter_by t (world_at t es s.place) with_it s.packet s.bytes home (vrf_of t s.site) (first_rule (packets.entry_rules ((world_at t es s.place).config.attached s.site) s.bytes))
+  entered_to : packets_at t es ps (suc s.place) ≡ enter_by t (world_at t es s.place) with_it s.packet s.bytes home (vrf_of t s.site)
+      (first_rule (packets.entry_rules ((world_at t es s.place).config.attached s.site) s.bytes))
   entered_to =
       packets_step t es ps s.place sent.entry sent.there
       ∙ ap (λ x. after_step t (world_at t es s.place) before x (bytes_of ps (injections (take s.place es)))) sent.injects
       ∙ ap (after_step t (world_at t es s.place) before (Inject (record { 0 = s.site }) sent.number)) bytes_are
       ∙ injected_is t (world_at t es s.place) before (record { 0 = s.site }) sent.number s.bytes
-      ∙ ap (λ j. enter_by t (world_at t es s.place) with_it j s.bytes home (vrf_of t s.site) (first_rule (packets.entry_rules ((world_at t es s.place).config.attached s.site) s.bytes))) number_is
+      ∙ ap (λ j. enter_by t (world_at t es s.place) with_it j s.bytes home (vrf_of t s.site)
+      (first_rule (packets.entry_rules ((world_at t es s.place).config.attached s.site) s.bytes))) number_is
 
   not_flown : HasFlown t es ps s s.place
   not_flown count low high = absurd (none count s.place low high)
@@ -88,23 +92,35 @@ module _ (t : Network) (lawful : IsLawful t) (es : List JournalEntry) (ps : List
       none : (m n : ℕ) → n < m → m ≤ n → ⊥
       none m n h g = omega (arith, h, g)
 
-  fallen : (cause : Rule) → Falls t (world_at t es s.place) s.site s.bytes cause → packets_at t es ps (suc s.place) ≡ drop_at with_it s.packet cause home → IsKnown t es ps s (suc s.place)
+  fallen : (cause : Rule) → Falls t (world_at t es s.place) s.site s.bytes cause
+      → packets_at t es ps (suc s.place) ≡ drop_at with_it s.packet cause home → IsKnown t es ps s (suc s.place)
   fallen cause falls now =
       let v : Verdict = Dropped cause (record { 0 = home }) in
       let first : verdict_on (drop_at with_it s.packet cause home) s.packet ≡ v = judged_here with_it s.packet v inside in
       known_by t es ps s (suc s.place) v (home ∷ []) (drop_at with_it s.packet cause home) now first path_is (record { rest = []; begins = refl; goes = refl })
       (record {
-        ends = record { when = s.place; entry = sent.entry; there = sent.there; sent = omega arith; past = omega arith; flown = not_flown; first = ap (λ w. verdict_on w s.packet) now ∙ first };
+        ends = record {
+          when = s.place;
+          entry = sent.entry;
+          there = sent.there;
+          sent = omega arith;
+          past = omega arith;
+          flown = not_flown;
+          first = ap
+              (λ w. verdict_on w s.packet) now ∙ first;
+        };
         how = inl (record { at_once = refl; at_edge = refl; by_rule = falls });
       })
 
   names : (x : HeldRoute) → MayEnter t (world_at t es s.place) s.site s.bytes x → NamesItsSite t (world_at t es s.place).config home x
-  names x may = holds s.place s.site x (within (slice_get_within es s.place sent.entry sent.there)) site_there (in_contained (routes_at t (world_at t es s.place) s.site) x may.best_route.held)
+  names x may = holds s.place s.site x (within (slice_get_within es s.place sent.entry sent.there)) site_there
+      (in_contained (routes_at t (world_at t es s.place) s.site) x may.best_route.held)
     where
       within : s.place < length es → s.place ≤ length es
       within h = omega (arith, h)
 
-  delivered_here : (x : HeldRoute) → MayEnter t (world_at t es s.place) s.site s.bytes x → (x.edge == home) ≡ true → packets_at t es ps (suc s.place) ≡ deliver with_it s.packet x.site (ttl_of s.bytes - 1) s.bytes → IsKnown t es ps s (suc s.place)
+  delivered_here : (x : HeldRoute) → MayEnter t (world_at t es s.place) s.site s.bytes x → (x.edge == home) ≡ true
+      → packets_at t es ps (suc s.place) ≡ deliver with_it s.packet x.site (ttl_of s.bytes - 1) s.bytes → IsKnown t es ps s (suc s.place)
   delivered_here x may near now =
       let v : Verdict = Delivered (record { 0 = x.site }) (ttl_of s.bytes - 1) (before.copies + 1) in
       let first : verdict_on (deliver with_it s.packet x.site (ttl_of s.bytes - 1) s.bytes) s.packet ≡ v = judged_here with_it s.packet v inside in
@@ -117,7 +133,16 @@ module _ (t : Network) (lawful : IsLawful t) (es : List JournalEntry) (ps : List
         route = x;
         bound = may;
         to_site = refl;
-        ends = record { when = s.place; entry = sent.entry; there = sent.there; sent = omega arith; past = omega arith; flown = not_flown; first = ap (λ w. verdict_on w s.packet) now ∙ first };
+        ends = record {
+          when = s.place;
+          entry = sent.entry;
+          there = sent.there;
+          sent = omega arith;
+          past = omega arith;
+          flown = not_flown;
+          first = ap
+              (λ w. verdict_on w s.packet) now ∙ first;
+        };
         attached = site.present at_edge;
         lowered = omega (arith, may.lives, ap length now_path);
         counted = refl;
@@ -147,7 +172,8 @@ module _ (t : Network) (lawful : IsLawful t) (es : List JournalEntry) (ps : List
         there = to.there;
         left = omega (arith, may.lives, ap length now_path);
         frames = λ c k i same. only_frame c k (subst (λ w. In (w.flying c) k) now i) same ∙ ap (frame_of s x) (sym now_path);
-        flown = λ count low high. subst (λ m. is_flying (verdict_on (packets_at t es ps m) s.packet) ≡ true) (sym (one_more_is count s.place low high)) (ap (λ w. is_flying (verdict_on w s.packet)) now ∙ ap is_flying first);
+        flown = λ count low high. subst (λ m. is_flying (verdict_on (packets_at t es ps m) s.packet) ≡ true)
+            (sym (one_more_is count s.place low high)) (ap (λ w. is_flying (verdict_on w s.packet)) now ∙ ap is_flying first);
       })
     where
       apart : (a b : ℕ) → (a == b) ≡ false → b ≢ a
@@ -156,7 +182,8 @@ module _ (t : Network) (lawful : IsLawful t) (es : List JournalEntry) (ps : List
       one_more_is : (m n : ℕ) → n < m → m ≤ suc n → m ≡ suc n
       one_more_is m n h g = omega (arith, h, g)
 
-      only_frame : (c : ℕ) (k : Token) → In ((hop_over t with_it (bound s.packet x s.bytes) home rule.NoLsp (Some hop)).flying c) k → k.packet ≡ s.packet → k ≡ frame_of s x (home ∷ [])
+      only_frame : (c : ℕ) (k : Token) → In ((hop_over t with_it (bound s.packet x s.bytes) home rule.NoLsp (Some hop)).flying c) k
+          → k.packet ≡ s.packet → k ≡ frame_of s x (home ∷ [])
       only_frame c k i same = by_place (in_pushed with_it.flying (channel hop.1 (away_from t hop.1 home)) (bound s.packet x s.bytes) c k i)
         where
           by_place : In (before.flying c) k ⊎ (bound s.packet x s.bytes ≡ k) → k ≡ frame_of s x (home ∷ [])
@@ -169,11 +196,12 @@ module _ (t : Network) (lawful : IsLawful t) (es : List JournalEntry) (ps : List
   names_one = names_best t (take s.place es) ps lawful (lawful_at t es ps s.place journal) home (vrf_of t s.site) (destination_of s.bytes)
 
   pub entered_known : IsKnown t es ps s (suc s.place)
-  entered_known = enters (λ w. packets_at t es ps (suc s.place) ≡ w → IsKnown t es ps s (suc s.place)) t (world_at t es s.place) with_it s.packet s.site s.bytes (record {
-    falls = fallen;
-    delivered = λ x p h e now. delivered_here x (may_enter t (world_at t es s.place) s.site s.bytes x p h names_one) e now;
-    flies = λ x hop p h e can now. flies_off x hop (may_enter t (world_at t es s.place) s.site s.bytes x p h names_one) e can now;
-  }) entered_to
+  entered_known = enters (λ w. packets_at t es ps (suc s.place) ≡ w → IsKnown t es ps s (suc s.place)) t
+      (world_at t es s.place) with_it s.packet s.site s.bytes (record {
+        falls = fallen;
+        delivered = λ x p h e now. delivered_here x (may_enter t (world_at t es s.place) s.site s.bytes x p h names_one) e now;
+        flies = λ x hop p h e can now. flies_off x hop (may_enter t (world_at t es s.place) s.site s.bytes x p h names_one) e can now;
+      }) entered_to
 
 -- 2. Every step
 
@@ -191,7 +219,6 @@ frame_at None = inl refl
 frame_at (Some k) = inr (k, refl)
 
 module _ (t : Network) (lawful : IsLawful t) (es : List JournalEntry) (ps : List (List ℕ)) (journal : IsLawfulJournal t es ps) (holds : HoldsSites t es) where
-
   -- a step while the packet flies
   flying_step : (s : Sending) (n : ℕ) (e : JournalEntry) (x : Step) → e.step ≡ x → IsSent es ps s → s.place < n → slice_get es n ≡ Some e → IsKnown t es ps s n
       → (l : LinkNo) (d : Dir) → verdict_on (packets_at t es ps n) s.packet ≡ Flying l d → IsKnown t es ps s (suc n)
@@ -203,11 +230,13 @@ module _ (t : Network) (lawful : IsLawful t) (es : List JournalEntry) (ps : List
       taken : (f : Token) → slice_get ((packets_at t es ps n).flying (channel k.0 b)) place ≡ Some f → f.packet ≡ s.packet → IsKnown t es ps s (suc n)
       taken f at same =
           let on : In ((packets_at t es ps n).flying (channel k.0 b)) f = in_get ((packets_at t es ps n).flying (channel k.0 b)) place f at in
-          let it_flies : verdict_on (packets_at t es ps n) s.packet ≡ Flying k b = ap (verdict_on (packets_at t es ps n)) (sym same) ∙ where_it_flies (packets_at t es ps n) (injections (take n es)) k b f (placed t es ps n) on in
+          let it_flies : verdict_on (packets_at t es ps n) s.packet ≡ Flying k b = ap (verdict_on (packets_at t es ps n)) (sym same)
+          ∙ where_it_flies (packets_at t es ps n) (injections (take n es)) k b f (placed t es ps n) on in
           let takes_it = takes t es ps s n e k b sent below there h it_flies in
           carried_known t lawful es ps s n e k b place takes_it is (at ∙ ap Some (takes_it.flies.frames (channel k.0 b) f on same))
 
-      by_frame : (slice_get ((packets_at t es ps n).flying (channel k.0 b)) place ≡ None) ⊎ ((f : Token) × (slice_get ((packets_at t es ps n).flying (channel k.0 b)) place ≡ Some f)) → IsKnown t es ps s (suc n)
+      by_frame : (slice_get ((packets_at t es ps n).flying (channel k.0 b)) place ≡ None) ⊎
+          ((f : Token) × (slice_get ((packets_at t es ps n).flying (channel k.0 b)) place ≡ Some f)) → IsKnown t es ps s (suc n)
       by_frame o = elim o [
         | inl q ↦ leave (λ f g. absurd (none_at f (sym q ∙ g)))
         | inr q ↦ elim (eqb_tells q.0.packet s.packet) [
@@ -223,10 +252,12 @@ module _ (t : Network) (lawful : IsLawful t) (es : List JournalEntry) (ps : List
       taken : (f : Token) → slice_get ((packets_at t es ps n).flying (channel k.0 b)) place ≡ Some f → f.packet ≡ s.packet → IsKnown t es ps s (suc n)
       taken f at same =
           let on : In ((packets_at t es ps n).flying (channel k.0 b)) f = in_get ((packets_at t es ps n).flying (channel k.0 b)) place f at in
-          let it_flies : verdict_on (packets_at t es ps n) s.packet ≡ Flying k b = ap (verdict_on (packets_at t es ps n)) (sym same) ∙ where_it_flies (packets_at t es ps n) (injections (take n es)) k b f (placed t es ps n) on in
+          let it_flies : verdict_on (packets_at t es ps n) s.packet ≡ Flying k b = ap (verdict_on (packets_at t es ps n)) (sym same)
+          ∙ where_it_flies (packets_at t es ps n) (injections (take n es)) k b f (placed t es ps n) on in
           lost_known t es ps s n e k b (takes t es ps s n e k b sent below there h it_flies) place f is at same
 
-      by_frame : (slice_get ((packets_at t es ps n).flying (channel k.0 b)) place ≡ None) ⊎ ((f : Token) × (slice_get ((packets_at t es ps n).flying (channel k.0 b)) place ≡ Some f)) → IsKnown t es ps s (suc n)
+      by_frame : (slice_get ((packets_at t es ps n).flying (channel k.0 b)) place ≡ None) ⊎
+          ((f : Token) × (slice_get ((packets_at t es ps n).flying (channel k.0 b)) place ≡ Some f)) → IsKnown t es ps s (suc n)
       by_frame o = elim o [
         | inl q ↦ leave (λ f g. absurd (none_at f (sym q ∙ g)))
         | inr q ↦ elim (eqb_tells q.0.packet s.packet) [
@@ -245,7 +276,9 @@ module _ (t : Network) (lawful : IsLawful t) (es : List JournalEntry) (ps : List
       one_link a b c f h = ap (λ v. elim v as (λ _. ℕ) [ Flying x y ↦ x.0 | Delivered x y z ↦ 0 | Dropped x y ↦ 0 ]) h
 
       other : (b : Dir) (f : Token) → In ((packets_at t es ps n).flying (channel k.0 b)) f → f.packet ≡ s.packet → l.0 ≡ k.0
-      other b f i same = one_link l k d b (sym flies ∙ ap (verdict_on (packets_at t es ps n)) (sym same) ∙ where_it_flies (packets_at t es ps n) (injections (take n es)) k b f (placed t es ps n) i)
+      other b f i same = one_link l k d b
+          (sym flies ∙ ap (verdict_on (packets_at t es ps n)) (sym same)
+          ∙ where_it_flies (packets_at t es ps n) (injections (take n es)) k b f (placed t es ps n) i)
   flying_step s n e x is sent below there h l d flies = left_known t es ps s n e sent below there (subst (Leaves s.packet (packets_at t es ps n)) (sym is) tt) h
 
   one_step : (s : Sending) (n : ℕ) (e : JournalEntry) → IsSent es ps s → s.place < n → slice_get es n ≡ Some e → IsKnown t es ps s n → IsKnown t es ps s (suc n)

@@ -1,5 +1,5 @@
 -- Sums over lists of numbers.
-use Rattle.std.proofs.Common.{ℕ, zero, suc, ◌≡◌, ◌≢◌, ◌+◌, ◌*◌, ◌<◌, ◌≤◌, inl, inr, Bool, true, false, cond, List, [], ◌∷◌, ◌++◌, map, filter, length, refl, arith, sym, ◌∙◌, ap}
+use Rattle.std.proofs.Common.{ℕ, zero, suc, ◌≡◌, ◌+◌, ◌*◌, ◌<◌, ◌≤◌, inl, inr, Bool, true, false, cond, List, [], ◌∷◌, ◌++◌, map, filter, refl, arith, sym, ◌∙◌, ap}
 use Rattle.std.specs.Prelude.{◌==◌, ◌&&◌, sum}
 use Rattle.std.specs.List.{flat_map, range_with_len}
 use Rattle.std.proofs.lemmas.Bool.Decides.{eqb_tells}
@@ -54,8 +54,11 @@ times k xs = total (λ x. one_if (k == x)) xs
 pub total-at : (k : ℕ) (f : ℕ → ℕ) (xs : List ℕ) → total (λ x. where_so (k == x) (f x)) xs ≡ times k xs * f k
 total-at k f [] = omega arith
 total-at k f (x ∷ xs) = elim (eqb_tells k x) [
-  | inl q ↦ ap (λ b. where_so b (f x) + total (λ y. where_so (k == y) (f y)) xs) q.0 ∙ here (f x) (f k) (total (λ y. where_so (k == y) (f y)) xs) (times k xs) (ap f (sym q.1)) (total-at k f xs) ∙ ap (λ b. (one_if b + times k xs) * f k) (sym q.0)
-  | inr q ↦ ap (λ b. where_so b (f x) + total (λ y. where_so (k == y) (f y)) xs) q.0 ∙ off (total (λ y. where_so (k == y) (f y)) xs) (times k xs) (f k) (total-at k f xs) ∙ ap (λ b. (one_if b + times k xs) * f k) (sym q.0)
+  | inl q ↦ ap (λ b. where_so b (f x) + total (λ y. where_so (k == y) (f y)) xs) q.0
+      ∙ here (f x) (f k) (total (λ y. where_so (k == y) (f y)) xs) (times k xs) (ap f (sym q.1)) (total-at k f xs)
+      ∙ ap (λ b. (one_if b + times k xs) * f k) (sym q.0)
+  | inr q ↦ ap (λ b. where_so b (f x) + total (λ y. where_so (k == y) (f y)) xs) q.0
+      ∙ off (total (λ y. where_so (k == y) (f y)) xs) (times k xs) (f k) (total-at k f xs) ∙ ap (λ b. (one_if b + times k xs) * f k) (sym q.0)
 ]
   where
     here : (v m r n : ℕ) → v ≡ m → r ≡ n * m → v + r ≡ (1 + n) * m

@@ -1,27 +1,24 @@
 -- What is in flight, counted item by item, is what the ledger counts by nodes, links and edges.
-use Rattle.std.proofs.Common.{ℕ, zero, suc, ◌≡◌, ◌≢◌, ◌+◌, ◌-◌, ◌*◌, ◌<◌, ◌≤◌, ◌⊎◌, inl, inr, Bool, true, false, cond, List, [], ◌∷◌, ◌++◌, map, filter, length, drop, refl, arith, sym, ◌∙◌, ap, subst}
+use Rattle.std.proofs.Common.{ℕ, ◌≡◌, ◌≢◌, ◌+◌, ◌*◌, ◌<◌, inl, inr, Bool, true, false, cond, List, [], ◌∷◌, map, filter, length, refl, arith, sym, ◌∙◌, ap, subst}
 use Rattle.std.specs.Prelude.{◌==◌, ◌&&◌, ◌||◌, not, nat_lt}
 use Rattle.std.specs.List.{list_all, range_with_len}
 use Rattle.std.proofs.lemmas.Bool.{and_parts, ltb-true}
 use Rattle.std.proofs.lemmas.Bool.Decides.{eqb_tells}
-use Rattle.std.proofs.lemmas.List.{length-map, length-drop, map-append}
 use Rattle.mn_base.proofs.Bools.{no, or_ways, same_test, other_test, same_numbers}
 use Rattle.mn_base.specs.declared.links.Dir.{Dir}
 use Rattle.mn_base.specs.declared.links.Dir.TheVariants.{Forth, Back}
-use Rattle.mn_base.specs.Wiring.{nodes_of, links_of, link, is_end, across}
+use Rattle.mn_base.specs.Wiring.{nodes_of, links_of, link, is_end}
 use Rattle.mn_base.specs.Numbers.{has_rd_form}
 use Rattle.mn_topo.specs.declared.vrfs.VrfDef.{VrfDef}
 use Rattle.mn_topo.specs.Lawful.{IsLawful, is_vrf_of}
 use Rattle.mn_topo.specs.Network.{Network, wiring_of}
 use Rattle.mn_topo.specs.VrfTable.{is_edge}
-use Rattle.mn_ledger.specs.Packets.{Token, channel}
+use Rattle.mn_ledger.specs.Packets.{channel}
 use Rattle.mn_ledger.specs.Places.{edges}
-use Rattle.mn_ledger.specs.Verdicts.{one_if}
 use Rattle.mn_ledger.specs.Items.{Channel, Notices, Messages, Routes, Frames, Load, Notice, Says, Tells, Carries, Item, same_channel, items_on, loads_on}
-use Rattle.mn_ledger.proofs.Members.{In, in_range, in_filter}
+use Rattle.mn_ledger.proofs.Members.{In}
 use Rattle.mn_laws.specs.Flight.{IsOfChannel, is_frame, frame_length}
-use Rattle.mn_laws.proofs.Fates.{one_link}
-use Rattle.mn_laws.proofs.Sums.{total, where_so, total-same, total-add, total-none, total-where, times, total-at, once_there, times-filter, where-both, where-turn}
+use Rattle.mn_laws.proofs.Sums.{total, where_so, total-same, total-add, total-none, times, total-at, once_there, times-filter, where-both}
 
 -- 1. Items on channels
 
@@ -49,12 +46,16 @@ by_others t f = by_notices t f + (by_messages t f + by_routes t f)
 add-notices : (t : Network) (f g : Channel → ℕ) → by_notices t (λ c. f c + g c) ≡ by_notices t f + by_notices t g
 add-notices t f g =
     total-same _ _ (nodes_of (wiring_of t)) (λ node i. total-add (λ l. f (Notices l node)) (λ l. g (Notices l node)) (links_of (wiring_of t)))
-    ∙ total-add (λ node. total (λ l. f (Notices l node)) (links_of (wiring_of t))) (λ node. total (λ l. g (Notices l node)) (links_of (wiring_of t))) (nodes_of (wiring_of t))
+    ∙ total-add (λ node. total (λ l. f (Notices l node)) (links_of (wiring_of t))) (λ node. total (λ l. g (Notices l node)) (links_of (wiring_of t)))
+    (nodes_of (wiring_of t))
 
 add-messages : (t : Network) (f g : Channel → ℕ) → by_messages t (λ c. f c + g c) ≡ by_messages t f + by_messages t g
 add-messages t f g =
-    total-same _ _ (links_of (wiring_of t)) (λ l i. turn (f (Messages l (link (wiring_of t) l).a.0)) (g (Messages l (link (wiring_of t) l).a.0)) (f (Messages l (link (wiring_of t) l).b.0)) (g (Messages l (link (wiring_of t) l).b.0)))
-    ∙ total-add (λ l. f (Messages l (link (wiring_of t) l).a.0) + f (Messages l (link (wiring_of t) l).b.0)) (λ l. g (Messages l (link (wiring_of t) l).a.0) + g (Messages l (link (wiring_of t) l).b.0)) (links_of (wiring_of t))
+    total-same _ _ (links_of (wiring_of t))
+    (λ l i. turn (f (Messages l (link (wiring_of t) l).a.0)) (g (Messages l (link (wiring_of t) l).a.0))
+    (f (Messages l (link (wiring_of t) l).b.0)) (g (Messages l (link (wiring_of t) l).b.0)))
+    ∙ total-add (λ l. f (Messages l (link (wiring_of t) l).a.0) + f (Messages l (link (wiring_of t) l).b.0))
+    (λ l. g (Messages l (link (wiring_of t) l).a.0) + g (Messages l (link (wiring_of t) l).b.0)) (links_of (wiring_of t))
   where
     turn : (a b c d : ℕ) → (a + b) + (c + d) ≡ (a + c) + (b + d)
     turn a b c d = omega arith
@@ -80,11 +81,13 @@ at on n c = where_so (same_channel c on) n
 
 no-notices : (t : Network) (f : Channel → ℕ) → ((l node : ℕ) → f (Notices l node) ≡ 0) → by_notices t f ≡ 0
 no-notices t f h =
-    total-same _ (λ _. 0) (nodes_of (wiring_of t)) (λ node i. total-same _ (λ _. 0) (links_of (wiring_of t)) (λ l j. h l node) ∙ total-none (links_of (wiring_of t)))
+    total-same _ (λ _. 0) (nodes_of (wiring_of t))
+    (λ node i. total-same _ (λ _. 0) (links_of (wiring_of t)) (λ l j. h l node) ∙ total-none (links_of (wiring_of t)))
     ∙ total-none (nodes_of (wiring_of t))
 
 no-messages : (t : Network) (f : Channel → ℕ) → ((l node : ℕ) → f (Messages l node) ≡ 0) → by_messages t f ≡ 0
-no-messages t f h = total-same _ (λ _. 0) (links_of (wiring_of t)) (λ l i. two (h l (link (wiring_of t) l).a.0) (h l (link (wiring_of t) l).b.0)) ∙ total-none (links_of (wiring_of t))
+no-messages t f h = total-same _ (λ _. 0) (links_of (wiring_of t)) (λ l i. two (h l (link (wiring_of t) l).a.0) (h l (link (wiring_of t) l).b.0))
+    ∙ total-none (links_of (wiring_of t))
   where
     two : {a b : ℕ} → a ≡ 0 → b ≡ 0 → a + b ≡ 0
     two p q = omega (arith, p, q)
@@ -122,7 +125,8 @@ one-end a b e n apart h = elim (eqb_tells e a) [
 
 one-message : (t : Network) (l node n : ℕ) → IsLawful t → l < length t.links → is_end (wiring_of t) l node ≡ true → by_messages t (at (Messages l node) n) ≡ n
 one-message t l node n lawful below at_end =
-    total-same _ (λ k. where_so (l == k) (where_so (node == (link (wiring_of t) k).a.0) n + where_so (node == (link (wiring_of t) k).b.0) n)) (links_of (wiring_of t))
+    total-same _ (λ k. where_so (l == k) (where_so (node == (link (wiring_of t) k).a.0) n + where_so (node == (link (wiring_of t) k).b.0) n))
+    (links_of (wiring_of t))
     (λ k i. both (l == k) (node == (link (wiring_of t) k).a.0) (node == (link (wiring_of t) k).b.0))
     ∙ total-at l (λ k. where_so (node == (link (wiring_of t) k).a.0) n + where_so (node == (link (wiring_of t) k).b.0) n) (links_of (wiring_of t))
     ∙ once _ _ (once_there l 0 (length t.links) (omega arith) (omega (arith, below)))
@@ -133,7 +137,8 @@ one-message t l node n lawful below at_end =
     both false b c = refl
 
 edge-once : (t : Network) (edge : ℕ) → is_edge t.vrfs edge ≡ true → edge < length t.loopbacks → times edge (edges t) ≡ 1
-edge-once t edge h below = times-filter (λ node. is_edge t.vrfs node) edge (range_with_len 0 (length t.loopbacks)) h ∙ once_there edge 0 (length t.loopbacks) (omega arith) (omega (arith, below))
+edge-once t edge h below = times-filter (λ node. is_edge t.vrfs node) edge (range_with_len 0 (length t.loopbacks)) h
+    ∙ once_there edge 0 (length t.loopbacks) (omega arith) (omega (arith, below))
 
 one-route : (t : Network) (edge peer n : ℕ) → times edge (edges t) ≡ 1 → times peer (edges t) ≡ 1 → by_routes t (at (Routes edge peer) n) ≡ n
 one-route t edge peer n one other =
@@ -142,7 +147,10 @@ one-route t edge peer n one other =
     ∙ total-at edge (λ _. where_so (peer == m) n) (edges t) ∙ once _ _ one)
     ∙ total-at peer (λ _. n) (edges t) ∙ once _ _ other
 
-same-way : (l k : ℕ) (d e : Dir) → (channel l d == channel k e) ≡ ((l == k) && (elim d as (λ _. Bool) [ Forth ↦ elim e as (λ _. Bool) [ Forth ↦ true | Back ↦ false ] | Back ↦ elim e as (λ _. Bool) [ Forth ↦ false | Back ↦ true ] ]))
+same-way : (l k : ℕ) (d e : Dir)
+    → (channel l d == channel k e) ≡
+    ((l == k) && (elim d as
+    (λ _. Bool) [ Forth ↦ elim e as (λ _. Bool) [ Forth ↦ true | Back ↦ false ] | Back ↦ elim e as (λ _. Bool) [ Forth ↦ false | Back ↦ true ] ]))
 same-way l k Forth Forth = alike l k
   where
     alike : (l k : ℕ) → (2 * l == 2 * k) ≡ ((l == k) && true)
@@ -182,7 +190,8 @@ same-way l k Back Forth = other_test (2 * l + 1) (2 * k) (λ e. odd l k e) ∙ s
 
 one-frame : (t : Network) (l : ℕ) (d : Dir) (n : ℕ) → l < length t.links → by_frames t (at (Frames l d) n) ≡ n
 one-frame t l d n below =
-    total-same _ (λ k. where_so (l == k) n) (links_of (wiring_of t)) (λ k i. either d k) ∙ total-at l (λ _. n) (links_of (wiring_of t)) ∙ once _ _ (once_there l 0 (length t.links) (omega arith) (omega (arith, below)))
+    total-same _ (λ k. where_so (l == k) n) (links_of (wiring_of t)) (λ k i. either d k) ∙ total-at l (λ _. n) (links_of (wiring_of t))
+    ∙ once _ _ (once_there l 0 (length t.links) (omega arith) (omega (arith, below)))
   where
     first : (b : Bool) → where_so (b && true) n + where_so (b && false) n ≡ where_so b n
     first true = omega arith
@@ -193,8 +202,10 @@ one-frame t l d n below =
     last false = omega arith
 
     either : (d : Dir) (k : ℕ) → where_so (channel l d == channel k Forth) n + where_so (channel l d == channel k Back) n ≡ where_so (l == k) n
-    either Forth k = ap (λ b. where_so b n + where_so (channel l Forth == channel k Back) n) (same-way l k Forth Forth) ∙ ap (λ b. where_so ((l == k) && true) n + where_so b n) (same-way l k Forth Back) ∙ first (l == k)
-    either Back k = ap (λ b. where_so b n + where_so (channel l Back == channel k Back) n) (same-way l k Back Forth) ∙ ap (λ b. where_so ((l == k) && false) n + where_so b n) (same-way l k Back Back) ∙ last (l == k)
+    either Forth k = ap (λ b. where_so b n + where_so (channel l Forth == channel k Back) n) (same-way l k Forth Forth)
+        ∙ ap (λ b. where_so ((l == k) && true) n + where_so b n) (same-way l k Forth Back) ∙ first (l == k)
+    either Back k = ap (λ b. where_so b n + where_so (channel l Back == channel k Back) n) (same-way l k Back Forth)
+        ∙ ap (λ b. where_so ((l == k) && false) n + where_so b n) (same-way l k Back Back) ∙ last (l == k)
 
 -- 3. All items
 
@@ -206,7 +217,8 @@ edge_below t edge lawful h = below t.vrfs lawful.vrfs.formed h
     below (v ∷ vs) all h =
         let parts = and_parts (is_vrf_of (length t.loopbacks) v) (list_all (is_vrf_of (length t.loopbacks)) vs) all in
         elim (or_ways (edge == v.node.0) (is_edge vs edge) h) [
-          | inl q ↦ subst (λ n. n < length t.loopbacks) (sym (same_numbers edge v.node.0 q)) (ltb-true _ _ (and_parts (nat_lt v.node.0 (length t.loopbacks)) (has_rd_form v.rd.0) parts.0).0)
+          | inl q ↦ subst (λ n. n < length t.loopbacks) (sym (same_numbers edge v.node.0 q))
+              (ltb-true _ _ (and_parts (nat_lt v.node.0 (length t.loopbacks)) (has_rd_form v.rd.0) parts.0).0)
           | inr q ↦ below vs parts.1 q
         ]
 
@@ -220,12 +232,15 @@ third : {a b c : ℕ} (n : ℕ) → a ≡ 0 → b ≡ 0 → c ≡ n → a + (b +
 third n p q r = omega (arith, p, q, r)
 
 other_one : (t : Network) (on : Channel) (load : Load) (n : ℕ) → IsLawful t → IsOfChannel t on load → by_others t (at on n) ≡ where_so (not (is_frame on)) n
-other_one t (Notices l node) Notice n lawful h = three n (one-notice t l node n h.0 h.1) (no-messages t (at (Notices l node) n) (λ _ _. refl)) (no-routes t (at (Notices l node) n) (λ _ _. refl))
-other_one t (Messages l node) (Says m) n lawful h = second n (no-notices t (at (Messages l node) n) (λ _ _. refl)) (one-message t l node n lawful h.0 h.1) (no-routes t (at (Messages l node) n) (λ _ _. refl))
+other_one t (Notices l node) Notice n lawful h = three n (one-notice t l node n h.0 h.1) (no-messages t (at (Notices l node) n) (λ _ _. refl))
+    (no-routes t (at (Notices l node) n) (λ _ _. refl))
+other_one t (Messages l node) (Says m) n lawful h = second n (no-notices t (at (Messages l node) n) (λ _ _. refl))
+    (one-message t l node n lawful h.0 h.1) (no-routes t (at (Messages l node) n) (λ _ _. refl))
 other_one t (Routes edge peer) (Tells m) n lawful h =
     third n (no-notices t (at (Routes edge peer) n) (λ _ _. refl)) (no-messages t (at (Routes edge peer) n) (λ _ _. refl))
     (one-route t edge peer n (edge-once t edge h.0 (edge_below t edge lawful h.0)) (edge-once t peer h.1 (edge_below t peer lawful h.1)))
-other_one t (Frames l d) load n lawful h = three 0 (no-notices t (at (Frames l d) n) (λ _ _. refl)) (no-messages t (at (Frames l d) n) (λ _ _. refl)) (no-routes t (at (Frames l d) n) (λ _ _. refl))
+other_one t (Frames l d) load n lawful h = three 0 (no-notices t (at (Frames l d) n) (λ _ _. refl)) (no-messages t (at (Frames l d) n) (λ _ _. refl))
+    (no-routes t (at (Frames l d) n) (λ _ _. refl))
 other_one t (Notices l node) _ n lawful h = absurd h
 other_one t (Messages l node) _ n lawful h = absurd h
 other_one t (Routes edge peer) _ n lawful h = absurd h
@@ -244,8 +259,10 @@ add-others : (t : Network) (f g : Channel → ℕ) → by_others t (λ c. f c + 
 add-others t f g = omega (arith, add-notices t f g, add-messages t f g, add-routes t f g)
 
 -- by items and by channels
-pub others_weighed : (t : Network) (w : Item → ℕ) (xs : List Item) → IsLawful t → AllOn t xs → total (λ x. where_so (not (is_frame x.on)) (w x)) xs ≡ by_others t (weigh w xs)
-others_weighed t w [] lawful h = sym (three 0 (no-notices t (weigh w []) (λ _ _. refl)) (no-messages t (weigh w []) (λ _ _. refl)) (no-routes t (weigh w []) (λ _ _. refl)))
+pub others_weighed : (t : Network) (w : Item → ℕ) (xs : List Item) → IsLawful t → AllOn t xs
+    → total (λ x. where_so (not (is_frame x.on)) (w x)) xs ≡ by_others t (weigh w xs)
+others_weighed t w [] lawful h = sym
+    (three 0 (no-notices t (weigh w []) (λ _ _. refl)) (no-messages t (weigh w []) (λ _ _. refl)) (no-routes t (weigh w []) (λ _ _. refl)))
 others_weighed t w (x ∷ xs) lawful h =
     ap (λ n. n + total (λ y. where_so (not (is_frame y.on)) (w y)) xs) (sym (other_one t x.on x.load (w x) lawful (h x (inl refl))))
     ∙ ap (λ n. by_others t (at x.on (w x)) + n) (others_weighed t w xs lawful (λ y i. h y (inr i))) ∙ sym (add-others t (at x.on (w x)) (weigh w xs))
@@ -262,7 +279,8 @@ pub as_many_on : (xs : List Item) (on : Channel) → weigh (λ _. 1) xs on ≡ l
 as_many_on [] on = refl
 as_many_on (x ∷ xs) on = by_test (same_channel on x.on) (as_many_on xs on)
   where
-    by_test : (b : Bool) → weigh (λ _. 1) xs on ≡ length (items_on on xs) → where_so b 1 + weigh (λ _. 1) xs on ≡ length (cond b (x ∷ items_on on xs) (items_on on xs))
+    by_test : (b : Bool) → weigh (λ _. 1) xs on ≡ length (items_on on xs)
+        → where_so b 1 + weigh (λ _. 1) xs on ≡ length (cond b (x ∷ items_on on xs) (items_on on xs))
     by_test true h = omega (arith, h)
     by_test false h = omega (arith, h)
 
@@ -270,7 +288,8 @@ pub loads_weigh : (f : Load → ℕ) (xs : List Item) (on : Channel) → weigh (
 loads_weigh f [] on = refl
 loads_weigh f (x ∷ xs) on = by_test (same_channel on x.on) (loads_weigh f xs on)
   where
-    by_test : (b : Bool) → weigh (λ y. f y.load) xs on ≡ total f (loads_on on xs) → where_so b (f x.load) + weigh (λ y. f y.load) xs on ≡ total f (map (λ (y : Item). y.load) (cond b (x ∷ items_on on xs) (items_on on xs)))
+    by_test : (b : Bool) → weigh (λ y. f y.load) xs on ≡ total f (loads_on on xs)
+        → where_so b (f x.load) + weigh (λ y. f y.load) xs on ≡ total f (map (λ (y : Item). y.load) (cond b (x ∷ items_on on xs) (items_on on xs)))
     by_test true h = omega (arith, h)
     by_test false h = omega (arith, h)
 
@@ -278,12 +297,14 @@ pub filter_counts : (p : Item → Bool) (xs : List Item) → length (filter p xs
 filter_counts p [] = refl
 filter_counts p (x ∷ xs) = by_test (p x) (filter_counts p xs)
   where
-    by_test : (b : Bool) → length (filter p xs) ≡ total (λ y. where_so (p y) 1) xs → length (cond b (x ∷ filter p xs) (filter p xs)) ≡ where_so b 1 + total (λ y. where_so (p y) 1) xs
+    by_test : (b : Bool) → length (filter p xs) ≡ total (λ y. where_so (p y) 1) xs
+        → length (cond b (x ∷ filter p xs) (filter p xs)) ≡ where_so b 1 + total (λ y. where_so (p y) 1) xs
     by_test true h = omega (arith, h)
     by_test false h = omega (arith, h)
 
 -- what is no frame has no length
-pub lengths_of_frames : (t : Network) (xs : List Item) → AllOn t xs → total (λ x. frame_length x.load) xs ≡ total (λ x. where_so (is_frame x.on) (frame_length x.load)) xs
+pub lengths_of_frames : (t : Network) (xs : List Item) → AllOn t xs
+    → total (λ x. frame_length x.load) xs ≡ total (λ x. where_so (is_frame x.on) (frame_length x.load)) xs
 lengths_of_frames t xs h = total-same _ _ xs (λ x i. one x.on x.load (h x i))
   where
     one : (on : Channel) (load : Load) → IsOfChannel t on load → frame_length load ≡ where_so (is_frame on) (frame_length load)

@@ -1,32 +1,30 @@
 -- What a lawful topology says by number exists; and a node that can send towards another has a link to its next hop.
-use Rattle.std.proofs.Common.{ℕ, zero, suc, ◌≡◌, ◌≢◌, ◌+◌, ◌<◌, ◌≤◌, ◌⊎◌, inl, inr, Bool, true, false, List, [], ◌∷◌, ◌++◌, length, refl, arith, sym, ◌∙◌, ap, subst, Option, Some, None}
+use Rattle.std.proofs.Common.{ℕ, zero, suc, ◌≡◌, ◌≢◌, ◌<◌, inl, inr, Bool, true, false, List, [], ◌∷◌, ◌++◌, length, refl, arith, sym, ◌∙◌, ap, subst, Option, Some, None}
 use Rattle.std.specs.Prelude.{◌==◌, ◌&&◌, ◌||◌, nat_lt, slice_index_or}
 use Rattle.std.specs.List.{list_all}
 use Rattle.std.proofs.lemmas.Bool.{and_parts, ltb-true}
 use Rattle.std.proofs.lemmas.Bool.Decides.{eqb_tells}
-use Rattle.std.proofs.lemmas.Option.{same_Some}
 use Rattle.mn_base.specs.declared.links.Dir.{Dir}
 use Rattle.mn_base.specs.declared.links.Dir.TheVariants.{Forth, Back}
 use Rattle.mn_base.specs.Numbers.{has_rd_form}
-use Rattle.mn_base.specs.Wiring.{Wiring, link, is_end, across, sender, receiver}
+use Rattle.mn_base.specs.Wiring.{link, is_end, across, sender, receiver}
 use Rattle.mn_base.specs.Paths.{IsNext, next}
 use Rattle.mn_base.proofs.Next.{next_is}
 use Rattle.mn_topo.specs.declared.sites.SiteDef.{SiteDef}
-use Rattle.mn_topo.specs.declared.vrfs.VrfDef.{VrfDef}
 use Rattle.mn_topo.specs.Lawful.{IsLawful, is_vrf_of}
 use Rattle.mn_topo.specs.Network.{Network, wiring_of}
-use Rattle.mn_ledger.specs.Places.{vrf_at, site_at, vrf_of, edge_of, home_of}
+use Rattle.mn_ledger.specs.Places.{vrf_at, vrf_of, edge_of, home_of}
 use Rattle.mn_ledger.specs.World.{World}
 use Rattle.mn_node.specs.Ldp.{Knowledge, hearing, is_operational, is_mapped, usable_over}
 use Rattle.mn_ledger.specs.Transport.{usable, knowledge_of}
 use Rattle.mn_ledger.specs.Packets.{away_from}
-use Rattle.mn_ledger.proofs.Peers.{same_numbers, same_test}
+use Rattle.mn_ledger.proofs.Peers.{same_numbers}
 use Rattle.mn_ledger.proofs.Turning.{dir_ends, across-end}
 use Rattle.mn_laws.specs.Accounts.{AreJoined, GoesOver}
 
 -- 1. Sites, VRFs and edges
 
-at_all : {A : Type 0} (p : A → Bool) (xs : List A) (i : ℕ) (d : A) → list_all p xs ≡ true → i < length xs → p (slice_index_or xs i d) ≡ true
+pub at_all : {A : Type 0} (p : A → Bool) (xs : List A) (i : ℕ) (d : A) → list_all p xs ≡ true → i < length xs → p (slice_index_or xs i d) ≡ true
 at_all p [] i d h g = absurd (none i g)
   where
     none : (i : ℕ) → i < 0 → ⊥
@@ -39,7 +37,8 @@ vrf_there t site lawful h = ltb-true _ _ (at_all (λ (s : SiteDef). nat_lt s.vrf
 
 pub edge_there : (t : Network) (v : ℕ) → IsLawful t → v < length t.vrfs → edge_of t v < length t.loopbacks
 edge_there t v lawful h =
-    ltb-true _ _ (and_parts (nat_lt (edge_of t v) (length t.loopbacks)) (has_rd_form (vrf_at t v).rd.0) (at_all (is_vrf_of (length t.loopbacks)) t.vrfs v _ lawful.vrfs.formed h)).0
+    ltb-true _ _ (and_parts (nat_lt (edge_of t v) (length t.loopbacks)) (has_rd_form (vrf_at t v).rd.0)
+    (at_all (is_vrf_of (length t.loopbacks)) t.vrfs v _ lawful.vrfs.formed h)).0
 
 pub home_there : (t : Network) (site : ℕ) → IsLawful t → site < length t.sites → home_of t site < length t.loopbacks
 home_there t site lawful h = edge_there t (vrf_of t site) lawful (vrf_there t site lawful h)
@@ -90,16 +89,19 @@ sends_from t l node h = elim (eqb_tells (link (wiring_of t) l).a.0 node) [
   | inr q ↦ rw q.0 (same_numbers (link (wiring_of t) l).b.0 node (sym (ap (λ b. b || ((link (wiring_of t) l).b.0 == node)) q.0) ∙ h))
 ]
 
-pub hop_is : (t : Network) (w : World) (node edge : ℕ) (hop : ℕ × ℕ) → IsLawful t → node < length t.loopbacks → node ≢ edge → usable t w.config w.views w.sessions node edge ≡ Some hop → IsHop t node hop
+pub hop_is : (t : Network) (w : World) (node edge : ℕ) (hop : ℕ × ℕ) → IsLawful t → node < length t.loopbacks → node ≢ edge
+    → usable t w.config w.views w.sessions node edge ≡ Some hop → IsHop t node hop
 hop_is t w node edge hop lawful below apart h =
     let k : Knowledge = knowledge_of (wiring_of t) w.config w.views w.sessions node in
     let is : next (wiring_of t) k.view node edge ≡ Some hop = by_next k edge (next (wiring_of t) k.view node edge) hop h in
-    let n : IsNext (wiring_of t) k.view node edge (Some hop) = subst (IsNext (wiring_of t) k.view node edge) is (next_is (wiring_of t) k.view edge lawful.joins_nodes node below apart) in
+    let n : IsNext (wiring_of t) k.view node edge (Some hop) = subst (IsNext (wiring_of t) k.view node edge) is
+    (next_is (wiring_of t) k.view edge lawful.joins_nodes node below apart) in
     record { there = n.1.there; at_node = n.1.at_node; leads = n.0; sends = sends_from t hop.1 node n.1.at_node }
 
 -- 4. Paths
 
-pub goes_further : (t : Network) (from : ℕ) (nodes : List ℕ) (last next : ℕ) → GoesOver t from nodes last → AreJoined t last next → GoesOver t from (nodes ++ next ∷ []) next
+pub goes_further : (t : Network) (from : ℕ) (nodes : List ℕ) (last next : ℕ) → GoesOver t from nodes last → AreJoined t last next
+    → GoesOver t from (nodes ++ next ∷ []) next
 goes_further t from [] last next h j = (subst (λ n. AreJoined t n next) (sym h) j, refl)
 goes_further t from (node ∷ nodes) last next h j = (h.0, goes_further t node nodes last next h.1 j)
 

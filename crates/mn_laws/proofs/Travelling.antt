@@ -1,46 +1,38 @@
 -- Each step keeps what is known of each packet: a packet that is sent, one that is carried, one that is lost, and a link that is cut.
-use Rattle.std.proofs.Common.{ℕ, zero, suc, ◌≡◌, ◌≢◌, ◌+◌, ◌-◌, ◌<◌, ◌≤◌, ◌⊎◌, inl, inr, Bool, true, false, List, [], ◌∷◌, ◌++◌, length, take, refl, arith, sym, ◌∙◌, ap, subst, Option, Some, None}
+use Rattle.std.proofs.Common.{ℕ, suc, ◌≡◌, ◌≢◌, ◌+◌, ◌-◌, ◌<◌, ◌≤◌, ◌⊎◌, inl, inr, Bool, true, false, List, [], ◌∷◌, ◌++◌, length, take, refl, arith, sym, ◌∙◌, ap, subst, Option, Some, None}
 use Rattle.std.specs.Prelude.{◌==◌, ◌&&◌, ◌||◌, not, nat_le, is_none, slice_get, slice_index_or, IsTrue}
 use Rattle.std.proofs.lemmas.Bool.Decides.{eqb_tells, leb_tells}
 use Rattle.std.proofs.lemmas.List.{length-append}
-use Rattle.std.proofs.lemmas.Option.{slice_get_within, get_or_from_slice_get, same_Some}
 use Rattle.mn_base.specs.declared.drops.Rule.{Rule}
 use Rattle.mn_base.specs.declared.drops.Rule.TheVariants as rule
 use Rattle.mn_base.specs.declared.links.Dir.{Dir}
 use Rattle.mn_base.specs.declared.links.Dir.TheVariants.{Forth, Back}
 use Rattle.mn_base.specs.declared.numbers.LinkNo.{LinkNo}
 use Rattle.mn_base.specs.declared.numbers.NodeNo.{NodeNo}
-use Rattle.mn_base.specs.Wiring.{sender, receiver, across}
-use Rattle.mn_ipv4.specs.Header.{good, ttl_of, aged, destination_of}
+use Rattle.mn_base.specs.Wiring.{sender, receiver}
+use Rattle.mn_ipv4.specs.Header.{good, ttl_of, aged}
 use Rattle.mn_ipv4.proofs.Laws.{IsGood-from_good, length-aged, ttl_of-aged, get_or-aged, good-aged, aged-aged}
 use Rattle.mn_topo.specs.Lawful.{IsLawful}
 use Rattle.mn_topo.specs.Network.{Network, wiring_of}
-use Rattle.mn_topo.specs.Steps.{fits}
-use Rattle.mn_topo.specs.declared.steps.Step.{Step}
-use Rattle.mn_topo.specs.declared.steps.Step.TheVariants.{LinkDown, Inject, Carry, Lose}
+use Rattle.mn_topo.specs.declared.steps.Step.TheVariants.{LinkDown, Carry, Lose}
 use Rattle.mn_topo.specs.declared.steps.JournalEntry.{JournalEntry}
 use Rattle.mn_ledger.specs.declared.verdict.Verdict.{Verdict}
 use Rattle.mn_ledger.specs.declared.verdict.Verdict.TheVariants.{Delivered, Dropped, Flying}
-use Rattle.mn_ledger.specs.Places.{home_of, vrf_of}
-use Rattle.mn_ledger.specs.Tables.{put}
+use Rattle.mn_ledger.specs.Places.{home_of}
 use Rattle.mn_ledger.specs.World.{World}
 use Rattle.mn_ledger.specs.Transport.{usable}
 use Rattle.mn_ledger.specs.Vpn.{HeldRoute}
-use Rattle.mn_ledger.specs.Lawful.{IsLawfulJournal}
-use Rattle.mn_ledger.specs.Packets.{Token, Packets, channel, flying_on, away_from, judged, drop_at, visited, deliver, hop_over, bound, one_more, taken, is_attachment, arrive, carry, lose, cut_each, cut, before_step}
-use Rattle.mn_ledger.specs.Ledger.{injects}
+use Rattle.mn_ledger.specs.Packets.{Token, Packets, channel, flying_on, away_from, drop_at, visited, deliver, hop_over, taken, is_attachment, arrive, carry, lose, cut, before_step}
 use Rattle.mn_ledger.specs.Verdicts.{injections, verdict_on}
-use Rattle.mn_ledger.proofs.Members.{In, in_contained}
-use Rattle.mn_ledger.proofs.GoingBy.{put_here, put_off}
+use Rattle.mn_ledger.proofs.Members.{In}
 use Rattle.mn_ledger.proofs.OnePlace.{loosen}
 use Rattle.mn_ledger.proofs.Peers.{same_numbers}
-use Rattle.mn_laws.specs.Accounts.{world_at, packets_at, Sending, IsSent, IsBoundFor, routes_at, MayEnter, AreJoined, GoesOver, path_of, IsItsPath, node_of, is_flying, ttl_left, IsPassedOn, FallsTo, arrival_rules, applies_at_arrival, EndsInFlight, FellAtEntry, FellInFlight}
+use Rattle.mn_laws.specs.Accounts.{world_at, packets_at, Sending, IsSent, routes_at, AreJoined, GoesOver, path_of, IsItsPath, node_of, is_flying, ttl_left, IsPassedOn, FallsTo, arrival_rules, applies_at_arrival, EndsInFlight}
 use Rattle.mn_laws.specs.Named.{NamesItsSite}
-use Rattle.mn_laws.proofs.At.{bytes_of, stepped_to, packets_step, lawful_step}
-use Rattle.mn_laws.proofs.Elsewhere.{Same, judged_here, visited_here, cut_here, cut_others, cut_paths, cut_counts, cut_off, in_pushed}
-use Rattle.mn_laws.proofs.Entering.{Falls, AtEntry, enters}
-use Rattle.mn_laws.proofs.Moving.{after_step, injected_is, carried_is, lost_is, cut_is, Leaves, AtArrival, arrives}
-use Rattle.mn_laws.proofs.There.{home_there, receiver_there, joined_over, IsHop, hop_is, goes_further}
+use Rattle.mn_laws.proofs.At.{bytes_of, packets_step}
+use Rattle.mn_laws.proofs.Elsewhere.{judged_here, visited_here, cut_here, cut_others, cut_paths, cut_counts, cut_off, in_pushed}
+use Rattle.mn_laws.proofs.Moving.{after_step, carried_is, lost_is, cut_is, arrives}
+use Rattle.mn_laws.proofs.There.{receiver_there, joined_over, IsHop, hop_is, goes_further}
 use Rattle.mn_laws.proofs.Fates as fates
 use Rattle.mn_laws.proofs.Fates.{frame_of, HasFlown, Flies, Ends, Arrives, FateIs, IsKnown, placed, in_verdicts, in_paths, in_counts, where_it_flies, some_frame, none_yet, stays_known, left_known, flown_on, in_get, one_link}
 
@@ -66,7 +58,8 @@ passed b n ttl fine less = record {
 -- what is left, of what was pushed
 aged_on : (b : List ℕ) (len : ℕ) → IsTrue (good b) → len + 2 ≤ ttl_of b → aged (aged b 1) (ttl_of (aged b 1) - (ttl_of b - len - 1)) ≡ aged b (1 + len)
 aged_on b len fine h =
-    ap (aged (aged b 1)) (ap (λ n. n - (ttl_of b - len - 1)) (ttl_of-aged b 1 (IsGood-from_good b fine)) ∙ count (ttl_of b) len h) ∙ aged-aged b 1 len (IsGood-from_good b fine)
+    ap (aged (aged b 1)) (ap (λ n. n - (ttl_of b - len - 1)) (ttl_of-aged b 1 (IsGood-from_good b fine)) ∙ count (ttl_of b) len h)
+    ∙ aged-aged b 1 len (IsGood-from_good b fine)
   where
     count : (all len : ℕ) → len + 2 ≤ all → all - 1 - (all - len - 1) ≡ len
     count all len h = omega (arith, h)
@@ -83,7 +76,8 @@ is_it (Some b) a h = ap Some (same_numbers b a h)
 expired : (t : Network) (w : World) (x : HeldRoute) (y ttl : ℕ) → nat_le ttl 1 ≡ true → FallsTo arrival_rules (applies_at_arrival t w x y ttl) rule.TtlExpired
 expired t w x y ttl h = record { earlier = []; later = rule.SiteGone ∷ rule.NoEntry ∷ []; order = refl; here = h; not_before = refl }
 
-gone : (t : Network) (w : World) (x : HeldRoute) (y ttl : ℕ) → nat_le ttl 1 ≡ false → (y == x.edge) ≡ true → is_attachment (w.config.attached x.site) x.attachment ≡ false → FallsTo arrival_rules (applies_at_arrival t w x y ttl) rule.SiteGone
+gone : (t : Network) (w : World) (x : HeldRoute) (y ttl : ℕ) → nat_le ttl 1 ≡ false → (y == x.edge) ≡ true
+    → is_attachment (w.config.attached x.site) x.attachment ≡ false → FallsTo arrival_rules (applies_at_arrival t w x y ttl) rule.SiteGone
 gone t w x y ttl h at off = record {
   earlier = rule.TtlExpired ∷ [];
   later = rule.NoEntry ∷ [];
@@ -95,7 +89,8 @@ gone t w x y ttl h at off = record {
     both : (a b : Bool) → a ≡ true → b ≡ false → (a && not b) ≡ true
     both a b h g = rw (h, g) refl
 
-stuck : (t : Network) (w : World) (x : HeldRoute) (y ttl : ℕ) → nat_le ttl 1 ≡ false → (y == x.edge) ≡ false → usable t w.config w.views w.sessions y x.edge ≡ None → FallsTo arrival_rules (applies_at_arrival t w x y ttl) rule.NoEntry
+stuck : (t : Network) (w : World) (x : HeldRoute) (y ttl : ℕ) → nat_le ttl 1 ≡ false → (y == x.edge) ≡ false
+    → usable t w.config w.views w.sessions y x.edge ≡ None → FallsTo arrival_rules (applies_at_arrival t w x y ttl) rule.NoEntry
 stuck t w x y ttl h far none = record {
   earlier = rule.TtlExpired ∷ rule.SiteGone ∷ [];
   later = [];
@@ -111,10 +106,12 @@ stuck t w x y ttl h far none = record {
 
 -- what holds of routes that were held: they name what exists
 abbrev pub HoldsSites : Network → List JournalEntry → Type 0
-HoldsSites t es = (n site : ℕ) (x : HeldRoute) → n ≤ length es → site < length t.sites → In (routes_at t (world_at t es n) site) x → NamesItsSite t (world_at t es n).config (home_of t site) x
+HoldsSites t es = (n site : ℕ) (x : HeldRoute) → n ≤ length es → site < length t.sites → In (routes_at t (world_at t es n) site) x
+    → NamesItsSite t (world_at t es n).config (home_of t site) x
 
 -- the packet has this verdict and path now
-pub known_by : (t : Network) (es : List JournalEntry) (ps : List (List ℕ)) (s : Sending) (n : ℕ) (v : Verdict) (path : List ℕ) (q : Packets) → packets_at t es ps n ≡ q → verdict_on q s.packet ≡ v → path_of q s.packet ≡ path
+pub known_by : (t : Network) (es : List JournalEntry) (ps : List (List ℕ)) (s : Sending) (n : ℕ) (v : Verdict) (path : List ℕ) (q : Packets)
+    → packets_at t es ps n ≡ q → verdict_on q s.packet ≡ v → path_of q s.packet ≡ path
     → IsItsPath t s.site v path → FateIs t es ps s n v → IsKnown t es ps s n
 known_by t es ps s n v path q now is goes way fate =
     let is_now : verdict_on (packets_at t es ps n) s.packet ≡ v = ap (λ w. verdict_on w s.packet) now ∙ is in
@@ -125,7 +122,8 @@ known_by t es ps s n v path q now is goes way fate =
     }
 
 -- the path with one node more
-further : (t : Network) (site : ℕ) (v w : Verdict) (path : List ℕ) (y : ℕ) → IsItsPath t site v path → AreJoined t (node_of t v) y → node_of t w ≡ y → IsItsPath t site w (path ++ y ∷ [])
+further : (t : Network) (site : ℕ) (v w : Verdict) (path : List ℕ) (y : ℕ) → IsItsPath t site v path → AreJoined t (node_of t v) y → node_of t w ≡ y
+    → IsItsPath t site w (path ++ y ∷ [])
 further t site v w path y h j is = record {
   rest = h.rest ++ y ∷ [];
   begins = ap (λ p. p ++ y ∷ []) h.begins;
@@ -145,7 +143,8 @@ pub record Takes (t : Network) (es : List JournalEntry) (ps : List (List ℕ)) (
   pub flies : Flies t es ps s n l
   pub way : IsItsPath t s.site (Flying l d) (path_of (packets_at t es ps n) s.packet)
 
-pub takes : (t : Network) (es : List JournalEntry) (ps : List (List ℕ)) (s : Sending) (n : ℕ) (e : JournalEntry) (l : LinkNo) (d : Dir) → IsSent es ps s → s.place < n → slice_get es n ≡ Some e → IsKnown t es ps s n
+pub takes : (t : Network) (es : List JournalEntry) (ps : List (List ℕ)) (s : Sending) (n : ℕ) (e : JournalEntry) (l : LinkNo) (d : Dir)
+    → IsSent es ps s → s.place < n → slice_get es n ≡ Some e → IsKnown t es ps s n
     → verdict_on (packets_at t es ps n) s.packet ≡ Flying l d → Takes t es ps s n e l d
 takes t es ps s n e l d sent below there h is = record {
   sent = sent;
@@ -157,7 +156,8 @@ takes t es ps s n e l d sent below there h is = record {
 }
 
 -- it ends in this step
-falls_now : (t : Network) (es : List JournalEntry) (ps : List (List ℕ)) (s : Sending) (n : ℕ) (e : JournalEntry) (l : LinkNo) (d : Dir) (cause : Rule) (node : NodeNo) → (k : Takes t es ps s n e l d)
+falls_now : (t : Network) (es : List JournalEntry) (ps : List (List ℕ)) (s : Sending) (n : ℕ) (e : JournalEntry) (l : LinkNo) (d : Dir) (cause : Rule)
+    (node : NodeNo) → (k : Takes t es ps s n e l d)
     → verdict_on (packets_at t es ps (suc n)) s.packet ≡ Dropped cause node
     → EndsInFlight t (world_at t es n) e.step l d k.flies.route (ttl_left s (path_of (packets_at t es ps n) s.packet)) cause node
     → fates.Falls t es ps s (suc n) cause node
@@ -174,9 +174,11 @@ length_more p y = length-append p (y ∷ [])
 
 -- 4. A frame that is carried
 
-module _ (t : Network) (lawful : IsLawful t) (es : List JournalEntry) (ps : List (List ℕ)) (s : Sending) (n : ℕ) (e : JournalEntry) (l : LinkNo) (d : Dir) (place : ℕ) (k : Takes t es ps s n e l d)
-    (carries : e.step ≡ Carry l d place) (at_place : slice_get ((packets_at t es ps n).flying (channel l.0 d)) place ≡ Some (frame_of s k.flies.route (path_of (packets_at t es ps n) s.packet))) where
-
+module _ (t : Network) (lawful : IsLawful t) (es : List JournalEntry) (ps : List (List ℕ)) (s : Sending) (n : ℕ) (e : JournalEntry) (l : LinkNo)
+    (d : Dir) (place : ℕ) (k : Takes t es ps s n e l d)
+    (carries : e.step ≡ Carry l d place)
+    (at_place : slice_get ((packets_at t es ps n).flying (channel l.0 d)) place ≡ Some
+    (frame_of s k.flies.route (path_of (packets_at t es ps n) s.packet))) where
   abbrev path : List ℕ
   path = path_of (packets_at t es ps n) s.packet
 
@@ -199,15 +201,18 @@ module _ (t : Network) (lawful : IsLawful t) (es : List JournalEntry) (ps : List
   joined : AreJoined t (sender (wiring_of t) l.0 d) node
   joined = joined_over t l.0 d lawful k.flies.there
 
-  dropped_there : (cause : Rule) → FallsTo arrival_rules (applies_at_arrival t (world_at t es n) k.flies.route node frame.ttl) cause → packets_at t es ps (suc n) ≡ drop_at there_now s.packet cause node → IsKnown t es ps s (suc n)
+  dropped_there : (cause : Rule) → FallsTo arrival_rules (applies_at_arrival t (world_at t es n) k.flies.route node frame.ttl) cause
+      → packets_at t es ps (suc n) ≡ drop_at there_now s.packet cause node → IsKnown t es ps s (suc n)
   dropped_there cause falls now =
       let v : Verdict = Dropped cause (record { 0 = node }) in
       let first : verdict_on (drop_at there_now s.packet cause node) s.packet ≡ v = judged_here there_now s.packet v inside in
-      known_by t es ps s (suc n) v (path ++ node ∷ []) (drop_at there_now s.packet cause node) now first path_now (further t s.site (Flying l d) v path node k.way joined refl)
+      known_by t es ps s (suc n) v (path ++ node ∷ []) (drop_at there_now s.packet cause node) now first path_now
+      (further t s.site (Flying l d) v path node k.way joined refl)
       (falls_now t es ps s n e l d cause (record { 0 = node }) k (ap (λ w. verdict_on w s.packet) now ∙ first)
       (subst (λ x. EndsInFlight t (world_at t es n) x l d k.flies.route frame.ttl cause (record { 0 = node })) (sym carries) (refl, refl, refl, falls)))
 
-  delivered_there : nat_le frame.ttl 1 ≡ false → (node == k.flies.route.edge) ≡ true → is_attachment ((world_at t es n).config.attached k.flies.route.site) k.flies.route.attachment ≡ true
+  delivered_there : nat_le frame.ttl 1 ≡ false → (node == k.flies.route.edge) ≡ true
+      → is_attachment ((world_at t es n).config.attached k.flies.route.site) k.flies.route.attachment ≡ true
       → packets_at t es ps (suc n) ≡ deliver there_now s.packet k.flies.route.site (frame.ttl - 1) frame.bytes → IsKnown t es ps s (suc n)
   delivered_there lives at_edge attached now =
       let route : HeldRoute = k.flies.route in
@@ -222,7 +227,16 @@ module _ (t : Network) (lawful : IsLawful t) (es : List JournalEntry) (ps : List
         route = route;
         bound = k.flies.bound;
         to_site = refl;
-        ends = record { when = n; entry = e; there = k.there; sent = omega (arith, k.below); past = omega arith; flown = k.flies.flown; first = ap (λ w. verdict_on w s.packet) now ∙ first };
+        ends = record {
+          when = n;
+          entry = e;
+          there = k.there;
+          sent = omega (arith, k.below);
+          past = omega arith;
+          flown = k.flies.flown;
+          first = ap
+              (λ w. verdict_on w s.packet) now ∙ first;
+        };
         attached = is_it ((world_at t es n).config.attached route.site) route.attachment attached;
         lowered = omega (arith, two, ap length now_path, length_more path node);
         counted = refl;
@@ -232,10 +246,12 @@ module _ (t : Network) (lawful : IsLawful t) (es : List JournalEntry) (ps : List
       })
 
   -- it flies on
-  flies_there : nat_le frame.ttl 1 ≡ false → (node == k.flies.route.edge) ≡ false → (hop : ℕ × ℕ) → usable t (world_at t es n).config (world_at t es n).views (world_at t es n).sessions node k.flies.route.edge ≡ Some hop
+  flies_there : nat_le frame.ttl 1 ≡ false → (node == k.flies.route.edge) ≡ false → (hop : ℕ × ℕ)
+      → usable t (world_at t es n).config (world_at t es n).views (world_at t es n).sessions node k.flies.route.edge ≡ Some hop
       → packets_at t es ps (suc n) ≡ hop_over t there_now (record frame { ttl = frame.ttl - 1 }) node rule.NoEntry (Some hop) → IsKnown t es ps s (suc n)
   flies_there lives far hop can now =
-      let to : IsHop t node hop = hop_is t (world_at t es n) node k.flies.route.edge hop lawful (receiver_there t l.0 d lawful k.flies.there) (apart node k.flies.route.edge far) can in
+      let to : IsHop t node hop = hop_is t (world_at t es n) node k.flies.route.edge hop lawful (receiver_there t l.0 d lawful k.flies.there)
+      (apart node k.flies.route.edge far) can in
       let dir : Dir = away_from t hop.1 node in
       let link : LinkNo = record { 0 = hop.1 } in
       let v : Verdict = Flying link dir in
@@ -264,18 +280,23 @@ module _ (t : Network) (lawful : IsLawful t) (es : List JournalEntry) (ps : List
       one_less : (all len more : ℕ) → more ≡ len + 1 → all - len - 1 ≡ all - more
       one_less all len more h = omega (arith, h)
 
-      frame_now : path ++ node ∷ [] ≡ path_of (packets_at t es ps (suc n)) s.packet → record frame { ttl = frame.ttl - 1 } ≡ frame_of s k.flies.route (path_of (packets_at t es ps (suc n)) s.packet)
+      frame_now : path ++ node ∷ [] ≡ path_of (packets_at t es ps (suc n)) s.packet
+          → record frame { ttl = frame.ttl - 1 } ≡ frame_of s k.flies.route (path_of (packets_at t es ps (suc n)) s.packet)
       frame_now h =
-          ap (λ m. record (frame_of s k.flies.route path) { ttl = m }) (one_less (ttl_of s.bytes) (length path) (length (path_of (packets_at t es ps (suc n)) s.packet)) (ap length (sym h) ∙ length_more path node))
+          ap (λ m. record (frame_of s k.flies.route path) { ttl = m })
+          (one_less (ttl_of s.bytes) (length path) (length (path_of (packets_at t es ps (suc n)) s.packet)) (ap length (sym h) ∙ length_more path node))
 
       none_left : (c : ℕ) (x : Token) → In (there_now.flying c) x → x.packet ≢ s.packet
       none_left c x i same =
-          none_counted (subst (λ m. 1 ≤ m) ((loosen (packets_at t es ps n) (channel l.0 d) place (injections (take n es)) frame (placed t es ps n) at_place).none c) (in_counts s.packet (there_now.flying c) x i same))
+          none_counted (subst (λ m. 1 ≤ m)
+          ((loosen (packets_at t es ps n) (channel l.0 d) place (injections (take n es)) frame (placed t es ps n) at_place).none c)
+          (in_counts s.packet (there_now.flying c) x i same))
         where
           none_counted : 1 ≤ 0 → ⊥
           none_counted h = omega (arith, h)
 
-      new_frame : (c : ℕ) (x : Token) → In ((hop_over t there_now (record frame { ttl = frame.ttl - 1 }) node rule.NoEntry (Some hop)).flying c) x → x.packet ≡ s.packet → x ≡ record frame { ttl = frame.ttl - 1 }
+      new_frame : (c : ℕ) (x : Token) → In ((hop_over t there_now (record frame { ttl = frame.ttl - 1 }) node rule.NoEntry (Some hop)).flying c) x
+          → x.packet ≡ s.packet → x ≡ record frame { ttl = frame.ttl - 1 }
       new_frame c x i same = by_place (in_pushed there_now.flying (channel hop.1 (away_from t hop.1 node)) (record frame { ttl = frame.ttl - 1 }) c x i)
         where
           by_place : In (there_now.flying c) x ⊎ (record frame { ttl = frame.ttl - 1 } ≡ x) → x ≡ record frame { ttl = frame.ttl - 1 }
@@ -299,8 +320,8 @@ module _ (t : Network) (lawful : IsLawful t) (es : List JournalEntry) (ps : List
 
 -- 5. A frame that is lost, and a link that is cut
 
-module _ (t : Network) (es : List JournalEntry) (ps : List (List ℕ)) (s : Sending) (n : ℕ) (e : JournalEntry) (l : LinkNo) (d : Dir) (k : Takes t es ps s n e l d) where
-
+module _ (t : Network) (es : List JournalEntry) (ps : List (List ℕ)) (s : Sending) (n : ℕ) (e : JournalEntry) (l : LinkNo) (d : Dir)
+    (k : Takes t es ps s n e l d) where
   abbrev path_before : List ℕ
   path_before = path_of (packets_at t es ps n) s.packet
 
@@ -308,14 +329,16 @@ module _ (t : Network) (es : List JournalEntry) (ps : List (List ℕ)) (s : Send
   sender_of = sender (wiring_of t) l.0 d
 
   -- it is dropped by the node that sent it
-  dropped_on_link : (cause : Rule) (q : Packets) → packets_at t es ps (suc n) ≡ q → verdict_on q s.packet ≡ Dropped cause (record { 0 = sender_of }) → path_of q s.packet ≡ path_before
+  dropped_on_link : (cause : Rule) (q : Packets) → packets_at t es ps (suc n) ≡ q → verdict_on q s.packet ≡ Dropped cause (record { 0 = sender_of })
+      → path_of q s.packet ≡ path_before
       → EndsInFlight t (world_at t es n) e.step l d k.flies.route (ttl_left s path_before) cause (record { 0 = sender_of }) → IsKnown t es ps s (suc n)
   dropped_on_link cause q now first same how =
       known_by t es ps s (suc n) (Dropped cause (record { 0 = sender_of })) path_before q now first same
       (there_too t s.site (Flying l d) (Dropped cause (record { 0 = sender_of })) path_before k.way refl)
       (falls_now t es ps s n e l d cause (record { 0 = sender_of }) k (ap (λ w. verdict_on w s.packet) now ∙ first) how)
 
-  pub lost_known : (place : ℕ) (frame : Token) → e.step ≡ Lose l d place → slice_get ((packets_at t es ps n).flying (channel l.0 d)) place ≡ Some frame → frame.packet ≡ s.packet → IsKnown t es ps s (suc n)
+  pub lost_known : (place : ℕ) (frame : Token) → e.step ≡ Lose l d place
+      → slice_get ((packets_at t es ps n).flying (channel l.0 d)) place ≡ Some frame → frame.packet ≡ s.packet → IsKnown t es ps s (suc n)
   lost_known place frame loses at_place same =
       let u : Packets = taken (before_step (packets_at t es ps n)) l.0 d place in
       dropped_on_link rule.Lost (drop_at u frame.packet rule.Lost sender_of)
@@ -323,9 +346,11 @@ module _ (t : Network) (es : List JournalEntry) (ps : List (List ℕ)) (s : Send
       ∙ ap (λ x. after_step t (world_at t es n) (packets_at t es ps n) x (bytes_of ps (injections (take n es)))) loses
       ∙ lost_is t (world_at t es n) (packets_at t es ps n) l d place (bytes_of ps (injections (take n es)))
       ∙ ap (lose u sender_of) at_place)
-      (ap (λ j. verdict_on (drop_at u j rule.Lost sender_of) s.packet) same ∙ judged_here u s.packet (Dropped rule.Lost (record { 0 = sender_of })) (in_verdicts t es ps s n k.sent k.below))
+      (ap (λ j. verdict_on (drop_at u j rule.Lost sender_of) s.packet) same
+      ∙ judged_here u s.packet (Dropped rule.Lost (record { 0 = sender_of })) (in_verdicts t es ps s n k.sent k.below))
       refl
-      (subst (λ x. EndsInFlight t (world_at t es n) x l d k.flies.route (ttl_left s path_before) rule.Lost (record { 0 = sender_of })) (sym loses) (refl, refl, refl, refl))
+      (subst (λ x. EndsInFlight t (world_at t es n) x l d k.flies.route (ttl_left s path_before) rule.Lost (record { 0 = sender_of })) (sym loses)
+      (refl, refl, refl, refl))
 
   abbrev now_cut : Packets
   now_cut = cut t (cut t (before_step (packets_at t es ps n)) l.0 Forth) l.0 Back
@@ -339,43 +364,59 @@ module _ (t : Network) (es : List JournalEntry) (ps : List (List ℕ)) (s : Send
   cut_path : path_of now_cut s.packet ≡ path_before
   cut_path =
       ap (λ ps. slice_index_or ps s.packet [])
-      (cut_paths (flying_on (cut t (before_step (packets_at t es ps n)) l.0 Forth) l.0 Back) (cut t (before_step (packets_at t es ps n)) l.0 Forth) (channel l.0 Back) (sender (wiring_of t) l.0 Back)
-      ∙ cut_paths (flying_on (before_step (packets_at t es ps n)) l.0 Forth) (before_step (packets_at t es ps n)) (channel l.0 Forth) (sender (wiring_of t) l.0 Forth))
+      (cut_paths (flying_on (cut t (before_step (packets_at t es ps n)) l.0 Forth) l.0 Back) (cut t (before_step (packets_at t es ps n)) l.0 Forth)
+      (channel l.0 Back) (sender (wiring_of t) l.0 Back)
+      ∙ cut_paths (flying_on (before_step (packets_at t es ps n)) l.0 Forth) (before_step (packets_at t es ps n)) (channel l.0 Forth)
+      (sender (wiring_of t) l.0 Forth))
 
 -- where a frame flies is one direction
 one_way : (l : LinkNo) → Flying l Forth ≡ Flying l Back → ⊥
 one_way l h = cc
 
-cut_verdict : (t : Network) (es : List JournalEntry) (ps : List (List ℕ)) (s : Sending) (n : ℕ) (l : LinkNo) (d : Dir) → IsSent es ps s → s.place < n → verdict_on (packets_at t es ps n) s.packet ≡ Flying l d
-    → verdict_on (cut t (cut t (before_step (packets_at t es ps n)) l.0 Forth) l.0 Back) s.packet ≡ Dropped rule.LinkCut (record { 0 = sender (wiring_of t) l.0 d })
+cut_verdict : (t : Network) (es : List JournalEntry) (ps : List (List ℕ)) (s : Sending) (n : ℕ) (l : LinkNo) (d : Dir) → IsSent es ps s → s.place < n
+    → verdict_on (packets_at t es ps n) s.packet ≡ Flying l d
+    → verdict_on (cut t (cut t (before_step (packets_at t es ps n)) l.0 Forth) l.0 Back) s.packet ≡ Dropped rule.LinkCut
+    (record { 0 = sender (wiring_of t) l.0 d })
 cut_verdict t es ps s n l Forth sent below is =
     let w : Packets = before_step (packets_at t es ps n) in
     let first : Packets = cut t w l.0 Forth in
     let frame = some_frame (packets_at t es ps n) (injections (take n es)) s.packet l Forth (placed t es ps n) is in
     let dropped : verdict_on first s.packet ≡ Dropped rule.LinkCut (record { 0 = sender (wiring_of t) l.0 Forth }) =
     ap (verdict_on first) (sym frame.2)
-    ∙ cut_here (flying_on w l.0 Forth) w (channel l.0 Forth) (sender (wiring_of t) l.0 Forth) frame.0 frame.1 (subst (λ j. j < length (packets_at t es ps n).verdicts) (sym frame.2) (in_verdicts t es ps s n sent below)) in
-    (cut_off (flying_on first l.0 Back) first (channel l.0 Back) (sender (wiring_of t) l.0 Back) s.packet (λ x i same. one_way l (sym is ∙ ap (verdict_on (packets_at t es ps n)) (sym same) ∙ where_it_flies (packets_at t es ps n) (injections (take n es)) l Back x (placed t es ps n) (back_is x i))) (λ x i. i)).verdict
+    ∙ cut_here (flying_on w l.0 Forth) w (channel l.0 Forth) (sender (wiring_of t) l.0 Forth) frame.0 frame.1
+    (subst (λ j. j < length (packets_at t es ps n).verdicts) (sym frame.2) (in_verdicts t es ps s n sent below)) in
+    (cut_off (flying_on first l.0 Back) first (channel l.0 Back) (sender (wiring_of t) l.0 Back) s.packet
+    (λ x i same. one_way l
+    (sym is ∙ ap (verdict_on (packets_at t es ps n)) (sym same)
+    ∙ where_it_flies (packets_at t es ps n) (injections (take n es)) l Back x (placed t es ps n) (back_is x i))) (λ x i. i)).verdict
     ∙ dropped
   where
     apart : channel l.0 Back ≢ channel l.0 Forth
     apart h = omega (arith, h)
 
-    back_is : (x : Token) → In ((cut t (before_step (packets_at t es ps n)) l.0 Forth).flying (channel l.0 Back)) x → In ((packets_at t es ps n).flying (channel l.0 Back)) x
-    back_is x i = subst (λ xs. In xs x) (cut_others (flying_on (packets_at t es ps n) l.0 Forth) (before_step (packets_at t es ps n)) (channel l.0 Forth) (sender (wiring_of t) l.0 Forth) (channel l.0 Back) apart) i
+    back_is : (x : Token) → In ((cut t (before_step (packets_at t es ps n)) l.0 Forth).flying (channel l.0 Back)) x
+        → In ((packets_at t es ps n).flying (channel l.0 Back)) x
+    back_is x i = subst (λ xs. In xs x)
+        (cut_others (flying_on (packets_at t es ps n) l.0 Forth) (before_step (packets_at t es ps n)) (channel l.0 Forth)
+        (sender (wiring_of t) l.0 Forth) (channel l.0 Back) apart) i
 cut_verdict t es ps s n l Back sent below is =
     let w : Packets = before_step (packets_at t es ps n) in
     let first : Packets = cut t w l.0 Forth in
     let frame = some_frame (packets_at t es ps n) (injections (take n es)) s.packet l Back (placed t es ps n) is in
     ap (verdict_on (cut t first l.0 Back)) (sym frame.2)
     ∙ cut_here (flying_on first l.0 Back) first (channel l.0 Back) (sender (wiring_of t) l.0 Back) frame.0
-    (subst (λ xs. In xs frame.0) (sym (cut_others (flying_on w l.0 Forth) w (channel l.0 Forth) (sender (wiring_of t) l.0 Forth) (channel l.0 Back) apart)) frame.1)
-    (subst (λ m. frame.0.packet < m) (sym (cut_counts (flying_on w l.0 Forth) w (channel l.0 Forth) (sender (wiring_of t) l.0 Forth)).2) (subst (λ j. j < length (packets_at t es ps n).verdicts) (sym frame.2) (in_verdicts t es ps s n sent below)))
+    (subst (λ xs. In xs frame.0)
+    (sym (cut_others (flying_on w l.0 Forth) w (channel l.0 Forth) (sender (wiring_of t) l.0 Forth) (channel l.0 Back) apart)) frame.1)
+    (subst (λ m. frame.0.packet < m) (sym (cut_counts (flying_on w l.0 Forth) w (channel l.0 Forth) (sender (wiring_of t) l.0 Forth)).2)
+    (subst (λ j. j < length (packets_at t es ps n).verdicts) (sym frame.2) (in_verdicts t es ps s n sent below)))
   where
     apart : channel l.0 Back ≢ channel l.0 Forth
     apart h = omega (arith, h)
 
-pub cut_known : (t : Network) (es : List JournalEntry) (ps : List (List ℕ)) (s : Sending) (n : ℕ) (e : JournalEntry) (l : LinkNo) (d : Dir) → Takes t es ps s n e l d → e.step ≡ LinkDown l → IsKnown t es ps s (suc n)
+pub cut_known : (t : Network) (es : List JournalEntry) (ps : List (List ℕ)) (s : Sending) (n : ℕ) (e : JournalEntry) (l : LinkNo) (d : Dir)
+    → Takes t es ps s n e l d → e.step ≡ LinkDown l → IsKnown t es ps s (suc n)
 cut_known t es ps s n e l d k cuts =
-    dropped_on_link t es ps s n e l d k rule.LinkCut (now_cut t es ps s n e l d k) (cut_to t es ps s n e l d k cuts) (cut_verdict t es ps s n l d k.sent k.below k.is) (cut_path t es ps s n e l d k)
-    (subst (λ x. EndsInFlight t (world_at t es n) x l d k.flies.route (ttl_left s (path_of (packets_at t es ps n) s.packet)) rule.LinkCut (record { 0 = sender (wiring_of t) l.0 d })) (sym cuts) (refl, refl, refl))
+    dropped_on_link t es ps s n e l d k rule.LinkCut (now_cut t es ps s n e l d k) (cut_to t es ps s n e l d k cuts)
+    (cut_verdict t es ps s n l d k.sent k.below k.is) (cut_path t es ps s n e l d k)
+    (subst (λ x. EndsInFlight t (world_at t es n) x l d k.flies.route (ttl_left s (path_of (packets_at t es ps n) s.packet)) rule.LinkCut
+    (record { 0 = sender (wiring_of t) l.0 d })) (sym cuts) (refl, refl, refl))

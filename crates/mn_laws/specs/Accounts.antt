@@ -1,12 +1,11 @@
 -- What is owed to each packet that is sent into the network, in the words of a customer. It reaches only the site of the best
 -- route that its VRF held as it was sent, unchanged but for TTL and checksum; or it falls to the first rule that applies in the
 -- step that ends it; or it is still on its way. RFC 4364, section 5; RFC 3031, section 3.23, and RFC 3443, section 3.1, for the TTL.
-use Rattle.std.specs.Prelude.{◌≡◌, ◌≢◌, ◌≤◌, ◌<◌, ◌⊎◌, ℕ, ◌+◌, ◌-◌, ◌==◌, ◌&&◌, Bool, true, false, not, nat_lt, nat_le, IsTrue, List, [], ◌∷◌, ◌++◌, length, take, slice_index, slice_index_or, slice_get, Option, Some, None, is_some, is_none, ⊤}
-use Rattle.std.specs.List.{Contains, list_any}
+use Rattle.std.specs.Prelude.{◌≡◌, ◌≢◌, ◌≤◌, ◌<◌, ◌⊎◌, ℕ, ◌+◌, ◌-◌, ◌==◌, ◌&&◌, Bool, true, false, not, nat_lt, nat_le, IsTrue, List, [], ◌∷◌, ◌++◌, length, take, slice_index, slice_index_or, slice_get, Option, Some, None, is_some, is_none}
+use Rattle.std.specs.List.{list_any}
 use Rattle.mn_base.specs.declared.drops.Rule.{Rule}
 use Rattle.mn_base.specs.declared.drops.Rule.TheVariants as rule
 use Rattle.mn_base.specs.declared.links.Dir.{Dir}
-use Rattle.mn_base.specs.declared.links.LinkEnds.{LinkEnds}
 use Rattle.mn_base.specs.declared.numbers.LinkNo.{LinkNo}
 use Rattle.mn_base.specs.declared.numbers.NodeNo.{NodeNo}
 use Rattle.mn_base.specs.declared.numbers.SiteNo.{SiteNo}
@@ -28,7 +27,7 @@ use Rattle.mn_ledger.specs.Best.{IsBest}
 use Rattle.mn_ledger.specs.Packets.{Packets, is_attachment}
 use Rattle.mn_ledger.specs.Ledger.{world_of, packets_of}
 use Rattle.mn_ledger.specs.Verdicts.{injections, verdict_on, AreInOnePlace}
-use Rattle.mn_laws.specs.Deliveries.{Delivery, deliveries_of}
+use Rattle.mn_laws.specs.Deliveries.{deliveries_of}
 
 -- 1. A packet that was sent
 
@@ -116,7 +115,8 @@ is_flying (Flying link dir) = true
 is_flying _ = false
 
 -- the entry at this place gave the packet its verdict, which it has kept; until then it flew, or wasn't sent yet
-pub record IsLastStep (topology : Network) (entries : List JournalEntry) (inputs : List (List ℕ)) (sending : Sending) (verdict : Verdict) (when : ℕ) (entry : JournalEntry) : Type 0 where
+pub record IsLastStep (topology : Network) (entries : List JournalEntry) (inputs : List (List ℕ)) (sending : Sending) (verdict : Verdict) (when : ℕ)
+    (entry : JournalEntry) : Type 0 where
   pub there : slice_get entries when ≡ Some entry
   pub sent : sending.place ≤ when
   pub until : (count : ℕ) → sending.place < count → count ≤ when → is_flying (verdict_on (packets_at topology entries inputs count) sending.packet) ≡ true
@@ -133,7 +133,8 @@ pub record IsPassedOn (packet : List ℕ) (ttl : ℕ) (arrived : List ℕ) : Typ
 
 -- it reached the site of the best route that its VRF held as it was sent, while the site was attached as that route says; each
 -- node of its path lowered its TTL by one; and it is the delivery of its copy's number, from 1
-pub record HasArrived (topology : Network) (entries : List JournalEntry) (inputs : List (List ℕ)) (sending : Sending) (site : SiteNo) (ttl copy : ℕ) : Type 0 where
+pub record HasArrived (topology : Network) (entries : List JournalEntry) (inputs : List (List ℕ)) (sending : Sending) (site : SiteNo)
+    (ttl copy : ℕ) : Type 0 where
   pub route : HeldRoute
   pub bound : IsBoundFor topology entries sending route
   pub to_site : site.0 ≡ route.site
@@ -182,7 +183,8 @@ applies_at_entry topology world site bytes rule.BadChecksum = has_bad_checksum b
 applies_at_entry topology world site bytes rule.TtlExpired = nat_lt (ttl_of bytes) 2
 applies_at_entry topology world site bytes rule.NotUnicast = not (is_unicast (destination_of bytes))
 applies_at_entry topology world site bytes rule.NoRoute = not (list_any (λ route. contains route.prefix (destination_of bytes)) (routes_at topology world site))
-applies_at_entry topology world site bytes rule.NoLsp = is_out_of_reach topology world (home_of topology site) (best (routes_at topology world site) (destination_of bytes))
+applies_at_entry topology world site bytes rule.NoLsp = is_out_of_reach topology world (home_of topology site)
+    (best (routes_at topology world site) (destination_of bytes))
 applies_at_entry topology world site bytes other = false
 
 -- the rules where a frame comes to a node, in the order in which they are tried
@@ -200,8 +202,10 @@ applies_at_arrival topology world route node ttl other = false
 -- the frame is lost, or the link goes down
 abbrev pub EndsInFlight : Network → World → Step → LinkNo → Dir → HeldRoute → ℕ → Rule → NodeNo → Type 0
 EndsInFlight topology world (Carry l d place) link dir route ttl cause node =
-    (l ≡ link) × (d ≡ dir) × (node.0 ≡ receiver (wiring_of topology) link.0 dir) × FallsTo arrival_rules (applies_at_arrival topology world route node.0 ttl) cause
-EndsInFlight topology world (Lose l d place) link dir route ttl cause node = (l ≡ link) × (d ≡ dir) × (node.0 ≡ sender (wiring_of topology) link.0 dir) × (cause ≡ rule.Lost)
+    (l ≡ link) × (d ≡ dir) × (node.0 ≡ receiver (wiring_of topology) link.0 dir)
+    × FallsTo arrival_rules (applies_at_arrival topology world route node.0 ttl) cause
+EndsInFlight topology world (Lose l d place) link dir route ttl cause node = (l ≡ link) × (d ≡ dir)
+    × (node.0 ≡ sender (wiring_of topology) link.0 dir) × (cause ≡ rule.Lost)
 EndsInFlight topology world (LinkDown l) link dir route ttl cause node = (l ≡ link) × (node.0 ≡ sender (wiring_of topology) link.0 dir) × (cause ≡ rule.LinkCut)
 EndsInFlight topology world _ link dir route ttl cause node = ⊥
 
@@ -212,15 +216,18 @@ pub record FellAtEntry (topology : Network) (entries : List JournalEntry) (sendi
   pub by_rule : FallsTo entry_rules (applies_at_entry topology (world_at topology entries when) sending.site sending.bytes) cause
 
 -- it flew, bound for the best route that its VRF held as it was sent, and the step ended it
-pub record FellInFlight (topology : Network) (entries : List JournalEntry) (inputs : List (List ℕ)) (sending : Sending) (cause : Rule) (node : NodeNo) (when : ℕ) (entry : JournalEntry) : Type 0 where
+pub record FellInFlight (topology : Network) (entries : List JournalEntry) (inputs : List (List ℕ)) (sending : Sending) (cause : Rule) (node : NodeNo)
+    (when : ℕ) (entry : JournalEntry) : Type 0 where
   pub route : HeldRoute
   pub bound : IsBoundFor topology entries sending route
   pub link : LinkNo
   pub dir : Dir
   pub flew : verdict_on (packets_at topology entries inputs when) sending.packet ≡ Flying link dir
-  pub by_step : EndsInFlight topology (world_at topology entries when) entry.step link dir route (ttl_left sending (path_of (packets_at topology entries inputs when) sending.packet)) cause node
+  pub by_step : EndsInFlight topology (world_at topology entries when) entry.step link dir route
+      (ttl_left sending (path_of (packets_at topology entries inputs when) sending.packet)) cause node
 
-pub record HasFallen (topology : Network) (entries : List JournalEntry) (inputs : List (List ℕ)) (sending : Sending) (cause : Rule) (node : NodeNo) : Type 0 where
+pub record HasFallen (topology : Network) (entries : List JournalEntry) (inputs : List (List ℕ)) (sending : Sending) (cause : Rule)
+    (node : NodeNo) : Type 0 where
   pub when : ℕ
   pub entry : JournalEntry
   pub last : IsLastStep topology entries inputs sending (Dropped cause node) when entry
@@ -243,11 +250,13 @@ IsFate topology entries inputs sending (Dropped cause node) = HasFallen topology
 IsFate topology entries inputs sending (Flying link dir) = IsOnItsWay topology entries inputs sending link dir
 
 -- its verdict and path, after every longer journal too unless it still flies, and what they say
-pub record IsAccountedFor (topology : Network) (entries : List JournalEntry) (inputs : List (List ℕ)) (sending : Sending) (verdict : Verdict) (path : List ℕ) : Type 0 where
+pub record IsAccountedFor (topology : Network) (entries : List JournalEntry) (inputs : List (List ℕ)) (sending : Sending) (verdict : Verdict)
+    (path : List ℕ) : Type 0 where
   pub fate : IsFate topology entries inputs sending verdict
   pub way : IsItsPath topology sending.site verdict path
   pub stays : is_flying verdict ≡ false → (more : List JournalEntry) (later : List (List ℕ))
-      → (verdict_on (packets_of topology (entries ++ more) (inputs ++ later)) sending.packet ≡ verdict) × (path_of (packets_of topology (entries ++ more) (inputs ++ later)) sending.packet ≡ path)
+      → (verdict_on (packets_of topology (entries ++ more) (inputs ++ later)) sending.packet ≡ verdict)
+      × (path_of (packets_of topology (entries ++ more) (inputs ++ later)) sending.packet ≡ path)
 
 -- 9. The account of all packets
 
@@ -267,6 +276,8 @@ pub record Accounts (topology : Network) (entries : List JournalEntry) (inputs :
   pub one_place : AreInOnePlace (packets_of topology entries inputs) (injections entries)
   pub sent : (packet : ℕ) → packet < injections entries → (sending : Sending) × (sending.packet ≡ packet) × IsSent entries inputs sending
   pub accounted : (sending : Sending) → IsSent entries inputs sending
-      → IsAccountedFor topology entries inputs sending (verdict_on (packets_of topology entries inputs) sending.packet) (path_of (packets_of topology entries inputs) sending.packet)
+      → IsAccountedFor topology entries inputs sending (verdict_on (packets_of topology entries inputs) sending.packet)
+      (path_of (packets_of topology entries inputs) sending.packet)
   pub as_many : (packets_of topology entries inputs).copies ≡ length (deliveries_of topology entries inputs)
-  pub copies : (copy : ℕ) → 1 ≤ copy → copy ≤ length (deliveries_of topology entries inputs) → (packet : ℕ) × IsOneCopy (packets_of topology entries inputs) copy packet
+  pub copies : (copy : ℕ) → 1 ≤ copy → copy ≤ length (deliveries_of topology entries inputs)
+      → (packet : ℕ) × IsOneCopy (packets_of topology entries inputs) copy packet

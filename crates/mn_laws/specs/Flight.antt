@@ -27,7 +27,8 @@ AreAscending low high (item ∷ items) = (low ≤ item.number) × AreAscending (
 -- no item was made after one that stands behind it: it was made its channel's delay before it is due
 abbrev pub AreMadeInOrder : Network → List Item → Type 0
 AreMadeInOrder topology [] = ⊤
-AreMadeInOrder topology (item ∷ items) = AllByRecursion (λ other. item.due + delay_on topology other.on ≤ other.due + delay_on topology item.on) items × AreMadeInOrder topology items
+AreMadeInOrder topology (item ∷ items) = AllByRecursion (λ other. item.due + delay_on topology other.on ≤ other.due + delay_on topology item.on) items
+    × AreMadeInOrder topology items
 
 -- 2. Channels
 
@@ -71,7 +72,9 @@ pub record FliesAsCounted (topology : Network) (entries : List JournalEntry) (in
   pub ascending : AreAscending 0 (flight_of topology entries inputs).made (flight_of topology entries inputs).items
   pub in_order : AreMadeInOrder topology (flight_of topology entries inputs).items
   pub channels : (item : Item) → Contains (flight_of topology entries inputs).items item → IsOfChannel topology item.on item.load
-  pub delivered : (on : Channel) (place : ℕ) → place < length (items_on on (flight_of topology entries inputs).items) → IsOpen topology entries inputs (delivering topology on place)
-  pub lost : (l : LinkNo) (dir : Dir) (place : ℕ) → place < length (items_on (Frames l.0 dir) (flight_of topology entries inputs).items) → IsOpen topology entries inputs (Lose l dir place)
+  pub delivered : (on : Channel) (place : ℕ) → place < length (items_on on (flight_of topology entries inputs).items)
+      → IsOpen topology entries inputs (delivering topology on place)
+  pub lost : (l : LinkNo) (dir : Dir) (place : ℕ) → place < length (items_on (Frames l.0 dir) (flight_of topology entries inputs).items)
+      → IsOpen topology entries inputs (Lose l dir place)
   pub counted : length (filter (λ item. not (is_frame item.on)) (flight_of topology entries inputs).items) ≡ in_flight topology (world_of topology entries)
   pub bytes : sum (map (λ item. frame_length item.load) (flight_of topology entries inputs).items) ≡ bytes_flying topology (packets_of topology entries inputs)

@@ -1,12 +1,12 @@
 -- The ids of LDP messages, and the frames sent in a direction, over all lives of a session and a whole journal.
-use Rattle.std.specs.Prelude.{◌≡◌, ℕ, ◌+◌, ◌&&◌, nat_le, List, [], ◌∷◌, ◌++◌, map, filter, length}
+use Rattle.std.specs.Prelude.{◌≡◌, ℕ, ◌+◌, nat_le, List, [], ◌∷◌, ◌++◌, map, filter, length}
 use Rattle.std.specs.List.{range_with_len}
 use Rattle.mn_base.specs.declared.links.Dir.{Dir}
 use Rattle.mn_topo.specs.Network.{Network}
 use Rattle.mn_topo.specs.declared.steps.JournalEntry.{JournalEntry}
 use Rattle.mn_node.specs.Ldp.{Message, Initialization}
 use Rattle.mn_ledger.specs.Ledger.{world_of}
-use Rattle.mn_ledger.specs.Items.{Messages, Frames, Says, Item, same_channel, items_on, loads_on, made_by}
+use Rattle.mn_ledger.specs.Items.{Messages, Frames, Says, Item, items_on, loads_on, made_by}
 
 -- 1. LDP: RFC 5036, section 3.4.1
 
@@ -22,8 +22,10 @@ ids_of messages = ids_after 0 messages
 -- of all that an end said on a link the last is what it said in the present life, whose ids are their places, from 1
 pub record SaysWithIds (topology : Network) (entries : List JournalEntry) (inputs : List (List ℕ)) (l end : ℕ) : Type 0 where
   pub earlier : List Message
-  pub all : loads_on (Messages l end) (made_by topology entries inputs) ≡ map (λ message. Says message) (earlier ++ (world_of topology entries).sessions.said l end)
-  pub ids : ids_of (earlier ++ (world_of topology entries).sessions.said l end) ≡ ids_of earlier ++ range_with_len 1 (length ((world_of topology entries).sessions.said l end))
+  pub all : loads_on (Messages l end) (made_by topology entries inputs) ≡ map (λ message. Says message)
+      (earlier ++ (world_of topology entries).sessions.said l end)
+  pub ids : ids_of (earlier ++ (world_of topology entries).sessions.said l end) ≡ ids_of earlier ++ range_with_len 1
+      (length ((world_of topology entries).sessions.said l end))
 
 -- 2. Frames
 

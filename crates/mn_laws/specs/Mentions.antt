@@ -10,8 +10,10 @@ had_offered wiring before node l fec = is_operational before l && offers wiring 
 
 -- a Mapping of a FEC that it offers now and hadn't offered there, or a Withdraw of one that it had and doesn't offer any more
 abbrev pub IsNewsOf : Wiring → Knowledge → Knowledge → ℕ → ℕ → Message → Type 0
-IsNewsOf wiring before after node l (Mapping fec) = (fec < length wiring.loopbacks) × (offers wiring after node fec ≡ true) × (had_offered wiring before node l fec ≡ false)
-IsNewsOf wiring before after node l (Withdraw fec) = (fec < length wiring.loopbacks) × (offers wiring after node fec ≡ false) × (had_offered wiring before node l fec ≡ true)
+IsNewsOf wiring before after node l (Mapping fec) = (fec < length wiring.loopbacks) × (offers wiring after node fec ≡ true)
+    × (had_offered wiring before node l fec ≡ false)
+IsNewsOf wiring before after node l (Withdraw fec) = (fec < length wiring.loopbacks) × (offers wiring after node fec ≡ false)
+    × (had_offered wiring before node l fec ≡ true)
 IsNewsOf wiring before after node l _ = ⊥
 
 -- the link is one of the node's, to another node

@@ -1,5 +1,5 @@
 -- What a message, a held route or a packet on its way names exists.
-use Rattle.std.specs.Prelude.{◌≡◌, ◌≢◌, ◌<◌, ◌≤◌, ℕ, suc, ◌+◌, true, IsTrue, List, [], ◌∷◌, length, slice_index, slice_get, Some, ⊤}
+use Rattle.std.specs.Prelude.{◌≡◌, ◌<◌, ◌≤◌, ℕ, suc, ◌+◌, true, IsTrue, List, [], ◌∷◌, length, slice_index, slice_get, Some, ⊤}
 use Rattle.std.specs.List.{Contains}
 use Rattle.mn_base.specs.declared.links.Dir.{Dir}
 use Rattle.mn_ipv4.specs.Header.{good, total_length, ttl_of}
@@ -84,7 +84,8 @@ pub record IsGoodFrame (topology : Network) (config : Config) (packets : Packets
   pub bounded : token.pushed ≤ 254
 
 abbrev pub FramesAreGood : Network → World → Packets → Type 0
-FramesAreGood topology world packets = (l : ℕ) (dir : Dir) (token : Token) → Contains (flying_on packets l dir) token → IsGoodFrame topology world.config packets l token
+FramesAreGood topology world packets = (l : ℕ) (dir : Dir) (token : Token) → Contains (flying_on packets l dir) token
+    → IsGoodFrame topology world.config packets l token
 
 -- 5. After every lawful journal
 

@@ -6,6 +6,7 @@ use Rattle.std.proofs.lemmas.Bool.Decides.{eqb_tells}
 use Rattle.std.proofs.lemmas.List.{map-append, take-append-drop}
 use Rattle.std.proofs.lemmas.List.Elements.{filter-append}
 use Rattle.mn_base.specs.declared.links.Dir.{Dir}
+use Rattle.mn_base.proofs.Bools.{no}
 use Rattle.mn_topo.specs.Network.{Network}
 use Rattle.mn_ledger.specs.declared.verdict.Verdict.{Verdict}
 use Rattle.mn_ledger.specs.declared.verdict.Verdict.TheVariants.{Flying}
@@ -17,9 +18,6 @@ use Rattle.mn_ledger.specs.InFlight.{is_in_order, AreLastOf}
 use Rattle.mn_ledger.proofs.Peers.{two_ways, and_left, and_right, same_numbers, same_test, other_test, and_off}
 
 -- 1. Channels that hand over in order
-
-no : false ≡ true → ⊥
-no e = cc
 
 pub same_chan : (on c : Channel) → is_in_order on ≡ true → same_channel on c ≡ true → c ≡ on
 same_chan (Notices l n) (Notices k m) i h = ap (λ x. Notices x m) (same_numbers k l (and_left _ _ h)) ∙ ap (Notices l) (same_numbers m n (and_right _ _ h))

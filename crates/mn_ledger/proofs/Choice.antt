@@ -4,6 +4,7 @@ use Rattle.std.specs.Prelude.{◌==◌, ◌&&◌, ◌||◌, not, nat_lt}
 use Rattle.std.specs.List.{list_any}
 use Rattle.std.proofs.lemmas.Bool.Decides.{eqb_tells, leb_tells, nat_tests}
 use Rattle.std.proofs.lemmas.Nat.{pow_pos}
+use Rattle.mn_base.proofs.Bools.{less_is, less_tells, no, not_true}
 use Rattle.mn_prefix.specs.Prefix.{AddressBlock, IsPrefix, contains}
 use Rattle.mn_topo.specs.Network.{Network}
 use Rattle.mn_topo.specs.Lawful.{IsLawful}
@@ -20,9 +21,6 @@ use Rattle.mn_ledger.proofs.Members.{In, in_contained, contained_in, in_filter, 
 use Rattle.mn_ledger.proofs.Statics.{HasStatics, HasForms, first_statics, first_forms, statics_go, forms_go}
 use Rattle.mn_ledger.proofs.Tellings.{AllGood, tellings_go}
 use Rattle.mn_ledger.proofs.Held.{one_held, held_formed}
-
-no : false ≡ true → ⊥
-no e = cc
 
 -- 1. A number first, and then something else
 
@@ -68,12 +66,6 @@ lex_neither m n later sooner h g = elim (leb_tells (suc m) n) [
 
 less_itself : (n : ℕ) → nat_lt n n ≡ false
 less_itself n = grind (arith, nat_tests)
-
-less_tells : (m n : ℕ) → nat_lt m n ≡ true → m < n
-less_tells m n h = grind (arith, nat_tests, h)
-
-less_is : (m n : ℕ) → m < n → nat_lt m n ≡ true
-less_is m n h = grind (arith, nat_tests, h)
 
 -- 2. The order of sources is strict, and total
 
@@ -243,10 +235,6 @@ in_first (y ∷ ys) x h = inl (ap (λ o. elim o as (λ _. HeldRoute) [ None ↦ 
 first_there : (xs : List HeldRoute) (x : HeldRoute) → In xs x → (y : HeldRoute) × In xs y × (first_of xs ≡ Some y)
 first_there [] x i = absurd i
 first_there (y ∷ ys) x i = (y, inl refl, refl)
-
-not_true : (b : Bool) → not b ≡ true → b ≡ false
-not_true true h = cc
-not_true false h = refl
 
 pub from_unbeaten : (routes : List HeldRoute) (address : ℕ) (x : HeldRoute) → In (unbeaten (matching address routes)) x → IsBest routes address x
 from_unbeaten routes address x i =

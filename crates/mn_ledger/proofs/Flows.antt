@@ -7,6 +7,7 @@ use Rattle.std.proofs.lemmas.List.{map-append, append_assoc, drop-map, drop-drop
 use Rattle.std.proofs.lemmas.List.Elements.{filter-append}
 use Rattle.mn_base.specs.Wiring.{Wiring, nodes_of, link, is_end, across, sender, receiver, JoinsNodes, EndsDiffer}
 use Rattle.mn_base.specs.declared.links.Dir.{Dir}
+use Rattle.mn_base.proofs.Bools.{no}
 use Rattle.mn_topo.specs.Network.{Network, wiring_of}
 use Rattle.mn_topo.specs.Lawful.{IsLawful}
 use Rattle.mn_topo.specs.Steps.{fits}
@@ -34,9 +35,6 @@ use Rattle.mn_ledger.proofs.Members.{In, in_append, in_front, in_rest, in_filter
 use Rattle.mn_ledger.proofs.OnePlace.{stepped}
 use Rattle.mn_ledger.proofs.Frames.{frames_go}
 use Rattle.mn_ledger.proofs.Channels.{same_chan, no_frame, kept, gone, taken, off, loads_in, loads_append, loads_in_append, on_numbered, none_of, no_frames, in_messages, in_routes, noticed, not_noticed, kept_last, gone_last, taken_last}
-
-no : false ≡ true → ⊥
-no e = cc
 
 -- 1. Which channels a step takes from
 

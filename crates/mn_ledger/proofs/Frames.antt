@@ -8,6 +8,7 @@ use Rattle.mn_base.specs.declared.drops.Rule.TheVariants as rule
 use Rattle.mn_base.specs.declared.links.Dir.{Dir}
 use Rattle.mn_base.specs.declared.links.Dir.TheVariants.{Forth, Back}
 use Rattle.mn_ipv4.specs.Header.{destination_of}
+use Rattle.mn_base.proofs.Bools.{no}
 use Rattle.mn_topo.specs.Network.{Network}
 use Rattle.mn_topo.specs.declared.steps.Step.{Step}
 use Rattle.mn_topo.specs.declared.steps.Step.TheVariants.{LinkUp, LinkDown, Learn, LdpAdmin, HearLdp, BgpUp, BgpDown, HearBgp, Inject, Carry, Lose}
@@ -26,9 +27,6 @@ use Rattle.mn_ledger.proofs.Peers.{same_numbers, same_test, other_test}
 use Rattle.mn_ledger.proofs.GoingBy.{put_here, put_off}
 use Rattle.mn_ledger.proofs.OnePlace.{arms, judged_on, loosen, fresh, unmarked}
 use Rattle.mn_ledger.proofs.Channels.{kept, gone, off, loads_in}
-
-no : false ≡ true → ⊥
-no e = cc
 
 -- the packets that fly on a channel, as loads
 carried_on : Packets → ℕ → List Load

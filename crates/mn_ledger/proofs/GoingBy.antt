@@ -1,10 +1,11 @@
 -- Each step of a lawful journal keeps LDP sessions in turn.
 use Rattle.std.proofs.Common.{ℕ, suc, ◌≡◌, ◌≢◌, ◌+◌, ◌<◌, ◌≤◌, ◌⊎◌, inl, inr, Bool, true, false, cond, List, [], ◌∷◌, ◌++◌, length, refl, arith, sym, ◌∙◌, ap, subst, append-nil, add-one}
-use Rattle.std.specs.Prelude.{◌&&◌, ◌||◌, not, nat_le, slice_index_or, ⊤}
+use Rattle.std.specs.Prelude.{◌&&◌, ◌||◌, nat_le, slice_index_or, ⊤}
 use Rattle.std.specs.List.{flat_map}
 use Rattle.std.proofs.lemmas.Bool.Decides.{eqb_tells, leb_tells}
 use Rattle.std.proofs.lemmas.List.{length-append}
 use Rattle.mn_base.specs.Wiring.{is_end, across, sender, receiver, JoinsNodes, EndsDiffer}
+pub use Rattle.mn_base.proofs.Bools.{not_false}
 use Rattle.mn_topo.specs.Network.{Network, wiring_of}
 use Rattle.mn_topo.specs.declared.steps.Step.{Step}
 use Rattle.mn_topo.specs.declared.steps.Step.TheVariants.{LinkUp, LinkDown, Learn, LdpAdmin, HearLdp}
@@ -196,10 +197,6 @@ or_both true b h = absurd (clash h)
     clash : true ≡ false → ⊥
     clash e = cc
 or_both false b h = (refl, h)
-
-pub not_false : (b : Bool) → not b ≡ false → b ≡ true
-not_false true h = refl
-not_false false h = cc
 
 pub above : (a b : ℕ) → nat_le a b ≡ false → b < a
 above a b h = elim (leb_tells a b) [ inl p ↦ absurd (clash (sym p.0 ∙ h)) | inr p ↦ p.1 ]

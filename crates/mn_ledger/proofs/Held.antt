@@ -4,6 +4,7 @@ use Rattle.std.specs.Prelude.{◌==◌, ◌&&◌, not, if◌then◌else◌}
 use Rattle.std.specs.List.{flat_map, range_with_len}
 use Rattle.std.proofs.lemmas.Bool.Decides.{eqb_tells, leb_tells}
 use Rattle.std.proofs.lemmas.Map.Keys.{apart_from_distinct}
+use Rattle.mn_base.proofs.Bools.{no}
 use Rattle.mn_prefix.specs.Prefix.{IsPrefix, same_prefix}
 use Rattle.mn_topo.specs.VrfTable.{is_edge}
 use Rattle.mn_topo.specs.Network.{Network}
@@ -17,9 +18,6 @@ use Rattle.mn_ledger.proofs.Turning.{Apart}
 use Rattle.mn_ledger.proofs.Members.{In, in_append, in_map, in_filter, in_flat_map, in_take, in_range, AreApart, one_alike, apart_filter, apart_push}
 use Rattle.mn_ledger.proofs.Statics.{SameStatic, HasStatics, HasForms}
 use Rattle.mn_ledger.proofs.Tellings.{Behind, behind, exported_by, IsGoodExport, AllGood}
-
-no : false ≡ true → ⊥
-no e = cc
 
 -- 1. What an edge believes of a peer
 
@@ -49,7 +47,7 @@ believed_is_apart c p edge peer = either (peers_live c edge peer)
     either false = tt
 
 -- what is believed was announced
-announced_once : (es : List Export) (ms : List Telling) (x : Export) → In (believed_from es ms) x → In es x ⊎ In ms (Announce x)
+pub announced_once : (es : List Export) (ms : List Telling) (x : Export) → In (believed_from es ms) x → In es x ⊎ In ms (Announce x)
 announced_once es [] x i = inl i
 announced_once es (Announce e ∷ ms) x i = elim (announced_once (believed_after es (Announce e)) ms x i) [
   | inr j ↦ inr (inr j)
@@ -69,7 +67,7 @@ if_in : {A : Type 0} (b : Bool) (xs : List A) (x : A) → In (if b then xs else 
 if_in true xs x i = i
 if_in false xs x i = absurd i
 
-in_believed : (c : Config) (p : Peerings) (edge peer : ℕ) (x : Export) → In (believed c p edge peer) x → In (believed_from [] (heard_of p edge peer)) x
+pub in_believed : (c : Config) (p : Peerings) (edge peer : ℕ) (x : Export) → In (believed c p edge peer) x → In (believed_from [] (heard_of p edge peer)) x
 in_believed c p edge peer x i = if_in (peers_live c edge peer) (believed_from [] (heard_of p edge peer)) x i
 
 pub good_believed : (t : Network) (c : Config) (p : Peerings) (edge peer : ℕ) (x : Export) → AllGood t p → In (believed c p edge peer) x → IsGoodExport t x

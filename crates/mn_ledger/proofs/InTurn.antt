@@ -1,8 +1,9 @@
 -- After every lawful journal each session is in turn.
-use Rattle.std.proofs.Common.{ℕ, suc, ◌≡◌, ◌≢◌, ◌+◌, ◌<◌, ◌≤◌, inl, inr, Bool, true, false, cond, List, [], ◌∷◌, length, refl, arith, sym, ◌∙◌, ap, subst, None}
+use Rattle.std.proofs.Common.{ℕ, suc, ◌≡◌, ◌≢◌, ◌+◌, ◌<◌, ◌≤◌, inl, inr, true, false, cond, List, [], ◌∷◌, length, refl, arith, sym, ◌∙◌, ap, subst, None}
 use Rattle.std.specs.Prelude.{◌==◌, ◌&&◌, not, nat_lt, slice_index_or}
 use Rattle.std.proofs.lemmas.Bool.Decides.{eqb_tells, leb_tells, nat_tests}
 use Rattle.mn_base.specs.Wiring.{across, JoinsNodes, EndsDiffer}
+use Rattle.mn_base.proofs.Bools.{and_right, less_tells}
 use Rattle.mn_topo.specs.Network.{Network, wiring_of}
 use Rattle.mn_topo.specs.Lawful.{IsLawful}
 use Rattle.mn_topo.specs.VrfTable.{is_edge}
@@ -30,16 +31,6 @@ use Rattle.mn_ledger.proofs.Peers.{AreInOrder, peers_go, peer-nth, peer-row, sta
 pub not_empty : (t : Network) (w : World) (k : Packets) (i : ℕ) (s : Step) (b : List ℕ) → refusal_at t w k i s b ≡ None → is_empty t w k s ≡ false
 not_empty t w k i s b h = (free t w k i s b h).there
 
-and_right : (a b : Bool) → (a && b) ≡ true → b ≡ true
-and_right true b h = h
-and_right false b h = absurd (clash h)
-  where
-    clash : false ≡ true → ⊥
-    clash e = cc
-
-less_is : (a b : ℕ) → nat_lt a b ≡ true → a < b
-less_is a b h = grind (arith, nat_tests, h)
-
 differ_is : (a b : ℕ) → not (a == b) ≡ true → a ≢ b
 differ_is a b h e = clash (sym (ap (λ x. not (x == b)) e ∙ ap not (same b)) ∙ h)
   where
@@ -50,7 +41,7 @@ differ_is a b h e = clash (sym (ap (λ x. not (x == b)) e ∙ ap not (same b)) �
     clash e = cc
 
 pub link_there : (t : Network) (s : Step) → fits t s ≡ true → LinkIsThere t s
-link_there t (step.HearLdp l dir) h = less_is l.0 (length t.links) h
+link_there t (step.HearLdp l dir) h = less_tells l.0 (length t.links) h
 link_there t (step.LinkUp l) h = tt
 link_there t (step.LinkDown l) h = tt
 link_there t (step.Learn n l) h = tt
@@ -69,8 +60,8 @@ link_there t (step.Carry l d n) h = tt
 link_there t (step.Lose l d n) h = tt
 
 pub in_order : (t : Network) (s : Step) → fits t s ≡ true → AreInOrder s
-in_order t (step.BgpUp a b) h = less_is a.0 b.0 (and_right (is_edge t.vrfs a.0 && is_edge t.vrfs b.0) (nat_lt a.0 b.0) h)
-in_order t (step.BgpDown a b) h = less_is a.0 b.0 (and_right (is_edge t.vrfs a.0 && is_edge t.vrfs b.0) (nat_lt a.0 b.0) h)
+in_order t (step.BgpUp a b) h = less_tells a.0 b.0 (and_right (is_edge t.vrfs a.0 && is_edge t.vrfs b.0) (nat_lt a.0 b.0) h)
+in_order t (step.BgpDown a b) h = less_tells a.0 b.0 (and_right (is_edge t.vrfs a.0 && is_edge t.vrfs b.0) (nat_lt a.0 b.0) h)
 in_order t (step.HearBgp a b) h = differ_is a.0 b.0 (and_right (is_edge t.vrfs a.0 && is_edge t.vrfs b.0) (not (a.0 == b.0)) h)
 in_order t (step.HearLdp l dir) h = tt
 in_order t (step.LinkUp l) h = tt

@@ -1,12 +1,13 @@
 -- What nodes say of their offers: only mentions, and those only where they are OPERATIONAL.
-use Rattle.std.proofs.Common.{ℕ, ◌≡◌, ◌+◌, ◌<◌, ◌≤◌, ◌⊎◌, inl, inr, Bool, true, false, cond, List, [], ◌∷◌, ◌++◌, map, filter, length, refl, arith, sym, ◌∙◌, ap, subst}
-use Rattle.std.specs.Prelude.{◌==◌, ◌&&◌, nat_le, ⊤, if◌then◌else◌}
+use Rattle.std.proofs.Common.{ℕ, ◌≡◌, ◌+◌, ◌<◌, ◌≤◌, inl, inr, Bool, true, false, cond, List, [], ◌∷◌, ◌++◌, map, filter, length, refl, arith, sym, ◌∙◌, ap, subst}
+use Rattle.std.specs.Prelude.{◌&&◌, nat_le, ⊤, if◌then◌else◌}
 use Rattle.std.specs.List.{flat_map}
-use Rattle.std.proofs.lemmas.Bool.Decides.{eqb_tells, leb_tells}
+use Rattle.std.proofs.lemmas.Bool.Decides.{leb_tells}
 use Rattle.std.proofs.lemmas.List.{map-append}
 use Rattle.std.proofs.lemmas.List.Elements.{filter-append}
 use Rattle.std.proofs.lemmas.List.FromFn.{get_or-map-range_with_len}
 use Rattle.mn_base.specs.Wiring.{Wiring, is_end}
+use Rattle.mn_base.proofs.Bools.{and_left, and_right, same_numbers, two_ways}
 use Rattle.mn_ledger.specs.World.{Config, Views, Sessions}
 use Rattle.mn_ledger.specs.Transport.{Said, Knowledge, lives, knowledge_of, hearing_at, is_operational, is_by, messages_of, said_on, mention, mentioned_on, mentioned_from, offered, by_neighbour, news}
 use Rattle.mn_ledger.specs.Turns.{IsLabelMessage, AreLabelMessages}
@@ -62,10 +63,6 @@ messages-append l node xs ys = ap (map (λ (said : Said). said.message)) (filter
 pick : (l node : ℕ) (x : Said) (xs : List Said) → (is_by l node x ≡ true → messages_of l node (x ∷ xs) ≡ x.message ∷ messages_of l node xs) × (is_by l node x ≡ false → messages_of l node (x ∷ xs) ≡ messages_of l node xs)
 pick l node x xs = (λ h. ap (λ b. map (λ (said : Said). said.message) (cond b (x ∷ filter (is_by l node) xs) (filter (is_by l node) xs))) h, λ h. ap (λ b. map (λ (said : Said). said.message) (cond b (x ∷ filter (is_by l node) xs) (filter (is_by l node) xs))) h)
 
-two_ways : (b : Bool) → (b ≡ true) ⊎ (b ≡ false)
-two_ways true = inl refl
-two_ways false = inr refl
-
 pub messages-mentions : (k : ℕ → Knowledge) (l node : ℕ) (xs : List Said) → EachNews k xs → AreLabelMessages (messages_of l node xs)
 messages-mentions k l node [] h = tt
 messages-mentions k l node (x ∷ xs) h =
@@ -73,20 +70,6 @@ messages-mentions k l node (x ∷ xs) h =
       | inl p ↦ subst AreLabelMessages (sym ((pick l node x xs).0 p)) (h.0.0, messages-mentions k l node xs h.1)
       | inr p ↦ subst AreLabelMessages (sym ((pick l node x xs).1 p)) (messages-mentions k l node xs h.1)
     ]
-
-and_left : (a b : Bool) → (a && b) ≡ true → a ≡ true
-and_left true b h = refl
-and_left false b h = cc
-
-and_right : (a b : Bool) → (a && b) ≡ true → b ≡ true
-and_right true b h = h
-and_right false b h = cc
-
-same_numbers : (a b : ℕ) → (a == b) ≡ true → a ≡ b
-same_numbers a b h = elim (eqb_tells a b) [ inl p ↦ p.1 | inr p ↦ absurd (clash (sym h ∙ p.0)) ]
-  where
-    clash : true ≡ false → ⊥
-    clash e = cc
 
 by_both : (l node : ℕ) (x : Said) → is_by l node x ≡ true → (x.link ≡ l) × (x.end ≡ node)
 by_both l node x h = (same_numbers x.link l (and_left _ _ h), same_numbers x.end node (and_right _ _ h))

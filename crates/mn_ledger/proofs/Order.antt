@@ -2,7 +2,8 @@
 use Rattle.std.proofs.Common.{ℕ, zero, suc, ◌≡◌, ◌≢◌, ◌+◌, ◌<◌, ◌≤◌, ◌⊎◌, inl, inr, Bool, true, false, cond, List, [], ◌∷◌, ◌++◌, map, filter, length, refl, arith, sym, ◌∙◌, ap, subst}
 use Rattle.std.specs.Prelude.{◌==◌, ◌&&◌, ◌||◌, not, nat_lt, slice_index_or, if◌then◌else◌, ⊤}
 use Rattle.std.specs.List.{AllPairs, flat_map, range_with_len}
-use Rattle.std.proofs.lemmas.Bool.Decides.{eqb_tells, leb_tells, nat_tests}
+use Rattle.std.proofs.lemmas.Bool.Decides.{eqb_tells, leb_tells}
+use Rattle.mn_base.proofs.Bools.{less_is, no, not_less, test_same}
 use Rattle.mn_prefix.specs.Prefix.{AddressBlock}
 use Rattle.mn_topo.specs.Network.{Network}
 use Rattle.mn_topo.specs.Lawful.{IsLawful}
@@ -94,9 +95,6 @@ each_range a (suc n) = (λ y i. above (in_range (a + 1) n y i).0, each_range (a 
 
 -- 2. Prefixes in order
 
-no : false ≡ true → ⊥
-no e = cc
-
 before_tells : (p q : AddressBlock) → comes_before p q ≡ true → (p.address < q.address) ⊎ ((p.address ≡ q.address) × (p.length < q.length))
 before_tells p q h = elim (leb_tells (suc p.address) q.address) [
   | inl a ↦ inl a.1
@@ -109,21 +107,12 @@ before_tells p q h = elim (leb_tells (suc p.address) q.address) [
   ]
 ]
 
-less_is : (m n : ℕ) → m < n → nat_lt m n ≡ true
-less_is m n h = grind (arith, nat_tests, h)
-
-more_is : (m n : ℕ) → n ≤ m → nat_lt m n ≡ false
-more_is m n h = grind (arith, nat_tests, h)
-
-same_is : (m n : ℕ) → m ≡ n → (m == n) ≡ true
-same_is m n h = grind (arith, nat_tests, h)
-
 lesser_before : (p q : AddressBlock) → p.address < q.address → comes_before p q ≡ true
 lesser_before p q h = ap (λ b. b || ((p.address == q.address) && nat_lt p.length q.length)) (less_is p.address q.address h)
 
 shorter_before : (p q : AddressBlock) → p.address ≡ q.address → p.length < q.length → comes_before p q ≡ true
 shorter_before p q e h =
-    ap (λ b. b || ((p.address == q.address) && nat_lt p.length q.length)) (more_is p.address q.address (at_most e)) ∙ ap (λ b. b && nat_lt p.length q.length) (same_is p.address q.address e) ∙ less_is p.length q.length h
+    ap (λ b. b || ((p.address == q.address) && nat_lt p.length q.length)) (not_less p.address q.address (at_most e)) ∙ ap (λ b. b && nat_lt p.length q.length) (test_same p.address q.address e) ∙ less_is p.length q.length h
   where
     at_most : {m n : ℕ} → m ≡ n → n ≤ m
     at_most e = omega (arith, e)

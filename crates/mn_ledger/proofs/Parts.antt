@@ -2,6 +2,7 @@
 use Rattle.std.proofs.Common.{◌≡◌, ◌≢◌, ◌⊎◌, ℕ, ◌+◌, ◌==◌, ◌++◌, filter, Bool, true, false, cond, List, [], ◌∷◌, Option, Some, None, refl, sym, ◌∙◌, ap, arith, inl, inr}
 use Rattle.std.specs.Prelude.{unwrap_or, if◌then◌else◌, is_some, not, ◌&&◌, ◌||◌, nat_lt}
 use Rattle.std.proofs.lemmas.Bool.Decides.{eqb_tells}
+use Rattle.mn_base.proofs.Bools.{and_left, and_right, other_test, same_numbers, same_test, two_ways}
 use Rattle.mn_topo.specs.Network.{Network, wiring_of}
 use Rattle.mn_topo.specs.declared.steps.Step.{Step}
 use Rattle.mn_topo.specs.declared.steps.Step.TheVariants.{LinkUp, LinkDown, Learn, LdpAdmin, HearLdp, BgpUp, BgpDown, HearBgp, AddRoute, DelRoute, Import, Export, Attach, Detach, Inject, Carry, Lose}
@@ -15,7 +16,6 @@ use Rattle.mn_prefix.specs.Prefix.{AddressBlock}
 use Rattle.mn_ledger.specs.Vpn.{has_target}
 use Rattle.mn_ledger.specs.World.{SiteRoute}
 use Rattle.std.specs.List.{list_any}
-use Rattle.std.proofs.lemmas.Bool.Decides.{nat_tests}
 use Rattle.mn_ledger.specs.Parts.{is_configuring, is_viewing, is_moving, KeepsOtherParts, later, last_said, makes_up, switches, starts, times, turns, teaches, attaches_site, makes_attached, imports_target, exports_target, routes_prefix, IsByLastSteps}
 
 config_kept : (t : Network) (w : World) (s : Step) → is_configuring s ≡ false → (after t w s).config ≡ w.config
@@ -195,29 +195,6 @@ attach_counts : (t : Network) (s : ℕ) → IsCounted t (λ w. w.config.attaches
 attach_counts t s w (Attach r) = put_counts w.config.attaches r.0 s
 attach_counts t s w _ = none _
 
-same_test : (n : ℕ) → (n == n) ≡ true
-same_test n = grind (arith, nat_tests)
-
-other_test : (a b : ℕ) → a ≢ b → (a == b) ≡ false
-other_test a b h = elim (eqb_tells a b) [ inl p ↦ absurd (h p.1) | inr p ↦ p.0 ]
-
-and_left : (a b : Bool) → (a && b) ≡ true → a ≡ true
-and_left true b h = refl
-and_left false b h = h
-
-and_right : (a b : Bool) → (a && b) ≡ true → b ≡ true
-and_right true b h = h
-and_right false b h = absurd (clash h)
-  where
-    clash : false ≡ true → ⊥
-    clash e = cc
-
-same_numbers : (a b : ℕ) → (a == b) ≡ true → a ≡ b
-same_numbers a b h = elim (eqb_tells a b) [ inl p ↦ p.1 | inr p ↦ absurd (clash (sym h ∙ p.0)) ]
-  where
-    clash : true ≡ false → ⊥
-    clash e = cc
-
 -- a set after a change of one target
 set_says : (set : List ℕ) (y : ℕ) (on : Bool) (x : ℕ) → has_target (with_target y on set) x ≡ unwrap_or (cond (x == y) (Some on) None) (has_target set x)
 set_says [] y true x = elim (eqb_tells x y) [ inl p ↦ rw (p.0, p.1, same_test y) refl | inr p ↦ rw (p.0, other_test y x (λ e. p.1 (sym e))) refl ]
@@ -321,10 +298,6 @@ added_says s prefix (y ∷ ys) x = ap (λ b. is_static s prefix y || b) (added_s
     beyond true false c = refl
     beyond false true c = refl
     beyond false false c = refl
-
-two_ways : (b : Bool) → (b ≡ true) ⊎ (b ≡ false)
-two_ways true = inl refl
-two_ways false = inr refl
 
 removed_says : (s : ℕ) (prefix : AddressBlock) (r : ℕ) (other : AddressBlock) (xs : List SiteRoute)
     → list_any (is_static s prefix) (filter (λ static. not (is_static r other static)) xs) ≡ unwrap_or (cond (is_static s prefix (record { site = r; prefix = other })) (Some false) None) (list_any (is_static s prefix) xs)

@@ -7,6 +7,7 @@ use Rattle.std.proofs.lemmas.List.{length-append, map-append}
 use Rattle.std.proofs.lemmas.List.Elements.{filter-append}
 use Rattle.mn_base.specs.Wiring.{nodes_of}
 use Rattle.mn_base.specs.declared.states.BgpState.TheVariants.{Idle}
+pub use Rattle.mn_base.proofs.Bools.{and_left, and_right, other_test, same_numbers, same_test, two_ways}
 use Rattle.mn_topo.specs.Network.{Network, wiring_of}
 use Rattle.mn_topo.specs.declared.steps.Step.{Step}
 use Rattle.mn_topo.specs.declared.steps.Step.TheVariants as step
@@ -101,17 +102,6 @@ each-append : (c : Config) (k : Peerings) (xs ys : List Told) → EachNews c k x
 each-append c k [] ys h g = g
 each-append c k (x ∷ xs) ys h g = (h.0, each-append c k xs ys h.1 g)
 
-pub and_right : (a b : Bool) → (a && b) ≡ true → b ≡ true
-and_right true b h = h
-and_right false b h = absurd (clash h)
-  where
-    clash : false ≡ true → ⊥
-    clash e = cc
-
-pub two_ways : (b : Bool) → (b ≡ true) ⊎ (b ≡ false)
-two_ways true = inl refl
-two_ways false = inr refl
-
 each-peer : (c : Config) (p : Peerings) (new : Config) (k : Peerings) (edge : ℕ) (x : Telling) → IsUpdate x → (nodes : List ℕ)
     → EachNews new k (map (λ peer. record { teller = edge; peer = peer; telling = x }) (filter (λ peer. is_established c p edge peer && is_established new k edge peer) nodes))
 each-peer c p new k edge x u [] = tt
@@ -153,16 +143,6 @@ tellings-updates c k a b (x ∷ xs) h =
       | inr q ↦ subst AreUpdates (sym (pick a b x xs false q)) (tellings-updates c k a b xs h.1)
     ]
 
-pub and_left : (a b : Bool) → (a && b) ≡ true → a ≡ true
-and_left true b h = refl
-and_left false b h = h
-
-pub same_numbers : (a b : ℕ) → (a == b) ≡ true → a ≡ b
-same_numbers a b h = elim (eqb_tells a b) [ inl p ↦ p.1 | inr p ↦ absurd (clash (sym h ∙ p.0)) ]
-  where
-    clash : true ≡ false → ⊥
-    clash e = cc
-
 tellings-none : (c : Config) (k : Peerings) (a b : ℕ) (xs : List Told) → EachNews c k xs → is_established c k a b ≡ false → tellings_of a b xs ≡ []
 tellings-none c k a b [] h off = refl
 tellings-none c k a b (x ∷ xs) h off =
@@ -180,12 +160,6 @@ few_off true k h = elim (leb_tells 2 k) [ inl r ↦ absurd (not_both h r.1) | in
     not_both : k < 2 → 2 ≤ k → ⊥
     not_both a b = omega (arith, a, b)
 few_off false k h = refl
-
-pub same_test : (n : ℕ) → (n == n) ≡ true
-same_test n = grind (arith, nat_tests)
-
-pub other_test : (a b : ℕ) → a ≢ b → (a == b) ≡ false
-other_test a b h = elim (eqb_tells a b) [ inl p ↦ absurd (h p.1) | inr p ↦ p.0 ]
 
 told-own : (a b : ℕ) (xs : List Telling) → tellings_of a b (told_to a b xs) ≡ xs
 told-own a b [] = refl

@@ -1,12 +1,13 @@
 -- Who learns nothing in a step says nothing in it.
 use Rattle.std.proofs.Common.{ℕ, ◌≡◌, ◌+◌, ◌<◌, inl, inr, Bool, true, false, List, [], ◌∷◌, ◌++◌, filter, length, refl, arith, sym, ◌∙◌, ap, subst}
-use Rattle.std.specs.Prelude.{◌==◌, ◌&&◌, nat_lt, if◌then◌else◌}
+use Rattle.std.specs.Prelude.{◌==◌, ◌&&◌, if◌then◌else◌}
 use Rattle.std.specs.List.{flat_map}
-use Rattle.std.proofs.lemmas.Bool.Decides.{eqb_tells, nat_tests}
+use Rattle.std.proofs.lemmas.Bool.Decides.{eqb_tells}
 use Rattle.std.proofs.lemmas.List.Elements.{filter-append}
 use Rattle.std.proofs.lemmas.List.FromFn.{get_or-map-range_with_len}
 use Rattle.mn_base.specs.Wiring.{Wiring, link, is_end, receiver, sender}
 use Rattle.mn_node.proofs.News.{by-said, by-news, part_none, no_news}
+use Rattle.mn_base.proofs.Bools.{and_on, less_tells}
 use Rattle.mn_topo.specs.Network.{Network, wiring_of}
 use Rattle.mn_topo.specs.Steps.{fits}
 use Rattle.mn_topo.specs.declared.steps.Step.{Step}
@@ -43,14 +44,8 @@ hearing-is w c v s node l h = get_or-map-range_with_len (hearing_at w c s node) 
 clash : true ≡ false → ⊥
 clash e = cc
 
-less_is : (a b : ℕ) → nat_lt a b ≡ true → a < b
-less_is a b h = grind (arith, nat_tests, h)
-
 no_life : (b d : Bool) → b ≡ false → (b && d) ≡ false
 no_life b d h = ap (λ x. x && d) h
-
-and_both : (a b : Bool) → a ≡ true → b ≡ true → (a && b) ≡ true
-and_both a b h g = ap (λ x. x && b) h ∙ g
 
 opener_end : (t : Network) (l : ℕ) → is_end (wiring_of t) l (opener t l) ≡ true
 opener_end t l = either (is_active t l (link (wiring_of t) l).a.0)
@@ -70,7 +65,7 @@ no_opening t c new v nv s k l node h dead e = by_life (lives new l) refl
         ap (λ b. filter (λ (said : Said). said.end == node) (elim b as (λ _. List Said) [ true ↦ said_on l (opener t l) (Initialization ∷ []) | false ↦ [] ])) a
         ∙ (elim (eqb_tells (opener t l) node) [
           | inr p ↦ part_none (opener t l) node (said_on l (opener t l) (Initialization ∷ [])) p.1 (by-said l (opener t l) (Initialization ∷ []))
-          | inl p ↦ absurd (clash (sym (and_both (lives new l) (is_end (wiring_of t) l node) a (ap (is_end (wiring_of t) l) (sym p.1) ∙ opener_end t l)) ∙ sym (ap (λ x. x.alive) (hearing-is (wiring_of t) new nv k node l h)) ∙ sym (ap (λ x. (hearing x l).alive) e) ∙ ap (λ x. x.alive) (hearing-is (wiring_of t) c v s node l h) ∙ no_life (lives c l) (is_end (wiring_of t) l node) dead))
+          | inl p ↦ absurd (clash (sym (and_on (lives new l) (is_end (wiring_of t) l node) a (ap (is_end (wiring_of t) l) (sym p.1) ∙ opener_end t l)) ∙ sym (ap (λ x. x.alive) (hearing-is (wiring_of t) new nv k node l h)) ∙ sym (ap (λ x. (hearing x l).alive) e) ∙ ap (λ x. x.alive) (hearing-is (wiring_of t) c v s node l h) ∙ no_life (lives c l) (is_end (wiring_of t) l node) dead))
         ])
 
 -- who hears a message has heard one more
@@ -98,16 +93,16 @@ was_off false was on a h = refl
 
 no_replies : (t : Network) (w : World) (s : Step) (node : ℕ) → fits t s ≡ true → is_unchanged w.config s ≡ false → known t w node ≡ known_after t w s node → filter (λ said. said.end == node) (replies t (config_after w.config s) w.sessions s) ≡ []
 no_replies t w (step.LinkUp l) node fit new e =
-    no_opening t w.config (config_after w.config (step.LinkUp l)) w.views (views_after w.views (step.LinkUp l)) w.sessions (counted t w.sessions (step.LinkUp l)) l.0 node (less_is l.0 (length t.links) fit) (no_life (w.config.is_up l.0) (w.config.ldp_on l.0) new) e
+    no_opening t w.config (config_after w.config (step.LinkUp l)) w.views (views_after w.views (step.LinkUp l)) w.sessions (counted t w.sessions (step.LinkUp l)) l.0 node (less_tells l.0 (length t.links) fit) (no_life (w.config.is_up l.0) (w.config.ldp_on l.0) new) e
 no_replies t w (step.LdpAdmin l on) node fit new e = by_life (lives (config_after w.config (step.LdpAdmin l on)) l.0) refl
   where
     by_life : (alive : Bool) → lives (config_after w.config (step.LdpAdmin l on)) l.0 ≡ alive → filter (λ said. said.end == node) (opening t (config_after w.config (step.LdpAdmin l on)) l.0) ≡ []
     by_life false a = ap (λ b. filter (λ (said : Said). said.end == node) (elim b as (λ _. List Said) [ true ↦ said_on l.0 (opener t l.0) (Initialization ∷ []) | false ↦ [] ])) a
     by_life true a =
-        no_opening t w.config (config_after w.config (step.LdpAdmin l on)) w.views (views_after w.views (step.LdpAdmin l on)) w.sessions (counted t w.sessions (step.LdpAdmin l on)) l.0 node (less_is l.0 (length t.links) fit)
+        no_opening t w.config (config_after w.config (step.LdpAdmin l on)) w.views (views_after w.views (step.LdpAdmin l on)) w.sessions (counted t w.sessions (step.LdpAdmin l on)) l.0 node (less_tells l.0 (length t.links) fit)
         (was_off (w.config.is_up l.0) (w.config.ldp_on l.0) on new (sym (ap (λ b. w.config.is_up l.0 && b) (put_here w.config.ldp_on l.0 on)) ∙ a)) e
 no_replies t w (step.HearLdp l dir) node fit new e =
-    no_answer t w.config w.config w.views w.views w.sessions (counted t w.sessions (step.HearLdp l dir)) l.0 (receiver (wiring_of t) l.0 dir) (sender (wiring_of t) l.0 dir) node (less_is l.0 (length t.links) fit)
+    no_answer t w.config w.config w.views w.views w.sessions (counted t w.sessions (step.HearLdp l dir)) l.0 (receiver (wiring_of t) l.0 dir) (sender (wiring_of t) l.0 dir) node (less_tells l.0 (length t.links) fit)
     (pair_here w.sessions.heard l.0 (receiver (wiring_of t) l.0 dir) (w.sessions.heard l.0 (receiver (wiring_of t) l.0 dir) + 1)) e
 no_replies t w _ node fit new e = refl
 

@@ -1,14 +1,15 @@
 -- In one step an end of a link says there at most one message of each node, and two more.
 use Rattle.std.proofs.Common.{ℕ, zero, suc, ◌≡◌, ◌≢◌, ◌+◌, ◌*◌, ◌<◌, ◌≤◌, inl, inr, Bool, true, false, cond, List, [], ◌∷◌, ◌++◌, map, filter, length, refl, arith, sym, ◌∙◌, ap, subst, length-append}
-use Rattle.std.specs.Prelude.{◌==◌, ◌&&◌, not, nat_lt, slice_index_or, if◌then◌else◌, ⊤}
+use Rattle.std.specs.Prelude.{◌==◌, ◌&&◌, not, slice_index_or, if◌then◌else◌, ⊤}
 use Rattle.std.specs.List.{flat_map, range_with_len}
 use Rattle.std.proofs.Math.Nat.{mul-suc}
 use Rattle.std.proofs.lemmas.Nat.{mul-le}
-use Rattle.std.proofs.lemmas.Bool.Decides.{eqb_tells, nat_tests}
+use Rattle.std.proofs.lemmas.Bool.Decides.{eqb_tells}
 use Rattle.std.proofs.lemmas.List.FromFn.{length-map-range_with_len}
 use Rattle.mn_base.specs.declared.states.LdpState.{LdpState}
 use Rattle.mn_base.specs.declared.states.LdpState.TheVariants as ldp
 use Rattle.mn_base.specs.Wiring.{Wiring, EndsDiffer, nodes_of, links_at, link, is_end, across, joining, sender, receiver}
+use Rattle.mn_base.proofs.Bools.{less_tells, same_numbers}
 use Rattle.mn_topo.specs.Network.{Network, wiring_of}
 use Rattle.mn_topo.specs.Lawful.{IsLawful}
 use Rattle.mn_topo.specs.Steps.{fits}
@@ -57,12 +58,6 @@ once-append x (y ∷ ys) zs h g apart = (
   λ e i. elim (in_append ys zs x i) [ inl j ↦ h.0 e j | inr j ↦ apart (inl e) j ],
   once-append x ys zs h.1 g (λ i j. apart (inr i) j),
 )
-
-same_numbers : (a b : ℕ) → (a == b) ≡ true → a ≡ b
-same_numbers a b h = elim (eqb_tells a b) [ inl q ↦ q.1 | inr q ↦ absurd (clash (sym h ∙ q.0)) ]
-  where
-    clash : true ≡ false → ⊥
-    clash e = cc
 
 -- a link leads to one neighbour
 pub once-neighbours : (w : Wiring) (n l a k : ℕ) → IsOnce l (flat_map (joining w n) (range_with_len a k))
@@ -226,13 +221,10 @@ once-first w l n d = (
     ends_too : (link w l).b.0 ≡ n → is_end w l n ≡ true
     ends_too e = ap (is_end w l) (sym e) ∙ is_end-b w l
 
-less_is : (a b : ℕ) → nat_lt a b ≡ true → a < b
-less_is a b h = grind (arith, nat_tests, h)
-
 once-speaker : (t : Network) (s : Step) (n : ℕ) → EndsDiffer (wiring_of t) → fits t s ≡ true → IsOnce n (speakers (wiring_of t) s)
-once-speaker t (step.LinkUp l) n differ fit = once-first (wiring_of t) l.0 n (differ l.0 (less_is l.0 (length t.links) fit))
-once-speaker t (step.LinkDown l) n differ fit = once-first (wiring_of t) l.0 n (differ l.0 (less_is l.0 (length t.links) fit))
-once-speaker t (step.LdpAdmin l on) n differ fit = once-first (wiring_of t) l.0 n (differ l.0 (less_is l.0 (length t.links) fit))
+once-speaker t (step.LinkUp l) n differ fit = once-first (wiring_of t) l.0 n (differ l.0 (less_tells l.0 (length t.links) fit))
+once-speaker t (step.LinkDown l) n differ fit = once-first (wiring_of t) l.0 n (differ l.0 (less_tells l.0 (length t.links) fit))
+once-speaker t (step.LdpAdmin l on) n differ fit = once-first (wiring_of t) l.0 n (differ l.0 (less_tells l.0 (length t.links) fit))
 once-speaker t _ n differ fit = once-range n 0 (length t.loopbacks)
 
 -- 4. What the step itself makes an end say

@@ -6,6 +6,7 @@ use Rattle.std.proofs.lemmas.Map.Keys.{apart_from_distinct}
 use Rattle.mn_base.specs.Wiring.{Wiring, link, is_end, across, sender, receiver, JoinsNodes, EndsDiffer}
 use Rattle.mn_base.specs.declared.links.Dir.{Dir}
 use Rattle.mn_base.specs.declared.links.Dir.TheVariants.{Forth, Back}
+use Rattle.mn_base.proofs.Bools.{other_test, same_test}
 use Rattle.mn_topo.specs.Network.{Network, wiring_of}
 use Rattle.mn_topo.specs.Lawful.{IsLawful}
 use Rattle.mn_ledger.specs.Places.{loopback}
@@ -23,12 +24,6 @@ ends_tell a b n h = elim (eqb_tells a n) [ inl p ↦ inl p.1 | inr p ↦ elim (e
 
 pub end_is : (w : Wiring) (l n : ℕ) → is_end w l n ≡ true → ((link w l).a.0 ≡ n) ⊎ ((link w l).b.0 ≡ n)
 end_is w l n h = ends_tell (link w l).a.0 (link w l).b.0 n h
-
-same_test : (n : ℕ) → (n == n) ≡ true
-same_test n = grind (arith, nat_tests)
-
-other_test : (a b : ℕ) → a ≢ b → (a == b) ≡ false
-other_test a b h = elim (eqb_tells a b) [ inl p ↦ absurd (h p.1) | inr p ↦ p.0 ]
 
 pub across-a : (w : Wiring) (l : ℕ) → across w l (link w l).a.0 ≡ (link w l).b.0
 across-a w l = ap (λ b. if b then (link w l).b.0 else (link w l).a.0) (same_test (link w l).a.0)

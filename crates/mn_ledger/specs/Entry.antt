@@ -1,5 +1,6 @@
 -- What becomes of a packet that a site sends, at the edge to which the site is attached.
-use Rattle.std.specs.Prelude.{ℕ, ◌/◌, Bool, true, false, not, ◌&&◌, ◌||◌, ◌==◌, nat_lt, is_none, List, [], ◌∷◌, Option, Some, None, option_map, ok_or, Result, Err}
+use Rattle.std.specs.Prelude.{ℕ, ◌/◌, Bool, not, ◌&&◌, ◌||◌, ◌==◌, nat_lt, is_none, List, [], ◌∷◌, Option, Some, None, option_map, ok_or, Result, Err}
+pub use Rattle.mn_base.specs.Rules.{when, first_broken as first_rule}
 use Rattle.mn_base.specs.declared.drops.Rule.{Rule}
 use Rattle.mn_base.specs.declared.drops.Rule.TheVariants as rule
 use Rattle.mn_base.specs.declared.numbers.SiteNo.{SiteNo}
@@ -12,17 +13,6 @@ use Rattle.mn_ledger.specs.Routes.{best_route}
 -- not of 0.0.0.0/8, 127.0.0.0/8, 224.0.0.0/4 or 240.0.0.0/4: RFC 1122, section 3.2.1.3, and RFC 1112, section 4
 abbrev pub is_unicast : ℕ → Bool
 is_unicast address = not (address / 16777216 == 0 || address / 16777216 == 127) && nat_lt address 3758096384
-
--- a rule where it applies
-abbrev pub when : Bool → Rule → Option Rule
-when true rule = Some rule
-when false rule = None
-
--- the first of some rules that applies
-abbrev pub first_rule : List (Option Rule) → Option Rule
-first_rule [] = None
-first_rule (Some rule ∷ rest) = Some rule
-first_rule (None ∷ rest) = first_rule rest
 
 -- the rule by which a packet with a bad header is dropped
 abbrev pub header_rule : Bad → Rule

@@ -1,5 +1,7 @@
--- What becomes of each packet: where it enters, how it goes from node to node, and where it ends. RFC 4364, section 5; RFC
--- 3031, sections 3.13, 3.16, 3.18, 3.22 and 3.23; RFC 3032, section 2.4, and RFC 3443, section 3.1, for the TTL.
+-- What becomes of each packet: where it enters, how it goes from node to node, and where it ends: RFC 4364, section 5. From edge to
+-- edge it goes over a label switched path (RFC 3031, sections 3.13 and 3.15 to 3.17), of which the ledger knows the nodes alone: an
+-- edge that has no label to begin with drops it, NoLsp (3.22), and a node on the way that can't send on, NoEntry (3.18); its TTL goes
+-- down by one at each node (3.23; RFC 3032, section 2.4, and RFC 3443, section 3.1).
 use Rattle.std.specs.Prelude.{ℕ, zero, suc, ◌+◌, ◌-◌, ◌*◌, ◌==◌, Bool, true, false, not, nat_lt, nat_le, if◌then◌else◌, List, [], ◌∷◌, ◌++◌, length, slice_index_or, slice_get, slice_set, Option, Some, None, is_none}
 use Rattle.mn_base.specs.declared.drops.Rule.{Rule}
 use Rattle.mn_base.specs.declared.drops.Rule.TheVariants as rule

@@ -1,6 +1,7 @@
 -- Which steps are refused, and why: the first cause that holds.
 use Rattle.std.specs.Prelude.{ℕ, ◌+◌, ◌-◌, ◌==◌, ◌&&◌, ◌||◌, Bool, true, false, cond, not, nat_lt, nat_le, List, [], ◌∷◌, ◌++◌, map, length, sum, Option, Some, None, is_some, is_none}
 use Rattle.std.specs.List.{flat_map, list_any}
+pub use Rattle.mn_base.specs.Rules.{when as where_holds, first_broken as first_cause}
 use Rattle.mn_base.specs.Wiring.{nodes_of, links_of, link, sender, receiver}
 use Rattle.mn_base.specs.declared.links.Dir.TheVariants.{Forth, Back}
 use Rattle.mn_prefix.specs.Prefix.{AddressBlock, same_prefix}
@@ -111,15 +112,6 @@ has_no_room topology packets _ bytes = false
 
 abbrev pub is_full : Network → World → Packets → Step → List ℕ → Bool
 is_full topology world packets step bytes = (not (takes_out step) && nat_le 2000000 (in_flight topology world)) || has_no_room topology packets step bytes
-
-abbrev pub where_holds : Bool → Refused → Option Refused
-where_holds true cause = Some cause
-where_holds false cause = None
-
-abbrev pub first_cause : List (Option Refused) → Option Refused
-first_cause [] = None
-first_cause (None ∷ causes) = first_cause causes
-first_cause (Some cause ∷ causes) = Some cause
 
 -- the causes after the first two, in the order in which they are tried, with so many steps done
 abbrev pub limits : Network → World → Packets → ℕ → Step → List ℕ → List (Option Refused)

@@ -1,5 +1,6 @@
 -- What each node knows of the links, and what the ends of LDP sessions say: RFC 5036, sections 2.5.4, 2.6.1 to 2.6.3
--- and appendix A, in downstream unsolicited mode with ordered control and liberal retention.
+-- and appendix A, in downstream unsolicited mode with ordered control and liberal retention (RFC 3031, sections 3.7, 3.8 and
+-- 3.19). The next hop is that of a least walk: hop by hop routing, RFC 3031, section 3.21.
 use Rattle.std.specs.Prelude.{ℕ, ◌+◌, ◌%◌, ◌==◌, ◌&&◌, Bool, true, false, not, if◌then◌else◌, List, [], ◌∷◌, ◌++◌, map, take, filter, slice_index_or, Option}
 use Rattle.std.specs.List.{flat_map}
 use Rattle.mn_base.specs.Wiring.{Wiring, View, nodes_of, links_of, link, is_end, across, sender, receiver}
@@ -36,6 +37,7 @@ lives config l = config.is_up l && config.ldp_on l
 abbrev pub is_active : Network → ℕ → ℕ → Bool
 is_active topology l node = speaks_first (wiring_of topology) l node
 
+-- of an end whose session lives; of another it says nothing
 abbrev pub state_of : Network → Sessions → ℕ → ℕ → LdpState
 state_of topology sessions l node = state_by (is_active topology l node) (sessions.heard l node)
 

@@ -1,5 +1,7 @@
 -- Messages in turn: what the two ends of a living session have said goes by the state tables, so that no end ever hears a
--- message for which its table has no row. RFC 5036, section 2.5.4; RFC 4271, section 8.2.2.
+-- message for which its table has no row. RFC 5036, section 2.5.4; RFC 4271, section 8.2.2. In the RFCs such a message ends its
+-- session; here none ever comes, since what is said goes by the tables and no channel loses or changes it: so no step ends a session
+-- for it.
 use Rattle.std.specs.Prelude.{◌≡◌, ◌≤◌, ◌<◌, ◌≢◌, ℕ, zero, suc, Bool, true, false, List, [], ◌∷◌, length, slice_index_or, ⊤}
 use Rattle.mn_base.specs.Wiring.{is_end, across}
 use Rattle.mn_base.specs.declared.states.BgpState.{BgpState}
@@ -11,7 +13,9 @@ use Rattle.mn_ledger.specs.Transport.{lives, is_active, state_of}
 use Rattle.mn_ledger.specs.Vpn.{peers_live}
 use Rattle.mn_ledger.specs.Vpn as vpn
 
--- 1. The rows of the two tables
+-- 1. The rows of the two tables. That of LDP is mn_node's `has_ldp_row`: RFC 5036, section 2.5.4, up to OPERATIONAL; there every
+-- message but Initialization is taken, an Address (section 3.5.5) and those on labels (sections 3.5.7 to 3.5.11). That of BGP is RFC
+-- 4271, section 8.2.2, up to Established; there every message but OPEN is taken, the UPDATEs of section 3's exchange.
 
 abbrev pub has_bgp_row : BgpState → Telling → Bool
 has_bgp_row bgp.OpenSent Open = true

@@ -94,7 +94,8 @@ tellings_of teller peer tolds = map (λ told. told.telling) (filter (is_between 
 abbrev pub told_to : ℕ → ℕ → List Telling → List Told
 told_to teller peer tellings = map (λ telling. record { teller = teller; peer = peer; telling = telling }) tellings
 
--- how an edge in this state answers a message, with these exports: the table of RFC 4271, section 8.2.2
+-- how an edge in this state answers a message, with these exports: OPEN in OpenSent by KEEPALIVE, as RFC 4271, section 8.2.2,
+-- says; and KEEPALIVE in OpenConfirm, by which the session is Established, by all exports, the first exchange of section 3
 abbrev pub reply : BgpState → Telling → List Export → List Telling
 reply OpenSent Open exports = Alive ∷ []
 reply OpenConfirm Alive exports = map (λ export. Announce export) exports
@@ -265,7 +266,8 @@ is_better route other = nat_lt other.prefix.length route.prefix.length || ((rout
 abbrev pub matching : ℕ → List HeldRoute → List HeldRoute
 matching address routes = filter (λ route. contains route.prefix address) routes
 
--- of these, one that no other is better than: RFC 1812, section 5.2.4.3
+-- of these, one that no other is better than: RFC 1812, section 5.2.4.3. A route stays the best where no label path leads to its
+-- edge; RFC 4271, section 9.1.2, would leave it out, since its next hop can't be resolved. A packet that it takes is dropped, NoLsp.
 abbrev pub unbeaten : List HeldRoute → List HeldRoute
 unbeaten routes = filter (λ route. not (list_any (λ other. is_better other route) routes)) routes
 

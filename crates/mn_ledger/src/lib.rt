@@ -2,7 +2,7 @@
 //!
 //! The program's answers are compared with it. From a topology, a journal of steps and the packets' bytes alone it says
 //! what every session has said and heard, which routes each VRF holds, and where every packet is. It knows no label, no
-//! byte of a message, no tree and no table of prefixes.
+//! byte of a message, no tree and no table of prefixes. What one node says that has heard so much is `mn_node`'s.
 //!
 //! ```text
 //!             Config    what is switched on, the targets, statics and attachments   (a step sets them)
@@ -17,8 +17,8 @@
 //! - `specs/Packets`: entry, hops and ends; `specs/Ledger`: the start, one step, a journal
 //! - `specs/Refusal`: which steps are refused; `specs/Lawful`: journals of which none is
 //! - `specs/Items`: what is in flight, with numbers and due ticks; `specs/Settled`: settled worlds
-//! - `specs/Verdicts`, `specs/Parts`, `specs/Turns`, `specs/Quiet`, `specs/Nearer`, `specs/InFlight`, `specs/Best`,
-//!   `specs/OneKind`: what the laws say
+//! - `specs/Verdicts`, `specs/Parts`, `specs/OneMore`, `specs/Turns`, `specs/Tidy`, `specs/Bounds`, `specs/Quiet`,
+//!   `specs/Nearer`, `specs/InFlight`, `specs/Best`, `specs/OneKind`: what the laws say
 //! - `specs/Routes`, `specs/Entry`, `specs/Deliveries`, `specs/Accounts`: the packets of one node, sent one after another
 //! - `laws`: the laws of all these; `proofs/TwoLinks`, `proofs/MoreRuns`, `proofs/Flights`: runs that are computed
 //!   step by step

@@ -1,6 +1,6 @@
 -- A capture file of libpcap, as the manual page pcap-savefile(5) has it: a header, and then records, each a
 -- header and the bytes of one packet. All numbers are in one of two byte orders, and times in one of two units.
-use Rattle.std.specs.Prelude.{ℕ, ◌%◌, ◌==◌, ◌||◌, ◌≡◌, ◌≤◌, ◌<◌, Bool, true, List, [], ◌∷◌, ◌++◌, length, drop, slice_index, if◌then◌else◌}
+use Rattle.std.specs.Prelude.{ℕ, ◌%◌, ◌==◌, ◌||◌, ◌≡◌, ◌≤◌, Bool, true, List, [], ◌∷◌, ◌++◌, length, drop, if◌then◌else◌}
 use Rattle.byteorder.specs.Endian.{big_number, little_number}
 use Rattle.mn_pcap.specs.Format.{magic, major, minor, snaplen}
 use Rattle.mn_pcap.specs.declared.message.Form.{Form}

@@ -32,7 +32,7 @@ use Rattle.mn_script.specs.declared.refusal.ScriptRule.TheVariants.{BadNumber, N
 use Rattle.mn_script.specs.Rules.{◌>>=◌, or_rule}
 use Rattle.mn_script.specs.Operands.{lesser, greater, number_in, prefix_in, target_in, node_in, vrf_in, site_in, link_in, edges_in}
 use Rattle.mn_script.specs.Spelled.{node_text, vrf_text, site_text, from_text, to_text, step_words, IsStep}
-use Rattle.mn_script.specs.Steps.{step_line, link_line, learn_line, ldp_line, hear_line, hear_ldp_line, hear_bgp_line, bgp_line, route_line, import_line, export_line, site_line, inject_line, carry_line, lose_line}
+use Rattle.mn_script.specs.Steps.{step_line, link_line, learn_line, ldp_line, hear_line, hear_ldp_line, hear_bgp_line, bgp_line, route_line, target_operands, import_line, export_line, site_line, inject_line, frame_operands, carry_line, lose_line}
 use Rattle.mn_topo.specs.declared.steps.Step.{Step}
 use Rattle.mn_topo.specs.declared.steps.Step.TheVariants.{LinkUp, LinkDown, Learn, LdpAdmin, HearLdp, BgpUp, BgpDown, HearBgp, AddRoute, DelRoute, Import, Export, Attach, Detach, Inject, Carry, Lose}
 use Rattle.mn_script.specs.declared.command.Command.{Command}
@@ -193,23 +193,27 @@ del_route network site prefix lawful there form =
     ap (λ found. found >>= (λ block. site_in network (site_text network site) >>= (λ where_. Ok (DelRoute where_ block)))) (prefix_in_again prefix form)
     ∙ ap (λ found. found >>= (λ where_. Ok (DelRoute where_ prefix))) (site_again network site lawful there)
 
+-- the words of a target are read as its operands
+target_again : (network : Network) (first : List ℕ) (vrf : VrfNo) (target : Rt) (on : Bool)
+    → IsLawful network → vrf.0 < length network.vrfs → has_rt_form target.0 ≡ true
+    → target_operands network (first ∷ (if on then codes "add" else codes "del") ∷ vrf_text network vrf ∷ rt_text target ∷ []) ≡ Ok (vrf, target, on)
+unfolding target_operands
+target_again network first vrf target true lawful there form =
+    ap (λ found. found >>= (λ value. vrf_in network (vrf_text network vrf) >>= (λ it. Ok (it, value, true)))) (target_in_again target form)
+    ∙ ap (λ found. found >>= (λ it. Ok (it, target, true))) (vrf_again network vrf lawful there)
+target_again network first vrf target false lawful there form =
+    ap (λ found. found >>= (λ value. vrf_in network (vrf_text network vrf) >>= (λ it. Ok (it, value, false)))) (target_in_again target form)
+    ∙ ap (λ found. found >>= (λ it. Ok (it, target, false))) (vrf_again network vrf lawful there)
+
 imports : (network : Network) (vrf : VrfNo) (target : Rt) (on : Bool) → IsLawful network → vrf.0 < length network.vrfs → has_rt_form target.0 ≡ true → step_line network (step_words network (Import vrf target on)) ≡ Ok (Import vrf target on)
 unfolding step_line import_line
-imports network vrf target true lawful there form =
-    ap (λ found. found >>= (λ value. vrf_in network (vrf_text network vrf) >>= (λ it. Ok (Import it value true)))) (target_in_again target form)
-    ∙ ap (λ found. found >>= (λ it. Ok (Import it target true))) (vrf_again network vrf lawful there)
-imports network vrf target false lawful there form =
-    ap (λ found. found >>= (λ value. vrf_in network (vrf_text network vrf) >>= (λ it. Ok (Import it value false)))) (target_in_again target form)
-    ∙ ap (λ found. found >>= (λ it. Ok (Import it target false))) (vrf_again network vrf lawful there)
+imports network vrf target on lawful there form =
+    ap (λ found. found >>= (λ it. Ok (Import it.0 it.1 it.2))) (target_again network (codes "import") vrf target on lawful there form)
 
 exports : (network : Network) (vrf : VrfNo) (target : Rt) (on : Bool) → IsLawful network → vrf.0 < length network.vrfs → has_rt_form target.0 ≡ true → step_line network (step_words network (Export vrf target on)) ≡ Ok (Export vrf target on)
 unfolding step_line export_line
-exports network vrf target true lawful there form =
-    ap (λ found. found >>= (λ value. vrf_in network (vrf_text network vrf) >>= (λ it. Ok (Export it value true)))) (target_in_again target form)
-    ∙ ap (λ found. found >>= (λ it. Ok (Export it target true))) (vrf_again network vrf lawful there)
-exports network vrf target false lawful there form =
-    ap (λ found. found >>= (λ value. vrf_in network (vrf_text network vrf) >>= (λ it. Ok (Export it value false)))) (target_in_again target form)
-    ∙ ap (λ found. found >>= (λ it. Ok (Export it target false))) (vrf_again network vrf lawful there)
+exports network vrf target on lawful there form =
+    ap (λ found. found >>= (λ it. Ok (Export it.0 it.1 it.2))) (target_again network (codes "export") vrf target on lawful there form)
 
 attach : (network : Network) (site : SiteNo) → IsLawful network → site.0 < length network.sites → step_line network (step_words network (Attach site)) ≡ Ok (Attach site)
 unfolding step_line site_line
@@ -225,17 +229,24 @@ inject network site number lawful there low high =
     ap (λ found. found >>= (λ k. site_in network (site_text network site) >>= (λ it. Ok (Inject it k)))) (number_in_again number 1 4294967295 (omega arith) low (omega arith))
     ∙ ap (λ found. found >>= (λ it. Ok (Inject it number))) (site_again network site lawful there)
 
+-- the words of a frame are read as its operands
+frame_again : (network : Network) (first : List ℕ) (link : LinkNo) (direction : Dir) (place : ℕ)
+    → IsLawful network → link.0 < length network.links → place < 2 ^ 32
+    → frame_operands network (first ∷ from_text network link direction ∷ to_text network link direction ∷ number_text place ∷ []) ≡ Ok (link, direction, place)
+unfolding frame_operands
+frame_again network first link direction place lawful below high =
+    ap (λ found. found >>= (λ k. link_in network (from_text network link direction) (to_text network link direction) >>= (λ it. Ok (it.0, it.1, k)))) (number_in_again place 0 4294967295 (omega arith) (omega arith) (omega arith))
+    ∙ ap (λ found. found >>= (λ it. Ok (it.0, it.1, place))) (ends_again network link direction lawful below)
+
 carry : (network : Network) (link : LinkNo) (direction : Dir) (place : ℕ) → IsLawful network → link.0 < length network.links → place < 2 ^ 32 → step_line network (step_words network (Carry link direction place)) ≡ Ok (Carry link direction place)
 unfolding step_line carry_line
 carry network link direction place lawful below high =
-    ap (λ found. found >>= (λ k. link_in network (from_text network link direction) (to_text network link direction) >>= (λ it. Ok (Carry it.0 it.1 k)))) (number_in_again place 0 4294967295 (omega arith) (omega arith) (omega arith))
-    ∙ ap (λ found. found >>= (λ it. Ok (Carry it.0 it.1 place))) (ends_again network link direction lawful below)
+    ap (λ found. found >>= (λ it. Ok (Carry it.0 it.1 it.2))) (frame_again network (codes "carry") link direction place lawful below high)
 
 lose : (network : Network) (link : LinkNo) (direction : Dir) (place : ℕ) → IsLawful network → link.0 < length network.links → place < 2 ^ 32 → step_line network (step_words network (Lose link direction place)) ≡ Ok (Lose link direction place)
 unfolding step_line lose_line
 lose network link direction place lawful below high =
-    ap (λ found. found >>= (λ k. link_in network (from_text network link direction) (to_text network link direction) >>= (λ it. Ok (Lose it.0 it.1 k)))) (number_in_again place 0 4294967295 (omega arith) (omega arith) (omega arith))
-    ∙ ap (λ found. found >>= (λ it. Ok (Lose it.0 it.1 place))) (ends_again network link direction lawful below)
+    ap (λ found. found >>= (λ it. Ok (Lose it.0 it.1 it.2))) (frame_again network (codes "lose") link direction place lawful below high)
 
 pub step_again : (network : Network) (step : Step) → IsLawful network → fits network step ≡ true → IsStep step → step_line network (step_words network step) ≡ Ok step
 step_again network (LinkUp link) lawful fit is = link_up network link lawful (ltb-true _ _ fit)
@@ -246,8 +257,8 @@ step_again network (HearLdp link direction) lawful fit is = hear_ldp network lin
 step_again network (BgpUp a b) lawful fit is = bgp_up network a b lawful fit
 step_again network (BgpDown a b) lawful fit is = bgp_down network a b lawful fit
 step_again network (HearBgp a b) lawful fit is = hear_bgp network a b lawful fit
-step_again network (AddRoute site prefix) lawful fit is = add_route network site prefix lawful (ltb-true _ _ fit) is
-step_again network (DelRoute site prefix) lawful fit is = del_route network site prefix lawful (ltb-true _ _ fit) is
+step_again network (AddRoute site prefix) lawful fit is = let both = and_parts _ _ fit in add_route network site prefix lawful (ltb-true _ _ both.0) is
+step_again network (DelRoute site prefix) lawful fit is = let both = and_parts _ _ fit in del_route network site prefix lawful (ltb-true _ _ both.0) is
 step_again network (Import vrf target on) lawful fit is = let both = and_parts _ _ fit in imports network vrf target on lawful (ltb-true _ _ both.0) both.1
 step_again network (Export vrf target on) lawful fit is = let both = and_parts _ _ fit in exports network vrf target on lawful (ltb-true _ _ both.0) both.1
 step_again network (Attach site) lawful fit is = attach network site lawful (ltb-true _ _ fit)

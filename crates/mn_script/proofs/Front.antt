@@ -5,8 +5,8 @@ use Rattle.mn_script.specs.declared.command.Show.{Show}
 use Rattle.mn_script.specs.declared.command.Show.TheVariants as table
 use Rattle.mn_script.specs.Lines.{run_line, drain_line, flush_line, plain_show, show_tree, show_vrf, show_line}
 use Rattle.mn_script.specs.Lines.{table_line, do_line, command_line, line_says}
-use Rattle.mn_script.specs.Steps.{link_line, learn_line, ldp_line, hear_line, bgp_line, route_line, import_line}
-use Rattle.mn_script.specs.Steps.{export_line, site_line, inject_line, carry_line, lose_line, step_line}
+use Rattle.mn_script.specs.Steps.{link_line, learn_line, ldp_line, hear_line, bgp_line, route_line, target_operands, import_line}
+use Rattle.mn_script.specs.Steps.{export_line, site_line, inject_line, frame_operands, carry_line, lose_line, step_line}
 
 -- five words and more
 abbrev five : (a b c d e : List ℕ) → List (List ℕ) → List (List ℕ)
@@ -64,13 +64,18 @@ route_more : (network : Network) (a b c d e : List ℕ) (ws : List (List ℕ)) �
 unfolding route_line
 route_more network a b c d e ws = rw (many a b c d e ws 1 (lit< tt), many a b c d e ws 4 (lit< tt)) refl
 
+target_more : (network : Network) (a b c d e : List ℕ) (ws : List (List ℕ))
+    → target_operands network (five a b c d e ws) ≡ target_operands network (five a b c d e [])
+unfolding target_operands
+target_more network a b c d e ws = rw (many a b c d e ws 1 (lit< tt), many a b c d e ws 4 (lit< tt)) refl
+
 import_more : (network : Network) (a b c d e : List ℕ) (ws : List (List ℕ)) → import_line network (five a b c d e ws) ≡ import_line network (five a b c d e [])
 unfolding import_line
-import_more network a b c d e ws = rw (many a b c d e ws 1 (lit< tt), many a b c d e ws 4 (lit< tt)) refl
+import_more network a b c d e ws = rw (target_more network a b c d e ws) refl
 
 export_more : (network : Network) (a b c d e : List ℕ) (ws : List (List ℕ)) → export_line network (five a b c d e ws) ≡ export_line network (five a b c d e [])
 unfolding export_line
-export_more network a b c d e ws = rw (many a b c d e ws 1 (lit< tt), many a b c d e ws 4 (lit< tt)) refl
+export_more network a b c d e ws = rw (target_more network a b c d e ws) refl
 
 site_more : (network : Network) (a b c d e : List ℕ) (ws : List (List ℕ)) → site_line network (five a b c d e ws) ≡ site_line network (five a b c d e [])
 unfolding site_line
@@ -80,13 +85,18 @@ inject_more : (network : Network) (a b c d e : List ℕ) (ws : List (List ℕ)) 
 unfolding inject_line
 inject_more network a b c d e ws = rw (many a b c d e ws 3 (lit< tt)) refl
 
+frame_more : (network : Network) (a b c d e : List ℕ) (ws : List (List ℕ))
+    → frame_operands network (five a b c d e ws) ≡ frame_operands network (five a b c d e [])
+unfolding frame_operands
+frame_more network a b c d e ws = rw (many a b c d e ws 4 (lit< tt)) refl
+
 carry_more : (network : Network) (a b c d e : List ℕ) (ws : List (List ℕ)) → carry_line network (five a b c d e ws) ≡ carry_line network (five a b c d e [])
 unfolding carry_line
-carry_more network a b c d e ws = rw (many a b c d e ws 4 (lit< tt)) refl
+carry_more network a b c d e ws = rw (frame_more network a b c d e ws) refl
 
 lose_more : (network : Network) (a b c d e : List ℕ) (ws : List (List ℕ)) → lose_line network (five a b c d e ws) ≡ lose_line network (five a b c d e [])
 unfolding lose_line
-lose_more network a b c d e ws = rw (many a b c d e ws 4 (lit< tt)) refl
+lose_more network a b c d e ws = rw (frame_more network a b c d e ws) refl
 
 step_more : (network : Network) (a b c d e : List ℕ) (ws : List (List ℕ)) → step_line network (five a b c d e ws) ≡ step_line network (five a b c d e [])
 unfolding step_line

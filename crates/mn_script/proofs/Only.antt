@@ -36,7 +36,7 @@ use Rattle.mn_script.specs.declared.refusal.ScriptRule.TheVariants.{UnknownWord,
 use Rattle.mn_script.specs.Rules.{◌>>=◌, or_rule}
 use Rattle.mn_script.specs.Words.{word_at, is_word, choice, counted}
 use Rattle.mn_script.specs.Operands.{lesser, greater, number_in, prefix_in, target_in, node_in, vrf_in, site_in, link_in, edges_in}
-use Rattle.mn_script.specs.Steps.{step_line, link_line, learn_line, ldp_line, hear_line, hear_ldp_line, hear_bgp_line, bgp_line, route_line, import_line, export_line, site_line, inject_line, carry_line, lose_line}
+use Rattle.mn_script.specs.Steps.{step_line, link_line, learn_line, ldp_line, hear_line, hear_ldp_line, hear_bgp_line, bgp_line, route_line, target_operands, import_line, export_line, site_line, inject_line, frame_operands, carry_line, lose_line}
 use Rattle.mn_script.specs.Spelled.{node_text, vrf_text, site_text, from_text, to_text, AskForStep}
 use Rattle.mn_script.specs.declared.command.Command.{Command}
 use Rattle.mn_script.specs.declared.command.Command.TheVariants as command
@@ -325,15 +325,27 @@ route_only network ws step first h =
 import_asked : (network : Network) (ws : List (List ℕ)) (step : Step) (add : Bool) (vrf : VrfNo) (target : Rt) → Import vrf target add ≡ step → ws ≡ codes "import" ∷ (if add then codes "add" else codes "del") ∷ vrf_text network vrf ∷ rt_text target ∷ [] → AskForStep network ws step
 import_asked network ws step add vrf target same whole = subst (AskForStep network ws) same (inl whole)
 
+-- what is read as the operands of a target is their words
+target_only : (network : Network) (ws : List (List ℕ)) (first : List ℕ) (found : VrfNo × Rt × Bool) → word_at ws 0 ≡ first → target_operands network ws ≡ Ok found
+    → ws ≡ first ∷ (if found.2 then codes "add" else codes "del") ∷ vrf_text network found.0 ∷ rt_text found.1 ∷ []
+unfolding target_operands
+target_only network ws first found begins h =
+    let add = bind_ok (choice ws (codes "add") (codes "del")) _ found h in
+    let full = bind_ok (counted ws 4) _ found add.2 in
+    let target = bind_ok (target_in (word_at ws 3)) _ found full.2 in
+    let vrf = bind_ok (vrf_in network (word_at ws 2)) _ found target.2 in
+    let chosen = choice_only ws (codes "add") (codes "del") add.0 add.1 in
+    let named = vrf_only network (word_at ws 2) vrf.0 vrf.1 in
+    let valued = target_in_only (word_at ws 3) target.0 target.1 in
+    subst (λ (it : VrfNo × Rt × Bool). ws ≡ first ∷ (if it.2 then codes "add" else codes "del") ∷ vrf_text network it.0 ∷ rt_text it.1 ∷ [])
+    (same_Ok (vrf.0, target.0, add.0) found vrf.2)
+    (of_four ws first _ _ _ (counted_only ws 4 full.0 full.1) begins chosen named valued)
+
 import_only : (network : Network) (ws : List (List ℕ)) (step : Step) → word_at ws 0 ≡ codes "import" → import_line network ws ≡ Ok step → AskForStep network ws step
 unfolding import_line
 import_only network ws step first h =
-    let add = bind_ok (choice ws (codes "add") (codes "del")) _ step h in
-    let full = bind_ok (counted ws 4) _ step add.2 in
-    let target = bind_ok (target_in (word_at ws 3)) _ step full.2 in
-    let vrf = bind_ok (vrf_in network (word_at ws 2)) _ step target.2 in
-    import_asked network ws step add.0 vrf.0 target.0 (same_Ok _ step vrf.2)
-    (of_four ws (codes "import") _ _ _ (counted_only ws 4 full.0 full.1) first (choice_only ws (codes "add") (codes "del") add.0 add.1) (vrf_only network (word_at ws 2) vrf.0 vrf.1) (target_in_only (word_at ws 3) target.0 target.1))
+    let found = bind_ok (target_operands network ws) _ step h in
+    import_asked network ws step found.0.2 found.0.0 found.0.1 (same_Ok _ step found.2) (target_only network ws (codes "import") found.0 first found.1)
 
 export_asked : (network : Network) (ws : List (List ℕ)) (step : Step) (add : Bool) (vrf : VrfNo) (target : Rt) → Export vrf target add ≡ step → ws ≡ codes "export" ∷ (if add then codes "add" else codes "del") ∷ vrf_text network vrf ∷ rt_text target ∷ [] → AskForStep network ws step
 export_asked network ws step add vrf target same whole = subst (AskForStep network ws) same (inl whole)
@@ -341,12 +353,8 @@ export_asked network ws step add vrf target same whole = subst (AskForStep netwo
 export_only : (network : Network) (ws : List (List ℕ)) (step : Step) → word_at ws 0 ≡ codes "export" → export_line network ws ≡ Ok step → AskForStep network ws step
 unfolding export_line
 export_only network ws step first h =
-    let add = bind_ok (choice ws (codes "add") (codes "del")) _ step h in
-    let full = bind_ok (counted ws 4) _ step add.2 in
-    let target = bind_ok (target_in (word_at ws 3)) _ step full.2 in
-    let vrf = bind_ok (vrf_in network (word_at ws 2)) _ step target.2 in
-    export_asked network ws step add.0 vrf.0 target.0 (same_Ok _ step vrf.2)
-    (of_four ws (codes "export") _ _ _ (counted_only ws 4 full.0 full.1) first (choice_only ws (codes "add") (codes "del") add.0 add.1) (vrf_only network (word_at ws 2) vrf.0 vrf.1) (target_in_only (word_at ws 3) target.0 target.1))
+    let found = bind_ok (target_operands network ws) _ step h in
+    export_asked network ws step found.0.2 found.0.0 found.0.1 (same_Ok _ step found.2) (target_only network ws (codes "export") found.0 first found.1)
 
 site_asked : (network : Network) (ws : List (List ℕ)) (step : Step) (up : Bool) (site : SiteNo) → (if up then Attach site else Detach site) ≡ step → ws ≡ codes "site" ∷ (if up then codes "up" else codes "down") ∷ site_text network site ∷ [] → AskForStep network ws step
 site_asked network ws step true site same whole = subst (AskForStep network ws) same (inl whole)
@@ -370,25 +378,31 @@ inject_only network ws step first h =
     subst (AskForStep network ws) (same_Ok (Inject site.0 number.0) step site.2)
     (inl (of_three ws (codes "inject") _ _ (counted_only ws 3 full.0 full.1) first (site_only network (word_at ws 1) site.0 site.1) (number_in_only (word_at ws 2) 1 4294967295 number.0 (lit< tt) number.1)))
 
+-- what is read as the operands of a frame is their words
+frame_only : (network : Network) (ws : List (List ℕ)) (first : List ℕ) (found : LinkNo × Dir × ℕ) → word_at ws 0 ≡ first → frame_operands network ws ≡ Ok found
+    → ws ≡ first ∷ from_text network found.0 found.1 ∷ to_text network found.0 found.1 ∷ number_text found.2 ∷ []
+unfolding frame_operands
+frame_only network ws first found begins h =
+    let full = bind_ok (counted ws 4) _ found h in
+    let place = bind_ok (number_in (word_at ws 3) 0 4294967295) _ found full.2 in
+    let link = bind_ok (link_in network (word_at ws 1) (word_at ws 2)) _ found place.2 in
+    let ends = ends_only network (word_at ws 1) (word_at ws 2) link.0 link.1 in
+    let numbered = number_in_only (word_at ws 3) 0 4294967295 place.0 (lit< tt) place.1 in
+    subst (λ (it : LinkNo × Dir × ℕ). ws ≡ first ∷ from_text network it.0 it.1 ∷ to_text network it.0 it.1 ∷ number_text it.2 ∷ [])
+    (same_Ok (link.0.0, link.0.1, place.0) found link.2)
+    (of_four ws first _ _ _ (counted_only ws 4 full.0 full.1) begins ends.0 ends.1 numbered)
+
 carry_only : (network : Network) (ws : List (List ℕ)) (step : Step) → word_at ws 0 ≡ codes "carry" → carry_line network ws ≡ Ok step → AskForStep network ws step
 unfolding carry_line
 carry_only network ws step first h =
-    let full = bind_ok (counted ws 4) _ step h in
-    let place = bind_ok (number_in (word_at ws 3) 0 4294967295) _ step full.2 in
-    let found = bind_ok (link_in network (word_at ws 1) (word_at ws 2)) _ step place.2 in
-    let ends = ends_only network (word_at ws 1) (word_at ws 2) found.0 found.1 in
-    subst (AskForStep network ws) (same_Ok (Carry found.0.0 found.0.1 place.0) step found.2)
-    (inl (of_four ws (codes "carry") _ _ _ (counted_only ws 4 full.0 full.1) first ends.0 ends.1 (number_in_only (word_at ws 3) 0 4294967295 place.0 (lit< tt) place.1)))
+    let found = bind_ok (frame_operands network ws) _ step h in
+    subst (AskForStep network ws) (same_Ok _ step found.2) (inl (frame_only network ws (codes "carry") found.0 first found.1))
 
 lose_only : (network : Network) (ws : List (List ℕ)) (step : Step) → word_at ws 0 ≡ codes "lose" → lose_line network ws ≡ Ok step → AskForStep network ws step
 unfolding lose_line
 lose_only network ws step first h =
-    let full = bind_ok (counted ws 4) _ step h in
-    let place = bind_ok (number_in (word_at ws 3) 0 4294967295) _ step full.2 in
-    let found = bind_ok (link_in network (word_at ws 1) (word_at ws 2)) _ step place.2 in
-    let ends = ends_only network (word_at ws 1) (word_at ws 2) found.0 found.1 in
-    subst (AskForStep network ws) (same_Ok (Lose found.0.0 found.0.1 place.0) step found.2)
-    (inl (of_four ws (codes "lose") _ _ _ (counted_only ws 4 full.0 full.1) first ends.0 ends.1 (number_in_only (word_at ws 3) 0 4294967295 place.0 (lit< tt) place.1)))
+    let found = bind_ok (frame_operands network ws) _ step h in
+    subst (AskForStep network ws) (same_Ok _ step found.2) (inl (frame_only network ws (codes "lose") found.0 first found.1))
 
 -- 5. All of them
 pub step_only : (network : Network) (ws : List (List ℕ)) (step : Step) → step_line network ws ≡ Ok step → AskForStep network ws step

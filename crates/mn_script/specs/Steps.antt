@@ -1,5 +1,9 @@
 -- The lines that name a step, a row of the table each.
-use Rattle.std.specs.Prelude.{ℕ, if◌then◌else◌, List, Result, Ok, Err, codes}
+use Rattle.std.specs.Prelude.{ℕ, Bool, if◌then◌else◌, List, Result, Ok, Err, codes}
+use Rattle.mn_base.specs.declared.links.Dir.{Dir}
+use Rattle.mn_base.specs.declared.numbers.LinkNo.{LinkNo}
+use Rattle.mn_base.specs.declared.numbers.VrfNo.{VrfNo}
+use Rattle.mn_base.specs.declared.numbers.Rt.{Rt}
 use Rattle.mn_topo.specs.declared.steps.Step.{Step}
 use Rattle.mn_topo.specs.declared.steps.Step.TheVariants.{LinkUp, LinkDown, Learn, LdpAdmin, HearLdp, BgpUp, BgpDown, HearBgp, AddRoute, DelRoute, Import, Export, Attach, Detach, Inject, Carry, Lose}
 use Rattle.mn_topo.specs.Network.{Network}
@@ -68,23 +72,26 @@ route_line network ws = do
   site ← site_in network (word_at ws 2)
   Ok (if add then AddRoute site prefix else DelRoute site prefix)
 
--- import add VRF TARGET, import del VRF TARGET
-unfoldable pub import_line : Network → List (List ℕ) → Result Step ScriptRule
-import_line network ws = do
+-- add VRF TARGET, del VRF TARGET, behind the first word: the VRF, the target, and whether it is added
+unfoldable pub target_operands : Network → List (List ℕ) → Result (VrfNo × Rt × Bool) ScriptRule
+target_operands network ws = do
   add ← choice ws (codes "add") (codes "del")
   full ← counted ws 4
   target ← target_in (word_at ws 3)
   vrf ← vrf_in network (word_at ws 2)
-  Ok (Import vrf target add)
+  Ok (vrf, target, add)
+
+-- import add VRF TARGET, import del VRF TARGET
+unfoldable pub import_line : Network → List (List ℕ) → Result Step ScriptRule
+import_line network ws = do
+  found ← target_operands network ws
+  Ok (Import found.0 found.1 found.2)
 
 -- export add VRF TARGET, export del VRF TARGET
 unfoldable pub export_line : Network → List (List ℕ) → Result Step ScriptRule
 export_line network ws = do
-  add ← choice ws (codes "add") (codes "del")
-  full ← counted ws 4
-  target ← target_in (word_at ws 3)
-  vrf ← vrf_in network (word_at ws 2)
-  Ok (Export vrf target add)
+  found ← target_operands network ws
+  Ok (Export found.0 found.1 found.2)
 
 -- site up SITE, site down SITE
 unfoldable pub site_line : Network → List (List ℕ) → Result Step ScriptRule
@@ -102,21 +109,25 @@ inject_line network ws = do
   site ← site_in network (word_at ws 1)
   Ok (Inject site k)
 
--- carry A B PLACE: of the frames from A to B, numbered from 0
-unfoldable pub carry_line : Network → List (List ℕ) → Result Step ScriptRule
-carry_line network ws = do
+-- A B PLACE, behind the first word: the link, its direction from A to B, and the place of a frame there, numbered from 0
+unfoldable pub frame_operands : Network → List (List ℕ) → Result (LinkNo × Dir × ℕ) ScriptRule
+frame_operands network ws = do
   full ← counted ws 4
   place ← number_in (word_at ws 3) 0 4294967295
   link ← link_in network (word_at ws 1) (word_at ws 2)
-  Ok (Carry link.0 link.1 place)
+  Ok (link.0, link.1, place)
+
+-- carry A B PLACE
+unfoldable pub carry_line : Network → List (List ℕ) → Result Step ScriptRule
+carry_line network ws = do
+  found ← frame_operands network ws
+  Ok (Carry found.0 found.1 found.2)
 
 -- lose A B PLACE
 unfoldable pub lose_line : Network → List (List ℕ) → Result Step ScriptRule
 lose_line network ws = do
-  full ← counted ws 4
-  place ← number_in (word_at ws 3) 0 4294967295
-  link ← link_in network (word_at ws 1) (word_at ws 2)
-  Ok (Lose link.0 link.1 place)
+  found ← frame_operands network ws
+  Ok (Lose found.0 found.1 found.2)
 
 -- the step of a line, by its first word
 unfoldable pub step_line : Network → List (List ℕ) → Result Step ScriptRule

@@ -1,15 +1,17 @@
 //! The lines that name a step.
 ghost use Rattle.std.specs.Prelude.{◌≡◌, ◌≤◌, ◌<◌, true, length, IfOk};
+ghost use Rattle.mn_base.specs.Numbers.{has_rt_form};
 ghost use Rattle.mn_topo.specs.Steps.{fits};
 ghost use Rattle.mn_script.specs.Words.{texts};
-ghost use Rattle.mn_script.specs.Steps.{link_line, learn_line, ldp_line, hear_ldp_line, hear_bgp_line, hear_line, bgp_line, route_line, import_line, export_line, site_line, inject_line, carry_line, lose_line, step_line};
+ghost use Rattle.mn_script.specs.Steps.{link_line, learn_line, ldp_line, hear_ldp_line, hear_bgp_line, hear_line, bgp_line, route_line, site_line, step_line};
+ghost use Rattle.mn_script.specs.Steps.{target_operands, import_line, export_line, inject_line, frame_operands, carry_line, lose_line};
 
 use crate::ScriptRule;
 use crate::operands::{
     edges_in, link_in, node_in, number_in, prefix_in, site_in, target_in, vrf_in,
 };
 use crate::words::{choice, counted, is_word, word_at};
-use mn_base::NodeNo;
+use mn_base::{Dir, LinkNo, NodeNo, Rt, VrfNo};
 use mn_topo::{Step, Topology};
 
 /// `link up A B`, `link down A B`.
@@ -121,16 +123,27 @@ fn route_line(topology: &Topology, words: &[&[u8]]) -> Result<Step, ScriptRule>
     }
 }
 
+/// `add VRF TARGET`, `del VRF TARGET`, behind the first word: the VRF, the target, and whether it is added.
+#[tactic(auto, unfolding(crate::specs::Steps::target_operands))]
+fn target_operands(topology: &Topology, words: &[&[u8]]) -> Result<(VrfNo, Rt, bool), ScriptRule>
+    ensures value { result ≡ target_operands topology.now (texts words.now) }
+    ensures within { IfOk result (λ found. found.0.0 < length topology.now.vrfs) }
+    ensures form { IfOk result (λ found. has_rt_form found.1.0 ≡ true) }
+{
+    let add = choice(words, "add", "del")?;
+    counted(words, 4)?;
+    let target = target_in(word_at(words, 3))?;
+    let vrf = vrf_in(topology, word_at(words, 2))?;
+    Ok((vrf, target, add))
+}
+
 /// `import add VRF TARGET`, `import del VRF TARGET`.
 #[tactic(auto, unfolding(crate::specs::Steps::import_line))]
 fn import_line(topology: &Topology, words: &[&[u8]]) -> Result<Step, ScriptRule>
     ensures value { result ≡ import_line topology.now (texts words.now) }
     ensures fits { IfOk result (λ step. fits topology.now step ≡ true) }
 {
-    let add = choice(words, "add", "del")?;
-    counted(words, 4)?;
-    let target = target_in(word_at(words, 3))?;
-    let vrf = vrf_in(topology, word_at(words, 2))?;
+    let (vrf, target, add) = target_operands(topology, words)?;
     Ok(Step::Import(vrf, target, add))
 }
 
@@ -140,10 +153,7 @@ fn export_line(topology: &Topology, words: &[&[u8]]) -> Result<Step, ScriptRule>
     ensures value { result ≡ export_line topology.now (texts words.now) }
     ensures fits { IfOk result (λ step. fits topology.now step ≡ true) }
 {
-    let add = choice(words, "add", "del")?;
-    counted(words, 4)?;
-    let target = target_in(word_at(words, 3))?;
-    let vrf = vrf_in(topology, word_at(words, 2))?;
+    let (vrf, target, add) = target_operands(topology, words)?;
     Ok(Step::Export(vrf, target, add))
 }
 
@@ -175,15 +185,25 @@ fn inject_line(topology: &Topology, words: &[&[u8]]) -> Result<Step, ScriptRule>
     Ok(Step::Inject(site, number))
 }
 
+/// `A B PLACE`, behind the first word: the link, its direction from A to B, and a place there, from 0.
+#[tactic(auto, unfolding(crate::specs::Steps::frame_operands))]
+fn frame_operands(topology: &Topology, words: &[&[u8]]) -> Result<(LinkNo, Dir, u32), ScriptRule>
+    ensures value { result ≡ frame_operands topology.now (texts words.now) }
+    ensures within { IfOk result (λ found. found.0.0 < length topology.now.links) }
+{
+    counted(words, 4)?;
+    let place = number_in(word_at(words, 3), 0, u32::MAX)?;
+    let (link, direction) = link_in(topology, word_at(words, 1), word_at(words, 2))?;
+    Ok((link, direction, place))
+}
+
 /// `carry A B PLACE`.
 #[tactic(auto, unfolding(crate::specs::Steps::carry_line))]
 fn carry_line(topology: &Topology, words: &[&[u8]]) -> Result<Step, ScriptRule>
     ensures value { result ≡ carry_line topology.now (texts words.now) }
     ensures fits { IfOk result (λ step. fits topology.now step ≡ true) }
 {
-    counted(words, 4)?;
-    let place = number_in(word_at(words, 3), 0, u32::MAX)?;
-    let (link, direction) = link_in(topology, word_at(words, 1), word_at(words, 2))?;
+    let (link, direction, place) = frame_operands(topology, words)?;
     Ok(Step::Carry(link, direction, place))
 }
 
@@ -193,9 +213,7 @@ fn lose_line(topology: &Topology, words: &[&[u8]]) -> Result<Step, ScriptRule>
     ensures value { result ≡ lose_line topology.now (texts words.now) }
     ensures fits { IfOk result (λ step. fits topology.now step ≡ true) }
 {
-    counted(words, 4)?;
-    let place = number_in(word_at(words, 3), 0, u32::MAX)?;
-    let (link, direction) = link_in(topology, word_at(words, 1), word_at(words, 2))?;
+    let (link, direction, place) = frame_operands(topology, words)?;
     Ok(Step::Lose(link, direction, place))
 }
 

@@ -1,5 +1,6 @@
 pub mod Keys
 pub mod NameKeys
+pub mod NodeList
 pub mod Arrays
 pub mod LinkKeys
 pub mod VrfKeys

@@ -1,5 +1,5 @@
 -- A topology, as contracts see it, and what its readers answer.
-use Rattle.std.specs.Prelude.{◌≡◌, ◌<◌, ℕ, ◌==◌, if◌then◌else◌, List, length, position, Option, option_map, slice_index_or}
+use Rattle.std.specs.Prelude.{◌≡◌, ◌<◌, ℕ, ◌==◌, if◌then◌else◌, List, length, map, position, Option, option_map, slice_index_or}
 use Rattle.mn_base.specs.Wiring.{Wiring, sender, receiver}
 use Rattle.mn_base.specs.declared.links.LinkEnds.{LinkEnds}
 use Rattle.mn_base.specs.declared.links.Dir.{Dir}
@@ -8,6 +8,7 @@ use Rattle.mn_base.specs.declared.numbers.NodeNo.{NodeNo}
 use Rattle.mn_base.specs.declared.numbers.LinkNo.{LinkNo}
 use Rattle.mn_base.specs.declared.numbers.VrfNo.{VrfNo}
 use Rattle.mn_base.specs.declared.numbers.SiteNo.{SiteNo}
+use Rattle.mn_topo.specs.declared.nodes.Node.{Node}
 use Rattle.mn_topo.specs.declared.vrfs.VrfDef.{VrfDef}
 use Rattle.mn_topo.specs.declared.sites.SiteDef.{SiteDef}
 use Rattle.mn_topo.specs.Names.{number_of}
@@ -25,6 +26,10 @@ pub record Network : Type 0 where
   pub vrfs : List VrfDef
   pub site_names : List (List ℕ)
   pub sites : List SiteDef
+
+-- the nodes of these loopbacks, in their order
+abbrev pub nodes_with : List ℕ → List Node
+nodes_with loopbacks = map (λ loopback. record { loopback = loopback }) loopbacks
 
 -- its nodes and links
 abbrev pub wiring_of : Network → Wiring

@@ -4,6 +4,7 @@ ghost use Rattle.toml.specs.View.{table_view, items_view};
 ghost use Rattle.mn_topo.specs.Names.{has_name};
 ghost use Rattle.mn_topo.specs.Rules.{Reads};
 ghost use Rattle.mn_topo.specs.Tables.{tables_of};
+ghost use Rattle.mn_topo.specs.Network.{nodes_with};
 ghost use Rattle.mn_topo.specs.Nodes.{no_nodes, is_loopback, loopback_in, loopback_at, has_loopback, nodes_from, ReadsNode};
 
 use crate::names::Names;
@@ -83,8 +84,9 @@ impl Nodes {
         &self.names
     }
 
+    #[tactic(auto, using(crate::proofs::NodeList::nodes_again))]
     pub(crate) fn as_slice(&self) -> &[Node]
-        ensures { map (λ node. node.loopback) result.now ≡ self.now.loopbacks }
+        ensures { result.now ≡ nodes_with self.now.loopbacks }
     {
         &self.nodes
     }

@@ -91,6 +91,12 @@ fn refusal(alloc: Global, front: &str, back: &str) -> Result<Option<TopoBad>, Al
     }
 }
 
+const EIGHTY_DEEP: &str =
+    "x = [[[[[[[[[[[[[[[[[[[[[[[[[[[[[[[[[[[[[[[[[[[[[[[[[[[[[[[[[[[[[[[[[[[[[[[[[[[[[[[[]]]]]]]]]]]]]]]]]]]]]]]]]]]]]]]]]]]]]]]]]]]]]]]]]]]]]]]]]]]]]]]]]]]]]]]]]]]]]]]]";
+
+const EIGHTY_ONE_DEEP: &str =
+    "x = [[[[[[[[[[[[[[[[[[[[[[[[[[[[[[[[[[[[[[[[[[[[[[[[[[[[[[[[[[[[[[[[[[[[[[[[[[[[[[[[[]]]]]]]]]]]]]]]]]]]]]]]]]]]]]]]]]]]]]]]]]]]]]]]]]]]]]]]]]]]]]]]]]]]]]]]]]]]]]]]]]";
+
 fn refused(rule: TopoRule, place: Place) -> Option<TopoBad> {
     Some(TopoBad::Refused { rule, place })
 }
@@ -101,6 +107,11 @@ fn the_top_table_is_refused_by_its_first_broken_rule(rt: HostRuntime) -> Result<
         ("node = [", TopoRule::NotToml),
         ("as = 99999999999999999999", TopoRule::NotToml),
         ("as = 1\nas = 2", TopoRule::NotToml),
+        // Arrays nest 80 deep, and no deeper; a number with a fraction is within the range of 64 bits.
+        (EIGHTY_DEEP, TopoRule::UnknownKey),
+        (EIGHTY_ONE_DEEP, TopoRule::NotToml),
+        ("x = 1e308", TopoRule::UnknownKey),
+        ("x = 1e309", TopoRule::NotToml),
         ("routers = 3", TopoRule::UnknownKey),
         // An unknown key before a wrong kind, and before too many.
         ("as = 0\nrouters = 3", TopoRule::UnknownKey),
@@ -531,6 +542,11 @@ fn odd_but_lawful_documents_are_read(rt: HostRuntime) -> Result<(), Fail> {
         (
             "link = [{b = \"n0\", a = \"n1\", cost = 1_0}]\nnode = [\n  {loopback = \"1.0.0.0\", name = \"n0\"},\n  {loopback = \"223.255.255.255\", name = \"n1\"},\n]",
             [2, 1, 0, 0],
+        ),
+        // What TOML 1.1 has beyond 1.0: an inline table over several lines, with a comma at its end, and the escape of two digits.
+        (
+            "node = [{\n  name = \"\\x6E0\", # the first\n  loopback = \"192.0.2.1\",\n}]",
+            [1, 0, 0, 0],
         ),
     ];
     for (text, counts) in cases {

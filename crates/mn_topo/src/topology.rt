@@ -69,7 +69,7 @@ impl Drop for Topology {
     }
 }
 
-ghost use Rattle.mn_topo.specs.Network.{node_named, vrf_named, site_named, link_of, Leads};
+ghost use Rattle.mn_topo.specs.Network.{nodes_with, node_named, vrf_named, site_named, link_of, Leads};
 ghost use Rattle.mn_topo.specs.Links.{are_joined};
 ghost use Rattle.mn_topo.specs.Lawful.{IsLawful};
 ghost use Rattle.mn_topo.specs.VrfTable.{is_edge};
@@ -115,7 +115,7 @@ impl Topology {
 
     /// The nodes by number.
     pub fn nodes(&self) -> &[Node]
-        ensures { map (λ node. node.loopback) result.now ≡ self.now.loopbacks }
+        ensures { result.now ≡ nodes_with self.now.loopbacks }
     {
         self.nodes.as_slice()
     }

@@ -1,0 +1,155 @@
+// Files that grow by many small pieces, written by few appends.
+ghost use Rattle.std.specs.Prelude.{◌≡◌, ◌+◌, ◌<◌, ◌≤◌, List, ℕ, [], length, replicate, IfOk, OnOk, OnErr, IsTrue};
+ghost use Rattle.mn_edge.specs.Faults.{Counted};
+ghost use Rattle.mn_edge.specs.Kept.{BeginsOn, Framed, HoldsOn, grown, held_bytes, none_held, with_piece};
+ghost use Rattle.mn_edge.specs.Memory.{all_differ};
+ghost use Rattle.mn_edge.specs.Written.{texts};
+
+use crate::held::{Held, ROOM};
+use crate::{DeviceBad, Shelf};
+use std::alloc::{AllocError, Global};
+use std::marker::Model;
+
+/// Bytes that wait to be appended to files, at most 65,536 over all of them. The files go by their numbers, from
+/// 0; each call is given their names.
+///
+/// A contract speaks of a file's contents: its bytes on the shelf, and behind them those that are held for it.
+#[derive(Drop)]
+pub struct Gather {
+    held: Held,
+    /// What is held for one file, at its end, when it is appended.
+    joined: Vec<u8>,
+}
+
+impl Model for Gather {
+    ghost use Rattle.std.specs.Prelude.{◌≡◌, List, ℕ, vec_len};
+
+    ghost Value = { List (List ℕ) };
+
+    ghost view = { λ g. g.held };
+
+    ghost invariant = { λ g. vec_len g.joined ≡ 65536 };
+}
+
+impl Gather {
+    /// Nothing is held for any of so many files.
+    pub fn new(alloc: Global, files: u32) -> Result<Gather, AllocError>
+        ensures { IfOk result (λ gather. gather ≡ replicate files []) }
+    {
+        Ok(Gather {
+            held: Held::new(alloc, files as usize)?,
+            joined: vec![in alloc; 0; ROOM]?,
+        })
+    }
+
+    /// The file grows by the piece, on the shelf or in what is held for it. Only where the held bytes and the
+    /// piece pass 65,536 is anything appended. After a refusal nothing is held any more, and each file is a
+    /// first part of what it would hold.
+    pub fn put<S: Shelf>(
+        &mut self,
+        shelf: &mut S,
+        names: &[String],
+        file: u32,
+        piece: &[u8],
+    ) -> Result<(), DeviceBad>
+        requires file { file < length self.old }
+        requires names { length names.now ≡ length self.old }
+        requires differ { IsTrue (all_differ (texts names.now)) }
+        ensures grown { OnOk result ((contents : ℕ → List ℕ) →
+            HoldsOn (texts names.now) contents self.old (S.files shelf.old) →
+            HoldsOn (texts names.now) (grown contents file piece.now) self.new (S.files shelf.new)) }
+        ensures part { OnErr result ((contents : ℕ → List ℕ) →
+            HoldsOn (texts names.now) contents self.old (S.files shelf.old) →
+            BeginsOn (texts names.now) (grown contents file piece.now) (S.files shelf.new)) }
+        ensures framed { Framed (texts names.now) (S.files shelf.old) (S.files shelf.new) }
+
+        // Where there is room for the piece, the shelf isn't called, and the piece is held.
+        ensures untouched { held_bytes self.old + length piece.now ≤ 65536 → shelf.new ≡ shelf.old }
+        ensures held { OnOk result (held_bytes self.old + length piece.now ≤ 65536 →
+            self.new ≡ with_piece self.old file piece.now) }
+        ensures room { held_bytes self.new ≤ 65536 }
+        ensures files { length self.new ≡ length self.old }
+        ensures dropped { OnErr result (self.new ≡ none_held self.old) }
+        ensures writes { Counted (S.write_faults shelf.old) (S.write_faults shelf.new) result }
+        ensures reads { S.read_faults shelf.new ≡ S.read_faults shelf.old }
+    {
+        let mut rest = piece;
+        while rest.len() > self.held.room() {
+            let (front, back) = rest.split_at(self.held.room());
+            self.hold(file as usize, front)?;
+            self.end(shelf, names)?;
+            rest = back;
+        }
+        self.hold(file as usize, rest)
+    }
+
+    /// Appends all that is held, by one append for each file that has any, in the order of the files. Nothing is
+    /// held any more, also after a refusal, when each file is a first part of what it would hold.
+    pub fn end<S: Shelf>(&mut self, shelf: &mut S, names: &[String]) -> Result<(), DeviceBad>
+        requires names { length names.now ≡ length self.old }
+        requires differ { IsTrue (all_differ (texts names.now)) }
+        ensures ended { self.new ≡ none_held self.old }
+        ensures kept { OnOk result ((contents : ℕ → List ℕ) →
+            HoldsOn (texts names.now) contents self.old (S.files shelf.old) →
+            HoldsOn (texts names.now) contents self.new (S.files shelf.new)) }
+        ensures part { OnErr result ((contents : ℕ → List ℕ) →
+            HoldsOn (texts names.now) contents self.old (S.files shelf.old) →
+            BeginsOn (texts names.now) contents (S.files shelf.new)) }
+        ensures framed { Framed (texts names.now) (S.files shelf.old) (S.files shelf.new) }
+        ensures untouched { held_bytes self.old ≡ 0 → shelf.new ≡ shelf.old }
+        ensures writes { Counted (S.write_faults shelf.old) (S.write_faults shelf.new) result }
+        ensures reads { S.read_faults shelf.new ≡ S.read_faults shelf.old }
+    {
+        let done = append_held(&self.held, &mut self.joined, shelf, names);
+        self.held.clear();
+        done
+    }
+
+    /// Holds a piece for which there is room. After want of memory nothing is held.
+    fn hold(&mut self, file: usize, piece: &[u8]) -> Result<(), DeviceBad>
+        requires file { file < length self.old }
+        requires room { held_bytes self.old + length piece.now ≤ 65536 }
+        ensures ok { OnOk result (self.new ≡ with_piece self.old file piece.now) }
+        ensures err { OnErr result (self.new ≡ none_held self.old) }
+        ensures cause { Counted 0 0 result }
+    {
+        if piece.is_empty() {
+            return Ok(());
+        }
+        if self.held.push(file, piece).is_err() {
+            self.held.clear();
+            return Err(DeviceBad::NoMemory);
+        }
+        Ok(())
+    }
+}
+
+/// Appends what is held for each file. What is held stays.
+fn append_held<S: Shelf>(
+    held: &Held,
+    joined: &mut [u8],
+    shelf: &mut S,
+    names: &[String],
+) -> Result<(), DeviceBad>
+    requires joined { length joined.old ≡ ROOM }
+    requires names { length names.now ≡ length held.now }
+    requires differ { IsTrue (all_differ (texts names.now)) }
+    ensures kept { OnOk result ((contents : ℕ → List ℕ) →
+        HoldsOn (texts names.now) contents held.now (S.files shelf.old) →
+        HoldsOn (texts names.now) contents (none_held held.now) (S.files shelf.new)) }
+    ensures part { OnErr result ((contents : ℕ → List ℕ) →
+        HoldsOn (texts names.now) contents held.now (S.files shelf.old) →
+        BeginsOn (texts names.now) contents (S.files shelf.new)) }
+    ensures framed { Framed (texts names.now) (S.files shelf.old) (S.files shelf.new) }
+    ensures untouched { held_bytes held.now ≡ 0 → shelf.new ≡ shelf.old }
+    ensures writes { Counted (S.write_faults shelf.old) (S.write_faults shelf.new) result }
+    ensures reads { S.read_faults shelf.new ≡ S.read_faults shelf.old }
+{
+    for (file, name) in names.iter().enumerate() {
+        let from = held.copy_to_end(file, joined);
+        if from < joined.len() {
+            shelf.append(name.as_str(), &joined[from..])?;
+        }
+    }
+    Ok(())
+}
