@@ -1,5 +1,5 @@
 -- Every attachment has a label at its site's edge, and so has all that names one: what was told, what is held, and what flies.
-use Rattle.std.specs.Prelude.{◌≡◌, ◌<◌, ◌≤◌, ℕ, ◌+◌, List, length}
+use Rattle.std.specs.Prelude.{◌≡◌, ◌<◌, ◌≤◌, ℕ, ◌+◌, List, length, slice_index}
 use Rattle.std.specs.List.{Contains}
 use Rattle.mn_base.specs.declared.links.Dir.{Dir}
 use Rattle.mn_topo.specs.Network.{Network}
@@ -8,13 +8,14 @@ use Rattle.mn_topo.specs.declared.steps.JournalEntry.{JournalEntry}
 use Rattle.mn_ledger.specs.Places.{home_of, edge_of}
 use Rattle.mn_ledger.specs.World.{Config, Export, Announce}
 use Rattle.mn_ledger.specs.Vpn.{HeldRoute, held}
-use Rattle.mn_ledger.specs.Packets.{Token, flying_on}
+use Rattle.mn_ledger.specs.Packets.{Token, flying_on, bound}
 use Rattle.mn_ledger.specs.Ledger.{world_of, packets_of}
 use Rattle.mn_ledger.specs.Lawful.{IsLawfulJournal}
 use Rattle.mn_ledger.specs.Verdicts.{injections}
 use Rattle.mn_laws.specs.Named.{AreBytes}
 use Rattle.mn_frames.specs.Given.{given, attachment_of}
 use Rattle.mn_frames.specs.Frames.{IsSound}
+use Rattle.mn_frames.specs.Entries.{Leaves, fate}
 
 -- the node is the site's edge, and the site was attached so often
 pub record IsAttachmentAt (topology : Network) (config : Config) (node site attachment : ℕ) : Type 0 where
@@ -42,7 +43,12 @@ pub record NamesWhatHasLabels (topology : Network) (entries : List JournalEntry)
 abbrev pub AllHaveLabels : Type 0
 AllHaveLabels = (topology : Network) (entries : List JournalEntry) (inputs : List (List ℕ)) → IsLawful topology → IsLawfulJournal topology entries inputs → NamesWhatHasLabels topology entries
 
--- each packet on its way is sound
+-- a packet that leaves its edge is bound to an attachment that has a label
+abbrev pub LeavesSound : Type 0
+LeavesSound = (topology : Network) (entries : List JournalEntry) (inputs : List (List ℕ)) (site : ℕ) (bytes : List ℕ) (route : HeldRoute) → IsLawful topology → IsLawfulJournal topology entries inputs →
+    site < length topology.sites → ((i : ℕ) → slice_index bytes i < 256) → fate topology (world_of topology entries) site bytes ≡ Leaves route → IsSound topology (given topology entries) (bound 0 route bytes)
+
+-- and each packet on its way is sound
 abbrev pub AllAreSound : Type 0
 AllAreSound = (topology : Network) (entries : List JournalEntry) (inputs : List (List ℕ)) → IsLawful topology → IsLawfulJournal topology entries inputs →
     length inputs ≡ injections entries → AreBytes inputs → (l : ℕ) (dir : Dir) (token : Token) → Contains (flying_on (packets_of topology entries inputs) l dir) token → IsSound topology (given topology entries) token
