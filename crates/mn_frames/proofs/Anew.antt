@@ -1,5 +1,6 @@
 -- Which attachments have labels, and which labels: those of the start, and one more for each site that is attached anew.
-use Rattle.std.proofs.Common.{ℕ, suc, ◌≡◌, ◌≢◌, ◌+◌, ◌-◌, ◌<◌, ◌≤◌, ◌⊎◌, inl, inr, Bool, true, false, not, List, [], ◌∷◌, ◌++◌, map, filter, length, refl, arith, sym, ◌∙◌, ap, subst, append_assoc, append-nil}
+use Rattle.std.proofs.Common.{ℕ, suc, ◌≡◌, ◌≢◌, ◌+◌, ◌-◌, ◌<◌, ◌≤◌, ◌⊎◌, inl, inr, Bool, true, false, not, List, [], ◌∷◌, ◌++◌, map, filter, length}
+use Rattle.std.proofs.Common.{refl, arith, sym, ◌∙◌, ap, subst, append_assoc, append-nil}
 use Rattle.std.specs.Prelude.{◌==◌, ◌&&◌, nat_lt, sum, if◌then◌else◌}
 use Rattle.std.specs.List.{Contains, position_or_len, range_with_len}
 use Rattle.std.proofs.lemmas.List.{length-append, length-map}
@@ -57,8 +58,10 @@ given_later : (t : Network) (c : Config) (step : Step) (site k : ℕ) → c.atta
     ((config_after c step).attaches site + 2 ≤ k) ⊎ In (given_in t (home_of t site) c step) (attachment_of site k)
 given_later t c (Attach s) site k h = elim (eqb_tells s.0 site) [
   | inl q ↦ elim (attached_anew t c site k h) [
-    | inl more ↦ inl (subst (λ x. put c.attaches x (c.attaches x + 1) site + 2 ≤ k) (sym q.1) (let same : (site == site) ≡ true = same_test site in rw same more))
-    | inr here ↦ inr (subst (λ x. In (if home_of t x == home_of t site then attachment_of x (c.attaches x + 2) ∷ [] else []) (attachment_of site k)) (sym q.1) here)
+    | inl more ↦ inl (subst (λ x. put c.attaches x (c.attaches x + 1) site + 2 ≤ k) (sym q.1)
+        (let same : (site == site) ≡ true = same_test site in rw same more))
+    | inr here ↦ inr (subst (λ x. In (if home_of t x == home_of t site then attachment_of x (c.attaches x + 2) ∷ [] else []) (attachment_of site k))
+        (sym q.1) here)
   ]
   | inr q ↦ inl (let other : (site == s.0) ≡ false = apart q.1 in rw other h)
 ]
@@ -68,7 +71,8 @@ given_later t c (Attach s) site k h = elim (eqb_tells s.0 site) [
 given_later t c _ site k h = inl h
 
 from_has : (t : Network) (entries : List JournalEntry) (w : World) (site k : ℕ) →
-    w.config.attaches site + 2 ≤ k → k ≤ (world_from t w entries).config.attaches site + 1 → In (given_from t (home_of t site) w.config entries) (attachment_of site k)
+    w.config.attaches site + 2 ≤ k → k ≤ (world_from t w entries).config.attaches site + 1 →
+        In (given_from t (home_of t site) w.config entries) (attachment_of site k)
 from_has t [] w site k h g = absurd (none h g)
   where
     none : w.config.attaches site + 2 ≤ k → k ≤ w.config.attaches site + 1 → ⊥
@@ -82,12 +86,14 @@ first_has : (t : Network) (site : ℕ) → site < length t.sites → In (given_f
 first_has t site h =
     in_rest (map fec_of (filter (λ other. not (other == home_of t site)) (nodes_of (wiring_of t)))) _ (attachment_of site 1)
     (map_in (λ s. attachment_of s 1) (sites_at t (home_of t site)) site
-    (filter_in (λ s. home_of t s == home_of t site) (range_with_len 0 (length t.sites)) site (range_in 0 (length t.sites) site (omega arith) (omega (arith, h))) (same_test (home_of t site))))
+    (filter_in (λ s. home_of t s == home_of t site) (range_with_len 0 (length t.sites)) site
+        (range_in 0 (length t.sites) site (omega arith) (omega (arith, h))) (same_test (home_of t site))))
 
 pub gives_to_each : GivesToEach
 unfolding given
 gives_to_each t entries site k is = contained_in _ (attachment_of site k) (elim (eqb_tells k 1) [
-  | inl q ↦ in_front (given_first t (home_of t site)) _ (attachment_of site k) (subst (λ n. In (given_first t (home_of t site)) (attachment_of site n)) (sym q.1) (first_has t site is.there))
+  | inl q ↦ in_front (given_first t (home_of t site)) _ (attachment_of site k)
+      (subst (λ n. In (given_first t (home_of t site)) (attachment_of site n)) (sym q.1) (first_has t site is.there))
   | inr q ↦ in_rest (given_first t (home_of t site)) _ (attachment_of site k) (from_has t entries (start t) site k (omega (arith, is.first, q.1)) is.last)
 ])
 
@@ -117,7 +123,8 @@ from_only t node tick w packets count [] inputs site k lawful i = absurd i
 from_only t node tick w packets count (e ∷ es) inputs site k lawful i = elim (in_append (given_in t node w.config e.step) _ (attachment_of site k) i) [
   | inl j ↦ (let here = step_only t node w.config e.step site k lawful.0 j in
       (here.0, here.1, here.2, omega (arith, here.3, grows t es (after t w e.step) site)))
-  | inr j ↦ (let later = from_only t node e.tick (after t w e.step) (packets_after t (after t w e.step) packets e.step (next_of inputs)) (count + 1) es (left_by e.step inputs) site k lawful.3 j in
+  | inr j ↦ (let later = from_only t node e.tick (after t w e.step) (packets_after t (after t w e.step) packets e.step (next_of inputs)) (count + 1) es
+      (left_by e.step inputs) site k lawful.3 j in
       (later.0, later.1, omega (arith, later.2, step_grows w.config e.step site), later.3))
 ]
 
@@ -139,7 +146,8 @@ only : (t : Network) (entries : List JournalEntry) (inputs : List (List ℕ)) (n
     In (given_first t node ++ given_from t node (first_config t) entries) (attachment_of site k) → IsAttachmentAt t (world_of t entries).config node site k
 only t entries inputs node site k lawful i = elim (in_append (given_first t node) _ (attachment_of site k) i) [
   | inl j ↦ (let f = first_only t node site k j in record { home = f.0; there = f.1; first = omega (arith, f.2); last = omega (arith, f.2) })
-  | inr j ↦ (let f = from_only t node 0 (start t) no_packets 0 entries inputs site k lawful j in record { home = f.0; there = f.1; first = omega (arith, f.2); last = f.3 })
+  | inr j ↦ (let f = from_only t node 0 (start t) no_packets 0 entries inputs site k lawful j in
+      record { home = f.0; there = f.1; first = omega (arith, f.2); last = f.3 })
 ]
 
 pub gives_to_no_other : GivesToNoOther
@@ -165,7 +173,8 @@ record HasTable (t : Network) (node : ℕ) (c : Config) (l : Labels) (binds : Li
 
 first_table : (t : Network) (node : ℕ) → node < length t.loopbacks → HasTable t node (first_config t) (first_labels t) (given_first t node)
 first_table t node there = record {
-  same = λ site k home i. let f = first_only t node site k i in subst (λ n. label_in (given_first t node) (attachment_of site n) ≡ first_labels t site n) (sym f.2) (same site home f.1);
+  same = λ site k home i. let f = first_only t node site k i in
+      subst (λ n. label_in (given_first t node) (attachment_of site n) ≡ first_labels t site n) (sym f.2) (same site home f.1);
   count = omega (arith, count, fecs, sites, none_attached (sites_at t node));
   past = λ site k i. omega (arith, (first_only t node site k i).2);
 }
@@ -177,7 +186,8 @@ first_table t node there = record {
     count = length-append others _
 
     fecs : length others + 1 ≡ length t.loopbacks
-    fecs = ap (λ n. n + 1) (length-map (filter (λ other. not (other == node)) (nodes_of (wiring_of t))) fec_of) ∙ others_within node (length t.loopbacks) 0 (omega arith) (omega (arith, there))
+    fecs = ap (λ n. n + 1) (length-map (filter (λ other. not (other == node)) (nodes_of (wiring_of t))) fec_of)
+        ∙ others_within node (length t.loopbacks) 0 (omega arith) (omega (arith, there))
 
     sites : length (map (λ s. attachment_of s 1) (sites_at t node)) ≡ length (sites_at t node)
     sites = length-map (sites_at t node) (λ s. attachment_of s 1)
@@ -208,16 +218,20 @@ one_more t node c l binds step fit h = record {
   ];
 }
   where
-    kept : (more : List Bind) (site k : ℕ) → home_of t site ≡ node → In binds (attachment_of site k) → label_in (binds ++ more) (attachment_of site k) ≡ l site k
+    kept : (more : List Bind) (site k : ℕ) → home_of t site ≡ node → In binds (attachment_of site k) →
+        label_in (binds ++ more) (attachment_of site k) ≡ l site k
     kept more site k home i = ap (λ n. 16 + n) (place_stays binds more (attachment_of site k) i) ∙ h.same site k home i
 
     counted : labels_given t c node ≡ length binds
     counted = omega (arith, h.count, total_is c.attaches (sites_at t node))
 
-    anew : (s site k : ℕ) (b : Bool) → (home_of t s == node) ≡ b → home_of t site ≡ node → In (binds ++ (if b then attachment_of s (c.attaches s + 2) ∷ [] else [])) (attachment_of site k) →
-        label_in (binds ++ (if b then attachment_of s (c.attaches s + 2) ∷ [] else [])) (attachment_of site k) ≡ put_pair l s (c.attaches s + 2) (16 + labels_given t c (home_of t s)) site k
+    anew : (s site k : ℕ) (b : Bool) → (home_of t s == node) ≡ b → home_of t site ≡ node →
+        In (binds ++ (if b then attachment_of s (c.attaches s + 2) ∷ [] else [])) (attachment_of site k) →
+        label_in (binds ++ (if b then attachment_of s (c.attaches s + 2) ∷ [] else [])) (attachment_of site k)
+            ≡ put_pair l s (c.attaches s + 2) (16 + labels_given t c (home_of t s)) site k
     anew s site k b e home i = elim (in_append binds (if b then attachment_of s (c.attaches s + 2) ∷ [] else []) (attachment_of site k) i) [
-      | inl j ↦ kept (if b then attachment_of s (c.attaches s + 2) ∷ [] else []) site k home j ∙ sym (pair_off l s (c.attaches s + 2) (16 + labels_given t c (home_of t s)) site k (old j (eqb_tells site s)))
+      | inl j ↦ kept (if b then attachment_of s (c.attaches s + 2) ∷ [] else []) site k home j
+          ∙ sym (pair_off l s (c.attaches s + 2) (16 + labels_given t c (home_of t s)) site k (old j (eqb_tells site s)))
       | inr j ↦ last b e j
     ]
       where
@@ -235,25 +249,31 @@ one_more t node c l binds step fit h = record {
             late x = omega (arith, x)
 
         last : (b : Bool) → (home_of t s == node) ≡ b → In (if b then attachment_of s (c.attaches s + 2) ∷ [] else []) (attachment_of site k) →
-            label_in (binds ++ (if b then attachment_of s (c.attaches s + 2) ∷ [] else [])) (attachment_of site k) ≡ put_pair l s (c.attaches s + 2) (16 + labels_given t c (home_of t s)) site k
+            label_in (binds ++ (if b then attachment_of s (c.attaches s + 2) ∷ [] else [])) (attachment_of site k)
+                ≡ put_pair l s (c.attaches s + 2) (16 + labels_given t c (home_of t s)) site k
         last false e j = absurd j
         last true e (inr j) = absurd j
         last true e (inl is) =
             let place = place_last binds (attachment_of s (c.attaches s + 2)) fresh in
             let at : labels_given t c (home_of t s) ≡ labels_given t c node = ap (labels_given t c) (same_numbers (home_of t s) node e) in
-            let newest : label_in (binds ++ attachment_of s (c.attaches s + 2) ∷ []) (attachment_of s (c.attaches s + 2)) ≡ put_pair l s (c.attaches s + 2) (16 + labels_given t c (home_of t s)) s (c.attaches s + 2) =
+            let newest : label_in (binds ++ attachment_of s (c.attaches s + 2) ∷ []) (attachment_of s (c.attaches s + 2))
+                ≡ put_pair l s (c.attaches s + 2) (16 + labels_given t c (home_of t s)) s (c.attaches s + 2) =
             ap (λ n. 16 + n) (place ∙ sym counted ∙ sym at) ∙ sym (pair_here l s (c.attaches s + 2) (16 + labels_given t c (home_of t s))) in
-            subst (λ x. label_in (binds ++ attachment_of s (c.attaches s + 2) ∷ []) (attachment_of x k) ≡ put_pair l s (c.attaches s + 2) (16 + labels_given t c (home_of t s)) x k) (ap site_of is)
-            (subst (λ n. label_in (binds ++ attachment_of s (c.attaches s + 2) ∷ []) (attachment_of s n) ≡ put_pair l s (c.attaches s + 2) (16 + labels_given t c (home_of t s)) s n) (ap number_of is) newest)
+            subst (λ x. label_in (binds ++ attachment_of s (c.attaches s + 2) ∷ []) (attachment_of x k)
+                ≡ put_pair l s (c.attaches s + 2) (16 + labels_given t c (home_of t s)) x k) (ap site_of is)
+            (subst (λ n. label_in (binds ++ attachment_of s (c.attaches s + 2) ∷ []) (attachment_of s n)
+                ≡ put_pair l s (c.attaches s + 2) (16 + labels_given t c (home_of t s)) s n) (ap number_of is) newest)
 
     nothing : (site k : ℕ) → home_of t site ≡ node → In (binds ++ []) (attachment_of site k) → label_in (binds ++ []) (attachment_of site k) ≡ l site k
     nothing site k home i = elim (in_append binds [] (attachment_of site k) i) [ inl j ↦ kept [] site k home j | inr j ↦ absurd j ]
 
-    same : (step : Step) (site k : ℕ) → home_of t site ≡ node → In (binds ++ given_in t node c step) (attachment_of site k) → label_in (binds ++ given_in t node c step) (attachment_of site k) ≡ labels_after t c l step site k
+    same : (step : Step) (site k : ℕ) → home_of t site ≡ node → In (binds ++ given_in t node c step) (attachment_of site k) →
+        label_in (binds ++ given_in t node c step) (attachment_of site k) ≡ labels_after t c l step site k
     same (Attach s) site k home i = anew s.0 site k (home_of t s.0 == node) refl home i
     same _ site k home i = nothing site k home i
 
-has_table : (t : Network) (node tick : ℕ) (w : World) (packets : Packets) (count : ℕ) (entries : List JournalEntry) (inputs : List (List ℕ)) (l : Labels) (binds : List Bind) →
+has_table : (t : Network) (node tick : ℕ) (w : World) (packets : Packets) (count : ℕ) (entries : List JournalEntry) (inputs : List (List ℕ)) (l : Labels)
+    (binds : List Bind) →
     IsLawfulFrom t tick w packets count entries inputs → HasTable t node w.config l binds →
     HasTable t node (world_from t w entries).config (labels_from t w.config l entries) (binds ++ given_from t node w.config entries)
 has_table t node tick w packets count [] inputs l binds lawful h = subst (HasTable t node w.config l) (sym (append-nil binds)) h
@@ -268,4 +288,5 @@ unfolding given labels_of
 by_table t entries inputs site k topology lawful c =
     let i = in_contained _ (attachment_of site k) c in
     let is = only t entries inputs (home_of t site) site k lawful i in
-    (has_table t (home_of t site) 0 (start t) no_packets 0 entries inputs (first_labels t) (given_first t (home_of t site)) lawful (first_table t (home_of t site) (home_there t site topology is.there))).same site k refl i
+    (has_table t (home_of t site) 0 (start t) no_packets 0 entries inputs (first_labels t) (given_first t (home_of t site)) lawful
+        (first_table t (home_of t site) (home_there t site topology is.there))).same site k refl i

@@ -21,25 +21,30 @@ use Rattle.mn_frames.proofs.Links.{hop_leads, only_link, leads_are_joined}
 -- with the label of the way out the stack is the one on its way to the next hop
 outer_stack : (g : Labelling) (route : HeldRoute) (bytes : List ℕ) (packet hop : ℕ) (b : Bool) →
     with_outer (if b then None else Some (label_for g hop route.edge)) (inner g (bound 0 route bytes) (ttl_of bytes - 1) ∷ [])
-    ≡ (if b then inner g (bound packet route bytes) (ttl_of bytes - 1) ∷ [] else entry (label_for g hop route.edge) false (ttl_of bytes - 1) ∷ inner g (bound packet route bytes) (ttl_of bytes - 1) ∷ [])
+    ≡ (if b then inner g (bound packet route bytes) (ttl_of bytes - 1) ∷ [] else entry (label_for g hop route.edge) false (ttl_of bytes - 1) ∷ inner g
+        (bound packet route bytes) (ttl_of bytes - 1) ∷ [])
 outer_stack g route bytes packet hop true = refl
 outer_stack g route bytes packet hop false = refl
 
-departs : (t : Network) (g : Labelling) (w : World) (k : Packets) (packet : ℕ) (route : HeldRoute) (bytes : List ℕ) (node : ℕ) (frame : Labelled) (found : Option (ℕ × ℕ)) →
+departs : (t : Network) (g : Labelling) (w : World) (k : Packets) (packet : ℕ) (route : HeldRoute) (bytes : List ℕ) (node : ℕ) (frame : Labelled)
+    (found : Option (ℕ × ℕ)) →
     IsLawful t → node < length t.loopbacks → node ≢ route.edge → IsPushed t g route bytes frame → usable t w.config w.views w.sessions node route.edge ≡ found →
     Departs t g k (bound packet route bytes) node (hop_over t k (bound packet route bytes) node rule.NoLsp found) (outer_over g route.edge found) frame
 departs t g w k packet route bytes node frame None lawful there apart pushed is = refl
 departs t g w k packet route bytes node frame (Some hop) lawful there apart pushed is = (
   links,
-  record { stack = ap (with_outer (if hop.0 == route.edge then None else Some (label_for g hop.0 route.edge))) pushed.stack ∙ outer_stack g route bytes packet hop.0 (hop.0 == route.edge); packet = pushed.packet },
-  record { home = pushed.sound.home; node = pushed.sound.node; labelled = pushed.sound.labelled; within = pushed.sound.within; pushed = pushed.sound.pushed; packet = pushed.sound.packet },
+  record { stack = ap (with_outer (if hop.0 == route.edge then None else Some (label_for g hop.0 route.edge))) pushed.stack
+      ∙ outer_stack g route bytes packet hop.0 (hop.0 == route.edge); packet = pushed.packet },
+  record { home = pushed.sound.home; node = pushed.sound.node; labelled = pushed.sound.labelled; within = pushed.sound.within; pushed =
+      pushed.sound.pushed; packet = pushed.sound.packet },
   leads_are_joined t node hop.0 hop.1 (away_from t hop.1 node) leads,
 )
   where
     leads : Leads t node hop.0 hop.1 (away_from t hop.1 node)
     leads = hop_leads t w node route.edge hop lawful there apart is
 
-    links : (l : ℕ) (dir : Dir) → Leads t node hop.0 l dir → hop_over t k (bound packet route bytes) node rule.NoLsp (Some hop) ≡ sent k (bound packet route bytes) l dir
+    links : (l : ℕ) (dir : Dir) → Leads t node hop.0 l dir →
+        hop_over t k (bound packet route bytes) node rule.NoLsp (Some hop) ≡ sent k (bound packet route bytes) l dir
     links l dir other = let one = only_link t node hop.0 l hop.1 dir (away_from t hop.1 node) lawful other leads in rw (one.1, one.0) refl
 
 pub leaves_as_told : LeavesAsTold

@@ -30,41 +30,50 @@ use Rattle.mn_frames.proofs.Fit.{fits_or_falls}
 use Rattle.mn_frames.proofs.Anew.{gives_to_each}
 
 -- what a site's edge has given, at the node that is this edge
-labelled : (t : Network) (entries : List JournalEntry) (node site k : ℕ) → IsAttachmentAt t (world_of t entries).config node site k → Contains (given t entries node) (attachment_of site k)
+labelled : (t : Network) (entries : List JournalEntry) (node site k : ℕ) → IsAttachmentAt t (world_of t entries).config node site k →
+    Contains (given t entries node) (attachment_of site k)
 labelled t entries node site k is =
-    subst (λ n. Contains (given t entries n) (attachment_of site k)) is.home (gives_to_each t entries site k (record { home = refl; there = is.there; first = is.first; last = is.last }))
+    subst (λ n. Contains (given t entries n) (attachment_of site k)) is.home
+        (gives_to_each t entries site k (record { home = refl; there = is.there; first = is.first; last = is.last }))
 
-of_export : (t : Network) (c : Config) (teller : ℕ) (export : Export) → NamesAnAttachment t c teller export → IsAttachmentAt t c teller export.site export.attachment
+of_export : (t : Network) (c : Config) (teller : ℕ) (export : Export) → NamesAnAttachment t c teller export →
+    IsAttachmentAt t c teller export.site export.attachment
 of_export t c teller export names = record { home = ap (edge_of t) names.of_vrf ∙ names.at_teller; there = names.site; first = names.first; last = names.given }
 
 pub all_have_labels : AllHaveLabels
 all_have_labels t entries inputs topology lawful =
     let names = names_what_exists t entries inputs topology lawful in
     record {
-      told = λ teller peer export there. labelled t entries teller export.site export.attachment (of_export t (world_of t entries).config teller export (names.bgp teller peer (Announce export) there));
+      told = λ teller peer export there. labelled t entries teller export.site export.attachment
+          (of_export t (world_of t entries).config teller export (names.bgp teller peer (Announce export) there));
       held = λ v route there is.
         let site = names.routes v route there is in
         labelled t entries route.edge route.site route.attachment (record { home = site.home; there = site.site; first = site.first; last = site.given });
     }
 
 whole : (bytes : List ℕ) → IsTrue (good bytes) → length bytes ≡ total_length bytes → IsTrue (is_packet bytes)
-whole bytes fine ends = let still : good bytes ≡ true = fine in let end : (length bytes == total_length bytes) ≡ true = test_same _ _ ends in rw (still, end) refl
+whole bytes fine ends = let still : good bytes ≡ true = fine in let end : (length bytes == total_length bytes) ≡ true = test_same _ _ ends in
+    rw (still, end) refl
 
-sound : (t : Network) (entries : List JournalEntry) (packets : Packets) (l : ℕ) (token : Token) → IsLawful t → IsGoodFrame t (world_of t entries).config packets l token → IsSound t (given t entries) token
+sound : (t : Network) (entries : List JournalEntry) (packets : Packets) (l : ℕ) (token : Token) → IsLawful t →
+    IsGoodFrame t (world_of t entries).config packets l token → IsSound t (given t entries) token
 sound t entries packets l token topology frame = record {
   home = sym frame.home;
   node = subst (λ n. n < length t.loopbacks) frame.home (home_there t token.site topology frame.site);
-  labelled = labelled t entries token.edge token.site token.attachment (record { home = frame.home; there = frame.site; first = frame.first; last = frame.given });
+  labelled = labelled t entries token.edge token.site token.attachment
+      (record { home = frame.home; there = frame.site; first = frame.first; last = frame.given });
   within = frame.lowered;
   pushed = frame.pushed;
   packet = whole token.bytes frame.is_good frame.whole;
 }
 
 pub all_are_sound : AllAreSound
-all_are_sound t entries inputs topology lawful each bytes l dir token there = sound t entries (packets_of t entries inputs) l token topology (frames_good t entries inputs topology lawful each bytes l dir token there)
+all_are_sound t entries inputs topology lawful each bytes l dir token there =
+    sound t entries (packets_of t entries inputs) l token topology (frames_good t entries inputs topology lawful each bytes l dir token there)
 
 -- the route to which a packet is bound is the best one, and the packet fits
-bound_by : (t : Network) (w : World) (site : ℕ) (bytes : List ℕ) (route : HeldRoute) (found : Option HeldRoute) (cause : Option Rule) → fate_of (home_of t site) found cause ≡ Leaves route → found ≡ Some route
+bound_by : (t : Network) (w : World) (site : ℕ) (bytes : List ℕ) (route : HeldRoute) (found : Option HeldRoute) (cause : Option Rule) →
+    fate_of (home_of t site) found cause ≡ Leaves route → found ≡ Some route
 bound_by t w site bytes route found (Some cause) e = absurd (let none : Falls cause ≡ Leaves route → ⊥ = (λ q. cc) in none e)
 bound_by t w site bytes route None None e = absurd (let none : Falls rule.NoRoute ≡ Leaves route → ⊥ = (λ q. cc) in none e)
 bound_by t w site bytes route (Some other) None e = by (other.edge == home_of t site) e
@@ -82,13 +91,16 @@ pub leaves_sound : LeavesSound
 leaves_sound t entries inputs s bytes route topology lawful there small leaves =
     let w : World = world_of t entries in
     let routes : List HeldRoute = held t w.config w.peerings (home_of t s) (vrf_of t s) in
-    let is : best routes (destination_of bytes) ≡ Some route = bound_by t w s bytes route (best routes (destination_of bytes)) (first_rule (entry_rules (w.config.attached s) bytes)) leaves in
-    let names = (names_what_exists t entries inputs topology lawful).routes (vrf_of t s) route (vrf_there t s topology there) (best_is routes (destination_of bytes) route is).held in
+    let is : best routes (destination_of bytes) ≡ Some route =
+        bound_by t w s bytes route (best routes (destination_of bytes)) (first_rule (entry_rules (w.config.attached s) bytes)) leaves in
+    let names = (names_what_exists t entries inputs topology lawful).routes (vrf_of t s) route (vrf_there t s topology there)
+        (best_is routes (destination_of bytes) route is).held in
     let fit : IsFit bytes = fits_or_falls t w s bytes small (λ fall. subst IsFall leaves fall) in
     record {
       home = sym names.home;
       node = subst (λ n. n < length t.loopbacks) names.home (home_there t route.site topology names.site);
-      labelled = labelled t entries route.edge route.site route.attachment (record { home = names.home; there = names.site; first = names.first; last = names.given });
+      labelled = labelled t entries route.edge route.site route.attachment
+          (record { home = names.home; there = names.site; first = names.first; last = names.given });
       within = omega arith;
       pushed = fit.ttl;
       packet = fit.packet;

@@ -1,5 +1,6 @@
 -- A FEC's label by the numbers of the two nodes, and the places of a node's sites.
-use Rattle.std.proofs.Common.{ℕ, zero, suc, ◌≡◌, ◌≢◌, ◌+◌, ◌-◌, ◌<◌, ◌≤◌, ◌⊎◌, inl, inr, Bool, true, false, not, cond, List, [], ◌∷◌, ◌++◌, map, filter, length, refl, arith, sym, ◌∙◌, ap, subst}
+use Rattle.std.proofs.Common.{ℕ, zero, suc, ◌≡◌, ◌≢◌, ◌+◌, ◌-◌, ◌<◌, ◌≤◌, ◌⊎◌, inl, inr, Bool, true, false, not, cond, List, [], ◌∷◌, ◌++◌, map}
+use Rattle.std.proofs.Common.{filter, length, refl, arith, sym, ◌∙◌, ap, subst}
 use Rattle.std.specs.Prelude.{◌==◌, ◌&&◌, nat_lt, if◌then◌else◌}
 use Rattle.std.specs.List.{position_or_len, range_with_len}
 use Rattle.std.proofs.lemmas.Bool.Decides.{nat_tests, eqb_tells}
@@ -25,13 +26,15 @@ abbrev fecs : ℕ → ℕ → ℕ → List Bind
 fecs node a n = map fec_of (filter (λ other. not (other == node)) (range_with_len a n))
 
 -- the node itself doesn't stand before it
-place_straight : (node edge n a : ℕ) → (node < a) ⊎ (edge < node) → a ≤ edge → edge < a + n → position_or_len (same_bind (fec_of edge)) (fecs node a n) + a ≡ edge
+place_straight : (node edge n a : ℕ) → (node < a) ⊎ (edge < node) → a ≤ edge → edge < a + n →
+    position_or_len (same_bind (fec_of edge)) (fecs node a n) + a ≡ edge
 place_straight node edge zero a apart h g = absurd (none a edge h g)
 place_straight node edge (suc n) a apart h g =
     let other : not (a == node) ≡ true = differs apart in
     elim (eqb_tells edge a) [
       | inl q ↦ rw (other, q.0) (omega (arith, q.1))
-      | inr q ↦ (let rest = place_straight node edge n (a + 1) (later apart) (omega (arith, h, q.1)) (omega (arith, g)) in rw (other, q.0) (omega (arith, rest)))
+      | inr q ↦ (let rest = place_straight node edge n (a + 1) (later apart) (omega (arith, h, q.1)) (omega (arith, g)) in
+          rw (other, q.0) (omega (arith, rest)))
     ]
   where
     differs : (node < a) ⊎ (edge < node) → not (a == node) ≡ true
@@ -63,7 +66,8 @@ fec_label : (t : Network) (entries : List JournalEntry) (node edge : ℕ) → ed
 unfolding given
 fec_label t entries node edge h apart =
     let there : In (fecs node 0 (length t.loopbacks)) (fec_of edge) = fec_in_first t node edge h apart in
-    let front : In (given_first t node) (fec_of edge) = in_front (fecs node 0 (length t.loopbacks)) (map (λ site. attachment_of site 1) (sites_at t node)) (fec_of edge) there in
+    let front : In (given_first t node) (fec_of edge) =
+        in_front (fecs node 0 (length t.loopbacks)) (map (λ site. attachment_of site 1) (sites_at t node)) (fec_of edge) there in
     ap (λ n. 16 + n) (place_stays (given_first t node) (given_from t node (first_config t) entries) (fec_of edge) front
     ∙ place_stays (fecs node 0 (length t.loopbacks)) (map (λ site. attachment_of site 1) (sites_at t node)) (fec_of edge) there)
 
@@ -93,7 +97,8 @@ by_number t entries node edge h = elim (eqb_tells node edge) [
 -- 3. The place of a site's first attachment
 
 -- what isn't in the front stands as far behind it as in the rest
-pub place_behind : (xs ys : List Bind) (bind : Bind) → (In xs bind → ⊥) → position_or_len (same_bind bind) (xs ++ ys) ≡ length xs + position_or_len (same_bind bind) ys
+pub place_behind : (xs ys : List Bind) (bind : Bind) → (In xs bind → ⊥) →
+    position_or_len (same_bind bind) (xs ++ ys) ≡ length xs + position_or_len (same_bind bind) ys
 place_behind [] ys bind new = omega arith
 place_behind (x ∷ xs) ys bind new = by (same_bind bind x) refl (place_behind xs ys bind (λ i. new (inr i)))
   where
@@ -104,15 +109,18 @@ place_behind (x ∷ xs) ys bind new = by (same_bind bind x) refl (place_behind x
 
 none_before : (p : ℕ → Bool) (site n a : ℕ) → site < a → length (filter (λ s. p s && nat_lt s site) (range_with_len a n)) ≡ 0
 none_before p site zero a h = refl
-none_before p site (suc n) a h = let late : nat_lt a site ≡ false = not_less a site (omega (arith, h)) in by (p a) (rw late refl) (none_before p site n (a + 1) (omega (arith, h)))
+none_before p site (suc n) a h = let late : nat_lt a site ≡ false = not_less a site (omega (arith, h)) in
+    by (p a) (rw late refl) (none_before p site n (a + 1) (omega (arith, h)))
   where
     by : (b : Bool) → (b && nat_lt a site) ≡ (b && false) → length (filter (λ s. p s && nat_lt s site) (range_with_len (a + 1) n)) ≡ 0 →
-        length (cond (b && nat_lt a site) (a ∷ filter (λ s. p s && nat_lt s site) (range_with_len (a + 1) n)) (filter (λ s. p s && nat_lt s site) (range_with_len (a + 1) n))) ≡ 0
+        length (cond (b && nat_lt a site) (a ∷ filter (λ s. p s && nat_lt s site) (range_with_len (a + 1) n))
+            (filter (λ s. p s && nat_lt s site) (range_with_len (a + 1) n))) ≡ 0
     by true e rest = rw e rest
     by false e rest = rest
 
 pub site_place : (p : ℕ → Bool) (site n a : ℕ) → p site ≡ true → a ≤ site → site < a + n →
-    position_or_len (same_bind (attachment_of site 1)) (map (λ s. attachment_of s 1) (filter p (range_with_len a n))) ≡ length (filter (λ s. p s && nat_lt s site) (range_with_len a n))
+    position_or_len (same_bind (attachment_of site 1)) (map (λ s. attachment_of s 1) (filter p (range_with_len a n)))
+        ≡ length (filter (λ s. p s && nat_lt s site) (range_with_len a n))
 site_place p site zero a is h g = absurd (none a site h g)
 site_place p site (suc n) a is h g =
     elim (eqb_tells site a) [
@@ -126,8 +134,11 @@ site_place p site (suc n) a is h g =
     ]
   where
     by : (b : Bool) → (site == a) ≡ false → nat_lt a site ≡ true →
-        position_or_len (same_bind (attachment_of site 1)) (map (λ s. attachment_of s 1) (filter p (range_with_len (a + 1) n))) ≡ length (filter (λ s. p s && nat_lt s site) (range_with_len (a + 1) n)) →
-        position_or_len (same_bind (attachment_of site 1)) (map (λ s. attachment_of s 1) (cond b (a ∷ filter p (range_with_len (a + 1) n)) (filter p (range_with_len (a + 1) n))))
-        ≡ length (cond (b && nat_lt a site) (a ∷ filter (λ s. p s && nat_lt s site) (range_with_len (a + 1) n)) (filter (λ s. p s && nat_lt s site) (range_with_len (a + 1) n)))
+        position_or_len (same_bind (attachment_of site 1)) (map (λ s. attachment_of s 1) (filter p (range_with_len (a + 1) n)))
+            ≡ length (filter (λ s. p s && nat_lt s site) (range_with_len (a + 1) n)) →
+        position_or_len (same_bind (attachment_of site 1))
+            (map (λ s. attachment_of s 1) (cond b (a ∷ filter p (range_with_len (a + 1) n)) (filter p (range_with_len (a + 1) n))))
+        ≡ length (cond (b && nat_lt a site) (a ∷ filter (λ s. p s && nat_lt s site) (range_with_len (a + 1) n))
+            (filter (λ s. p s && nat_lt s site) (range_with_len (a + 1) n)))
     by true e early rest = rw (e, early) (omega (arith, rest))
     by false e early rest = rest

@@ -4,7 +4,8 @@
 --
 -- Its nodes are 0, 1 and 2. Each has given label 16 for the first of the other nodes and 17 for the second; the edges have given 18 for
 -- their site.
-use Rattle.std.proofs.Common.{ℕ, zero, suc, ◌≡◌, ◌≢◌, ◌+◌, ◌-◌, ◌<◌, ◌≤◌, inl, inr, Bool, true, false, cond, List, [], ◌∷◌, ◌++◌, length, refl, append_assoc, Less, Equal, Greater, rules, arith, sym, ◌∙◌, ap, subst, Some, None}
+use Rattle.std.proofs.Common.{ℕ, zero, suc, ◌≡◌, ◌≢◌, ◌+◌, ◌-◌, ◌<◌, ◌≤◌, inl, inr, Bool, true, false, cond, List, [], ◌∷◌, ◌++◌, length, refl}
+use Rattle.std.proofs.Common.{append_assoc, Less, Equal, Greater, rules, arith, sym, ◌∙◌, ap, subst, Some, None}
 use Rattle.std.specs.Prelude.{◌==◌, ◌&&◌, nat_lt, slice_index, Option, IsTrue, if◌then◌else◌}
 use Rattle.std.specs.List.{Contains, list_all}
 use Rattle.std.specs.Ordering.{nat_cmp, is_eq}
@@ -162,7 +163,8 @@ above_two label m h g e = omega (arith, h, g, e)
 pub the_table_of_pe1 : TableStands two_links labels world 0 uses_of_pe1
 the_table_of_pe1 = record {
   fecs = fecs_of_pe1;
-  sites = λ site k c. one_site 1 2 0 site k (λ x n. use_of uses_of_pe1 (label_in (labels 0) (attachment_of x n)) ≡ Some (site_entry world x n)) site_a (subst (λ binds. In binds (attachment_of site k)) labels_of_pe1 (in_contained (labels 0) (attachment_of site k) c));
+  sites = λ site k c. one_site 1 2 0 site k (λ x n. use_of uses_of_pe1 (label_in (labels 0) (attachment_of x n)) ≡ Some (site_entry world x n)) site_a
+      (subst (λ binds. In binds (attachment_of site k)) labels_of_pe1 (in_contained (labels 0) (attachment_of site k) c));
   reserved = λ label h. no_use label _ _ _ (below label 16 h (omega arith)) (below label 17 h (omega arith)) (below label 18 h (omega arith));
   later = λ label h. let high : 16 + 3 ≤ label = subst (λ binds. 16 + length binds ≤ label) labels_of_pe1 h in
       no_use label _ _ _ (above label 16 high (omega arith)) (above label 17 high (omega arith)) (above label 18 high (omega arith));
@@ -173,7 +175,8 @@ the_table_of_p = record {
   fecs = fecs_of_p;
   sites = λ site k c. absurd (no_site site k (subst (λ binds. In binds (attachment_of site k)) labels_of_p (in_contained (labels 1) (attachment_of site k) c)));
   reserved = λ label h. none label (below label 16 h (omega arith)) (below label 17 h (omega arith));
-  later = λ label h. let high : 16 + 2 ≤ label = subst (λ binds. 16 + length binds ≤ label) labels_of_p h in none label (above_two label 16 high (omega arith)) (above_two label 17 high (omega arith));
+  later = λ label h. let high : 16 + 2 ≤ label = subst (λ binds. 16 + length binds ≤ label) labels_of_p h in
+      none label (above_two label 16 high (omega arith)) (above_two label 17 high (omega arith));
 }
   where
     none : (label : ℕ) → label ≢ 16 → label ≢ 17 → use_of uses_of_p label ≡ None
@@ -182,7 +185,8 @@ the_table_of_p = record {
 pub the_table_of_pe2 : TableStands two_links labels world 2 uses_of_pe2
 the_table_of_pe2 = record {
   fecs = fecs_of_pe2;
-  sites = λ site k c. one_site 0 1 1 site k (λ x n. use_of uses_of_pe2 (label_in (labels 2) (attachment_of x n)) ≡ Some (site_entry world x n)) site_b (subst (λ binds. In binds (attachment_of site k)) labels_of_pe2 (in_contained (labels 2) (attachment_of site k) c));
+  sites = λ site k c. one_site 0 1 1 site k (λ x n. use_of uses_of_pe2 (label_in (labels 2) (attachment_of x n)) ≡ Some (site_entry world x n)) site_b
+      (subst (λ binds. In binds (attachment_of site k)) labels_of_pe2 (in_contained (labels 2) (attachment_of site k) c));
   reserved = λ label h. no_use label _ _ _ (below label 16 h (omega arith)) (below label 17 h (omega arith)) (below label 18 h (omega arith));
   later = λ label h. let high : 16 + 3 ≤ label = subst (λ binds. 16 + length binds ≤ label) labels_of_pe2 h in
       no_use label _ _ _ (above label 16 high (omega arith)) (above label 17 high (omega arith)) (above label 18 high (omega arith));
@@ -283,8 +287,11 @@ labels_go_on node =
     let more : List Bind = given_in two_links node (world_of two_links later).config (Attach (site_no 1)) in
     (more, twice ∙ ap (λ binds. binds ++ more) once ∙ append_assoc (labels node) [] more)
 
-sends_still : (w : World) (step : Step) (edge : ℕ) → knowledge_of (wiring_of two_links) (after two_links w step).config (after two_links w step).views (after two_links w step).sessions 2 ≡ knowledge_of (wiring_of two_links) w.config w.views w.sessions 2 →
-    usable two_links (after two_links w step).config (after two_links w step).views (after two_links w step).sessions 2 edge ≡ usable two_links w.config w.views w.sessions 2 edge
+sends_still : (w : World) (step : Step) (edge : ℕ) →
+    knowledge_of (wiring_of two_links) (after two_links w step).config (after two_links w step).views (after two_links w step).sessions 2
+    ≡ knowledge_of (wiring_of two_links) w.config w.views w.sessions 2 →
+    usable two_links (after two_links w step).config (after two_links w step).views (after two_links w step).sessions 2 edge
+        ≡ usable two_links w.config w.views w.sessions 2 edge
 sends_still w step edge h = ap (λ k. usable_by (wiring_of two_links) k 2 edge) h
 
 pub the_site_is_detached : Detaches two_links labels world detached 2 1 1 uses_of_pe2 uses_while_detached

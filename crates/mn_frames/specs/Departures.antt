@@ -38,8 +38,10 @@ abbrev pub LeavesAsTold : Type 0
 LeavesAsTold =
     (topology : Network) (given : Labelling) (world : World) (packets : Packets) (packet : ℕ) (route : HeldRoute) (bytes : List ℕ) (node : ℕ) (frame : Labelled)
     → IsLawful topology → node < length topology.loopbacks → node ≢ route.edge → IsPushed topology given route bytes frame
-    → Departs topology given packets (bound packet route bytes) node (hop topology world packets (bound packet route bytes) node rule.NoLsp) (outer_for topology given world node route.edge) frame
+    → Departs topology given packets (bound packet route bytes) node (hop topology world packets (bound packet route bytes) node rule.NoLsp)
+        (outer_for topology given world node route.edge) frame
 
 -- one for a site of the same edge is delivered there at once, one hop older
 abbrev pub StaysAsTold : Type 0
-StaysAsTold = (packets : Packets) (packet site : ℕ) (bytes : List ℕ) (frame : Labelled) → IsAged bytes frame → (deliver packets packet site (ttl_of bytes - 1) bytes).delivered ≡ Some frame.packet
+StaysAsTold = (packets : Packets) (packet site : ℕ) (bytes : List ℕ) (frame : Labelled) → IsAged bytes frame →
+    (deliver packets packet site (ttl_of bytes - 1) bytes).delivered ≡ Some frame.packet

@@ -44,7 +44,8 @@ labels_after topology config labels _ = labels
 
 abbrev pub labels_from : Network → Config → Labels → List JournalEntry → Labels
 labels_from topology config labels [] = labels
-labels_from topology config labels (entry ∷ entries) = labels_from topology (config_after config entry.step) (labels_after topology config labels entry.step) entries
+labels_from topology config labels (entry ∷ entries) =
+    labels_from topology (config_after config entry.step) (labels_after topology config labels entry.step) entries
 
 -- the table after a journal
 unfoldable pub labels_of : Network → List JournalEntry → Labels
