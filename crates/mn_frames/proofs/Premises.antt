@@ -31,7 +31,7 @@ use Rattle.mn_ledger.specs.World.{World}
 use Rattle.mn_ledger.specs.Transport.{knowledge_of, news, sessions_after, usable, usable_by}
 use Rattle.mn_ledger.specs.Vpn.{HeldRoute, Far, peerings_after, held}
 use Rattle.mn_ledger.specs.Packets.{Token, flying_on, packets_after, bound}
-use Rattle.mn_ledger.specs.Ledger.{world_of, packets_of, after}
+use Rattle.mn_ledger.specs.Ledger.{start, world_of, packets_of, after}
 use Rattle.mn_ledger.specs.Lawful.{IsLawfulJournal}
 use Rattle.mn_ledger.specs.Refusal.{in_flight, bytes_flying}
 use Rattle.mn_ledger.specs.Verdicts.{injections}
@@ -192,7 +192,86 @@ the_table_of_pe2 = record {
       no_use label _ _ _ (above label 16 high (omega arith)) (above label 17 high (omega arith)) (above label 18 high (omega arith));
 }
 
--- 3. The packet on its way, and its frames
+-- 3. At the start, where no node can send and each site is attached
+
+abbrev pub first_labels : Labelling
+first_labels = given two_links []
+
+one_use : (label : ℕ) (x : Use) → label ≢ 18 → use_of ((18, x) ∷ []) label ≡ None
+one_use label x apart = rw (other_key label 18 apart) refl
+
+first_fecs_of_pe1 : (edge : ℕ) → edge < 3 → edge ≢ 0 →
+    use_of ((18, label_of.Site (site_no 0)) ∷ []) (label_in (first_labels 0) (fec_of edge)) ≡ fec_use (next_entry two_links first_labels (start two_links) 0 edge)
+unfolding next knowledge_of given
+first_fecs_of_pe1 zero h apart = absurd (apart refl)
+first_fecs_of_pe1 (suc zero) h apart = refl
+first_fecs_of_pe1 (suc (suc zero)) h apart = refl
+first_fecs_of_pe1 (suc (suc (suc n))) h apart = absurd (too_high n h)
+
+first_fecs_of_p : (edge : ℕ) → edge < 3 → edge ≢ 1 → use_of [] (label_in (first_labels 1) (fec_of edge)) ≡ fec_use (next_entry two_links first_labels (start two_links) 1 edge)
+unfolding next knowledge_of given
+first_fecs_of_p zero h apart = refl
+first_fecs_of_p (suc zero) h apart = absurd (apart refl)
+first_fecs_of_p (suc (suc zero)) h apart = refl
+first_fecs_of_p (suc (suc (suc n))) h apart = absurd (too_high n h)
+
+first_fecs_of_pe2 : (edge : ℕ) → edge < 3 → edge ≢ 2 →
+    use_of ((18, label_of.Site (site_no 1)) ∷ []) (label_in (first_labels 2) (fec_of edge)) ≡ fec_use (next_entry two_links first_labels (start two_links) 2 edge)
+unfolding next knowledge_of given
+first_fecs_of_pe2 zero h apart = refl
+first_fecs_of_pe2 (suc zero) h apart = refl
+first_fecs_of_pe2 (suc (suc zero)) h apart = absurd (apart refl)
+first_fecs_of_pe2 (suc (suc (suc n))) h apart = absurd (too_high n h)
+
+first_site_a : use_of ((18, label_of.Site (site_no 0)) ∷ []) (label_in (first_labels 0) (attachment_of 0 1)) ≡ Some (site_entry (start two_links) 0 1)
+unfolding given
+first_site_a = refl
+
+first_site_b : use_of ((18, label_of.Site (site_no 1)) ∷ []) (label_in (first_labels 2) (attachment_of 1 1)) ≡ Some (site_entry (start two_links) 1 1)
+unfolding given
+first_site_b = refl
+
+first_of_pe1 : first_labels 0 ≡ fec_of 1 ∷ fec_of 2 ∷ attachment_of 0 1 ∷ []
+unfolding given
+first_of_pe1 = refl
+
+first_of_p : first_labels 1 ≡ fec_of 0 ∷ fec_of 2 ∷ []
+unfolding given
+first_of_p = refl
+
+first_of_pe2 : first_labels 2 ≡ fec_of 0 ∷ fec_of 1 ∷ attachment_of 1 1 ∷ []
+unfolding given
+first_of_pe2 = refl
+
+pub the_first_table_of_pe1 : TableStands two_links first_labels (start two_links) 0 ((18, label_of.Site (site_no 0)) ∷ [])
+the_first_table_of_pe1 = record {
+  fecs = first_fecs_of_pe1;
+  sites = λ site k c. one_site 1 2 0 site k
+      (λ x n. use_of ((18, label_of.Site (site_no 0)) ∷ []) (label_in (first_labels 0) (attachment_of x n)) ≡ Some (site_entry (start two_links) x n)) first_site_a
+      (subst (λ binds. In binds (attachment_of site k)) first_of_pe1 (in_contained (first_labels 0) (attachment_of site k) c));
+  reserved = λ label h. one_use label _ (below label 18 h (omega arith));
+  later = λ label h. let high : 16 + 3 ≤ label = subst (λ binds. 16 + length binds ≤ label) first_of_pe1 h in one_use label _ (above label 18 high (omega arith));
+}
+
+pub the_first_table_of_p : TableStands two_links first_labels (start two_links) 1 []
+the_first_table_of_p = record {
+  fecs = first_fecs_of_p;
+  sites = λ site k c. absurd (no_site site k (subst (λ binds. In binds (attachment_of site k)) first_of_p (in_contained (first_labels 1) (attachment_of site k) c)));
+  reserved = λ label h. refl;
+  later = λ label h. refl;
+}
+
+pub the_first_table_of_pe2 : TableStands two_links first_labels (start two_links) 2 ((18, label_of.Site (site_no 1)) ∷ [])
+the_first_table_of_pe2 = record {
+  fecs = first_fecs_of_pe2;
+  sites = λ site k c. one_site 0 1 1 site k
+      (λ x n. use_of ((18, label_of.Site (site_no 1)) ∷ []) (label_in (first_labels 2) (attachment_of x n)) ≡ Some (site_entry (start two_links) x n)) first_site_b
+      (subst (λ binds. In binds (attachment_of site k)) first_of_pe2 (in_contained (first_labels 2) (attachment_of site k) c));
+  reserved = λ label h. one_use label _ (below label 18 h (omega arith));
+  later = λ label h. let high : 16 + 3 ≤ label = subst (λ binds. 16 + length binds ≤ label) first_of_pe2 h in one_use label _ (above label 18 high (omega arith));
+}
+
+-- 4. The packet on its way, and its frames
 
 abbrev pub token : Token
 token = record { packet = 0; edge = 2; site = 1; attachment = 1; pushed = 63; ttl = 63; bytes = aged packet 1 }
@@ -227,7 +306,7 @@ pub its_frame_to_pe2 : IsFrameOf labels (record token { ttl = 62 }) 2 to_pe2
 unfolding given
 its_frame_to_pe2 = record { stack = refl; packet = refl }
 
--- 4. As it entered
+-- 5. As it entered
 
 abbrev pub route : HeldRoute
 route = record { prefix = record { address = 167903232; length = 16 }; source = Far 3221225987 279172874240002; edge = 2; site = 1; attachment = 1 }
@@ -260,7 +339,7 @@ pub the_bytes : AreBytes (packet ∷ [])
 the_bytes zero bytes e i = subst (λ b. slice_index b i < 256) (same_Some packet bytes e) (its_bytes i)
 the_bytes (suc n) bytes e i = absurd (let none : None ≡ Some bytes → ⊥ = (λ q. cc) in none e)
 
--- 5. Site b is detached, and attached anew
+-- 6. Site b is detached, and attached anew
 
 abbrev pub detached : World
 detached = after two_links world (Detach (site_no 1))
