@@ -1,15 +1,14 @@
 -- Which attachments have labels, and which labels: those of the start, and one more for each site that is attached anew.
-use Rattle.std.proofs.Common.{ℕ, suc, ◌≡◌, ◌≢◌, ◌+◌, ◌-◌, ◌<◌, ◌≤◌, ◌⊎◌, inl, inr, Bool, true, false, not, List, [], ◌∷◌, ◌++◌, map, filter, length}
+use Rattle.std.proofs.Common.{ℕ, ◌≡◌, ◌≢◌, ◌+◌, ◌-◌, ◌<◌, ◌≤◌, ◌⊎◌, inl, inr, Bool, true, false, not, List, [], ◌∷◌, ◌++◌, map, filter, length}
 use Rattle.std.proofs.Common.{refl, arith, sym, ◌∙◌, ap, subst, append_assoc, append-nil}
-use Rattle.std.specs.Prelude.{◌==◌, ◌&&◌, nat_lt, sum, if◌then◌else◌}
-use Rattle.std.specs.List.{Contains, position_or_len, range_with_len}
+use Rattle.std.specs.Prelude.{◌==◌, ◌&&◌, nat_lt, if◌then◌else◌}
+use Rattle.std.specs.List.{range_with_len}
 use Rattle.std.proofs.lemmas.List.{length-append, length-map}
 use Rattle.std.proofs.lemmas.Bool.Decides.{nat_tests, eqb_tells}
 use Rattle.mn_base.specs.Wiring.{nodes_of}
 use Rattle.mn_base.proofs.Bools.{same_test, same_numbers}
 use Rattle.mn_labels.specs.declared.meaning.Bind.{Bind}
 use Rattle.mn_topo.specs.Network.{Network, wiring_of}
-use Rattle.mn_topo.specs.Lawful.{IsLawful}
 use Rattle.mn_topo.specs.Steps.{fits}
 use Rattle.mn_topo.specs.declared.steps.Step.{Step}
 use Rattle.mn_topo.specs.declared.steps.Step.TheVariants.{Attach}
@@ -24,7 +23,7 @@ use Rattle.mn_ledger.specs.Refusal.{labels_given}
 use Rattle.mn_ledger.proofs.Members.{In, in_contained, contained_in, in_append, in_front, in_rest, in_map, in_filter, filter_in, in_range}
 use Rattle.mn_ledger.proofs.GoingBy.{pair_here, pair_off}
 use Rattle.mn_laws.proofs.There.{home_there}
-use Rattle.mn_frames.specs.Given.{same_bind, label_in, label_at, fec_of, attachment_of, given, given_first, given_from, given_in}
+use Rattle.mn_frames.specs.Given.{label_in, fec_of, attachment_of, given, given_first, given_from, given_in}
 use Rattle.mn_frames.specs.Numbers.{Labels, sites_before, first_labels, labels_after, labels_from, labels_of, AttachmentsByTable, TableGrows}
 use Rattle.mn_frames.specs.Attached.{IsAttachmentAt, GivesToEach, GivesToNoOther}
 use Rattle.mn_frames.proofs.Labels.{place_stays, map_in, range_in}
@@ -72,7 +71,7 @@ given_later t c _ site k h = inl h
 
 from_has : (t : Network) (entries : List JournalEntry) (w : World) (site k : ℕ) →
     w.config.attaches site + 2 ≤ k → k ≤ (world_from t w entries).config.attaches site + 1 →
-        In (given_from t (home_of t site) w.config entries) (attachment_of site k)
+    In (given_from t (home_of t site) w.config entries) (attachment_of site k)
 from_has t [] w site k h g = absurd (none h g)
   where
     none : w.config.attaches site + 2 ≤ k → k ≤ w.config.attaches site + 1 → ⊥
@@ -87,7 +86,7 @@ first_has t site h =
     in_rest (map fec_of (filter (λ other. not (other == home_of t site)) (nodes_of (wiring_of t)))) _ (attachment_of site 1)
     (map_in (λ s. attachment_of s 1) (sites_at t (home_of t site)) site
     (filter_in (λ s. home_of t s == home_of t site) (range_with_len 0 (length t.sites)) site
-        (range_in 0 (length t.sites) site (omega arith) (omega (arith, h))) (same_test (home_of t site))))
+    (range_in 0 (length t.sites) site (omega arith) (omega (arith, h))) (same_test (home_of t site))))
 
 pub gives_to_each : GivesToEach
 unfolding given
@@ -228,7 +227,7 @@ one_more t node c l binds step fit h = record {
     anew : (s site k : ℕ) (b : Bool) → (home_of t s == node) ≡ b → home_of t site ≡ node →
         In (binds ++ (if b then attachment_of s (c.attaches s + 2) ∷ [] else [])) (attachment_of site k) →
         label_in (binds ++ (if b then attachment_of s (c.attaches s + 2) ∷ [] else [])) (attachment_of site k)
-            ≡ put_pair l s (c.attaches s + 2) (16 + labels_given t c (home_of t s)) site k
+        ≡ put_pair l s (c.attaches s + 2) (16 + labels_given t c (home_of t s)) site k
     anew s site k b e home i = elim (in_append binds (if b then attachment_of s (c.attaches s + 2) ∷ [] else []) (attachment_of site k) i) [
       | inl j ↦ kept (if b then attachment_of s (c.attaches s + 2) ∷ [] else []) site k home j
           ∙ sym (pair_off l s (c.attaches s + 2) (16 + labels_given t c (home_of t s)) site k (old j (eqb_tells site s)))
@@ -250,19 +249,19 @@ one_more t node c l binds step fit h = record {
 
         last : (b : Bool) → (home_of t s == node) ≡ b → In (if b then attachment_of s (c.attaches s + 2) ∷ [] else []) (attachment_of site k) →
             label_in (binds ++ (if b then attachment_of s (c.attaches s + 2) ∷ [] else [])) (attachment_of site k)
-                ≡ put_pair l s (c.attaches s + 2) (16 + labels_given t c (home_of t s)) site k
+            ≡ put_pair l s (c.attaches s + 2) (16 + labels_given t c (home_of t s)) site k
         last false e j = absurd j
         last true e (inr j) = absurd j
         last true e (inl is) =
             let place = place_last binds (attachment_of s (c.attaches s + 2)) fresh in
             let at : labels_given t c (home_of t s) ≡ labels_given t c node = ap (labels_given t c) (same_numbers (home_of t s) node e) in
             let newest : label_in (binds ++ attachment_of s (c.attaches s + 2) ∷ []) (attachment_of s (c.attaches s + 2))
-                ≡ put_pair l s (c.attaches s + 2) (16 + labels_given t c (home_of t s)) s (c.attaches s + 2) =
+            ≡ put_pair l s (c.attaches s + 2) (16 + labels_given t c (home_of t s)) s (c.attaches s + 2) =
             ap (λ n. 16 + n) (place ∙ sym counted ∙ sym at) ∙ sym (pair_here l s (c.attaches s + 2) (16 + labels_given t c (home_of t s))) in
             subst (λ x. label_in (binds ++ attachment_of s (c.attaches s + 2) ∷ []) (attachment_of x k)
-                ≡ put_pair l s (c.attaches s + 2) (16 + labels_given t c (home_of t s)) x k) (ap site_of is)
+            ≡ put_pair l s (c.attaches s + 2) (16 + labels_given t c (home_of t s)) x k) (ap site_of is)
             (subst (λ n. label_in (binds ++ attachment_of s (c.attaches s + 2) ∷ []) (attachment_of s n)
-                ≡ put_pair l s (c.attaches s + 2) (16 + labels_given t c (home_of t s)) s n) (ap number_of is) newest)
+            ≡ put_pair l s (c.attaches s + 2) (16 + labels_given t c (home_of t s)) s n) (ap number_of is) newest)
 
     nothing : (site k : ℕ) → home_of t site ≡ node → In (binds ++ []) (attachment_of site k) → label_in (binds ++ []) (attachment_of site k) ≡ l site k
     nothing site k home i = elim (in_append binds [] (attachment_of site k) i) [ inl j ↦ kept [] site k home j | inr j ↦ absurd j ]
@@ -289,4 +288,4 @@ by_table t entries inputs site k topology lawful c =
     let i = in_contained _ (attachment_of site k) c in
     let is = only t entries inputs (home_of t site) site k lawful i in
     (has_table t (home_of t site) 0 (start t) no_packets 0 entries inputs (first_labels t) (given_first t (home_of t site)) lawful
-        (first_table t (home_of t site) (home_there t site topology is.there))).same site k refl i
+    (first_table t (home_of t site) (home_there t site topology is.there))).same site k refl i

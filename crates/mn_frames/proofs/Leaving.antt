@@ -1,5 +1,5 @@
 -- A packet that leaves its edge.
-use Rattle.std.proofs.Common.{ℕ, ◌≡◌, ◌≢◌, ◌-◌, ◌<◌, ◌≤◌, ◌∷◌, [], Bool, true, false, List, length, refl, arith, sym, ◌∙◌, ap, subst, Some, None}
+use Rattle.std.proofs.Common.{ℕ, ◌≡◌, ◌≢◌, ◌-◌, ◌<◌, ◌∷◌, [], Bool, true, false, List, length, refl, arith, sym, ◌∙◌, ap, Some, None}
 use Rattle.std.specs.Prelude.{◌==◌, Option, if◌then◌else◌}
 use Rattle.mn_base.specs.declared.drops.Rule.TheVariants as rule
 use Rattle.mn_base.specs.declared.links.Dir.{Dir}
@@ -12,7 +12,7 @@ use Rattle.mn_ledger.specs.Transport.{usable}
 use Rattle.mn_ledger.specs.Vpn.{HeldRoute}
 use Rattle.mn_ledger.specs.Packets.{Packets, bound, hop_over, away_from}
 use Rattle.mn_frames.specs.Given.{Labelling, label_for}
-use Rattle.mn_frames.specs.Frames.{entry, inner, IsFrameOf, IsSound}
+use Rattle.mn_frames.specs.Frames.{entry, inner}
 use Rattle.mn_frames.specs.Entries.{IsPushed, outer_over}
 use Rattle.mn_frames.specs.Arrivals.{sent}
 use Rattle.mn_frames.specs.Departures.{with_outer, Departs, LeavesAsTold, StaysAsTold}
@@ -22,7 +22,7 @@ use Rattle.mn_frames.proofs.Links.{hop_leads, only_link, leads_are_joined}
 outer_stack : (g : Labelling) (route : HeldRoute) (bytes : List ℕ) (packet hop : ℕ) (b : Bool) →
     with_outer (if b then None else Some (label_for g hop route.edge)) (inner g (bound 0 route bytes) (ttl_of bytes - 1) ∷ [])
     ≡ (if b then inner g (bound packet route bytes) (ttl_of bytes - 1) ∷ [] else entry (label_for g hop route.edge) false (ttl_of bytes - 1) ∷ inner g
-        (bound packet route bytes) (ttl_of bytes - 1) ∷ [])
+    (bound packet route bytes) (ttl_of bytes - 1) ∷ [])
 outer_stack g route bytes packet hop true = refl
 outer_stack g route bytes packet hop false = refl
 
@@ -33,10 +33,20 @@ departs : (t : Network) (g : Labelling) (w : World) (k : Packets) (packet : ℕ)
 departs t g w k packet route bytes node frame None lawful there apart pushed is = refl
 departs t g w k packet route bytes node frame (Some hop) lawful there apart pushed is = (
   links,
-  record { stack = ap (with_outer (if hop.0 == route.edge then None else Some (label_for g hop.0 route.edge))) pushed.stack
-      ∙ outer_stack g route bytes packet hop.0 (hop.0 == route.edge); packet = pushed.packet },
-  record { home = pushed.sound.home; node = pushed.sound.node; labelled = pushed.sound.labelled; within = pushed.sound.within; pushed =
-      pushed.sound.pushed; packet = pushed.sound.packet },
+  record {
+    stack = ap (with_outer (if hop.0 == route.edge then None else Some (label_for g hop.0 route.edge))) pushed.stack
+        ∙ outer_stack g route bytes packet hop.0 (hop.0 == route.edge);
+    packet = pushed.packet;
+  },
+  record {
+    home = pushed.sound.home;
+    node = pushed.sound.node;
+    labelled = pushed.sound.labelled;
+    within = pushed.sound.within;
+    pushed =
+        pushed.sound.pushed;
+    packet = pushed.sound.packet;
+  },
   leads_are_joined t node hop.0 hop.1 (away_from t hop.1 node) leads,
 )
   where

@@ -1,9 +1,8 @@
 -- What was told, what is held and what flies names an attachment that has a label.
-use Rattle.std.proofs.Common.{ℕ, ◌≡◌, ◌<◌, ◌≤◌, Bool, true, false, Some, None, List, length, refl, arith, sym, ◌∙◌, ap, subst}
-use Rattle.std.specs.Prelude.{◌==◌, ◌&&◌, IsTrue, Option, if◌then◌else◌}
+use Rattle.std.proofs.Common.{ℕ, ◌≡◌, ◌<◌, Bool, true, false, Some, None, List, length, refl, arith, sym, ◌∙◌, ap, subst}
+use Rattle.std.specs.Prelude.{◌==◌, IsTrue, Option, if◌then◌else◌}
 use Rattle.std.specs.List.{Contains}
 use Rattle.mn_base.proofs.Bools.{test_same}
-use Rattle.mn_base.specs.declared.links.Dir.{Dir}
 use Rattle.mn_base.specs.declared.drops.Rule.{Rule}
 use Rattle.mn_base.specs.declared.drops.Rule.TheVariants as rule
 use Rattle.mn_ipv4.specs.Header.{good, total_length, destination_of}
@@ -16,7 +15,7 @@ use Rattle.mn_ledger.specs.Vpn.{HeldRoute, held, best}
 use Rattle.mn_ledger.specs.Entry.{first_rule}
 use Rattle.mn_ledger.specs.Packets.{Token, Packets, entry_rules}
 use Rattle.mn_ledger.specs.Ledger.{world_of, packets_of}
-use Rattle.mn_laws.specs.Named.{NamesAnAttachment, NamesItsSite, IsGoodFrame}
+use Rattle.mn_laws.specs.Named.{NamesAnAttachment, IsGoodFrame}
 use Rattle.mn_laws.proofs.Holding.{names_what_exists}
 use Rattle.mn_laws.proofs.Accounted.{frames_good}
 use Rattle.mn_laws.proofs.There.{home_there, vrf_there}
@@ -34,7 +33,7 @@ labelled : (t : Network) (entries : List JournalEntry) (node site k : ℕ) → I
     Contains (given t entries node) (attachment_of site k)
 labelled t entries node site k is =
     subst (λ n. Contains (given t entries n) (attachment_of site k)) is.home
-        (gives_to_each t entries site k (record { home = refl; there = is.there; first = is.first; last = is.last }))
+    (gives_to_each t entries site k (record { home = refl; there = is.there; first = is.first; last = is.last }))
 
 of_export : (t : Network) (c : Config) (teller : ℕ) (export : Export) → NamesAnAttachment t c teller export →
     IsAttachmentAt t c teller export.site export.attachment
@@ -47,8 +46,8 @@ all_have_labels t entries inputs topology lawful =
       told = λ teller peer export there. labelled t entries teller export.site export.attachment
           (of_export t (world_of t entries).config teller export (names.bgp teller peer (Announce export) there));
       held = λ v route there is.
-        let site = names.routes v route there is in
-        labelled t entries route.edge route.site route.attachment (record { home = site.home; there = site.site; first = site.first; last = site.given });
+          let site = names.routes v route there is in
+          labelled t entries route.edge route.site route.attachment (record { home = site.home; there = site.site; first = site.first; last = site.given });
     }
 
 whole : (bytes : List ℕ) → IsTrue (good bytes) → length bytes ≡ total_length bytes → IsTrue (is_packet bytes)
@@ -92,9 +91,9 @@ leaves_sound t entries inputs s bytes route topology lawful there small leaves =
     let w : World = world_of t entries in
     let routes : List HeldRoute = held t w.config w.peerings (home_of t s) (vrf_of t s) in
     let is : best routes (destination_of bytes) ≡ Some route =
-        bound_by t w s bytes route (best routes (destination_of bytes)) (first_rule (entry_rules (w.config.attached s) bytes)) leaves in
+    bound_by t w s bytes route (best routes (destination_of bytes)) (first_rule (entry_rules (w.config.attached s) bytes)) leaves in
     let names = (names_what_exists t entries inputs topology lawful).routes (vrf_of t s) route (vrf_there t s topology there)
-        (best_is routes (destination_of bytes) route is).held in
+    (best_is routes (destination_of bytes) route is).held in
     let fit : IsFit bytes = fits_or_falls t w s bytes small (λ fall. subst IsFall leaves fall) in
     record {
       home = sym names.home;

@@ -1,21 +1,19 @@
 -- A FEC's label by the numbers of the two nodes, and the places of a node's sites.
-use Rattle.std.proofs.Common.{ℕ, zero, suc, ◌≡◌, ◌≢◌, ◌+◌, ◌-◌, ◌<◌, ◌≤◌, ◌⊎◌, inl, inr, Bool, true, false, not, cond, List, [], ◌∷◌, ◌++◌, map}
+use Rattle.std.proofs.Common.{ℕ, zero, suc, ◌≡◌, ◌≢◌, ◌+◌, ◌<◌, ◌≤◌, ◌⊎◌, inl, inr, Bool, true, false, not, cond, List, [], ◌∷◌, ◌++◌, map}
 use Rattle.std.proofs.Common.{filter, length, refl, arith, sym, ◌∙◌, ap, subst}
 use Rattle.std.specs.Prelude.{◌==◌, ◌&&◌, nat_lt, if◌then◌else◌}
 use Rattle.std.specs.List.{position_or_len, range_with_len}
 use Rattle.std.proofs.lemmas.Bool.Decides.{nat_tests, eqb_tells}
-use Rattle.mn_base.specs.Wiring.{nodes_of}
-use Rattle.mn_base.proofs.Bools.{no, other_test, same_test, less_is, not_less}
+use Rattle.mn_base.proofs.Bools.{other_test, less_is, not_less}
 use Rattle.mn_labels.specs.declared.meaning.Bind.{Bind}
-use Rattle.mn_topo.specs.Network.{Network, wiring_of}
+use Rattle.mn_topo.specs.Network.{Network}
 use Rattle.mn_topo.specs.declared.steps.JournalEntry.{JournalEntry}
-use Rattle.mn_node.specs.Node.{label_of}
 use Rattle.mn_ledger.specs.Ledger.{first_config}
 use Rattle.mn_ledger.specs.Places.{sites_at}
 use Rattle.mn_ledger.proofs.Members.{In, in_front}
-use Rattle.mn_frames.specs.Given.{same_bind, label_for, label_in, fec_of, attachment_of, given, given_first, given_from}
+use Rattle.mn_frames.specs.Given.{same_bind, label_in, fec_of, attachment_of, given, given_first, given_from}
 use Rattle.mn_frames.specs.Numbers.{FecsByNumber}
-use Rattle.mn_frames.proofs.Labels.{place_stays, fec_in_first, same_is, same_itself}
+use Rattle.mn_frames.proofs.Labels.{place_stays, fec_in_first, same_is}
 
 -- 1. The place of another node's FEC
 
@@ -67,7 +65,7 @@ unfolding given
 fec_label t entries node edge h apart =
     let there : In (fecs node 0 (length t.loopbacks)) (fec_of edge) = fec_in_first t node edge h apart in
     let front : In (given_first t node) (fec_of edge) =
-        in_front (fecs node 0 (length t.loopbacks)) (map (λ site. attachment_of site 1) (sites_at t node)) (fec_of edge) there in
+    in_front (fecs node 0 (length t.loopbacks)) (map (λ site. attachment_of site 1) (sites_at t node)) (fec_of edge) there in
     ap (λ n. 16 + n) (place_stays (given_first t node) (given_from t node (first_config t) entries) (fec_of edge) front
     ∙ place_stays (fecs node 0 (length t.loopbacks)) (map (λ site. attachment_of site 1) (sites_at t node)) (fec_of edge) there)
 
@@ -114,13 +112,13 @@ none_before p site (suc n) a h = let late : nat_lt a site ≡ false = not_less a
   where
     by : (b : Bool) → (b && nat_lt a site) ≡ (b && false) → length (filter (λ s. p s && nat_lt s site) (range_with_len (a + 1) n)) ≡ 0 →
         length (cond (b && nat_lt a site) (a ∷ filter (λ s. p s && nat_lt s site) (range_with_len (a + 1) n))
-            (filter (λ s. p s && nat_lt s site) (range_with_len (a + 1) n))) ≡ 0
+        (filter (λ s. p s && nat_lt s site) (range_with_len (a + 1) n))) ≡ 0
     by true e rest = rw e rest
     by false e rest = rest
 
 pub site_place : (p : ℕ → Bool) (site n a : ℕ) → p site ≡ true → a ≤ site → site < a + n →
     position_or_len (same_bind (attachment_of site 1)) (map (λ s. attachment_of s 1) (filter p (range_with_len a n)))
-        ≡ length (filter (λ s. p s && nat_lt s site) (range_with_len a n))
+    ≡ length (filter (λ s. p s && nat_lt s site) (range_with_len a n))
 site_place p site zero a is h g = absurd (none a site h g)
 site_place p site (suc n) a is h g =
     elim (eqb_tells site a) [
@@ -135,10 +133,10 @@ site_place p site (suc n) a is h g =
   where
     by : (b : Bool) → (site == a) ≡ false → nat_lt a site ≡ true →
         position_or_len (same_bind (attachment_of site 1)) (map (λ s. attachment_of s 1) (filter p (range_with_len (a + 1) n)))
-            ≡ length (filter (λ s. p s && nat_lt s site) (range_with_len (a + 1) n)) →
+        ≡ length (filter (λ s. p s && nat_lt s site) (range_with_len (a + 1) n)) →
         position_or_len (same_bind (attachment_of site 1))
-            (map (λ s. attachment_of s 1) (cond b (a ∷ filter p (range_with_len (a + 1) n)) (filter p (range_with_len (a + 1) n))))
+        (map (λ s. attachment_of s 1) (cond b (a ∷ filter p (range_with_len (a + 1) n)) (filter p (range_with_len (a + 1) n))))
         ≡ length (cond (b && nat_lt a site) (a ∷ filter (λ s. p s && nat_lt s site) (range_with_len (a + 1) n))
-            (filter (λ s. p s && nat_lt s site) (range_with_len (a + 1) n)))
+        (filter (λ s. p s && nat_lt s site) (range_with_len (a + 1) n)))
     by true e early rest = rw (e, early) (omega (arith, rest))
     by false e early rest = rest

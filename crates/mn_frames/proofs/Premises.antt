@@ -4,19 +4,17 @@
 --
 -- Its nodes are 0, 1 and 2. Each has given label 16 for the first of the other nodes and 17 for the second; the edges have given 18 for
 -- their site.
-use Rattle.std.proofs.Common.{ℕ, zero, suc, ◌≡◌, ◌≢◌, ◌+◌, ◌-◌, ◌<◌, ◌≤◌, inl, inr, Bool, true, false, cond, List, [], ◌∷◌, ◌++◌, length, refl}
+use Rattle.std.proofs.Common.{ℕ, zero, suc, ◌≡◌, ◌≢◌, ◌+◌, ◌<◌, ◌≤◌, inl, inr, Bool, true, false, cond, List, [], ◌∷◌, ◌++◌, length, refl}
 use Rattle.std.proofs.Common.{append_assoc, Less, Equal, Greater, rules, arith, sym, ◌∙◌, ap, subst, Some, None}
-use Rattle.std.specs.Prelude.{◌==◌, ◌&&◌, nat_lt, slice_index, Option, IsTrue, if◌then◌else◌}
+use Rattle.std.specs.Prelude.{◌==◌, nat_lt, slice_index}
 use Rattle.std.specs.List.{Contains, list_all}
 use Rattle.std.specs.Ordering.{nat_cmp, is_eq}
 use Rattle.std.specs.BTreeMap.{is_at}
 use Rattle.std.proofs.lemmas.Option.{same_Some}
-use Rattle.std.proofs.lemmas.Bool.Decides.{nat_tests, eqb_tells}
 use Rattle.mn_base.proofs.Bools.{no, other_test, and_left, and_right, less_tells}
-use Rattle.mn_base.specs.declared.links.Dir.TheVariants.{Forth, Back}
+use Rattle.mn_base.specs.declared.links.Dir.TheVariants.{Forth}
 use Rattle.mn_base.specs.Paths.{next}
-use Rattle.mn_ipv4.specs.Header.{is_not_ipv4, is_malformed, is_truncated, has_bad_checksum, good, checksum_for, with_ttl, aged, ttl_of}
-use Rattle.mn_stack.specs.Grammar.{is_packet}
+use Rattle.mn_ipv4.specs.Header.{is_not_ipv4, is_malformed, is_truncated, has_bad_checksum, good, checksum_for, with_ttl, aged}
 use Rattle.mn_stack.specs.Labelled.{Labelled}
 use Rattle.mn_labels.specs.declared.meaning.Bind.{Bind}
 use Rattle.mn_lfib.specs.declared.answer.Use.{Use}
@@ -26,11 +24,10 @@ use Rattle.mn_topo.specs.Network.{wiring_of}
 use Rattle.mn_topo.specs.declared.steps.Step.{Step}
 use Rattle.mn_topo.specs.declared.steps.Step.TheVariants.{Attach, Detach, Inject}
 use Rattle.mn_topo.specs.declared.steps.JournalEntry.{JournalEntry}
-use Rattle.mn_ledger.specs.Tables.{put}
 use Rattle.mn_ledger.specs.World.{World}
 use Rattle.mn_ledger.specs.Transport.{knowledge_of, news, sessions_after, usable, usable_by}
 use Rattle.mn_ledger.specs.Vpn.{HeldRoute, Far, peerings_after, held}
-use Rattle.mn_ledger.specs.Packets.{Token, flying_on, packets_after, bound}
+use Rattle.mn_ledger.specs.Packets.{Token, flying_on, packets_after}
 use Rattle.mn_ledger.specs.Ledger.{start, world_of, packets_of, after}
 use Rattle.mn_ledger.specs.Lawful.{IsLawfulJournal}
 use Rattle.mn_ledger.specs.Refusal.{in_flight, bytes_flying}
@@ -38,7 +35,7 @@ use Rattle.mn_ledger.specs.Verdicts.{injections}
 use Rattle.mn_laws.specs.Named.{AreBytes}
 use Rattle.mn_ledger.proofs.Members.{In, in_contained, contained_in}
 use Rattle.mn_ledger.proofs.Parts.{knowledge_kept}
-use Rattle.mn_ledger.proofs.TwoLinks.{node_no, link_no, site_no, two_links, at_start, settling, packet}
+use Rattle.mn_ledger.proofs.TwoLinks.{node_no, site_no, two_links, at_start, settling, packet}
 use Rattle.mn_frames.specs.Given.{Labelling, given, given_in, fec_of, attachment_of, label_in}
 use Rattle.mn_frames.specs.Frames.{entry, IsFrameOf, IsSound}
 use Rattle.mn_frames.specs.Tables.{TableStands, next_entry, site_entry}
@@ -370,7 +367,7 @@ sends_still : (w : World) (step : Step) (edge : ℕ) →
     knowledge_of (wiring_of two_links) (after two_links w step).config (after two_links w step).views (after two_links w step).sessions 2
     ≡ knowledge_of (wiring_of two_links) w.config w.views w.sessions 2 →
     usable two_links (after two_links w step).config (after two_links w step).views (after two_links w step).sessions 2 edge
-        ≡ usable two_links w.config w.views w.sessions 2 edge
+    ≡ usable two_links w.config w.views w.sessions 2 edge
 sends_still w step edge h = ap (λ k. usable_by (wiring_of two_links) k 2 edge) h
 
 pub the_site_is_detached : Detaches two_links labels world detached 2 1 1 uses_of_pe2 uses_while_detached

@@ -28,13 +28,13 @@ pub record IsAttachmentAt (topology : Network) (config : Config) (node site atta
 abbrev pub GivesToEach : Type 0
 GivesToEach = (topology : Network) (entries : List JournalEntry) (site attachment : ℕ) →
     IsAttachmentAt topology (world_of topology entries).config (home_of topology site) site attachment →
-        Contains (given topology entries (home_of topology site)) (attachment_of site attachment)
+    Contains (given topology entries (home_of topology site)) (attachment_of site attachment)
 
 -- and for no other
 abbrev pub GivesToNoOther : Type 0
 GivesToNoOther = (topology : Network) (entries : List JournalEntry) (inputs : List (List ℕ)) (node site attachment : ℕ) →
     IsLawfulJournal topology entries inputs → Contains (given topology entries node) (attachment_of site attachment) →
-        IsAttachmentAt topology (world_of topology entries).config node site attachment
+    IsAttachmentAt topology (world_of topology entries).config node site attachment
 
 -- each announcement that was told, and each route that a VRF holds, names an attachment that has a label at its edge
 pub record NamesWhatHasLabels (topology : Network) (entries : List JournalEntry) : Type 0 where
@@ -42,7 +42,7 @@ pub record NamesWhatHasLabels (topology : Network) (entries : List JournalEntry)
       Contains (given topology entries teller) (attachment_of export.site export.attachment)
   pub held : (v : ℕ) (route : HeldRoute) → v < length topology.vrfs →
       Contains (held topology (world_of topology entries).config (world_of topology entries).peerings (edge_of topology v) v) route →
-          Contains (given topology entries route.edge) (attachment_of route.site route.attachment)
+      Contains (given topology entries route.edge) (attachment_of route.site route.attachment)
 
 abbrev pub AllHaveLabels : Type 0
 AllHaveLabels = (topology : Network) (entries : List JournalEntry) (inputs : List (List ℕ)) → IsLawful topology → IsLawfulJournal topology entries inputs →
@@ -53,10 +53,10 @@ abbrev pub LeavesSound : Type 0
 LeavesSound = (topology : Network) (entries : List JournalEntry) (inputs : List (List ℕ)) (site : ℕ) (bytes : List ℕ) (route : HeldRoute) →
     IsLawful topology → IsLawfulJournal topology entries inputs →
     site < length topology.sites → ((i : ℕ) → slice_index bytes i < 256) → fate topology (world_of topology entries) site bytes ≡ Leaves route →
-        IsSound topology (given topology entries) (bound 0 route bytes)
+    IsSound topology (given topology entries) (bound 0 route bytes)
 
 -- and each packet on its way is sound
 abbrev pub AllAreSound : Type 0
 AllAreSound = (topology : Network) (entries : List JournalEntry) (inputs : List (List ℕ)) → IsLawful topology → IsLawfulJournal topology entries inputs →
     length inputs ≡ injections entries → AreBytes inputs → (l : ℕ) (dir : Dir) (token : Token) →
-        Contains (flying_on (packets_of topology entries inputs) l dir) token → IsSound topology (given topology entries) token
+    Contains (flying_on (packets_of topology entries inputs) l dir) token → IsSound topology (given topology entries) token

@@ -39,7 +39,7 @@ LeavesAsTold =
     (topology : Network) (given : Labelling) (world : World) (packets : Packets) (packet : ℕ) (route : HeldRoute) (bytes : List ℕ) (node : ℕ) (frame : Labelled)
     → IsLawful topology → node < length topology.loopbacks → node ≢ route.edge → IsPushed topology given route bytes frame
     → Departs topology given packets (bound packet route bytes) node (hop topology world packets (bound packet route bytes) node rule.NoLsp)
-        (outer_for topology given world node route.edge) frame
+    (outer_for topology given world node route.edge) frame
 
 -- one for a site of the same edge is delivered there at once, one hop older
 abbrev pub StaysAsTold : Type 0
