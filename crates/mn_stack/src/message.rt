@@ -197,6 +197,17 @@ impl Frame {
         set_ttl_behind(&mut self.bytes, packet, ttl);
     }
 
+    /// The packet alone, without the entries: what a site is delivered.
+    pub fn packet(&self) -> &[u8]
+        ensures packet { result.now ≡ self.now.packet }
+        ensures is_packet { IsTrue (is_packet result.now) }
+    {
+        from_place(
+            &self.bytes,
+            ENTRY * (self.room as usize + self.depth as usize),
+        )
+    }
+
     /// The bytes: those of the entries, the top one first, and then those of the packet.
     pub fn bytes(&self) -> &[u8]
         ensures bytes { result.now ≡ frame_bytes self.now }

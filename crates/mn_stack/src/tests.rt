@@ -55,6 +55,7 @@ fn a_packet_crosses_three_nodes(rt: HostRuntime) -> Result<(), Fail> {
     frame.push(17, 63);
     assert_eq!(rt; (frame.depth(), frame.room()), (2, 0));
     assert!(rt; is_sent_as(rt.alloc(), &frame, &TWO_ENTRIES)?);
+    assert_eq!(rt; frame.packet(), PACKET.as_slice());
     assert!(rt; frame.depth() == 2);
     frame.pop();
     assert!(rt; frame.depth() == 1);
@@ -64,6 +65,7 @@ fn a_packet_crosses_three_nodes(rt: HostRuntime) -> Result<(), Fail> {
     frame.pop();
     frame.set_ip_ttl(61);
     assert_eq!(rt; frame.bytes(), packet(61, 0x69).as_slice());
+    assert_eq!(rt; frame.packet(), packet(61, 0x69).as_slice());
     Ok(())
 }
 
