@@ -45,6 +45,8 @@ ghost use Rattle.mn_converge.specs.Routes.{TellTheirExports, HoldsItsRoutes, rou
 ghost use Rattle.mn_ledger.specs.Vpn.{HeldRoute, held, best};
 ghost use Rattle.mn_ledger.specs.Verdicts.{injections};
 ghost use Rattle.mn_converge.specs.Ways.{AreUpWhereOdd, KnowTheWays, Reaches};
+ghost use Rattle.mn_converge.specs.TwoLinks.{TwoLinksCarryAPacket};
+ghost use Rattle.mn_converge.specs.Draining.{TwoLinksDrain};
 ghost use Rattle.mn_converge.specs.Arrival.{IsLeastWay, left_after, IsAddressed, route_to, HasArrived};
 
 // 1. What was said is what is offered, after every lawful journal
@@ -119,6 +121,11 @@ pub fn what_is_sent_arrives()
         (injections (before ++ earlier)) site.0 (next_of (left_after (before ++ earlier) inputs)) to }
 {}
 
+/// The premises of these laws are met in the network of two links: it settles, and a packet is sent over both.
+pub fn two_links_carry_a_packet()
+    ensures { TwoLinksCarryAPacket }
+{}
+
 // 4. Drains
 
 /// After a lawful journal a notice can be learned, and a message heard, exactly where an item is in flight on its channel.
@@ -161,4 +168,9 @@ pub fn a_drained_world_is_settled()
         IsLawful topology → IsLawfulJournal topology entries inputs → IsDrain topology (world_of topology entries) steps →
         IsDrained topology (after_steps topology (world_of topology entries) steps) → IsSwitchedOn topology (world_of topology entries).config →
         IsSettled topology (after_steps topology (world_of topology entries) steps) }
+{}
+
+/// The premises of these laws are met in the network of two links, where a drain takes 36 steps, and its bound is 1678.
+pub fn two_links_drain()
+    ensures { TwoLinksDrain }
 {}
