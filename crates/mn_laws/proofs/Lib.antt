@@ -21,3 +21,4 @@ pub mod Believing
 pub mod Saying
 pub mod Saids
 mod Witness
+pub mod Adding

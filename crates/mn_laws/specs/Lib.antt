@@ -5,3 +5,4 @@ pub mod Flight
 pub mod Believed
 pub mod Mentions
 pub mod Ids
+pub mod OneMore

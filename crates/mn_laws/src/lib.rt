@@ -16,7 +16,7 @@
 //! - `specs/Named`: what messages, held routes and packets on their way name exists
 //! - `specs/Flight`: numbers, ticks and channels of what is in flight, the steps that deliver it, and how much of it counts
 //! - `specs/Believed`, `specs/Mentions`: which routes an edge believes, and who says a Mapping of which FEC, in words
-//! - `specs/Ids`: the ids of LDP messages, and the frames sent in a direction
+//! - `specs/Ids`: the ids of LDP messages, and the frames sent in a direction; `specs/OneMore`: what one entry more adds
 //!
 //! Each law is the contract of a function that does nothing; `proofs/Witness` shows that what the laws ask is met.
 #![tactic(auto)]
@@ -37,6 +37,7 @@ ghost use Rattle.mn_laws.specs.Flight.{FliesAsCounted};
 ghost use Rattle.mn_laws.specs.Ids.{SaysWithIds};
 ghost use Rattle.mn_laws.specs.Mentions.{SaysItsNews};
 ghost use Rattle.mn_laws.specs.Named.{NamesWhatExists, AreBytes, FramesAreGood};
+ghost use Rattle.mn_laws.specs.OneMore.{AddsToItsLists};
 
 /// Each packet that is sent is accounted for: it reaches only the site of the best route that its VRF held as it was sent,
 /// unchanged but for TTL and checksum; or it falls to the first rule that applies in the step that ends it; or it is still on
@@ -86,4 +87,11 @@ pub fn ids_are_places_in_a_life()
     ensures { (topology : Network) (entries : List JournalEntry) (inputs : List (List ℕ)) (l end : ℕ) →
         IsLawful topology → IsLawfulJournal topology entries inputs → l < length topology.links → is_end (wiring_of topology) l end ≡ true →
         SaysWithIds topology entries inputs l end }
+{}
+
+/// A journal with one entry more delivered what it had, and then what the step delivers, at its tick; and sent in each direction
+/// the frames that it had, and then those of the step. It holds of every journal, lawful or not.
+pub fn one_entry_more_adds_to_its_lists()
+    ensures { (topology : Network) (entries : List JournalEntry) (inputs : List (List ℕ)) (entry : JournalEntry) (bytes : List ℕ) →
+        length inputs ≡ injections entries → AddsToItsLists topology entries inputs entry bytes }
 {}

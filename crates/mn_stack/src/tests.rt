@@ -11,17 +11,13 @@ const PACKET: [u8; 28] = [
     0x0a, 0x02, 0x00, 0x01, 0x00, 0x35, 0x00, 0x35, 0x00, 0x08, 0x00, 0x00,
 ];
 
-/// The same with TTL 61.
-const DELIVERED: [u8; 28] = [
-    0x45, 0x00, 0x00, 0x1c, 0x00, 0x00, 0x00, 0x00, 0x3d, 0x11, 0x69, 0xcd, 0x0a, 0x01, 0x00, 0x01,
-    0x0a, 0x02, 0x00, 0x01, 0x00, 0x35, 0x00, 0x35, 0x00, 0x08, 0x00, 0x00,
-];
-
-/// The same with TTL 64. No four bytes of it from the front have the S bit.
-const SENT: [u8; 28] = [
-    0x45, 0x00, 0x00, 0x1c, 0x00, 0x00, 0x00, 0x00, 0x40, 0x11, 0x66, 0xcd, 0x0a, 0x01, 0x00, 0x01,
-    0x0a, 0x02, 0x00, 0x01, 0x00, 0x35, 0x00, 0x35, 0x00, 0x08, 0x00, 0x00,
-];
+/// The same with another TTL, and with the first byte of the checksum that goes with it; the second is CD.
+fn packet(ttl: u8, checksum: u8) -> [u8; 28] {
+    let mut bytes = PACKET;
+    bytes[8] = ttl;
+    bytes[10] = checksum;
+    bytes
+}
 
 /// Labels 17 and 18, both with TTL 63.
 const TWO_ENTRIES: [u8; 8] = [0x00, 0x01, 0x10, 0x3f, 0x00, 0x01, 0x21, 0x3f];
@@ -42,6 +38,11 @@ fn over(alloc: Global, packet: &[u8]) -> Result<Frame, Fail> {
     Ok(Frame::over(alloc, packet)?)
 }
 
+/// Whether the frame is sent as these entries and the packet with TTL 63.
+fn is_sent_as(alloc: Global, frame: &Frame, stack: &[u8]) -> Result<bool, Fail> {
+    Ok(frame.bytes() == joined(alloc, stack, &PACKET)?.as_slice())
+}
+
 /// Two entries are pushed at the edge; the next node pops one, and the last one the other.
 #[test]
 fn a_packet_crosses_three_nodes(rt: HostRuntime) -> Result<(), Fail> {
@@ -53,20 +54,18 @@ fn a_packet_crosses_three_nodes(rt: HostRuntime) -> Result<(), Fail> {
     assert!(rt; frame.room() == 1);
     frame.push(17, 63);
     assert_eq!(rt; (frame.depth(), frame.room()), (2, 0));
-    let sent = joined(rt.alloc(), &TWO_ENTRIES, &PACKET)?;
-    assert_eq!(rt; frame.bytes(), sent.as_slice());
+    assert!(rt; is_sent_as(rt.alloc(), &frame, &TWO_ENTRIES)?);
     assert_eq!(rt; frame.packet(), PACKET.as_slice());
     assert!(rt; frame.depth() == 2);
     frame.pop();
     assert!(rt; frame.depth() == 1);
     frame.set_top_ttl(62);
-    let sent = joined(rt.alloc(), &[0x00, 0x01, 0x21, 0x3e], &PACKET)?;
-    assert_eq!(rt; frame.bytes(), sent.as_slice());
+    assert!(rt; is_sent_as(rt.alloc(), &frame, &[0x00, 0x01, 0x21, 0x3e])?);
     assert!(rt; frame.depth() == 1);
     frame.pop();
     frame.set_ip_ttl(61);
-    assert_eq!(rt; frame.bytes(), DELIVERED.as_slice());
-    assert_eq!(rt; frame.packet(), DELIVERED.as_slice());
+    assert_eq!(rt; frame.bytes(), packet(61, 0x69).as_slice());
+    assert_eq!(rt; frame.packet(), packet(61, 0x69).as_slice());
     Ok(())
 }
 
@@ -108,8 +107,7 @@ fn a_frame_is_read_and_swapped(rt: HostRuntime) -> Result<(), Fail> {
     assert_eq!(rt; frame.top(), top);
     frame.swap(100, 63);
     let swapped = [0x00, 0x06, 0x4a, 0x3f, 0x00, 0x01, 0x25, 0x3f];
-    let sent = joined(rt.alloc(), &swapped, &PACKET)?;
-    assert_eq!(rt; frame.bytes(), sent.as_slice());
+    assert!(rt; is_sent_as(rt.alloc(), &frame, &swapped)?);
     Ok(())
 }
 
@@ -119,11 +117,11 @@ fn the_bottom_stays_the_bottom(rt: HostRuntime) -> Result<(), Fail> {
     let mut frame = Frame::read(rt.alloc(), &joined(rt.alloc(), &stack, &PACKET)?)?;
     assert!(rt; frame.depth() == 1);
     frame.swap(1_048_575, 1);
-    let sent = joined(rt.alloc(), &[0xff, 0xff, 0xf5, 0x01], &PACKET)?;
-    assert_eq!(rt; frame.bytes(), sent.as_slice());
+    assert!(rt; is_sent_as(rt.alloc(), &frame, &[0xff, 0xff, 0xf5, 0x01])?);
     Ok(())
 }
 
+/// Why a stack and a packet aren't a frame.
 fn refusal(alloc: Global, stack: &[u8], packet: &[u8]) -> Result<Option<FrameBad>, Fail> {
     Ok(Frame::read(alloc, &joined(alloc, stack, packet)?).err())
 }
@@ -132,12 +130,14 @@ fn refusal(alloc: Global, stack: &[u8], packet: &[u8]) -> Result<Option<FrameBad
 fn refuses_what_is_no_frame(rt: HostRuntime) -> Result<(), Fail> {
     let top = [0x00, 0x01, 0x10, 0x3f];
     let bottom = [0x00, 0x01, 0x21, 0x3f];
-    let longer = joined(rt.alloc(), &SENT, &[0])?;
+    // No four bytes of it from the front have the S bit.
+    let sent = packet(64, 0x66);
+    let longer = joined(rt.alloc(), &sent, &[0])?;
     let table: [(&str, &[u8], &[u8], FrameBad); 11] = [
         ("nothing", &[], &[], FrameBad::NoBottom),
         ("one entry", &top, &[], FrameBad::NoBottom),
-        ("a packet alone", &[], &SENT, FrameBad::NoBottom),
-        ("no bottom", &top, &SENT, FrameBad::NoBottom),
+        ("a packet alone", &[], &sent, FrameBad::NoBottom),
+        ("no bottom", &top, &sent, FrameBad::NoBottom),
         ("a part of the bottom", &[], &bottom[..3], FrameBad::Short),
         (
             "no bottom and a byte too many",
@@ -149,7 +149,7 @@ fn refuses_what_is_no_frame(rt: HostRuntime) -> Result<(), Fail> {
         (
             "less than a packet",
             &bottom,
-            &SENT[..27],
+            &sent[..27],
             FrameBad::BadPayload,
         ),
         ("more than a packet", &bottom, &longer, FrameBad::BadPayload),

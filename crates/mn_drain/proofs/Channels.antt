@@ -1,0 +1,250 @@
+-- After every lawful journal what is in flight is on channels of the topology.
+use Rattle.std.proofs.Common.{ℕ, suc, ◌≡◌, ◌≢◌, ◌+◌, ◌<◌, inl, inr, Bool, true, false, List, [], ◌∷◌, ◌++◌, map, length, refl, arith, sym, ◌∙◌, ap, subst, Option, None, Some}
+use Rattle.std.specs.Prelude.{◌==◌, ◌&&◌, not, nat_lt, slice_get, if◌then◌else◌}
+use Rattle.std.specs.List.{flat_map, Contains}
+use Rattle.std.proofs.lemmas.Bool.Decides.{eqb_tells, leb_tells}
+use Rattle.mn_base.specs.Wiring.{Wiring, nodes_of, links_of, links_at, joining, link, is_end, across, receiver, EndsDiffer}
+use Rattle.mn_topo.specs.VrfTable.{is_edge}
+use Rattle.mn_topo.specs.Network.{Network, wiring_of}
+use Rattle.mn_topo.specs.Lawful.{IsLawful}
+use Rattle.mn_topo.specs.Steps.{fits}
+use Rattle.mn_topo.specs.declared.steps.Step.{Step}
+use Rattle.mn_topo.specs.declared.steps.Step.TheVariants as step
+use Rattle.mn_topo.specs.declared.steps.JournalEntry.{JournalEntry}
+use Rattle.mn_ledger.specs.declared.verdict.Verdict.{Verdict}
+use Rattle.mn_ledger.specs.declared.verdict.Verdict.TheVariants.{Delivered, Dropped, Flying}
+use Rattle.mn_ledger.specs.Tables.{put_pair}
+use Rattle.mn_ledger.specs.Places.{edges}
+use Rattle.mn_ledger.specs.World.{World, Config, Views, Sessions, Peerings, Message, Initialization, Telling, Open}
+use Rattle.mn_ledger.specs.Transport.{Said, Knowledge, lives, is_active, is_operational, said_on, mention, mentioned_on, mentioned_from, opening, replies, offered, by_neighbour, news, knowledge_of, speakers, said_in, counted, is_transport}
+use Rattle.mn_ledger.specs.Vpn as vpn
+use Rattle.mn_ledger.specs.Vpn.{Told, told_to, peers_live, is_established, steady_peers, is_routing, exports_of, changed}
+use Rattle.mn_ledger.specs.Packets.{Token, Packets, flying_on, packets_after}
+use Rattle.mn_ledger.specs.Ledger.{config_after, after, start, no_packets, next_of, left_by}
+use Rattle.mn_ledger.specs.Lawful.{IsLawfulFrom, IsLawfulJournal}
+use Rattle.mn_ledger.specs.Items.{Channel, Notices, Messages, Routes, Frames, Load, Notice, Carries, Item, Flight, notices_in, message_of, messages_in, route_of, routes_in, frame_by, frame_after, frames_in, last_of, made_in, numbered, left_in_flight, with_made, flight_from, flight_of}
+use Rattle.mn_ledger.proofs.Members.{In, in_append, in_map, in_filter, in_flat_map, in_range, in_contained}
+use Rattle.mn_ledger.proofs.Turning.{opener, is_end-a, is_end-b, dir_ends}
+use Rattle.mn_ledger.proofs.GoingBy.{pair_off}
+use Rattle.mn_ledger.proofs.Flows.{in_left}
+use Rattle.mn_drain.specs.Drain.{IsOfTopology}
+use Rattle.mn_drain.proofs.Drain.{less-is, and-both, unequal}
+
+clash : true ≡ false → ⊥
+clash e = cc
+
+-- 1. What is said is said on a link, by one of its ends
+
+abbrev AllSaid : Network → List Said → Type 0
+AllSaid t xs = (x : Said) → In xs x → IsOfTopology t (Messages x.link x.end)
+
+both-said : (t : Network) (xs ys : List Said) → AllSaid t xs → AllSaid t ys → AllSaid t (xs ++ ys)
+both-said t xs ys h g x i = elim (in_append xs ys x i) [ inl j ↦ h x j | inr j ↦ g x j ]
+
+on-link : (t : Network) (l n : ℕ) (ms : List Message) → l < length t.links → is_end (wiring_of t) l n ≡ true → AllSaid t (said_on l n ms)
+on-link t l n ms h e x i = let m = in_map (λ message. record { link = l; end = n; message = message }) ms x i in subst (λ (y : Said). IsOfTopology t (Messages y.link y.end)) m.2 (h, e)
+
+opener-end : (t : Network) (l : ℕ) → is_end (wiring_of t) l (opener t l) ≡ true
+opener-end t l = either (is_active t l (link (wiring_of t) l).a.0)
+  where
+    either : (b : Bool) → is_end (wiring_of t) l (if b then (link (wiring_of t) l).a.0 else (link (wiring_of t) l).b.0) ≡ true
+    either true = is_end-a (wiring_of t) l
+    either false = is_end-b (wiring_of t) l
+
+opening-said : (t : Network) (c : Config) (l : ℕ) → l < length t.links → AllSaid t (opening t c l)
+opening-said t c l h = either (lives c l)
+  where
+    either : (alive : Bool) → AllSaid t (elim alive [ true ↦ said_on l (opener t l) (Initialization ∷ []) | false ↦ [] ])
+    either true = on-link t l (opener t l) (Initialization ∷ []) h (opener-end t l)
+    either false = λ x i. absurd i
+
+replies-said : (t : Network) (c : Config) (s : Sessions) (st : Step) → EndsDiffer (wiring_of t) → fits t st ≡ true → AllSaid t (replies t c s st)
+replies-said t c s (step.LinkUp l) differ fit = opening-said t c l.0 (less-is l.0 (length t.links) fit)
+replies-said t c s (step.LdpAdmin l on) differ fit = opening-said t c l.0 (less-is l.0 (length t.links) fit)
+replies-said t c s (step.HearLdp l dir) differ fit =
+    let h : l.0 < length t.links = less-is l.0 (length t.links) fit in
+    on-link t l.0 (receiver (wiring_of t) l.0 dir) _ h (dir_ends (wiring_of t) l.0 dir (differ l.0 h)).0
+replies-said t c s _ differ fit = λ x i. absurd i
+
+if-said : (t : Network) (b : Bool) (xs : List Said) → AllSaid t xs → AllSaid t (if b then xs else [])
+if-said t true xs h = h
+if-said t false xs h = λ x i. absurd i
+
+from-said : (t : Network) (before now : Knowledge) (n : ℕ) (ks : List ℕ) → ((l : ℕ) → In ks l → (l < length t.links) × (is_end (wiring_of t) l n ≡ true)) → (fec : ℕ) (weres ares : List Bool) → AllSaid t (mentioned_from before now n ks fec weres ares)
+from-said t before now n ks at fec [] ares = λ x i. absurd i
+from-said t before now n ks at fec (was ∷ weres) [] = λ x i. absurd i
+from-said t before now n ks at fec (was ∷ weres) (is ∷ ares) =
+    both-said t (flat_map (mentioned_on before now n fec was is) ks) (mentioned_from before now n ks (fec + 1) weres ares)
+    (λ x i.
+    let m = in_flat_map (mentioned_on before now n fec was is) ks x i in
+    if-said t (is_operational now m.0) (said_on m.0 n (mention (is_operational before m.0 && was) is fec)) (on-link t m.0 n (mention (is_operational before m.0 && was) is fec) (at m.0 m.1).0 (at m.0 m.1).1) x m.2)
+    (from-said t before now n ks at (fec + 1) weres ares)
+
+neighbour-links : (w : Wiring) (n l : ℕ) → In (by_neighbour w n) l → (l < length w.ends) × (is_end w l n ≡ true)
+neighbour-links w n l i =
+    let m = in_flat_map (joining w n) (nodes_of w) l i in
+    let f = in_filter (λ k. across w k n == m.0) (links_at w n) l m.2 in
+    let g = in_filter (λ k. is_end w k n) (links_of w) l f.0 in
+    (omega (arith, (in_range 0 (length w.ends) l g.0).1), g.1)
+
+news-said : (t : Network) (before now : Knowledge) (n : ℕ) → AllSaid t (news (wiring_of t) before now n)
+unfolding news
+news-said t before now n = from-said t before now n (by_neighbour (wiring_of t) n) (λ l i. neighbour-links (wiring_of t) n l i) 0 (offered (wiring_of t) before n) (offered (wiring_of t) now n)
+
+all-said : (t : Network) (c new : Config) (v nv : Views) (s k : Sessions) (st : Step) → EndsDiffer (wiring_of t) → fits t st ≡ true → AllSaid t (said_in t c v s new nv k st)
+all-said t c new v nv s k st differ fit = both-said t (replies t new s st) _ (replies-said t new s st differ fit)
+    (λ x i. let m = in_flat_map (λ node. news (wiring_of t) (knowledge_of (wiring_of t) c v s node) (knowledge_of (wiring_of t) new nv k node) node) (speakers (wiring_of t) st) x i in
+    news-said t (knowledge_of (wiring_of t) c v s m.0) (knowledge_of (wiring_of t) new nv k m.0) m.0 x m.2)
+
+-- 2. What is told is told by an edge to another
+
+abbrev AreEdges : Network → ℕ → ℕ → Type 0
+AreEdges t a b = IsOfTopology t (Routes a b)
+
+-- sessions are those of edges, the lesser number first
+abbrev JoinEdges : Network → Config → Type 0
+JoinEdges t c = (a b : ℕ) → c.bgp_on a b ≡ true → AreEdges t a b
+
+back-edges : (t : Network) (a b : ℕ) → AreEdges t a b → AreEdges t b a
+back-edges t a b h = (h.1, h.0, λ e. h.2 (sym e))
+
+live-edges : (t : Network) (c : Config) (a b : ℕ) → JoinEdges t c → peers_live c a b ≡ true → AreEdges t a b
+live-edges t c a b h live = elim (leb_tells (suc a) b) [
+  | inl q ↦ h a b (sym (ap (λ x. if x then c.bgp_on a b else c.bgp_on b a) q.0) ∙ live)
+  | inr q ↦ back-edges t b a (h b a (sym (ap (λ x. if x then c.bgp_on a b else c.bgp_on b a) q.0) ∙ live))
+]
+
+abbrev AllTold : Network → List Told → Type 0
+AllTold t xs = (x : Told) → In xs x → AreEdges t x.teller x.peer
+
+told-between : (t : Network) (a b : ℕ) (ms : List Telling) → AreEdges t a b → AllTold t (told_to a b ms)
+told-between t a b ms h x i = let m = in_map (λ telling. record { teller = a; peer = b; telling = telling }) ms x i in subst (λ (y : Told). AreEdges t y.teller y.peer) m.2 h
+
+edges-fit : (t : Network) (a b : ℕ) → ((is_edge t.vrfs a && is_edge t.vrfs b) && not (a == b)) ≡ true → AreEdges t a b
+edges-fit t a b fit =
+    let f = and-both (is_edge t.vrfs a && is_edge t.vrfs b) (not (a == b)) fit in
+    let g = and-both (is_edge t.vrfs a) (is_edge t.vrfs b) f.0 in
+    (g.0, g.1, unequal a b f.1)
+
+edges-in-order : (t : Network) (a b : ℕ) → ((is_edge t.vrfs a && is_edge t.vrfs b) && nat_lt a b) ≡ true → AreEdges t a b
+edges-in-order t a b fit =
+    let f = and-both (is_edge t.vrfs a && is_edge t.vrfs b) (nat_lt a b) fit in
+    let g = and-both (is_edge t.vrfs a) (is_edge t.vrfs b) f.0 in
+    (g.0, g.1, apart (less-is a b f.1))
+  where
+    apart : a < b → a ≢ b
+    apart l e = omega (arith, l, e)
+
+told-replies : (t : Network) (c : Config) (p : Peerings) (st : Step) → fits t st ≡ true → AllTold t (vpn.replies t c p st)
+told-replies t c p (step.BgpUp a b) fit = λ x i. elim (in_append (told_to a.0 b.0 (Open ∷ [])) (told_to b.0 a.0 (Open ∷ [])) x i) [
+  | inl j ↦ told-between t a.0 b.0 (Open ∷ []) (edges-in-order t a.0 b.0 fit) x j
+  | inr j ↦ told-between t b.0 a.0 (Open ∷ []) (back-edges t a.0 b.0 (edges-in-order t a.0 b.0 fit)) x j
+]
+told-replies t c p (step.HearBgp a b) fit = told-between t b.0 a.0 _ (back-edges t a.0 b.0 (edges-fit t a.0 b.0 fit))
+told-replies t c p _ fit = λ x i. absurd i
+
+told-news : (t : Network) (c : Config) (p : Peerings) (new : Config) (k : Peerings) (e : ℕ) → JoinEdges t c → AllTold t (vpn.news t c p new k e)
+told-news t c p new k e h x i =
+    let m = in_flat_map (λ telling. map (λ peer. record { teller = e; peer = peer; telling = telling }) (steady_peers t c p new k e)) (changed (exports_of t c e) (exports_of t new e)) x i in
+    let n = in_map (λ peer. record { teller = e; peer = peer; telling = m.0 }) (steady_peers t c p new k e) x m.2 in
+    let f = in_filter (λ peer. is_established c p e peer && is_established new k e peer) (nodes_of (wiring_of t)) n.0 n.1 in
+    let live : peers_live c e n.0 ≡ true = (and-both _ _ (and-both _ _ f.1).0).0 in
+    subst (λ (y : Told). AreEdges t y.teller y.peer) n.2 (live-edges t c e n.0 h live)
+
+all-told : (t : Network) (c : Config) (p : Peerings) (new : Config) (k : Peerings) (st : Step) → fits t st ≡ true → JoinEdges t c → AllTold t (vpn.told_in t c p new k st)
+all-told t c p new k st fit h x i = elim (in_append (vpn.replies t new p st) (flat_map (vpn.news t c p new k) (edges t)) x i) [
+  | inl j ↦ told-replies t new p st fit x j
+  | inr j ↦ let m = in_flat_map (vpn.news t c p new k) (edges t) x j in told-news t c p new k m.0 h x m.2
+]
+
+joins-put : (t : Network) (c : Config) (a b : ℕ) (on : Bool) → AreEdges t a b → JoinEdges t c → JoinEdges t (record c { bgp_on = put_pair c.bgp_on a b on })
+joins-put t c a b on e h x y live = elim (eqb_tells x a) [
+  | inr q ↦ h x y (sym (pair_off c.bgp_on a b on x y (inl q.1)) ∙ live)
+  | inl q ↦ elim (eqb_tells y b) [
+    | inr r ↦ h x y (sym (pair_off c.bgp_on a b on x y (inr r.1)) ∙ live)
+    | inl r ↦ subst (λ z. AreEdges t z y) (sym q.1) (subst (λ z. AreEdges t a z) (sym r.1) e)
+  ]
+]
+
+joins-step : (t : Network) (c : Config) (st : Step) → fits t st ≡ true → JoinEdges t c → JoinEdges t (config_after c st)
+joins-step t c (step.BgpUp a b) fit h = joins-put t c a.0 b.0 true (edges-in-order t a.0 b.0 fit) h
+joins-step t c (step.BgpDown a b) fit h = joins-put t c a.0 b.0 false (edges-in-order t a.0 b.0 fit) h
+joins-step t c _ fit h = h
+
+-- 3. What a step makes
+
+abbrev AllMade : Network → List (Channel × Load) → Type 0
+AllMade t xs = (x : Channel × Load) → In xs x → IsOfTopology t x.0
+
+notices-made : (t : Network) (st : Step) → fits t st ≡ true → AllMade t (notices_in t st)
+notices-made t (step.LinkUp l) fit x i =
+    let m = in_map (λ node. (Notices l.0 node, Notice)) (nodes_of (wiring_of t)) x i in
+    subst (λ (y : Channel × Load). IsOfTopology t y.0) m.2 (less-is l.0 (length t.links) fit, omega (arith, (in_range 0 (length t.loopbacks) m.0 m.1).1))
+notices-made t (step.LinkDown l) fit x i =
+    let m = in_map (λ node. (Notices l.0 node, Notice)) (nodes_of (wiring_of t)) x i in
+    subst (λ (y : Channel × Load). IsOfTopology t y.0) m.2 (less-is l.0 (length t.links) fit, omega (arith, (in_range 0 (length t.loopbacks) m.0 m.1).1))
+notices-made t _ fit x i = absurd i
+
+if-made : (t : Network) (b : Bool) (xs : List (Channel × Load)) → AllMade t xs → AllMade t (if b then xs else [])
+if-made t true xs h = h
+if-made t false xs h = λ x i. absurd i
+
+frame-made : (t : Network) (p : Packets) (v : Verdict) → AllMade t (frame_by p v)
+frame-made t p (Flying l dir) x i = let m = in_map (λ token. (Frames l.0 dir, Carries token)) (last_of (flying_on p l.0 dir)) x i in subst (λ (y : Channel × Load). IsOfTopology t y.0) m.2 tt
+frame-made t p (Delivered s n c) x i = absurd i
+frame-made t p (Dropped r n) x i = absurd i
+
+option-made : (t : Network) (p : Packets) (o : Option Token) → AllMade t (frame_after p o)
+option-made t p None x i = absurd i
+option-made t p (Some token) x i = frame-made t p _ x i
+
+frames-made : (t : Network) (p q : Packets) (st : Step) → AllMade t (frames_in p q st)
+frames-made t p q (step.Inject s n) = frame-made t q _
+frames-made t p q (step.Carry l dir place) = option-made t q (slice_get (flying_on p l.0 dir) place)
+frames-made t p q _ = λ x i. absurd i
+
+step-made : (t : Network) (w v : World) (p q : Packets) (st : Step) → EndsDiffer (wiring_of t) → fits t st ≡ true → JoinEdges t w.config → AllMade t (made_in t w v p q st)
+step-made t w v p q st differ fit h x i = elim (in_append (notices_in t st) (messages_in t w v st ++ (routes_in t w v st ++ frames_in p q st)) x i) [
+  | inl j ↦ notices-made t st fit x j
+  | inr j ↦ elim (in_append (messages_in t w v st) (routes_in t w v st ++ frames_in p q st) x j) [
+    | inl k ↦ if-made t (is_transport st) (map message_of said) (λ y m. let f = in_map message_of said y m in subst (λ (z : Channel × Load). IsOfTopology t z.0) f.2 (all-said t w.config v.config w.views v.views w.sessions (counted t w.sessions st) st differ fit f.0 f.1)) x k
+    | inr k ↦ elim (in_append (routes_in t w v st) (frames_in p q st) x k) [
+      | inl r ↦ if-made t (is_routing st) (map route_of told) (λ y m. let f = in_map route_of told y m in subst (λ (z : Channel × Load). IsOfTopology t z.0) f.2 (all-told t w.config w.peerings v.config (vpn.counted w.peerings st) st fit h f.0 f.1)) x r
+      | inr r ↦ frames-made t p q st x r
+    ]
+  ]
+]
+  where
+    said : List Said
+    said = said_in t w.config w.views w.sessions v.config v.views (counted t w.sessions st) st
+
+    told : List Told
+    told = vpn.told_in t w.config w.peerings v.config (vpn.counted w.peerings st) st
+
+-- 4. Over a journal
+
+abbrev AllOn : Network → List Item → Type 0
+AllOn t xs = (x : Item) → In xs x → IsOfTopology t x.on
+
+numbered-on : (t : Network) (tick n : ℕ) (new : List (Channel × Load)) → AllMade t new → AllOn t (numbered t tick n new)
+numbered-on t tick n [] h x i = absurd i
+numbered-on t tick n (m ∷ ms) h x i = elim i [
+  | inl e ↦ subst (λ (y : Item). IsOfTopology t y.on) e (h m (inl refl))
+  | inr j ↦ numbered-on t tick (n + 1) ms (λ y k. h y (inr k)) x j
+]
+
+channels-on : (t : Network) → EndsDiffer (wiring_of t) → (es : List JournalEntry) (tick : ℕ) (w : World) (k : Packets) (i : ℕ) (flight : Flight) (ps : List (List ℕ)) → IsLawfulFrom t tick w k i es ps → JoinEdges t w.config → AllOn t flight.items → AllOn t (flight_from t w k flight es ps).items
+channels-on t differ [] tick w k i flight ps lawful joins h = h
+channels-on t differ (e ∷ es) tick w k i flight ps lawful joins h =
+    let then_world : World = after t w e.step in
+    let packets : Packets = packets_after t then_world k e.step (next_of ps) in
+    let new : List (Channel × Load) = made_in t w then_world k packets e.step in
+    channels-on t differ es e.tick then_world packets (i + 1) (with_made t e.tick new e.step flight) (left_by e.step ps) lawful.3 (joins-step t w.config e.step lawful.0 joins)
+    (λ x j. elim (in_append (left_in_flight t e.step flight.items) (numbered t e.tick flight.made new) x j) [
+      | inl m ↦ h x (in_left t e.step flight.items x m)
+      | inr m ↦ numbered-on t e.tick flight.made new (step-made t w then_world k packets e.step differ lawful.0 joins) x m
+    ])
+
+pub channels_are : (t : Network) (es : List JournalEntry) (ps : List (List ℕ)) (item : Item) → IsLawful t → IsLawfulJournal t es ps → Contains (flight_of t es ps).items item → IsOfTopology t item.on
+channels_are t es ps item lawful journal c =
+    channels-on t lawful.ends_differ es 0 (start t) no_packets 0 (record { made = 0; items = [] }) ps journal (λ a b live. absurd (clash (sym live))) (λ x i. absurd i) item (in_contained (flight_of t es ps).items item c)

@@ -1,0 +1,14 @@
+pub mod Sums
+pub mod Weights
+pub mod NewsWeight
+pub mod Hearing
+pub mod Scale
+pub mod Peering
+pub mod Learning
+pub mod AheadMost
+pub mod Flying
+pub mod Drain
+pub mod Drained
+pub mod Taking
+pub mod Channels
+pub mod Witness

@@ -1,0 +1,5 @@
+pub mod Sums
+pub mod Weights
+pub mod Ahead
+pub mod Drain
+pub mod Draining

@@ -1,0 +1,14 @@
+pub mod Mapped
+pub mod Offering
+pub mod Parity
+pub mod Ways
+pub mod Route
+pub mod Lookup
+pub mod Arrival
+pub mod Changes
+pub mod Exporting
+pub mod Holding
+pub mod LeastWay
+pub mod Witness
+pub mod Once
+pub mod Hops
