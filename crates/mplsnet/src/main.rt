@@ -1,14 +1,32 @@
 //! `mplsnet`: runs a provider's MPLS network from a topology, a script and a capture.
 //!
-//! All that it does is `mn_run::command` over real files and standard output. It ends with the outcome's number.
+//! All that it does is `mn_run::command` over real files and standard output, which is flushed at the end. It
+//! ends with the outcome's number, or with that of a failed write where the output couldn't be flushed.
 #![tactic(auto)]
+ghost use Rattle.std.specs.Prelude.{◌≡◌, Ok, Err};
+ghost use Rattle.mn_edge.specs.declared.device.DeviceBad.TheVariants as bad;
+ghost use Rattle.mn_run.specs.declared.outcome.Outcome.TheVariants as ends;
+ghost use Rattle.mn_run.specs.Status.{status_of};
 
-mod host;
-
-use host::{HostShelf, HostSink};
+use mn_edge::DeviceBad;
+use mn_edge_real::{HostShelf, HostSink};
 use mn_run::{Outcome, command};
+use std::io::BufWriter;
 use std::process::ExitCode;
 use std::{env, io};
+
+/// The status of a run whose output was flushed with this answer.
+fn status(outcome: Outcome, flushed: Result<(), DeviceBad>) -> u8
+    ensures ok { flushed ≡ Ok tt → result ≡ status_of outcome }
+    ensures failed { flushed ≡ Err bad.Failed → result ≡ status_of ends.WriteFault }
+    ensures memory { flushed ≡ Err bad.NoMemory → result ≡ status_of ends.NoMemory }
+{
+    match flushed {
+        Ok(()) => outcome.status(),
+        Err(DeviceBad::Failed) => Outcome::WriteFault.status(),
+        Err(DeviceBad::NoMemory) => Outcome::NoMemory.status(),
+    }
+}
 
 fn main(rt: HostRuntime) -> ExitCode {
     let Ok(args) = env::args(&rt) else {
@@ -20,8 +38,11 @@ fn main(rt: HostRuntime) -> ExitCode {
             return ExitCode::from(Outcome::NoMemory.status());
         }
     }
+    let Ok(buffer) = BufWriter::new(rt.alloc(), io::writer(&rt)) else {
+        return ExitCode::from(Outcome::NoMemory.status());
+    };
     let mut shelf = HostShelf::new(&rt);
-    let mut out = HostSink::new(io::writer(&rt));
+    let mut out = HostSink::new(buffer);
     let outcome = command(rt.alloc(), &words, &mut shelf, &mut out);
-    ExitCode::from(outcome.status())
+    ExitCode::from(status(outcome, out.flush()))
 }
