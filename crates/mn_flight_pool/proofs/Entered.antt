@@ -69,19 +69,19 @@ module _ {T : Type 0} where
     all_nodes : (head ∷ heads) ++ (order ++ (free ++ p ∷ [])) ≡ others ++ p ∷ []
     all_nodes = ap (λ l. (head ∷ heads) ++ l) (sym (append_assoc order free (p ∷ []))) ∙ sym (append_assoc (head ∷ heads) (order ++ free) (p ∷ []))
 
-    alone : IsFree p others
+    pub alone : IsFree p others
     alone = subst (λ l. IsFree p l) (append-nil others) (others_free others p [] (subst (λ l. IsDistinct same_ptr l) all_nodes linked.apart))
 
-    rest_apart : IsDistinct same_ptr others
+    pub rest_apart : IsDistinct same_ptr others
     rest_apart = subst (λ l. IsDistinct same_ptr l) (append-nil others) (distinct_without others p [] (subst (λ l. IsDistinct same_ptr l) all_nodes linked.apart))
 
-    alone_heads : IsFree p (head ∷ heads)
+    pub alone_heads : IsFree p (head ∷ heads)
     alone_heads = free_left p (head ∷ heads) (order ++ free) alone
 
-    alone_order : IsFree p order
+    pub alone_order : IsFree p order
     alone_order = free_left p order free (free_right p (head ∷ heads) (order ++ free) alone)
 
-    p_there : IsSome (value_at p cells)
+    pub p_there : IsSome (value_at p cells)
     p_there = last_there free linked.there
       where
         last_there : (fs : List Ptr) → AllByRecursion (λ q. IsSome (value_at q cells)) (fs ++ p ∷ []) → IsSome (value_at p cells)
@@ -89,10 +89,10 @@ module _ {T : Type 0} where
         last_there (f ∷ fs) h = last_there fs h.1
 
     -- 2. What holds of the others' items, and of its own
-    old_item : (q : Ptr) → IsIn q order → item_at three q ≡ item_at cells q
+    pub old_item : (q : Ptr) → IsIn q order → item_at three q ≡ item_at cells q
     old_item q i = item_past_link Channel p (prev_of Channel two first) q two ∙ item_past_link Number p (prev_of Number one head) q one ∙ item_else p q (Some x) cells (free_at p order q alone_order i)
 
-    new_item : item_at three p ≡ Some x
+    pub new_item : item_at three p ≡ Some x
     new_item = item_past_link Channel p (prev_of Channel two first) p two ∙ item_past_link Number p (prev_of Number one head) p one ∙ item_put p (Some x) cells p_there
 
     one_there : IsSome (value_at p one)
@@ -141,7 +141,7 @@ module _ {T : Type 0} where
             by true t = absurd (n (same_ptr_eq a q t))
             by false t = t
 
-    nodes_then : (c : ℕ) → nodes_on three c (order ++ p ∷ []) ≡ nodes_on cells c order ++ cond (x.channel == c) (p ∷ []) []
+    pub nodes_then : (c : ℕ) → nodes_on three c (order ++ p ∷ []) ≡ nodes_on cells c order ++ cond (x.channel == c) (p ∷ []) []
     nodes_then c =
         filter-append (λ q. is_on c (item_at three q)) order (p ∷ []) ∙ ap (λ l. l ++ filter (λ q. is_on c (item_at three q)) (p ∷ [])) (same_nodes_on cells three c order old_item)
         ∙ ap (λ o. nodes_on cells c order ++ cond (is_on c o) (p ∷ []) []) new_item
@@ -186,7 +186,7 @@ module _ {T : Type 0} where
     all_front P [] h = tt
     all_front P (y ∷ ys) h = (h.0, all_front P ys h.1)
 
-    three_there : (q : Ptr) → IsSome (value_at q cells) → IsSome (value_at q three)
+    pub three_there : (q : Ptr) → IsSome (value_at q cells) → IsSome (value_at q three)
     three_there q h = link_stays Channel p (prev_of Channel two first) q two (link_stays Number p (prev_of Number one head) q one (stays p q (λ (node : Node T). record node { item = Some x }) cells h))
 
     pub linked_entered : IsLinked head heads free (order ++ p ∷ []) three

@@ -36,13 +36,13 @@ module _ {T : Type 0} (head : Ptr) (heads free us : List Ptr) (p : Ptr) (vs : Li
   abbrev others : List Ptr
   others = ((head ∷ heads) ++ us) ++ (vs ++ free)
 
-  alone : IsFree p others
+  pub alone : IsFree p others
   alone = others_free ((head ∷ heads) ++ us) p (vs ++ free) (subst (λ l. IsDistinct same_ptr l) (sym cut) linked.apart)
 
   rest_apart : IsDistinct same_ptr others
   rest_apart = distinct_without ((head ∷ heads) ++ us) p (vs ++ free) (subst (λ l. IsDistinct same_ptr l) (sym cut) linked.apart)
 
-  alone_order : IsFree p (us ++ vs)
+  pub alone_order : IsFree p (us ++ vs)
   alone_order =
       free_both p us vs (free_right p (head ∷ heads) us (free_left p ((head ∷ heads) ++ us) (vs ++ free) alone)) (free_left p vs free (free_right p ((head ∷ heads) ++ us) (vs ++ free) alone))
 
@@ -50,7 +50,7 @@ module _ {T : Type 0} (head : Ptr) (heads free us : List Ptr) (p : Ptr) (vs : Li
   here [] = inl refl
   here (z ∷ zs) = inr (here zs)
 
-  p_there : IsSome (value_at p cells)
+  pub p_there : IsSome (value_at p cells)
   p_there = all_at us linked.number.there.1
     where
       all_at : (xs : List Ptr) → AllByRecursion (λ q. IsSome (value_at q cells)) (xs ++ p ∷ vs) → IsSome (value_at p cells)
@@ -58,13 +58,13 @@ module _ {T : Type 0} (head : Ptr) (heads free us : List Ptr) (p : Ptr) (vs : Li
       all_at (z ∷ zs) h = all_at zs h.1
 
   -- 2. Items
-  old_item : (q : Ptr) → IsIn q (us ++ vs) → item_at three q ≡ item_at cells q
+  pub old_item : (q : Ptr) → IsIn q (us ++ vs) → item_at three q ≡ item_at cells q
   old_item q i = item_else p q None two (free_at p (us ++ vs) q alone_order i) ∙ item_past_unlink Channel p q one ∙ item_past_unlink Number p q cells
 
   two_there : (q : Ptr) → IsSome (value_at q cells) → IsSome (value_at q two)
   two_there q h = unlink_stays Channel p q one (unlink_stays Number p q cells h)
 
-  three_there : (q : Ptr) → IsSome (value_at q cells) → IsSome (value_at q three)
+  pub three_there : (q : Ptr) → IsSome (value_at q cells) → IsSome (value_at q three)
   three_there q h = stays p q (λ (node : Node T). record node { item = None }) two (two_there q h)
 
   pub empty_left : item_at three p ≡ None
@@ -101,10 +101,10 @@ module _ {T : Type 0} (head : Ptr) (heads free us : List Ptr) (p : Ptr) (vs : Li
           by true t = absurd (n (same_ptr_eq a q t))
           by false t = t
 
-  nodes_before : (c : ℕ) → nodes_on cells c order ≡ nodes_on cells c us ++ cond (x.channel == c) (p ∷ nodes_on cells c vs) (nodes_on cells c vs)
+  pub nodes_before : (c : ℕ) → nodes_on cells c order ≡ nodes_on cells c us ++ cond (x.channel == c) (p ∷ nodes_on cells c vs) (nodes_on cells c vs)
   nodes_before c = filter-append (λ q. is_on c (item_at cells q)) us (p ∷ vs) ∙ ap (λ o. nodes_on cells c us ++ cond (is_on c o) (p ∷ nodes_on cells c vs) (nodes_on cells c vs)) holds
 
-  nodes_then : (c : ℕ) → nodes_on three c (us ++ vs) ≡ nodes_on cells c us ++ nodes_on cells c vs
+  pub nodes_then : (c : ℕ) → nodes_on three c (us ++ vs) ≡ nodes_on cells c us ++ nodes_on cells c vs
   nodes_then c = same_nodes_on cells three c (us ++ vs) old_item ∙ filter-append (λ q. is_on c (item_at cells q)) us vs
 
   ring_one : (c : ℕ) (f : Ptr) → slice_get heads c ≡ Some f → IsRing Channel one f (nodes_on cells c order)

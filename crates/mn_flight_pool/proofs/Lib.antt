@@ -11,5 +11,8 @@ pub mod Entered
 pub mod Left
 pub mod Sides
 pub mod Held
-pub mod Kept
 pub mod Ticks
+pub mod Sooner
+pub mod Walks
+pub mod DueEntered
+pub mod DueLeft

@@ -44,6 +44,7 @@ module _ {T : Type 0} where
   -- the nodes with items stand in the ring by due tick, the soonest first, and each due tick has its last node
   pub record IsByDue (head : Ptr) (order dues : List Ptr) (ticks : List Tick) (cells : List (Ptr × Node T)) : Type 0 where
     pub ring : IsRing Due cells head dues
+    pub vacant : item_at cells head ≡ None
     pub sooner : AreSooner cells dues
     pub flies : (q : Ptr) → IsIn q dues → IsIn q order
     pub stands : (q : Ptr) → IsIn q order → IsIn q dues

@@ -16,6 +16,11 @@ abbrev pub trace : (Ptr → Ptr) → Ptr → ℕ → List Ptr
 trace next s zero = []
 trace next s (suc n) = next s ∷ trace next (next s) n
 
+-- so many steps from s
+abbrev pub steps_of : (Ptr → Ptr) → Ptr → ℕ → Ptr
+steps_of next s zero = s
+steps_of next s (suc n) = next (steps_of next s n)
+
 module _ {T : Type 0} where
   abbrev pub is_on : ℕ → Option (Item T) → Bool
   is_on channel None = false

@@ -5,10 +5,7 @@ mod arena;
 mod due;
 mod moves;
 mod node;
-mod pool;
 mod store;
 mod tick;
-// #[cfg(test)]
-// mod tests;
+mod walk;
 
-pub use pool::PoolFlight;
