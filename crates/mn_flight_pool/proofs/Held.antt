@@ -22,11 +22,11 @@ use Rattle.mn_flight_pool.proofs.Rings.{ring_same}
 use Rattle.mn_flight_pool.proofs.Traces.{trace_ring}
 use Rattle.mn_flight_pool.proofs.Entered.{linked_entered, items_entered, same_items, same_nodes_on}
 
-length-trace : (next : Ptr → Ptr) (s : Ptr) (n : ℕ) → length (trace next s n) ≡ n
+pub length-trace : (next : Ptr → Ptr) (s : Ptr) (n : ℕ) → length (trace next s n) ≡ n
 length-trace next s zero = refl
 length-trace next s (suc n) = ap suc (length-trace next (next s) n)
 
-place_of : (q : Ptr) (xs : List Ptr) → IsIn q xs → (c : ℕ) × (slice_get xs c ≡ Some q)
+pub place_of : (q : Ptr) (xs : List Ptr) → IsIn q xs → (c : ℕ) × (slice_get xs c ≡ Some q)
 place_of q [] i = absurd i
 place_of q (y ∷ ys) i = elim i [ inl e ↦ (0, ap (λ z. Some z) (sym e)) | inr j ↦ let on = place_of q ys j in (suc on.0, on.1) ]
 
@@ -39,20 +39,20 @@ module _ {T : Type 0} where
       ascends up less = grind (arith, common_steps, up, less)
 
   -- the order is that of any ring of all
-  order_is : (head : Ptr) (n : ℕ) (cells : List (Ptr × Node T)) (ps : List Ptr) → IsRing Number cells head ps → length ps ≡ n → order_of head n cells ≡ ps
+  pub order_is : (head : Ptr) (n : ℕ) (cells : List (Ptr × Node T)) (ps : List Ptr) → IsRing Number cells head ps → length ps ≡ n → order_of head n cells ≡ ps
   order_is head n cells ps ring e = ap (λ k. trace (next_of Number cells) head k) (sym e) ∙ trace_ring Number cells head ps ring
 
   module _ (head : Ptr) (heads free : List Ptr) (n : ℕ) (p : Ptr) (cells : List (Ptr × Node T)) (held : IsHeld head heads (free ++ p ∷ []) n cells) (x : Item T) (first : Ptr) (at : slice_get heads x.channel ≡ Some first) where
-    abbrev order : List Ptr
+    abbrev pub order : List Ptr
     order = order_of head n cells
 
-    abbrev new : List (Ptr × Node T)
+    abbrev pub new : List (Ptr × Node T)
     new = entered head first p x cells
 
     now_linked : IsLinked head heads free (order ++ p ∷ []) new
     now_linked = linked_entered head heads free order p cells held.linked x first at
 
-    order_then : order_of head (n + 1) new ≡ order ++ p ∷ []
+    pub order_then : order_of head (n + 1) new ≡ order ++ p ∷ []
     order_then = order_is head (n + 1) new (order ++ p ∷ []) now_linked.number (length-append order (p ∷ []) ∙ ap (λ k. k + 1) (length-trace (next_of Number cells) head n))
 
     -- the items are those from before and the new one
@@ -158,7 +158,7 @@ module _ {T : Type 0} where
     after_linked : IsLinked head heads (free ++ p ∷ []) (us ++ vs) (left p cells)
     after_linked = linked_left head heads free us p vs cells before_linked x first holds at
 
-    order_after : order_of head n (left p cells) ≡ us ++ vs
+    pub order_after : order_of head n (left p cells) ≡ us ++ vs
     order_after =
         order_is head n (left p cells) (us ++ vs) after_linked.number
         (omega (arith, length-append us vs, length-append us (p ∷ vs), ap length cut, length-trace (next_of Number cells) head (suc n)))

@@ -16,3 +16,9 @@ pub mod Sooner
 pub mod Walks
 pub mod DueEntered
 pub mod DueLeft
+pub mod Items
+pub mod PastDue
+pub mod Counted
+pub mod Soonest
+pub mod Whole
+pub mod Newest

@@ -5,3 +5,5 @@ pub mod Rings
 pub mod Ticks
 pub mod ByDue
 pub mod Pool
+pub mod Whole
+pub mod Newest

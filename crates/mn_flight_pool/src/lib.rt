@@ -3,9 +3,12 @@
 
 mod arena;
 mod due;
+mod flight;
 mod moves;
 mod node;
+mod pool;
 mod store;
 mod tick;
 mod walk;
 
+pub use flight::PoolFlight;
