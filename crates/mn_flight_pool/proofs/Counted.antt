@@ -33,7 +33,7 @@ module _ {T : Type 0} where
           let same : k ≡ c = eqb-true k c e in
           let there : k < length counts = omega (arith, below, counted.many) in
           subst (λ n. get_or (slice_set counts k v) n 0 ≡ length (nodes_on after n new)) same (get_or-set_same counts k v 0 there ∙ here)
-      by c false e h = get_or-set_other counts k c v 0 (not_same k c e) ∙ counted.each c h ∙ sym (others c e)
+      by c false e h = get_or-set_other counts k c v 0 (λ s. not_same k c e (sym s)) ∙ counted.each c h ∙ sym (others c e)
 
   pub counted_alike : (counts : List ℕ) (channels : ℕ) (order : List Ptr) (old new : List (Ptr × Node T)) → Alike old new → IsCounted counts channels order old → IsCounted counts channels order new
   counted_alike counts channels order old new alike counted = record {

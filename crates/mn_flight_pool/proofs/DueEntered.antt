@@ -122,7 +122,7 @@ module _ {T : Type 0} where
     new_four : item_at four p ≡ Some x
     new_four = item_past_link Due p a p three ∙ new_item head heads free order p cells linked x first at
 
-    due_three : IsRing Due three head dues
+    pub due_three : IsRing Due three head dues
     due_three =
         let one = with_item p (Some x) cells in
         let two = link_behind Number p (prev_of Number one head) one in

@@ -22,3 +22,4 @@ pub mod Counted
 pub mod Soonest
 pub mod Whole
 pub mod Newest
+pub mod Put

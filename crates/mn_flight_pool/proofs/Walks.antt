@@ -24,7 +24,7 @@ trace_at next s (suc m) zero h = refl
 trace_at next s (suc m) (suc n) h = trace_at next (next s) m n (omega (arith, h)) ∙ ap (λ p. Some (next p)) (step_first next s n)
 
 module _ {T : Type 0} (pair : Pair) (cells : List (Ptr × Node T)) (s : Ptr) (ps : List Ptr) (ring : IsRing pair cells s ps) where
-  ring_next : (x : Ptr) → IsIn x (s ∷ ps) → IsIn (next_of pair cells x) (s ∷ ps)
+  pub ring_next : (x : Ptr) → IsIn x (s ∷ ps) → IsIn (next_of pair cells x) (s ∷ ps)
   ring_next x (inl e) = subst (λ y. IsIn (next_of pair cells y) (s ∷ ps)) (sym e) (first ps ring)
     where
       first : (qs : List Ptr) → IsRing pair cells s qs → IsIn (next_of pair cells s) (s ∷ qs)
@@ -34,7 +34,7 @@ module _ {T : Type 0} (pair : Pair) (cells : List (Ptr × Node T)) (s : Ptr) (ps
       let cut = in_cut x ps j in
       subst (λ l. IsIn (next_of pair cells x) (s ∷ l)) (sym cut.2) (ring_sides pair cells s cut.0 x cut.1 (subst (λ l. IsRing pair cells s l) cut.2 ring)).1
 
-  ring_prev : (x : Ptr) → IsIn x (s ∷ ps) → IsIn (prev_of pair cells x) (s ∷ ps)
+  pub ring_prev : (x : Ptr) → IsIn x (s ∷ ps) → IsIn (prev_of pair cells x) (s ∷ ps)
   ring_prev x (inl e) = subst (λ y. IsIn (prev_of pair cells y) (s ∷ ps)) (sym e) (ring_last pair cells s ps ring).0
   ring_prev x (inr j) =
       let cut = in_cut x ps j in
