@@ -23,3 +23,4 @@ pub mod Soonest
 pub mod Whole
 pub mod Newest
 pub mod Put
+pub mod Take
