@@ -67,7 +67,7 @@ module _ {T : Type 0} where
 
   -- a node is added
   module _ (p : Ptr) (old new : List (Ptr × Node T)) (added : IsVacantFirst p old new) (fresh : value_at p old ≡ None) where
-    not_p : (x : Ptr) → IsSome (value_at x old) → same_ptr x p ≡ false
+    pub not_p : (x : Ptr) → IsSome (value_at x old) → same_ptr x p ≡ false
     not_p x h = by (same_ptr x p) refl
       where
         by : (b : Bool) → same_ptr x p ≡ b → same_ptr x p ≡ false
@@ -78,13 +78,13 @@ module _ {T : Type 0} where
             none (Some y) e s = cc
         by false t = t
 
-    value_kept : (x : Ptr) → IsSome (value_at x old) → value_at x new ≡ value_at x old
+    pub value_kept : (x : Ptr) → IsSome (value_at x old) → value_at x new ≡ value_at x old
     value_kept x h = ap (λ c. value_at x c) added.1 ∙ else_ (not_p x h)
       where
         else_ : same_ptr x p ≡ false → value_at x ((p, added.0) ∷ old) ≡ value_at x old
         else_ e = rw e refl
 
-    ring_kept : (pair : Pair) (s : Ptr) (ps : List Ptr) → IsRing pair old s ps → IsRing pair new s ps
+    pub ring_kept : (pair : Pair) (s : Ptr) (ps : List Ptr) → IsRing pair old s ps → IsRing pair new s ps
     ring_kept pair =
         ring_same old new (λ x h. subst (λ o. IsSome o) (sym (value_kept x h)) h) pair (λ x h. ap (next_in pair) (value_kept x h)) (λ x h. ap (prev_in pair) (value_kept x h))
 
@@ -100,26 +100,26 @@ module _ {T : Type 0} where
     all_push P [] h k = (k, tt)
     all_push P (y ∷ ys) h k = (h.0, all_push P ys h.1 k)
 
-    there_p : IsSome (value_at p new)
+    pub there_p : IsSome (value_at p new)
     there_p = rw added.1 here
       where
         here : IsSome (value_at p ((p, added.0) ∷ old))
         here = rw same_ptr_refl refl
 
     module _ (head : Ptr) (heads free : List Ptr) (n : ℕ) (held : IsHeld head heads free n old) (heads_there : AllByRecursion (λ q. IsSome (value_at q old)) heads) where
-      abbrev ring_order : List Ptr
+      abbrev pub ring_order : List Ptr
       ring_order = order_of head n old
 
-      item_kept : (q : Ptr) → IsIn q ring_order → item_at new q ≡ item_at old q
+      pub item_kept : (q : Ptr) → IsIn q ring_order → item_at new q ≡ item_at old q
       item_kept q i = ap item_in (value_kept q (all_in (λ r. IsSome (value_at r old)) (head ∷ ring_order) q held.linked.number.there (inr i)))
 
-      order_kept : order_of head n new ≡ ring_order
+      pub order_kept : order_of head n new ≡ ring_order
       order_kept = order_is head n new ring_order (ring_kept Number head ring_order held.linked.number) (length-trace (next_of Number old) head n)
 
       pub items_added : items_in new (order_of head n new) ≡ items_in old ring_order
       items_added = ap (λ ps. items_in new ps) order_kept ∙ same_items old new ring_order item_kept
 
-      alone : IsFree p ((head ∷ heads) ++ (ring_order ++ free))
+      pub alone : IsFree p ((head ∷ heads) ++ (ring_order ++ free))
       alone =
           free_both p (head ∷ heads) (ring_order ++ free)
           (apart head held.linked.number.there.0, free_from p heads (λ q i. apart q (all_in (λ r. IsSome (value_at r old)) heads q heads_there i)))

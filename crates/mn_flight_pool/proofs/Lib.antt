@@ -24,3 +24,4 @@ pub mod Whole
 pub mod Newest
 pub mod Put
 pub mod Take
+pub mod Grown

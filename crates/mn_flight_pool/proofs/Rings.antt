@@ -40,10 +40,10 @@ module _ {T : Type 0} where
   prev_kept pair q (Some node) = ap (λ (l : Link). l.prev.ptr) (linked pair (record (link_of pair node) { next = record { ptr = q } }) node)
 
   module _ (pair : Pair) where
-    next_at : (p q : Ptr) (cells : List (Ptr × Node T)) → IsSome (value_at p cells) → next_of pair (set_next pair p q cells) p ≡ q
+    pub next_at : (p q : Ptr) (cells : List (Ptr × Node T)) → IsSome (value_at p cells) → next_of pair (set_next pair p q cells) p ≡ q
     next_at p q cells h = ap (next_in pair) (value_same p (λ node. with_link pair (record (link_of pair node) { next = record { ptr = q } }) node) cells) ∙ next_same pair q (value_at p cells) h
 
-    prev_at : (p q : Ptr) (cells : List (Ptr × Node T)) → IsSome (value_at p cells) → prev_of pair (set_prev pair p q cells) p ≡ q
+    pub prev_at : (p q : Ptr) (cells : List (Ptr × Node T)) → IsSome (value_at p cells) → prev_of pair (set_prev pair p q cells) p ≡ q
     prev_at p q cells h = ap (prev_in pair) (value_same p (λ node. with_link pair (record (link_of pair node) { prev = record { ptr = q } }) node) cells) ∙ prev_same pair q (value_at p cells) h
 
     next_else : (p q x : Ptr) (cells : List (Ptr × Node T)) → same_ptr p x ≡ false → next_of pair (set_next pair p q cells) x ≡ next_of pair cells x
@@ -52,10 +52,10 @@ module _ {T : Type 0} where
     prev_else : (p q x : Ptr) (cells : List (Ptr × Node T)) → same_ptr p x ≡ false → prev_of pair (set_prev pair p q cells) x ≡ prev_of pair cells x
     prev_else p q x cells h = ap (prev_in pair) (value_other p x (λ node. with_link pair (record (link_of pair node) { prev = record { ptr = q } }) node) cells h)
 
-    next_past : (p q x : Ptr) (cells : List (Ptr × Node T)) → next_of pair (set_prev pair p q cells) x ≡ next_of pair cells x
+    pub next_past : (p q x : Ptr) (cells : List (Ptr × Node T)) → next_of pair (set_prev pair p q cells) x ≡ next_of pair cells x
     next_past p q x cells = keeps (next_in pair) p x (λ node. with_link pair (record (link_of pair node) { prev = record { ptr = q } }) node) cells (next_kept pair q)
 
-    prev_past : (p q x : Ptr) (cells : List (Ptr × Node T)) → prev_of pair (set_next pair p q cells) x ≡ prev_of pair cells x
+    pub prev_past : (p q x : Ptr) (cells : List (Ptr × Node T)) → prev_of pair (set_next pair p q cells) x ≡ prev_of pair cells x
     prev_past p q x cells = keeps (prev_in pair) p x (λ node. with_link pair (record (link_of pair node) { next = record { ptr = q } }) node) cells (prev_kept pair q)
 
     -- 2. A node between a and b, which is not at either
@@ -256,7 +256,7 @@ module _ {T : Type 0} where
         each P Q f [] h = tt
         each P Q f (x ∷ xs) h = (f x h.0, each P Q f xs h.1)
 
-  link_unlike : (pair other : Pair) → Unlike pair other → (link : Link) (node : Node T) → link_of other (with_link pair link node) ≡ link_of other node
+  pub link_unlike : (pair other : Pair) → Unlike pair other → (link : Link) (node : Node T) → link_of other (with_link pair link node) ≡ link_of other node
   link_unlike Number Number u link node = absurd (u refl)
   link_unlike Number Channel u link node = refl
   link_unlike Number Due u link node = refl
@@ -267,7 +267,7 @@ module _ {T : Type 0} where
   link_unlike Due Channel u link node = refl
   link_unlike Due Due u link node = absurd (u refl)
 
-  item_kept : (pair : Pair) (link : Link) (node : Node T) → item_in (Some (with_link pair link node)) ≡ item_in (Some node)
+  pub item_kept : (pair : Pair) (link : Link) (node : Node T) → item_in (Some (with_link pair link node)) ≡ item_in (Some node)
   item_kept Number link node = refl
   item_kept Channel link node = refl
   item_kept Due link node = refl
@@ -281,10 +281,10 @@ module _ {T : Type 0} where
     mapped f k None = refl
     mapped f k (Some node) = k node
 
-    set_next_leaves : (p q x : Ptr) (cells : List (Ptr × Node T)) → see (value_at x (set_next pair p q cells)) ≡ see (value_at x cells)
+    pub set_next_leaves : (p q x : Ptr) (cells : List (Ptr × Node T)) → see (value_at x (set_next pair p q cells)) ≡ see (value_at x cells)
     set_next_leaves p q x cells = keeps see p x (λ node. with_link pair (record (link_of pair node) { next = record { ptr = q } }) node) cells (mapped (λ node. with_link pair (record (link_of pair node) { next = record { ptr = q } }) node) (λ node. sees (record (link_of pair node) { next = record { ptr = q } }) node))
 
-    set_prev_leaves : (p q x : Ptr) (cells : List (Ptr × Node T)) → see (value_at x (set_prev pair p q cells)) ≡ see (value_at x cells)
+    pub set_prev_leaves : (p q x : Ptr) (cells : List (Ptr × Node T)) → see (value_at x (set_prev pair p q cells)) ≡ see (value_at x cells)
     set_prev_leaves p q x cells = keeps see p x (λ node. with_link pair (record (link_of pair node) { prev = record { ptr = q } }) node) cells (mapped (λ node. with_link pair (record (link_of pair node) { prev = record { ptr = q } }) node) (λ node. sees (record (link_of pair node) { prev = record { ptr = q } }) node))
 
     pub link_leaves : (p a x : Ptr) (cells : List (Ptr × Node T)) → see (value_at x (link_behind pair p a cells)) ≡ see (value_at x cells)
