@@ -25,3 +25,4 @@ pub mod Newest
 pub mod Put
 pub mod Take
 pub mod Grown
+pub mod Dropped
