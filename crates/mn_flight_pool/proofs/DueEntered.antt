@@ -1,14 +1,13 @@
 -- A node that takes an item comes to stand in the ring by due tick, behind all that are due no later.
-use Rattle.std.proofs.Common.{◌≡◌, ◌<◌, ◌≤◌, ◌+◌, ◌⊎◌, inl, inr, ℕ, suc, Bool, true, false, List, [], ◌∷◌, ◌++◌, length, Some, None, IsSome, refl, sym, ap, ◌∙◌, subst, arith, append_assoc, length-append}
+use Rattle.std.proofs.Common.{◌≡◌, ◌<◌, ◌≤◌, ◌⊎◌, inl, inr, ℕ, Bool, true, false, List, [], ◌∷◌, ◌++◌, length, Some, None, IsSome, refl, sym, ap, ◌∙◌, subst, arith, append_assoc, length-append}
 use Rattle.std.specs.Prelude.{nat_lt, slice_get}
-use Rattle.std.specs.List.{AllByRecursion}
 use Rattle.std.proofs.lemmas.Option.{same_Some}
 use Rattle.std.proofs.lemmas.Bool.Decides.{nat_tests}
 use denote.RawPtr.{Ptr}
 use Rattle.mn_flight.specs.declared.Item.{Item}
-use Rattle.mn_flight_pool.specs.Cells.{same_ptr, value_at}
+use Rattle.mn_flight_pool.specs.Cells.{value_at}
 use Rattle.mn_flight_pool.specs.Rings.{IsFree, IsIn, IsRing, item_at, with_item, prev_of, link_behind}
-use Rattle.mn_flight_pool.specs.Ticks.{tick_at, AreAscending, last_by, put_tick}
+use Rattle.mn_flight_pool.specs.Ticks.{tick_at, last_by, put_tick}
 use Rattle.mn_flight_pool.specs.ByDue.{IsSooner, AreSooner, IsTick, HasTick, IsByDue}
 use Rattle.mn_flight_pool.specs.Pool.{IsLinked, entered}
 use Rattle.mn_flight_pool.specs.declared.tick.Tick.{Tick}
@@ -16,9 +15,9 @@ use Rattle.mn_flight_pool.specs.declared.node.Pair.TheVariants.{Number, Channel,
 use Rattle.mn_flight_pool.specs.declared.node.Node.{Node}
 use Rattle.mn_flight_pool.proofs.Found.{some_value}
 use Rattle.mn_flight_pool.proofs.Neighbours.{free_from, free_at}
-use Rattle.mn_flight_pool.proofs.Rings.{ring_front, ring_behind, ring_past_link, ring_past_item, item_past_link, link_stays, item_else}
+use Rattle.mn_flight_pool.proofs.Rings.{ring_front, ring_behind, ring_past_link, ring_past_item, item_past_link, item_else}
 use Rattle.mn_flight_pool.proofs.Entered.{old_item, new_item, alone_heads, alone_order, p_there, three_there}
-use Rattle.mn_flight_pool.proofs.Sooner.{in_cut, in_front, in_back, in_either, in_with, in_without, in_middle, all_in, sooner_same, sooner_with, sooner_before, sooner_after, as_items, of_items, no_later, not_before, tick_item, item_tick, last_by_is, asc_put, all_put, has_new, has_put}
+use Rattle.mn_flight_pool.proofs.Sooner.{in_cut, in_front, in_back, in_either, in_with, in_middle, all_in, sooner_same, sooner_with, sooner_before, sooner_after, as_items, of_items, no_later, not_before, tick_item, item_tick, last_by_is, asc_put, all_put, has_new, has_put}
 
 pub number_due : Number ≡ Due → ⊥
 number_due e = cc
@@ -130,9 +129,10 @@ module _ {T : Type 0} where
         (ring_past_link Number Due number_due p (prev_of Number one head) one head dues (ring_past_item Due p (Some x) cells head dues due.ring))
 
     fresh : IsFree p (head ∷ dues)
-    fresh =
-        ((alone_heads head heads free order p cells linked x first at).0,
-        free_from p dues (λ q i. free_at p order q (alone_order head heads free order p cells linked x first at) (due.flies q i)))
+    fresh = (
+      (alone_heads head heads free order p cells linked x first at).0,
+      free_from p dues (λ q i. free_at p order q (alone_order head heads free order p cells linked x first at) (due.flies q i)),
+    )
 
     in_dues : (q : Ptr) → IsIn q (stand.front ++ stand.behind) → IsIn q order
     in_dues q i = due.flies q (subst (λ l. IsIn q l) (sym stand.cut) i)

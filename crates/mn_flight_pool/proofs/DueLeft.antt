@@ -1,14 +1,13 @@
 -- A node leaves the ring by due tick, and another is the last of its tick, or none.
-use Rattle.std.proofs.Common.{◌≡◌, ◌<◌, ◌≤◌, ◌+◌, ◌⊎◌, inl, inr, ℕ, suc, Bool, true, false, cond, List, [], ◌∷◌, ◌++◌, length, Option, Some, None, IsSome, refl, sym, ap, ◌∙◌, subst, arith, append_assoc, length-append, eq-eqb}
-use Rattle.std.specs.Prelude.{◌==◌, slice_get}
+use Rattle.std.proofs.Common.{◌≡◌, ◌<◌, ◌≤◌, ◌⊎◌, inl, inr, ℕ, Bool, true, false, cond, List, [], ◌∷◌, ◌++◌, length, Option, Some, None, IsSome, refl, sym, ap, ◌∙◌, subst, arith, append_assoc, length-append, eq-eqb}
 use Rattle.std.specs.List.{AllByRecursion, IsDistinct}
 use Rattle.std.proofs.lemmas.Bool.{eqb-true}
 use Rattle.std.proofs.lemmas.Option.{same_Some}
 use denote.RawPtr.{Ptr}
 use Rattle.mn_flight.specs.declared.Item.{Item}
-use Rattle.mn_flight_pool.specs.Cells.{same_ptr, value_at}
-use Rattle.mn_flight_pool.specs.Rings.{AreNeighbours, IsFree, IsIn, IsRing, item_at, next_of, prev_of, unlink}
-use Rattle.mn_flight_pool.specs.Ticks.{tick_at, AreAscending, set_tick, drop_tick}
+use Rattle.mn_flight_pool.specs.Cells.{same_ptr}
+use Rattle.mn_flight_pool.specs.Rings.{AreNeighbours, IsIn, IsRing, item_at, next_of, prev_of, unlink}
+use Rattle.mn_flight_pool.specs.Ticks.{AreAscending, set_tick, drop_tick}
 use Rattle.mn_flight_pool.specs.ByDue.{is_due, IsSooner, AreSooner, IsTick, HasTick, IsByDue, ticks_left}
 use Rattle.mn_flight_pool.specs.Pool.{IsLinked, left}
 use Rattle.mn_flight_pool.specs.declared.tick.Tick.{Tick}
@@ -192,12 +191,12 @@ module _ {T : Type 0} where
         record {
           ascending = due.ascending;
           lasts = all_kept (IsTick cells order) (IsTick three rest) ticks (λ t is.
-          let last = tick_item cells order t.due (item_at cells t.last.ptr) is.last in
-          keep t (λ e.
-          let same : last.0 ≡ x = same_Some last.0 x (sym last.1 ∙ ap (item_at cells) e ∙ holds) in
-          let dues_same : x.due ≡ t.due = ap (λ (z : Item T). z.due) (sym same) ∙ last.2 in
-          let most : y.0.number ≤ last.0.number = last.3 after y.0 (flies after (in_back after us vs at)) y.1 (y.2 ∙ dues_same) in
-          not_before x y.0 (after_x after y.0 at y.1) (sym y.2) (subst (λ (z : Item T). y.0.number ≤ z.number) same most)) is) due.lasts;
+              let last = tick_item cells order t.due (item_at cells t.last.ptr) is.last in
+              keep t (λ e.
+              let same : last.0 ≡ x = same_Some last.0 x (sym last.1 ∙ ap (item_at cells) e ∙ holds) in
+              let dues_same : x.due ≡ t.due = ap (λ (z : Item T). z.due) (sym same) ∙ last.2 in
+              let most : y.0.number ≤ last.0.number = last.3 after y.0 (flies after (in_back after us vs at)) y.1 (y.2 ∙ dues_same) in
+              not_before x y.0 (after_x after y.0 at y.1) (sym y.2) (subst (λ (z : Item T). y.0.number ≤ z.number) same most)) is) due.lasts;
           each = has_each;
         }
 
@@ -218,11 +217,11 @@ module _ {T : Type 0} where
         started ws s = elim (subst (λ l. IsIn v l) s i) [
           | inl same ↦ later v y same i e
           | inr j ↦
-          let first_in : IsIn after vs = subst (λ l. IsIn after l) (sym s) (inl refl) in
-          let z = some_value (item_at cells after) (all_in (λ q. IsSome (item_at cells q)) order after linked.held (flies after (in_back after us vs first_in))) in
-          let behind : AreSooner cells (after ∷ ws) = subst (λ l. AreSooner cells l) s (sooner_tail us vs sooner) in
-          let follows = as_items (item_at cells after) (item_at cells v) z.0 y z.1 e (all_in (λ r. IsSooner (item_at cells after) (item_at cells r)) ws v behind.0 j) in
-          omega (arith, later after z.0 refl first_in z.1, no_later z.0 y follows)
+              let first_in : IsIn after vs = subst (λ l. IsIn after l) (sym s) (inl refl) in
+              let z = some_value (item_at cells after) (all_in (λ q. IsSome (item_at cells q)) order after linked.held (flies after (in_back after us vs first_in))) in
+              let behind : AreSooner cells (after ∷ ws) = subst (λ l. AreSooner cells l) s (sooner_tail us vs sooner) in
+              let follows = as_items (item_at cells after) (item_at cells v) z.0 y z.1 e (all_in (λ r. IsSooner (item_at cells after) (item_at cells r)) ws v behind.0 j) in
+              omega (arith, later after z.0 refl first_in z.1, no_later z.0 y follows)
         ]
           where
             sooner_tail : (fs bs : List Ptr) → AreSooner cells (fs ++ p ∷ bs) → AreSooner cells bs
@@ -248,14 +247,14 @@ module _ {T : Type 0} where
               lasts = all_set (IsTick cells order) (IsTick three rest) x.due before ticks keep_other (record {
                 there = rests before (in_front before us vs at);
                 last = item_tick three rest x.due (item_at three before) z.0 (item_then before (in_front before us vs at) ∙ z.1) z.2 (λ q y i e f.
-                let old : item_at cells q ≡ Some y = sym (item_rest q i) ∙ e in
-                elim (in_either q us vs (stands q i)) [
-                  | inl j ↦ elim (in_either q ws (before ∷ []) (subst (λ l. IsIn q l) s j)) [
-                    | inl m ↦ number_before y z.0 (as_items (item_at cells q) (item_at cells before) y z.0 old z.1 (sooner_before cells ws before (p ∷ vs) front q m)) (f ∙ sym z.2)
-                    | inr m ↦ elim m [ inl same ↦ omega (arith, ap (λ (w : Item T). w.number) (same_Some y z.0 (sym old ∙ ap (item_at cells) same ∙ z.1))) | inr n ↦ absurd n ]
-                  ]
-                  | inr j ↦ absurd (omega (arith, all_later h q y j old, f))
-                ]);
+                    let old : item_at cells q ≡ Some y = sym (item_rest q i) ∙ e in
+                    elim (in_either q us vs (stands q i)) [
+                      | inl j ↦ elim (in_either q ws (before ∷ []) (subst (λ l. IsIn q l) s j)) [
+                        | inl m ↦ number_before y z.0 (as_items (item_at cells q) (item_at cells before) y z.0 old z.1 (sooner_before cells ws before (p ∷ vs) front q m)) (f ∙ sym z.2)
+                        | inr m ↦ elim m [ inl same ↦ omega (arith, ap (λ (w : Item T). w.number) (same_Some y z.0 (sym old ∙ ap (item_at cells) same ∙ z.1))) | inr n ↦ absurd n ]
+                      ]
+                      | inr j ↦ absurd (omega (arith, all_later h q y j old, f))
+                    ]);
               }) due.ascending due.lasts;
               each = λ q y i e. has_set y.due x.due before ticks (has_each q y i e);
             }
@@ -276,10 +275,10 @@ module _ {T : Type 0} where
         ended : (ws : List Ptr) → us ≡ ws ++ before ∷ [] → y.due < x.due
         ended ws s = elim (in_either u ws (before ∷ []) (subst (λ l. IsIn u l) s i)) [
           | inl m ↦
-          let at : IsIn before us = subst (λ l. IsIn before l) (sym s) (in_middle ws before []) in
-          let front : AreSooner cells (ws ++ before ∷ (p ∷ vs)) = subst (λ l. AreSooner cells l) (ap (λ l. l ++ p ∷ vs) s ∙ append_assoc ws (before ∷ []) (p ∷ vs)) sooner in
-          let z = some_value (item_at cells before) (all_in (λ q. IsSome (item_at cells q)) order before linked.held (flies before (in_front before us vs at))) in
-          omega (arith, no_later y z.0 (as_items (item_at cells u) (item_at cells before) y z.0 e z.1 (sooner_before cells ws before (p ∷ vs) front u m)), earlier before z.0 refl at z.1)
+              let at : IsIn before us = subst (λ l. IsIn before l) (sym s) (in_middle ws before []) in
+              let front : AreSooner cells (ws ++ before ∷ (p ∷ vs)) = subst (λ l. AreSooner cells l) (ap (λ l. l ++ p ∷ vs) s ∙ append_assoc ws (before ∷ []) (p ∷ vs)) sooner in
+              let z = some_value (item_at cells before) (all_in (λ q. IsSome (item_at cells q)) order before linked.held (flies before (in_front before us vs at))) in
+              omega (arith, no_later y z.0 (as_items (item_at cells u) (item_at cells before) y z.0 e z.1 (sooner_before cells ws before (p ∷ vs) front u m)), earlier before z.0 refl at z.1)
           | inr m ↦ elim m [ inl same ↦ earlier u y same i e | inr n ↦ absurd n ]
         ]
 

@@ -1,14 +1,13 @@
 -- A whole pool with one more node or one more channel, and the one that holds nothing.
-use Rattle.std.proofs.Common.{◌≡◌, ◌<◌, ◌≤◌, ◌+◌, ℕ, zero, suc, true, false, Bool, List, [], ◌∷◌, ◌++◌, length, Option, Some, None, IsSome, inl, inr, refl, sym, ap, ◌∙◌, subst, arith, append_assoc, length-append, get_or}
-use Rattle.std.specs.Prelude.{slice_get, slice_index, option_map}
+use Rattle.std.proofs.Common.{◌≡◌, ◌<◌, ◌+◌, ℕ, zero, suc, false, List, [], ◌∷◌, ◌++◌, length, Some, None, IsSome, refl, sym, ap, ◌∙◌, subst, arith, append_assoc, length-append, get_or}
+use Rattle.std.specs.Prelude.{slice_get}
 use Rattle.std.specs.List.{AllByRecursion, IsDistinct}
 use Rattle.std.proofs.lemmas.Option.{same_Some}
 use denote.RawPtr.{Ptr}
-use Rattle.mn_flight.specs.declared.Item.{Item}
 use Rattle.mn_flight.proofs.Kept.{none_flies}
 use Rattle.mn_flight_pool.specs.Cells.{same_ptr, value_at}
-use Rattle.mn_flight_pool.specs.Rings.{IsFree, IsIn, IsRing, IsVacantFirst, item_in, item_at, next_in, prev_in, next_of, link_of, with_link, set_next, set_prev, lone}
-use Rattle.mn_flight_pool.specs.ByDue.{IsByDue, IsTick, HasTick, AreSooner}
+use Rattle.mn_flight_pool.specs.Rings.{IsFree, IsIn, IsRing, IsVacantFirst, item_in, item_at, next_in, prev_in, next_of, link_of, with_link, set_next, lone}
+use Rattle.mn_flight_pool.specs.ByDue.{IsByDue, IsTick}
 use Rattle.mn_flight_pool.specs.Pool.{items_in, nodes_on, order_of, trace, IsHeld, IsLinked}
 use Rattle.mn_flight_pool.specs.Whole.{ptrs, dues_of, order_in, items_of, IsWhole, IsCounted}
 use Rattle.mn_flight_pool.specs.declared.pool.Pool.{Pool}
@@ -21,12 +20,12 @@ use Rattle.mn_flight_pool.specs.declared.node.Node.{Node}
 use Rattle.mn_flight_pool.proofs.Found.{same_ptr_refl}
 use Rattle.mn_flight_pool.proofs.Changed.{value_other, next_stays, prev_stays, same_ptr_symm}
 use Rattle.mn_flight_pool.proofs.Neighbours.{distinct_with}
-use Rattle.mn_flight_pool.proofs.Rings.{Unlike, next_at, prev_at, next_past, prev_past, set_next_leaves, set_prev_leaves, link_unlike, item_kept, ring_same}
+use Rattle.mn_flight_pool.proofs.Rings.{Unlike, next_at, prev_at, next_past, set_next_leaves, set_prev_leaves, link_unlike, item_kept, ring_same}
 use Rattle.mn_flight_pool.proofs.Entered.{same_nodes_on}
 use Rattle.mn_flight_pool.proofs.Held as held
 use Rattle.mn_flight_pool.proofs.Sooner.{all_in, all_from, sooner_same, tick_item, item_tick, all_kept}
 use Rattle.mn_flight_pool.proofs.Traces.{trace_ring}
-use Rattle.mn_flight_pool.proofs.Whole.{ptrs_length, order_length}
+use Rattle.mn_flight_pool.proofs.Whole.{order_length}
 use Rattle.mn_flight_pool.proofs.Put.{ptrs_push}
 
 channel_number : Channel ≡ Number → ⊥
@@ -95,8 +94,8 @@ module _ {T : Type 0} where
     many = due.many;
     ascending = due.ascending;
     lasts = all_kept (IsTick old order) (IsTick new order) ticks (λ t is.
-    let last = tick_item old order t.due (item_at old t.last.ptr) is.last in
-    record { there = is.there; last = item_tick new order t.due (item_at new t.last.ptr) last.0 (same t.last.ptr is.there ∙ last.1) last.2 (λ q y i e f. last.3 q y i (sym (same q i) ∙ e) f) }) due.lasts;
+        let last = tick_item old order t.due (item_at old t.last.ptr) is.last in
+        record { there = is.there; last = item_tick new order t.due (item_at new t.last.ptr) last.0 (same t.last.ptr is.there ∙ last.1) last.2 (λ q y i e f. last.3 q y i (sym (same q i) ∙ e) f) }) due.lasts;
     each = λ q y i e. due.each q y i (sym (same q i) ∙ e);
   }
 

@@ -3,9 +3,9 @@ use Rattle.std.proofs.Common.{◌≡◌, ◌<◌, ◌+◌, ℕ, zero, suc, true,
 use Rattle.std.specs.Prelude.{slice_get, slice_index_or, remove}
 use Rattle.mn_flight.specs.Flying.{without}
 use Rattle.mn_flight.proofs.Taken.{removed, removed_flies}
+use Rattle.mn_flight.proofs.Kept.{flight_push}
 use Rattle.mn_flight_pool.proofs.Left.{linked_left, items_before, items_left}
-use Rattle.std.specs.List.{AllByRecursion, IsDistinct, All, AllPairs}
-use Rattle.std.proofs.lemmas.Grind.{common_steps}
+use Rattle.std.specs.List.{AllByRecursion, IsDistinct, All}
 use denote.RawPtr.{Ptr}
 use Rattle.mn_flight.specs.declared.Item.{Item}
 use Rattle.mn_flight.specs.Flying.{IsFlight}
@@ -31,13 +31,6 @@ place_of q [] i = absurd i
 place_of q (y ∷ ys) i = elim i [ inl e ↦ (0, ap (λ z. Some z) (sym e)) | inr j ↦ let on = place_of q ys j in (suc on.0, on.1) ]
 
 module _ {T : Type 0} where
-  -- a flight goes on with a greater number
-  pub flight_push : (channels : ℕ) (xs : List (Item T)) (x : Item T) → IsFlight channels xs → All (λ (e : Item T). e.number < x.number) xs → x.channel < channels → IsFlight channels (xs ++ x ∷ [])
-  flight_push channels xs x h above on = record { ascending = ascends h.ascending above; on_channels = grind (arith, common_steps, h.on_channels, on) }
-    where
-      ascends : AllPairs (λ (a : Item T) (b : Item T). a.number < b.number) xs → All (λ (e : Item T). e.number < x.number) xs → AllPairs (λ (a : Item T) (b : Item T). a.number < b.number) (xs ++ x ∷ [])
-      ascends up less = grind (arith, common_steps, up, less)
-
   -- the order is that of any ring of all
   pub order_is : (head : Ptr) (n : ℕ) (cells : List (Ptr × Node T)) (ps : List Ptr) → IsRing Number cells head ps → length ps ≡ n → order_of head n cells ≡ ps
   order_is head n cells ps ring e = ap (λ k. trace (next_of Number cells) head k) (sym e) ∙ trace_ring Number cells head ps ring

@@ -1,5 +1,5 @@
 -- A walk from the newest node back finds the item of a number.
-use Rattle.std.proofs.Common.{◌≡◌, ◌<◌, ◌≤◌, ◌+◌, ◌-◌, ℕ, zero, suc, Bool, true, false, List, [], ◌∷◌, ◌++◌, length, Option, Some, None, IsSome, inl, inr, refl, sym, ap, ◌∙◌, subst, arith, append_assoc, append-nil, length-append}
+use Rattle.std.proofs.Common.{◌≡◌, ◌<◌, ◌+◌, ℕ, suc, Bool, true, false, List, [], ◌∷◌, ◌++◌, length, Option, Some, None, IsSome, inl, inr, refl, sym, ap, ◌∙◌, subst, arith, append_assoc, append-nil, length-append}
 use Rattle.std.specs.Prelude.{◌==◌, find}
 use Rattle.std.specs.List.{AllPairs, cons_option}
 use Rattle.std.proofs.lemmas.List.Elements.{filter_map-append}
@@ -7,7 +7,6 @@ use Rattle.std.proofs.lemmas.Bool.Decides.{nat_tests}
 use Rattle.std.proofs.lemmas.Option.{same_Some}
 use denote.RawPtr.{Ptr}
 use Rattle.mn_flight.specs.declared.Item.{Item}
-use Rattle.mn_flight.specs.Flying.{IsFlight}
 use Rattle.mn_flight.proofs.Members as members
 use Rattle.mn_flight_pool.specs.Cells.{value_at}
 use Rattle.mn_flight_pool.specs.Rings.{IsIn, IsRing, item_at, prev_of}
@@ -15,11 +14,10 @@ use Rattle.mn_flight_pool.specs.Pool.{items_in, steps_of}
 use Rattle.mn_flight_pool.specs.Whole.{order_in, items_of, IsWhole}
 use Rattle.mn_flight_pool.specs.Newest.{IsPassed}
 use Rattle.mn_flight_pool.specs.declared.pool.Pool.{Pool}
-use Rattle.mn_flight_pool.specs.declared.node.Node.{Node}
 use Rattle.mn_flight_pool.specs.declared.node.Pair.TheVariants.{Number}
 use Rattle.mn_flight_pool.proofs.Neighbours.{last_of_cons}
 use Rattle.mn_flight_pool.proofs.Items.{item_member, member_node, lesser_before, one_item, find_none}
-use Rattle.mn_flight_pool.proofs.Sooner.{in_either, in_front, in_back, in_middle}
+use Rattle.mn_flight_pool.proofs.Sooner.{in_either, in_middle}
 use Rattle.mn_flight_pool.proofs.Walks.{back_at}
 use Rattle.mn_flight_pool.proofs.Whole.{flight, order_length, node_there, node_holds}
 
@@ -92,9 +90,12 @@ module _ {T : Type 0} (pool : Pool T) (whole : IsWhole pool) (number : ℕ) wher
 
       -- it is the one
       pub found : x.number ≡ number → IsIn node (order_in pool) × (item_at pool.store node ≡ find (λ (item : Item T). item.number == number) (items_of pool))
-      found h = (in_order, sym holds ∙ sym (members.find_only (λ (item : Item T). item.number == number) x (items_of pool) member (grind (arith, nat_tests, h)) (λ y i t.
-          let same : y.number ≡ x.number = grind (arith, nat_tests, t, h) in
-          one_item (items_of pool) (flight pool whole).ascending y x i member same)))
+      found h = (
+        in_order,
+        sym holds ∙ sym (members.find_only (λ (item : Item T). item.number == number) x (items_of pool) member (grind (arith, nat_tests, h)) (λ y i t.
+            let same : y.number ≡ x.number = grind (arith, nat_tests, t, h) in
+            one_item (items_of pool) (flight pool whole).ascending y x i member same)),
+      )
 
       -- it is less, so none has the number
       pub missing : x.number < number → find (λ (item : Item T). item.number == number) (items_of pool) ≡ None

@@ -1,14 +1,11 @@
 -- What links of the ring by due tick leave as it is.
-use Rattle.std.proofs.Common.{◌≡◌, ◌<◌, ◌+◌, ℕ, suc, List, [], ◌∷◌, ◌++◌, length, IsSome, refl, sym, ap, ◌∙◌, subst}
-use Rattle.std.specs.Prelude.{slice_get}
+use Rattle.std.proofs.Common.{◌≡◌, ℕ, List, [], ◌∷◌, length, IsSome, sym, ap, ◌∙◌, subst}
 use Rattle.std.specs.List.{AllByRecursion}
 use denote.RawPtr.{Ptr}
-use Rattle.mn_flight.specs.declared.Item.{Item}
 use Rattle.mn_flight.specs.Flying.{IsFlight}
 use Rattle.mn_flight_pool.specs.Cells.{value_at}
-use Rattle.mn_flight_pool.specs.Rings.{IsIn, IsRing, item_at, next_of, link_behind, unlink}
+use Rattle.mn_flight_pool.specs.Rings.{IsRing, item_at, next_of, link_behind, unlink}
 use Rattle.mn_flight_pool.specs.Pool.{items_in, nodes_on, order_of, IsLinked, IsHeld}
-use Rattle.mn_flight_pool.specs.declared.node.Pair.{Pair}
 use Rattle.mn_flight_pool.specs.declared.node.Pair.TheVariants.{Number, Channel, Due}
 use Rattle.mn_flight_pool.specs.declared.node.Node.{Node}
 use Rattle.mn_flight_pool.proofs.Rings.{ring_past_link, ring_past_unlink, link_stays, unlink_stays, item_past_link, item_past_unlink}

@@ -9,14 +9,14 @@ use Rattle.mn_flight.proofs.Members as members
 use Rattle.mn_flight_pool.specs.Cells.{value_at}
 use Rattle.mn_flight_pool.specs.Rings.{IsIn, IsRing, item_at, next_of, link_behind}
 use Rattle.mn_flight_pool.specs.Ticks.{last_by, put_tick}
-use Rattle.mn_flight_pool.specs.ByDue.{IsByDue, IsTick, IsLastAt}
+use Rattle.mn_flight_pool.specs.ByDue.{IsByDue, IsTick}
 use Rattle.mn_flight_pool.specs.Pool.{is_on, items_in, nodes_on, order_of, trace, entered, IsHeld}
 use Rattle.mn_flight_pool.specs.Whole.{ptrs, dues_of, order_in, items_of, IsWhole, IsCounted}
 use Rattle.mn_flight_pool.specs.declared.pool.Pool.{Pool}
 use Rattle.mn_flight_pool.specs.declared.arena.Place.{Place}
 use Rattle.mn_flight_pool.specs.declared.tick.Tick.{Tick}
 use Rattle.mn_flight_pool.specs.declared.node.Node.{Node}
-use Rattle.mn_flight_pool.specs.declared.node.Pair.TheVariants.{Number, Channel, Due}
+use Rattle.mn_flight_pool.specs.declared.node.Pair.TheVariants.{Channel, Due}
 use Rattle.mn_flight_pool.proofs.Entered.{three_there, p_there}
 use Rattle.mn_flight_pool.proofs.Held.{held_pushed, items_pushed, order_then}
 use Rattle.mn_flight_pool.proofs.PastDue.{alike_link, held_alike, order_alike, items_kept}

@@ -10,7 +10,6 @@ use Rattle.mn_flight_pool.specs.declared.node.Pair.{Pair}
 use Rattle.mn_flight_pool.specs.declared.node.Pair.TheVariants.{Number, Channel}
 use Rattle.mn_flight_pool.specs.declared.node.Node.{Node}
 use Rattle.mn_flight_pool.proofs.Changed.{stays}
-
 use Rattle.mn_flight_pool.proofs.Rings.{ring_last, ring_sides, ring_past_item, ring_past_link, ring_past_unlink, link_stays, unlink_stays, item_past_unlink}
 use Rattle.mn_flight_pool.proofs.Entered.{unlike}
 

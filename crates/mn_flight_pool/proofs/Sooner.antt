@@ -1,15 +1,13 @@
 -- Nodes in the order of their items' due ticks and numbers, and the ticks with their last nodes.
-use Rattle.std.proofs.Common.{◌≡◌, ◌<◌, ◌≤◌, ◌+◌, ◌⊎◌, inl, inr, ℕ, suc, Bool, true, false, cond, nat_lt, nat_le, List, [], ◌∷◌, ◌++◌, length, Option, Some, None, IsSome, refl, sym, ap, ◌∙◌, subst, arith, length-append}
+use Rattle.std.proofs.Common.{◌≡◌, ◌<◌, ◌≤◌, ◌⊎◌, inl, inr, ℕ, Bool, true, false, cond, nat_lt, nat_le, List, [], ◌∷◌, ◌++◌, length, Option, Some, None, refl, sym, ap, ◌∙◌, subst, arith, length-append}
 use Rattle.std.specs.Prelude.{◌==◌}
 use Rattle.std.specs.List.{AllByRecursion}
 use Rattle.std.proofs.lemmas.Bool.Decides.{nat_tests}
-use Rattle.std.proofs.lemmas.Option.{same_Some}
 use denote.RawPtr.{Ptr}
 use Rattle.mn_flight.specs.declared.Item.{Item}
-use Rattle.mn_flight_pool.specs.Cells.{same_ptr}
 use Rattle.mn_flight_pool.specs.Rings.{IsIn, item_at}
 use Rattle.mn_flight_pool.specs.Ticks.{tick_at, AreAscending, last_by, put_tick, set_tick, drop_tick}
-use Rattle.mn_flight_pool.specs.ByDue.{is_due, IsSooner, AreSooner, IsLastAt, IsTick, HasTick}
+use Rattle.mn_flight_pool.specs.ByDue.{IsSooner, AreSooner, IsLastAt, HasTick}
 use Rattle.mn_flight_pool.specs.declared.tick.Tick.{Tick}
 use Rattle.mn_flight_pool.specs.declared.node.Node.{Node}
 
@@ -59,7 +57,7 @@ module _ {T : Type 0} where
   sooner_same old new [] same h = tt
   sooner_same old new (p ∷ ps) same h = (
     all_from (λ q. IsSooner (item_at new p) (item_at new q)) ps
-    (λ q i. subst (λ o. IsSooner o (item_at new q)) (sym (same p (inl refl))) (subst (λ o. IsSooner (item_at old p) o) (sym (same q (inr i))) (all_in (λ r. IsSooner (item_at old p) (item_at old r)) ps q h.0 i))),
+        (λ q i. subst (λ o. IsSooner o (item_at new q)) (sym (same p (inl refl))) (subst (λ o. IsSooner (item_at old p) o) (sym (same q (inr i))) (all_in (λ r. IsSooner (item_at old p) (item_at old r)) ps q h.0 i))),
     sooner_same old new ps (λ q i. same q (inr i)) h.1,
   )
 

@@ -1,16 +1,14 @@
 -- The first node of the ring by due tick holds the earliest item.
-use Rattle.std.proofs.Common.{◌≡◌, ◌<◌, ◌≤◌, ◌+◌, ◌⊎◌, inl, inr, ℕ, zero, suc, Bool, true, false, nat_lt, nat_le, List, [], ◌∷◌, length, Option, Some, None, IsSome, refl, sym, ap, ◌∙◌, subst, arith}
+use Rattle.std.proofs.Common.{◌≡◌, ◌<◌, ◌≤◌, ◌⊎◌, inl, inr, ℕ, true, nat_lt, nat_le, List, [], ◌∷◌, length, Some, None, refl, sym, ap, ◌∙◌, subst, arith}
 use Rattle.std.specs.Prelude.{◌==◌, ◌&&◌, ◌||◌, slice_index_or}
-use Rattle.std.specs.List.{AllByRecursion, Contains}
 use Rattle.std.proofs.lemmas.Bool.Decides.{nat_tests}
 use Rattle.std.proofs.lemmas.Option.{same_Some}
 use denote.RawPtr.{Ptr}
 use Rattle.mn_flight.specs.declared.Item.{Item}
 use Rattle.mn_flight.specs.Flying.{IsFlight}
-use Rattle.mn_flight.specs.Earliest.{earliest, goes_before, IsEarliest}
+use Rattle.mn_flight.specs.Earliest.{earliest, goes_before}
 use Rattle.mn_flight.proofs.Members as members
 use Rattle.mn_flight.proofs.First.{earliest_is, law_none}
-use Rattle.mn_flight_pool.specs.Cells.{value_at}
 use Rattle.mn_flight_pool.specs.Rings.{IsIn, item_at, next_of}
 use Rattle.mn_flight_pool.specs.ByDue.{IsByDue}
 use Rattle.mn_flight_pool.specs.Pool.{items_in}
@@ -35,12 +33,13 @@ module _ {T : Type 0} (head : Ptr) (order : List Ptr) (channels : ℕ) (ticks : 
   pub soonest : (dues : List Ptr) → IsByDue head order dues ticks cells → 0 < length order → (IsIn (next_of Due cells head) order) × ((x y : Item T) (q : Ptr) → item_at cells (next_of Due cells head) ≡ Some x → IsIn q order → item_at cells q ≡ Some y → (q ≡ next_of Due cells head) ⊎ ((x.due < y.due) ⊎ ((x.due ≡ y.due) × (x.number < y.number))))
   soonest [] due some = absurd (omega (arith, some, due.many))
   soonest (p ∷ ps) due some =
-      let first : next_of Due cells head ≡ p = due.ring.round.0 in
-      (subst (λ r. IsIn r order) (sym first) (due.flies p (inl refl)),
-      λ x y q e i f. elim (due.stands q i) [
-        | inl s ↦ inl (s ∙ sym first)
-        | inr j ↦ inr (as_items (item_at cells p) (item_at cells q) x y (ap (item_at cells) (sym first) ∙ e) f (all_in _ ps q due.sooner.0 j))
-      ])
+      let first : next_of Due cells head ≡ p = due.ring.round.0 in (
+        subst (λ r. IsIn r order) (sym first) (due.flies p (inl refl)),
+        λ x y q e i f. elim (due.stands q i) [
+          | inl s ↦ inl (s ∙ sym first)
+          | inr j ↦ inr (as_items (item_at cells p) (item_at cells q) x y (ap (item_at cells) (sym first) ∙ e) f (all_in _ ps q due.sooner.0 j))
+        ],
+      )
 
   module _ (dues : List Ptr) (due : IsByDue head order dues ticks cells) (some : 0 < length order) (limit : ℕ) (x : Item T) (holds : item_at cells (next_of Due cells head) ≡ Some x) where
     abbrev p : Ptr

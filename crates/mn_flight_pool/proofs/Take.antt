@@ -1,7 +1,6 @@
 -- A whole pool gives an item out, and its node is free.
-use Rattle.std.proofs.Common.{◌≡◌, ◌<◌, ◌≤◌, ◌+◌, ◌-◌, ℕ, zero, suc, true, cond, List, [], ◌∷◌, ◌++◌, length, Option, Some, None, IsSome, inl, inr, refl, sym, ap, ◌∙◌, subst, arith, length-append, get_or, eq-eqb}
-use Rattle.std.specs.Prelude.{◌==◌, slice_get, slice_set}
-use Rattle.std.specs.List.{All, AllByRecursion}
+use Rattle.std.proofs.Common.{◌≡◌, ◌<◌, ◌-◌, ℕ, zero, suc, cond, List, [], ◌∷◌, ◌++◌, length, Option, Some, None, IsSome, refl, sym, ap, ◌∙◌, subst, arith, length-append, get_or, eq-eqb}
+use Rattle.std.specs.Prelude.{slice_get, slice_set}
 use Rattle.std.proofs.lemmas.Option.{same_Some}
 use denote.RawPtr.{Ptr}
 use Rattle.mn_flight.specs.declared.Item.{Item}
@@ -13,13 +12,12 @@ use Rattle.mn_flight_pool.specs.ByDue.{IsByDue, ticks_left}
 use Rattle.mn_flight_pool.specs.Pool.{items_in, nodes_on, order_of, trace, left, IsHeld, IsLinked}
 use Rattle.mn_flight_pool.specs.Whole.{ptrs, dues_of, order_in, items_of, IsWhole, IsCounted}
 use Rattle.mn_flight_pool.specs.declared.pool.Pool.{Pool}
-use Rattle.mn_flight_pool.specs.declared.arena.Place.{Place}
 use Rattle.mn_flight_pool.specs.declared.tick.Tick.{Tick}
 use Rattle.mn_flight_pool.specs.declared.node.Node.{Node}
 use Rattle.mn_flight_pool.specs.declared.node.Pair.TheVariants.{Number, Channel, Due}
 use Rattle.mn_flight_pool.proofs.Left.{nodes_before}
 use Rattle.mn_flight_pool.proofs.Held.{held_left, items_without, order_after}
-use Rattle.mn_flight_pool.proofs.PastDue.{alike_unlink, held_alike, order_alike, items_kept, nodes_alike}
+use Rattle.mn_flight_pool.proofs.PastDue.{alike_unlink, held_alike, order_alike, items_kept}
 use Rattle.mn_flight_pool.proofs.Counted.{counted_left, counted_alike, some_counted}
 use Rattle.mn_flight_pool.proofs.DueLeft as dues
 use Rattle.mn_flight_pool.proofs.Items.{item_member}
@@ -27,7 +25,6 @@ use Rattle.mn_flight_pool.proofs.Sides as sides
 use Rattle.mn_flight_pool.proofs.Sooner.{in_cut}
 use Rattle.mn_flight_pool.proofs.Traces.{trace_ring}
 use Rattle.mn_flight_pool.proofs.Whole.{ptrs_length, order_length, flight}
-use Rattle.mn_flight_pool.proofs.Put.{ptrs_push}
 
 some_at : (xs : List Ptr) (c : ℕ) → c < length xs → (f : Ptr) × (slice_get xs c ≡ Some f)
 some_at [] c h = absurd (omega (arith, h))

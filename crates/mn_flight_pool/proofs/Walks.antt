@@ -1,7 +1,6 @@
 -- Steps along a ring.
-use Rattle.std.proofs.Common.{◌≡◌, ◌<◌, ◌+◌, ℕ, zero, suc, List, [], ◌∷◌, ◌++◌, length, Some, IsSome, inl, inr, refl, sym, ap, ◌∙◌, subst, arith, append_assoc, length-append}
+use Rattle.std.proofs.Common.{◌≡◌, ◌<◌, ℕ, zero, suc, List, [], ◌∷◌, ◌++◌, length, Some, IsSome, inl, inr, refl, sym, ap, ◌∙◌, subst, arith, append_assoc, length-append}
 use Rattle.std.specs.Prelude.{slice_get}
-use Rattle.std.specs.List.{AllByRecursion}
 use denote.RawPtr.{Ptr}
 use Rattle.mn_flight_pool.specs.Cells.{value_at}
 use Rattle.mn_flight_pool.specs.Rings.{AreNeighbours, IsIn, IsRing, next_of, prev_of}

@@ -1,20 +1,17 @@
 -- What a whole pool says of its nodes and items.
-use Rattle.std.proofs.Common.{◌≡◌, ◌<◌, ◌≤◌, ◌+◌, ◌-◌, ℕ, zero, suc, Bool, true, false, List, [], ◌∷◌, ◌++◌, length, Option, Some, None, IsSome, inl, inr, refl, sym, ap, ◌∙◌, subst, arith, append_assoc, length-append, get_or}
-use Rattle.std.specs.Prelude.{◌==◌, find, slice_get, slice_index_or, vec_len}
+use Rattle.std.proofs.Common.{◌≡◌, ◌<◌, ◌≤◌, ◌+◌, ◌-◌, ℕ, zero, suc, List, [], ◌∷◌, ◌++◌, length, Option, Some, None, IsSome, inl, inr, refl, sym, ap, ◌∙◌, subst, arith, length-append, get_or}
+use Rattle.std.specs.Prelude.{slice_get, slice_index_or}
 use Rattle.std.specs.List.{AllByRecursion}
-use Rattle.std.proofs.lemmas.Bool.Decides.{nat_tests}
-use Rattle.std.proofs.lemmas.Option.{same_Some}
 use denote.RawPtr.{Ptr}
 use Rattle.mn_flight.specs.declared.Item.{Item}
 use Rattle.mn_flight.specs.Flying.{IsFlight, on_channel}
 use Rattle.mn_flight.specs.Earliest.{earliest}
 use Rattle.mn_flight_pool.specs.Cells.{value_at}
 use Rattle.mn_flight_pool.specs.Rings.{IsIn, IsRing, item_at, next_of, prev_of}
-use Rattle.mn_flight_pool.specs.Pool.{items_in, nodes_on, steps_of}
+use Rattle.mn_flight_pool.specs.Pool.{nodes_on, steps_of}
 use Rattle.mn_flight_pool.specs.Whole.{ptrs, dues_of, order_in, items_of, IsWhole}
 use Rattle.mn_flight_pool.specs.declared.pool.Pool.{Pool}
 use Rattle.mn_flight_pool.specs.declared.arena.Place.{Place}
-use Rattle.mn_flight_pool.specs.declared.node.Node.{Node}
 use Rattle.mn_flight_pool.specs.declared.node.Pair.TheVariants.{Number, Channel, Due}
 use Rattle.mn_flight_pool.proofs.Neighbours.{in_at}
 use Rattle.mn_flight_pool.proofs.Entered.{from_filter}
@@ -115,8 +112,7 @@ module _ {T : Type 0} (pool : Pool T) (whole : IsWhole pool) where
     pub first_due : (x : Item T) → Some x ≡ item_at pool.store node → x.due ≤ limit → IsIn node (order_in pool) × (item_at pool.store node ≡ earliest limit (items_of pool))
     first_due x e h =
         let holds : item_at pool.store (next_of Due pool.store pool.head.ptr) ≡ Some x = ap (item_at pool.store) (sym is) ∙ sym e in
-        let dues = dues_of pool.head.ptr pool.count pool.store in
-        (
+        let dues = dues_of pool.head.ptr pool.count pool.store in (
           subst (λ p. IsIn p (order_in pool)) (sym is) (p_in pool.head.ptr (order_in pool) (length pool.heads.items) pool.ticks.items pool.store flight dues whole.by_due many limit x holds),
           sym e ∙ sym (earliest_first pool.head.ptr (order_in pool) (length pool.heads.items) pool.ticks.items pool.store flight dues whole.by_due many limit x holds h),
         )

@@ -1,9 +1,9 @@
 -- The ring by due tick: which nodes stand in it, in which order, and which are the last of their ticks.
-use Rattle.std.specs.Prelude.{◌≡◌, ◌<◌, ◌≤◌, ◌==◌, ◌⊎◌, ℕ, Bool, true, false, cond, List, [], ◌∷◌, length, Option, None, Some}
+use Rattle.std.specs.Prelude.{◌≡◌, ◌<◌, ◌≤◌, ◌==◌, ◌⊎◌, ℕ, Bool, false, cond, List, [], ◌∷◌, length, Option, None, Some}
 use Rattle.std.specs.List.{AllByRecursion}
 use denote.RawPtr.{Ptr}
 use Rattle.mn_flight.specs.declared.Item.{Item}
-use Rattle.mn_flight_pool.specs.Rings.{IsIn, IsRing, item_at, next_of, prev_of}
+use Rattle.mn_flight_pool.specs.Rings.{IsIn, IsRing, item_at}
 use Rattle.mn_flight_pool.specs.Ticks.{AreAscending, set_tick, drop_tick}
 use Rattle.mn_flight_pool.specs.declared.node.Node.{Node}
 use Rattle.mn_flight_pool.specs.declared.node.Pair.TheVariants.{Due}

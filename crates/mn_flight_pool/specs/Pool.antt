@@ -1,6 +1,6 @@
 -- What a pool keeps: the nodes that hold items in the order of the items' numbers, in a ring of all, in one for each
 -- channel and in one by due tick; and the nodes that hold none.
-use Rattle.std.specs.Prelude.{◌≡◌, ◌<◌, ◌==◌, ℕ, zero, suc, Bool, false, cond, nat_lt, List, [], ◌∷◌, ◌++◌, length, filter, filter_map, fold, slice_get, slice_index, Option, None, Some, IsSome}
+use Rattle.std.specs.Prelude.{◌≡◌, ◌==◌, ℕ, zero, suc, Bool, false, List, [], ◌∷◌, ◌++◌, length, filter, filter_map, slice_get, Option, None, Some, IsSome}
 use Rattle.std.specs.List.{AllByRecursion, IsDistinct}
 use denote.RawPtr.{Ptr}
 use Rattle.mn_flight.specs.declared.Item.{Item}
@@ -8,8 +8,7 @@ use Rattle.mn_flight.specs.Flying.{IsFlight}
 use Rattle.mn_flight_pool.specs.Cells.{same_ptr, value_at}
 use Rattle.mn_flight_pool.specs.Rings.{IsRing, item_at, next_of, prev_of, with_item, link_behind, unlink}
 use Rattle.mn_flight_pool.specs.declared.node.Node.{Node}
-use Rattle.mn_flight_pool.specs.declared.node.Pair.TheVariants.{Number, Channel, Due}
-use Rattle.mn_flight_pool.specs.declared.tick.Tick.{Tick}
+use Rattle.mn_flight_pool.specs.declared.node.Pair.TheVariants.{Number, Channel}
 
 -- so many places from s on, each the next of the one before
 abbrev pub trace : (Ptr → Ptr) → Ptr → ℕ → List Ptr

@@ -24,7 +24,13 @@ fn is_due_at<T: Drop>(store: &Store<T>, node: Place, due: u64) -> bool
 }
 
 /// Links a node in behind all that are due no later.
-pub fn link_due<T: Drop>(store: &mut Store<T>, ticks: &mut Vec<Tick>, head: Place, node: Place, due: u64)
+pub fn link_due<T: Drop>(
+    store: &mut Store<T>,
+    ticks: &mut Vec<Tick>,
+    head: Place,
+    node: Place,
+    due: u64,
+)
     requires ascending { AreAscending ticks.old.items }
     requires room { vec_len ticks.old < vec_capacity ticks.old }
     requires node { IsSome (value_at node.ptr store.old) }

@@ -178,7 +178,11 @@ fn three_thousand_calls_answer_alike_on_both(rt: HostRuntime) -> Result<(), Fail
     for number in 0..3000 {
         seed = following(seed);
         let call = drawn(seed >> 20);
-        assert_eq!(rt; made(&mut pool, call, number), made(&mut list, call, number), "at {number}, {call:?}");
+        assert_eq!(rt;
+            made(&mut pool, call, number),
+            made(&mut list, call, number),
+            "at {number}, {call:?}"
+        );
     }
     Ok(())
 }

@@ -3,7 +3,7 @@ use Rattle.std.specs.List.{All}
 use Rattle.mn_flight_pool.proofs.tests.three_thousand_calls_answer_alike_on_both.Given as goal
 
 abbrev pub invariant-loop-number : goal.invariant-loop-number
-invariant-loop-number l = record {
+invariant-loop-number g l = record {
   pool_channels : l.pool.channels ≡ 3;
   pool : All (λ earlier. earlier.number < l.number) l.pool.items;
   list_channels : l.list.channels ≡ 3;

@@ -1,4 +1,4 @@
-use Rattle.std.proofs.Common.{◌<◌, ◌≤◌, ◌+◌, ◌-◌, ◌/◌, ℕ, length, arith}
+use Rattle.std.proofs.Common.{◌<◌, ◌+◌, ◌-◌, ◌/◌, ℕ, length, arith}
 use Rattle.mn_flight_pool.specs.Ticks.{earlier}
 use Rattle.mn_flight_pool.proofs.Ticks.{earlier_within, earlier_past, earlier_upto}
 use Rattle.mn_flight_pool.proofs.tick.before.Goals as goal

@@ -1,4 +1,4 @@
-use Rattle.std.proofs.Common.{◌≡◌, length, vec_len, arith, sym, ap, ◌∙◌}
+use Rattle.std.proofs.Common.{length, vec_len, arith, sym, ap, ◌∙◌}
 use Rattle.mn_flight.specs.Flying.{off_channel}
 use Rattle.mn_flight_pool.specs.Whole.{items_of}
 use Rattle.mn_flight_pool.proofs.Dropped.{off_without, off_all}

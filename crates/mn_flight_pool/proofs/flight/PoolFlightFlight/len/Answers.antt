@@ -1,4 +1,4 @@
-use Rattle.std.proofs.Common.{◌≡◌, length, sym, ap, ◌∙◌}
+use Rattle.std.proofs.Common.{length, sym, ap, ◌∙◌}
 use Rattle.mn_flight.specs.Contents.{Contents}
 use Rattle.mn_flight_pool.proofs.Whole.{items_count}
 use Rattle.mn_flight_pool.proofs.flight.PoolFlightFlight.len.Goals as goal

@@ -1,4 +1,4 @@
-use Rattle.std.proofs.Common.{◌≡◌, ◌+◌, ◌++◌, ◌∷◌, [], length, arith, ap, ◌∙◌, length-append}
+use Rattle.std.proofs.Common.{◌≡◌, ◌++◌, ◌∷◌, [], length, ap, ◌∙◌, length-append}
 use Rattle.mn_flight_pool.proofs.Grown.{channel_held, channel_counted, channel_by_due}
 use Rattle.mn_flight_pool.proofs.pool.Pool.add_channel.Goals as goal
 

@@ -1,4 +1,4 @@
-use Rattle.std.proofs.Common.{◌≡◌, ◌<◌, ◌≤◌, length, arith, ap, ◌∙◌, subst, get_or, ℕ, List}
+use Rattle.std.proofs.Common.{◌<◌, ◌≤◌, length, ap, ◌∙◌, subst, get_or, ℕ, List}
 use Rattle.mn_flight_pool.proofs.Whole.{count_there, count_none}
 use Rattle.mn_flight_pool.proofs.pool.Pool.count_on.Goals as goal
 

@@ -1,4 +1,3 @@
-use Rattle.std.proofs.Common.{◌≡◌}
 use Rattle.mn_flight_pool.specs.Newest.{IsPassed}
 use Rattle.mn_flight_pool.proofs.pool.Pool.node_of.Given as goal
 

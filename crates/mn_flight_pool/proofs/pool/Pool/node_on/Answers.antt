@@ -1,8 +1,7 @@
-use Rattle.std.proofs.Common.{◌≡◌, ◌<◌, ◌≤◌, ◌+◌, ◌-◌, List, length, arith, sym, ap, ◌∙◌, subst}
-use Rattle.std.specs.Prelude.{slice_get, slice_index_or}
-use denote.RawPtr.{Ptr}
+use Rattle.std.proofs.Common.{◌<◌, ◌≤◌, ◌+◌, ◌-◌, List, length, arith, ap, ◌∙◌, subst}
+use Rattle.std.specs.Prelude.{slice_index_or}
 use Rattle.mn_flight.specs.Flying.{on_channel}
-use Rattle.mn_flight_pool.specs.Rings.{IsIn, IsRing, item_at, next_of, prev_of}
+use Rattle.mn_flight_pool.specs.Rings.{next_of, prev_of}
 use Rattle.mn_flight_pool.specs.Pool.{nodes_on, steps_of}
 use Rattle.mn_flight_pool.specs.Whole.{order_in, items_of}
 use Rattle.mn_flight_pool.specs.declared.arena.Place.{Place}

@@ -1,4 +1,4 @@
-use Rattle.std.proofs.Common.{◌≡◌, ◌<◌, ◌≤◌, ◌+◌, length, arith, refl, ap, get_or}
+use Rattle.std.proofs.Common.{◌<◌, ◌≤◌, ◌+◌, length, arith, ap, get_or}
 use Rattle.std.specs.Prelude.{slice_set}
 use Rattle.std.proofs.lemmas.Grind.{common_steps}
 use Rattle.mn_flight_pool.proofs.Put.{ticks_count, count_within, count_read, free_there, first_ring, node_in_one, last_in_one, next_in_one, put_held, put_items, put_counted, put_by_due}

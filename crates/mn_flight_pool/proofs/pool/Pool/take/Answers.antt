@@ -1,10 +1,9 @@
-use Rattle.std.proofs.Common.{◌≡◌, ◌<◌, ◌≤◌, ◌+◌, ◌-◌, ◌++◌, ◌∷◌, [], List, length, true, cond, Some, arith, refl, ap, sym, ◌∙◌, subst, get_or}
+use Rattle.std.proofs.Common.{◌≡◌, ◌<◌, ◌-◌, ◌++◌, ◌∷◌, [], length, true, cond, arith, refl, ap, sym, ◌∙◌, get_or}
 use Rattle.std.specs.Prelude.{is_ok, slice_set}
 use Rattle.mn_flight.specs.declared.Item.{Item}
-use Rattle.mn_flight.specs.Flying.{without}
 use Rattle.mn_flight_pool.specs.Rings.{item_at, next_of, prev_of}
 use Rattle.mn_flight_pool.specs.ByDue.{ticks_left}
-use Rattle.mn_flight_pool.specs.Whole.{ptrs, items_of}
+use Rattle.mn_flight_pool.specs.Whole.{ptrs}
 use Rattle.mn_flight_pool.specs.declared.node.Pair.TheVariants.{Due}
 use Rattle.mn_flight_pool.proofs.Put.{ptrs_push, count_read}
 use Rattle.mn_flight_pool.proofs.Take.{some_count, next_there, prev_there, no_item, same_item, below, some_on, number_ring, channel_ring, item_one, take_held, take_items, take_counted, take_by_due}
