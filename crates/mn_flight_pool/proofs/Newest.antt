@@ -1,0 +1,144 @@
+-- A walk from the newest node back finds the item of a number.
+use Rattle.std.proofs.Common.{◌≡◌, ◌<◌, ◌+◌, ℕ, suc, Bool, true, false, List, [], ◌∷◌, ◌++◌, length, Option, Some, None, IsSome, inl, inr, refl, sym, ap, ◌∙◌, subst, arith, append_assoc, append-nil, length-append}
+use Rattle.std.specs.Prelude.{◌==◌, find}
+use Rattle.std.specs.List.{AllPairs, cons_option}
+use Rattle.std.proofs.lemmas.List.Elements.{filter_map-append}
+use Rattle.std.proofs.lemmas.Bool.Decides.{nat_tests}
+use Rattle.std.proofs.lemmas.Option.{same_Some}
+use denote.RawPtr.{Ptr}
+use Rattle.mn_flight.specs.declared.Item.{Item}
+use Rattle.mn_flight.proofs.Members as members
+use Rattle.mn_flight_pool.specs.Cells.{value_at}
+use Rattle.mn_flight_pool.specs.Rings.{IsIn, IsRing, item_at, prev_of}
+use Rattle.mn_flight_pool.specs.Pool.{items_in, steps_of}
+use Rattle.mn_flight_pool.specs.Whole.{order_in, items_of, IsWhole}
+use Rattle.mn_flight_pool.specs.Newest.{IsPassed}
+use Rattle.mn_flight_pool.specs.declared.pool.Pool.{Pool}
+use Rattle.mn_flight_pool.specs.declared.node.Pair.TheVariants.{Number}
+use Rattle.mn_flight_pool.proofs.Neighbours.{last_of_cons}
+use Rattle.mn_flight_pool.proofs.Items.{item_member, member_node, lesser_before, one_item, find_none}
+use Rattle.mn_flight_pool.proofs.Sooner.{in_either, in_middle}
+use Rattle.mn_flight_pool.proofs.Walks.{back_at}
+use Rattle.mn_flight_pool.proofs.Whole.{flight, order_length, node_there, node_holds}
+
+module _ {T : Type 0} (pool : Pool T) (whole : IsWhole pool) (number : ℕ) where
+  pub none_passed : IsPassed pool number 0 pool.head.ptr
+  none_passed = record { front = order_in pool; passed = []; cut = sym (append-nil (order_in pool)); count = refl; node = refl; greater = λ q y i e. absurd i }
+
+  -- one more node back
+  pub record Next (k : ℕ) (node : Ptr) : Type 0 where
+    pub front : List Ptr
+    pub passed : List Ptr
+    pub cut : order_in pool ≡ front ++ node ∷ passed
+    pub count : length passed ≡ k
+    pub greater : (q : Ptr) (y : Item T) → IsIn q passed → item_at pool.store q ≡ Some y → number < y.number
+
+  pub next : (k : ℕ) (at node : Ptr) → IsPassed pool number k at → k < pool.count → node ≡ prev_of Number pool.store at → Next k node
+  next k at node is below e = by is.front is.cut
+    where
+      by : (us : List Ptr) → order_in pool ≡ us ++ is.passed → Next k node
+      by [] cut = absurd (omega (arith, below, is.count, order_length pool whole, ap length cut))
+      by (u ∷ us) cut =
+          let last = last_of_cons u us in let ws = last.0 in let p = last.1 in
+          let new : order_in pool ≡ ws ++ p ∷ is.passed = cut ∙ ap (λ l. l ++ is.passed) last.2 ∙ append_assoc ws (p ∷ []) is.passed in
+          let steps : steps_of (prev_of Number pool.store) pool.head.ptr (suc k) ≡ p = ap (λ n. steps_of (prev_of Number pool.store) pool.head.ptr (suc n)) (sym is.count) ∙ back_at Number pool.store pool.head.ptr is.passed ws p (subst (λ l. IsRing Number pool.store pool.head.ptr l) new whole.held.linked.number) in
+          let here : node ≡ p = e ∙ ap (prev_of Number pool.store) is.node ∙ steps in
+          record { front = ws; passed = is.passed; cut = subst (λ r. order_in pool ≡ ws ++ r ∷ is.passed) (sym here) new; count = is.count; greater = is.greater }
+
+  pub at_there : (k : ℕ) (at : Ptr) → IsPassed pool number k at → k < pool.count → IsSome (value_at at pool.store)
+  at_there k at is below = by is.passed is.cut is.count is.node
+    where
+      by : (vs : List Ptr) → order_in pool ≡ is.front ++ vs → length vs ≡ k → at ≡ steps_of (prev_of Number pool.store) pool.head.ptr k → IsSome (value_at at pool.store)
+      by [] cut count node = subst (λ p. IsSome (value_at p pool.store)) (sym (node ∙ ap (steps_of (prev_of Number pool.store) pool.head.ptr) (sym count))) whole.held.linked.number.there.0
+      by (v ∷ vs) cut count node =
+          let steps : steps_of (prev_of Number pool.store) pool.head.ptr k ≡ v = ap (steps_of (prev_of Number pool.store) pool.head.ptr) (sym count) ∙ back_at Number pool.store pool.head.ptr vs is.front v (subst (λ l. IsRing Number pool.store pool.head.ptr l) cut whole.held.linked.number) in
+          subst (λ p. IsSome (value_at p pool.store)) (sym (node ∙ steps)) (node_there pool whole v (subst (λ l. IsIn v l) (sym cut) (in_middle is.front v vs)))
+
+  module _ (k : ℕ) (node : Ptr) (n : Next k node) where
+    pub in_order : IsIn node (order_in pool)
+    in_order = subst (λ l. IsIn node l) (sym n.cut) (in_middle n.front node n.passed)
+
+    pub next_there : IsSome (value_at node pool.store)
+    next_there = node_there pool whole node in_order
+
+    pub next_holds : None ≡ item_at pool.store node → ⊥
+    next_holds e = none (item_at pool.store node) (sym e) (node_holds pool whole node in_order)
+      where
+        none : (o : Option (Item T)) → o ≡ None → IsSome o → ⊥
+        none None h s = cc
+        none (Some y) h s = cc
+
+    module _ (x : Item T) (holds : Some x ≡ item_at pool.store node) where
+      -- it is greater still
+      pub passes : number < x.number → IsPassed pool number (k + 1) node
+      passes h =
+          let steps : k + 1 ≡ suc k = omega arith in
+          record {
+            front = n.front;
+            passed = node ∷ n.passed;
+            cut = n.cut;
+            count = ap suc n.count ∙ sym steps;
+            node = sym (ap (steps_of (prev_of Number pool.store) pool.head.ptr) steps ∙ ap (λ m. steps_of (prev_of Number pool.store) pool.head.ptr (suc m)) (sym n.count) ∙ back_at Number pool.store pool.head.ptr n.passed n.front node (subst (λ l. IsRing Number pool.store pool.head.ptr l) n.cut whole.held.linked.number));
+            greater = λ q y i e. elim i [
+              | inl s ↦ let same : x ≡ y = same_Some x y (holds ∙ ap (item_at pool.store) (sym s) ∙ e) in subst (λ (z : Item T). number < z.number) same h
+              | inr j ↦ n.greater q y j e
+            ];
+          }
+
+      member : members.IsIn x (items_of pool)
+      member = item_member pool.store (order_in pool) node x in_order (sym holds)
+
+      -- it is the one
+      pub found : x.number ≡ number → IsIn node (order_in pool) × (item_at pool.store node ≡ find (λ (item : Item T). item.number == number) (items_of pool))
+      found h = (
+        in_order,
+        sym holds ∙ sym (members.find_only (λ (item : Item T). item.number == number) x (items_of pool) member (grind (arith, nat_tests, h)) (λ y i t.
+            let same : y.number ≡ x.number = grind (arith, nat_tests, t, h) in
+            one_item (items_of pool) (flight pool whole).ascending y x i member same)),
+      )
+
+      -- it is less, so none has the number
+      pub missing : x.number < number → find (λ (item : Item T). item.number == number) (items_of pool) ≡ None
+      missing h = find_none (λ (item : Item T). item.number == number) (items_of pool) (λ y i.
+          let at = member_node pool.store (order_in pool) y i in
+          let unlike : y.number ≡ number → ⊥ = λ f. elim (in_either at.0 n.front (node ∷ n.passed) (subst (λ l. IsIn at.0 l) n.cut at.1)) [
+            | inl j ↦ omega (arith, h, f, lesser y (item_member pool.store n.front at.0 y j at.2))
+            | inr j ↦ elim j [
+              | inl s ↦ omega (arith, h, f, ap (λ (z : Item T). z.number) (same_Some x y (holds ∙ ap (item_at pool.store) (sym s) ∙ at.2)))
+              | inr m ↦ omega (arith, f, n.greater at.0 y m at.2)
+            ]
+          ] in
+          by y.number unlike)
+        where
+          by : (m : ℕ) → (m ≡ number → ⊥) → (m == number) ≡ false
+          by m u = split (m == number) refl
+            where
+              split : (b : Bool) → (m == number) ≡ b → (m == number) ≡ false
+              split true t = absurd (u (grind (arith, nat_tests, t)))
+              split false t = t
+
+          parts : items_of pool ≡ items_in pool.store n.front ++ x ∷ items_in pool.store n.passed
+          parts = ap (λ l. items_in pool.store l) n.cut ∙ filter_map-append (item_at pool.store) n.front (node ∷ n.passed) ∙ ap (λ o. items_in pool.store n.front ++ cons_option o (items_in pool.store n.passed)) (sym holds)
+
+          lesser : (y : Item T) → members.IsIn y (items_in pool.store n.front) → y.number < x.number
+          lesser y i = lesser_before (items_in pool.store n.front) x (items_in pool.store n.passed) (subst (λ l. AllPairs (λ (a : Item T) (b : Item T). a.number < b.number) l) parts (flight pool whole).ascending) y i
+
+  -- all were greater
+  pub all_greater : (at : Ptr) → IsPassed pool number pool.count at → find (λ (item : Item T). item.number == number) (items_of pool) ≡ None
+  all_greater at is = find_none (λ (item : Item T). item.number == number) (items_of pool) (λ y i.
+      let on = member_node pool.store (order_in pool) y i in
+      by y.number (λ f. omega (arith, f, is.greater on.0 y (all_in_passed on.0 on.1) on.2)))
+    where
+      by : (m : ℕ) → (m ≡ number → ⊥) → (m == number) ≡ false
+      by m u = split (m == number) refl
+        where
+          split : (b : Bool) → (m == number) ≡ b → (m == number) ≡ false
+          split true t = absurd (u (grind (arith, nat_tests, t)))
+          split false t = t
+
+      all_in_passed : (q : Ptr) → IsIn q (order_in pool) → IsIn q is.passed
+      all_in_passed q i = empty is.front is.cut
+        where
+          empty : (us : List Ptr) → order_in pool ≡ us ++ is.passed → IsIn q is.passed
+          empty [] cut = subst (λ l. IsIn q l) cut i
+          empty (u ∷ us) cut = absurd (omega (arith, is.count, order_length pool whole, ap length cut, length-append us is.passed))

@@ -1,0 +1,168 @@
+-- A whole pool takes an item.
+use Rattle.std.proofs.Common.{◌≡◌, ◌<◌, ◌≤◌, ◌+◌, ℕ, zero, suc, List, [], ◌∷◌, ◌++◌, length, Option, Some, None, IsSome, inl, inr, refl, sym, ap, ◌∙◌, subst, arith, length-append, get_or}
+use Rattle.std.specs.Prelude.{slice_get, slice_index_or, slice_set}
+use Rattle.std.specs.List.{All, AllByRecursion}
+use Rattle.std.proofs.lemmas.List.{map-append}
+use denote.RawPtr.{Ptr}
+use Rattle.mn_flight.specs.declared.Item.{Item}
+use Rattle.mn_flight.proofs.Members as members
+use Rattle.mn_flight_pool.specs.Cells.{value_at}
+use Rattle.mn_flight_pool.specs.Rings.{IsIn, IsRing, item_at, next_of, link_behind}
+use Rattle.mn_flight_pool.specs.Ticks.{last_by, put_tick}
+use Rattle.mn_flight_pool.specs.ByDue.{IsByDue, IsTick}
+use Rattle.mn_flight_pool.specs.Pool.{is_on, items_in, nodes_on, order_of, trace, entered, IsHeld}
+use Rattle.mn_flight_pool.specs.Whole.{ptrs, dues_of, order_in, items_of, IsWhole, IsCounted}
+use Rattle.mn_flight_pool.specs.declared.pool.Pool.{Pool}
+use Rattle.mn_flight_pool.specs.declared.arena.Place.{Place}
+use Rattle.mn_flight_pool.specs.declared.tick.Tick.{Tick}
+use Rattle.mn_flight_pool.specs.declared.node.Node.{Node}
+use Rattle.mn_flight_pool.specs.declared.node.Pair.TheVariants.{Channel, Due}
+use Rattle.mn_flight_pool.proofs.Entered.{three_there, p_there}
+use Rattle.mn_flight_pool.proofs.Held.{held_pushed, items_pushed, order_then}
+use Rattle.mn_flight_pool.proofs.PastDue.{alike_link, held_alike, order_alike, items_kept}
+use Rattle.mn_flight_pool.proofs.Counted.{counted_entered, counted_alike}
+use Rattle.mn_flight_pool.proofs.DueEntered.{due_entered, due_three, stand, then}
+use Rattle.mn_flight_pool.proofs.Items.{item_member, fewer_kept}
+use Rattle.mn_flight_pool.proofs.Sooner.{all_in, in_front, in_middle, tick_item, fewer, all_kept}
+use Rattle.mn_flight_pool.proofs.Traces.{trace_ring}
+use Rattle.mn_flight_pool.proofs.Walks.{ring_next}
+use Rattle.mn_flight_pool.proofs.Whole.{ptrs_length, head_at, order_length}
+
+pub ptrs_push : (ps : List Place) (p : Place) → ptrs (ps ++ p ∷ []) ≡ ptrs ps ++ p.ptr ∷ []
+ptrs_push ps p = map-append (λ (q : Place). q.ptr) ps (p ∷ [])
+
+module _ {T : Type 0} (pool : Pool T) (whole : IsWhole pool) where
+  -- there are no more ticks than items
+  pub ticks_count : length pool.ticks.items ≤ pool.count
+  ticks_count =
+      let few = fewer due_at pool.ticks.items (order_in pool) whole.by_due.ascending (all_kept (IsTick pool.store (order_in pool)) (λ t. IsIn t.last.ptr (order_in pool) × (due_at t.last.ptr ≡ t.due)) pool.ticks.items
+      (λ t is. let last = tick_item pool.store (order_in pool) t.due (item_at pool.store t.last.ptr) is.last in (is.there, ap due_of last.1 ∙ last.2)) whole.by_due.lasts) in
+      omega (arith, few, order_length pool whole)
+    where
+      due_of : Option (Item T) → ℕ
+      due_of None = 0
+      due_of (Some x) = x.due
+
+      due_at : Ptr → ℕ
+      due_at p = due_of (item_at pool.store p)
+
+  -- a count is no more than all
+  pub count_within : (c : ℕ) → c < length pool.heads.items → get_or pool.counts.items c 0 ≤ pool.count
+  count_within c h = omega (arith, whole.counted.each c h, fewer_kept (λ p. is_on c (item_at pool.store p)) (order_in pool), order_length pool whole)
+
+  -- a count that was read
+  pub count_read : (c v : ℕ) → c < length pool.heads.items → v ≡ get_or pool.counts.items c v → v ≡ get_or pool.counts.items c 0
+  count_read c v h e = e ∙ same pool.counts.items c (omega (arith, h, whole.counted.many))
+    where
+      same : (ns : List ℕ) (k : ℕ) → k < length ns → get_or ns k v ≡ get_or ns k 0
+      same [] k b = absurd (omega (arith, b))
+      same (n ∷ ns) zero b = refl
+      same (n ∷ ns) (suc k) b = same ns k (omega (arith, b))
+
+  module _ (node : Place) (front : List Place) (cut : pool.free.items ≡ front ++ node ∷ []) where
+    held_cut : IsHeld pool.head.ptr (ptrs pool.heads.items) (ptrs front ++ node.ptr ∷ []) pool.count pool.store
+    held_cut = subst (λ l. IsHeld pool.head.ptr (ptrs pool.heads.items) l pool.count pool.store) (ap (λ l. ptrs l) cut ∙ ptrs_push front node) whole.held
+
+    pub free_there : IsSome (value_at node.ptr pool.store)
+    free_there = last (ptrs front) held_cut.linked.there
+      where
+        last : (fs : List Ptr) → AllByRecursion (λ q. IsSome (value_at q pool.store)) (fs ++ node.ptr ∷ []) → IsSome (value_at node.ptr pool.store)
+        last [] h = h.0
+        last (f ∷ fs) h = last fs h.1
+
+    module _ (x : Item T) (first : Place) (below : x.channel < length pool.heads.items) (read : first ≡ slice_index_or pool.heads.items x.channel first) where
+      at : slice_get (ptrs pool.heads.items) x.channel ≡ Some first.ptr
+      at = head_at pool.heads.items x.channel first below read
+
+      pub first_ring : (order : List Ptr) × IsRing Channel pool.store first.ptr order
+      first_ring = (nodes_on pool.store x.channel (order_in pool), whole.held.linked.channel x.channel first.ptr at)
+
+      abbrev pub three : List (Ptr × Node T)
+      three = entered pool.head.ptr first.ptr node.ptr x pool.store
+
+      abbrev pub last : Ptr
+      last = last_by x.due pool.head.ptr pool.ticks.items
+
+      abbrev dues : List Ptr
+      dues = dues_of pool.head.ptr pool.count pool.store
+
+      module _ (above : All (λ (e : Item T). e.number < x.number) (items_of pool)) where
+        greatest : (q : Ptr) (y : Item T) → IsIn q (order_in pool) → item_at pool.store q ≡ Some y → y.number < x.number
+        greatest q y i e =
+            let at = members.contains_of_in (items_of pool) y (item_member pool.store (order_in pool) q y i e) in
+            subst (λ (z : Item T). z.number < x.number) at.2 (above at.0 y at.1)
+
+        abbrev dues_then : List Ptr
+        dues_then = then pool.head.ptr (ptrs pool.heads.items) (ptrs front) (order_in pool) node.ptr pool.store held_cut.linked x first.ptr at dues pool.ticks.items whole.by_due greatest
+
+        entered_dues : IsByDue pool.head.ptr (order_in pool ++ node.ptr ∷ []) dues_then (put_tick x.due node.ptr pool.ticks.items) (link_behind Due node.ptr last three)
+        entered_dues = due_entered pool.head.ptr (ptrs pool.heads.items) (ptrs front) (order_in pool) node.ptr pool.store held_cut.linked x first.ptr at dues pool.ticks.items whole.by_due greatest
+
+        three_ring : IsRing Due three pool.head.ptr dues
+        three_ring = due_three pool.head.ptr (ptrs pool.heads.items) (ptrs front) (order_in pool) node.ptr pool.store held_cut.linked x first.ptr at dues pool.ticks.items whole.by_due greatest
+
+        last_in : IsIn last (pool.head.ptr ∷ dues)
+        last_in =
+            let s = stand pool.head.ptr (ptrs pool.heads.items) (ptrs front) (order_in pool) node.ptr pool.store held_cut.linked x first.ptr at dues pool.ticks.items whole.by_due greatest in
+            elim s.end [
+              | inl e ↦ inl e.1
+              | inr e ↦ inr (subst (λ l. IsIn last l) (sym s.cut) (in_front last s.front s.behind (subst (λ l. IsIn last l) (sym e.1) (in_middle e.0 last []))))
+            ]
+
+        module _ (one : List (Ptr × Node T)) (one_is : one ≡ three) where
+          pub node_in_one : IsSome (value_at node.ptr one)
+          node_in_one =
+              subst (λ c. IsSome (value_at node.ptr c)) (sym one_is)
+              (three_there pool.head.ptr (ptrs pool.heads.items) (ptrs front) (order_in pool) node.ptr pool.store held_cut.linked x first.ptr at node.ptr (p_there pool.head.ptr (ptrs pool.heads.items) (ptrs front) (order_in pool) node.ptr pool.store held_cut.linked x first.ptr at))
+
+          pub last_in_one : IsSome (value_at last one)
+          last_in_one = subst (λ c. IsSome (value_at last c)) (sym one_is) (all_in (λ q. IsSome (value_at q three)) (pool.head.ptr ∷ dues) last three_ring.there last_in)
+
+          pub next_in_one : IsSome (value_at (next_of Due one last) one)
+          next_in_one =
+              subst (λ c. IsSome (value_at (next_of Due c last) c)) (sym one_is)
+              (all_in (λ q. IsSome (value_at q three)) (pool.head.ptr ∷ dues) (next_of Due three last) three_ring.there (ring_next Due three pool.head.ptr dues three_ring last last_in))
+
+          module _ (two : List (Ptr × Node T)) (two_is : two ≡ link_behind Due node.ptr last one) where
+            abbrev four : List (Ptr × Node T)
+            four = link_behind Due node.ptr last three
+
+            is : two ≡ four
+            is = two_is ∙ ap (λ c. link_behind Due node.ptr last c) one_is
+
+            held_three : IsHeld pool.head.ptr (ptrs pool.heads.items) (ptrs front) (pool.count + 1) three
+            held_three = held_pushed pool.head.ptr (ptrs pool.heads.items) (ptrs front) pool.count node.ptr pool.store held_cut x first.ptr at above (omega (arith, below, ptrs_length pool.heads.items))
+
+            order_four : order_of pool.head.ptr (pool.count + 1) four ≡ order_in pool ++ node.ptr ∷ []
+            order_four =
+                order_alike three four (alike_link node.ptr last three) pool.head.ptr (ptrs pool.heads.items) (ptrs front) (pool.count + 1) held_three
+                ∙ order_then pool.head.ptr (ptrs pool.heads.items) (ptrs front) pool.count node.ptr pool.store held_cut x first.ptr at
+
+            dues_four : dues_of pool.head.ptr (pool.count + 1) four ≡ dues_then
+            dues_four =
+                let many : length dues_then ≡ pool.count + 1 = omega (arith, entered_dues.many, length-append (order_in pool) (node.ptr ∷ []), order_length pool whole) in
+                ap (λ n. trace (next_of Due four) pool.head.ptr n) (sym many) ∙ trace_ring Due four pool.head.ptr dues_then entered_dues.ring
+
+            pub put_held : IsHeld pool.head.ptr (ptrs pool.heads.items) (ptrs front) (pool.count + 1) two
+            put_held = subst (λ c. IsHeld pool.head.ptr (ptrs pool.heads.items) (ptrs front) (pool.count + 1) c) (sym is) (held_alike three four (alike_link node.ptr last three) pool.head.ptr (ptrs pool.heads.items) (ptrs front) (pool.count + 1) held_three)
+
+            pub put_items : items_in two (order_of pool.head.ptr (pool.count + 1) two) ≡ items_of pool ++ x ∷ []
+            put_items =
+                subst (λ c. items_in c (order_of pool.head.ptr (pool.count + 1) c) ≡ items_of pool ++ x ∷ []) (sym is)
+                (items_kept three four (alike_link node.ptr last three) pool.head.ptr (ptrs pool.heads.items) (ptrs front) (pool.count + 1) held_three
+                ∙ items_pushed pool.head.ptr (ptrs pool.heads.items) (ptrs front) pool.count node.ptr pool.store held_cut x first.ptr at)
+
+            pub put_counted : (counts : List ℕ) → counts ≡ slice_set pool.counts.items x.channel (get_or pool.counts.items x.channel 0 + 1) → IsCounted counts (length pool.heads.items) (order_of pool.head.ptr (pool.count + 1) two) two
+            put_counted counts e =
+                subst (λ c. IsCounted counts (length pool.heads.items) (order_of pool.head.ptr (pool.count + 1) c) c) (sym is)
+                (subst (λ o. IsCounted counts (length pool.heads.items) o four) (sym order_four)
+                (subst (λ l. IsCounted l (length pool.heads.items) (order_in pool ++ node.ptr ∷ []) four) (sym e)
+                (counted_alike _ (length pool.heads.items) (order_in pool ++ node.ptr ∷ []) three four (alike_link node.ptr last three)
+                (counted_entered pool.head.ptr (ptrs pool.heads.items) (ptrs front) (order_in pool) node.ptr pool.store held_cut.linked x first.ptr at pool.counts.items (length pool.heads.items) whole.counted below))))
+
+            pub put_by_due : (ticks : List Tick) → ticks ≡ put_tick x.due node.ptr pool.ticks.items → IsByDue pool.head.ptr (order_of pool.head.ptr (pool.count + 1) two) (dues_of pool.head.ptr (pool.count + 1) two) ticks two
+            put_by_due ticks e =
+                subst (λ c. IsByDue pool.head.ptr (order_of pool.head.ptr (pool.count + 1) c) (dues_of pool.head.ptr (pool.count + 1) c) ticks c) (sym is)
+                (subst (λ o. IsByDue pool.head.ptr o (dues_of pool.head.ptr (pool.count + 1) four) ticks four) (sym order_four)
+                (subst (λ d. IsByDue pool.head.ptr (order_in pool ++ node.ptr ∷ []) d ticks four) (sym dues_four)
+                (subst (λ l. IsByDue pool.head.ptr (order_in pool ++ node.ptr ∷ []) dues_then l four) (sym e) entered_dues)))

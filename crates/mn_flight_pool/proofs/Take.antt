@@ -1,0 +1,192 @@
+-- A whole pool gives an item out, and its node is free.
+use Rattle.std.proofs.Common.{◌≡◌, ◌<◌, ◌-◌, ℕ, zero, suc, cond, List, [], ◌∷◌, ◌++◌, length, Option, Some, None, IsSome, refl, sym, ap, ◌∙◌, subst, arith, length-append, get_or, eq-eqb}
+use Rattle.std.specs.Prelude.{slice_get, slice_set}
+use Rattle.std.proofs.lemmas.Option.{same_Some}
+use denote.RawPtr.{Ptr}
+use Rattle.mn_flight.specs.declared.Item.{Item}
+use Rattle.mn_flight.specs.Flying.{without}
+use Rattle.mn_flight.proofs.Members as members
+use Rattle.mn_flight_pool.specs.Cells.{value_at}
+use Rattle.mn_flight_pool.specs.Rings.{IsIn, IsRing, item_at, next_of, prev_of, unlink}
+use Rattle.mn_flight_pool.specs.ByDue.{IsByDue, ticks_left}
+use Rattle.mn_flight_pool.specs.Pool.{items_in, nodes_on, order_of, trace, left, IsHeld, IsLinked}
+use Rattle.mn_flight_pool.specs.Whole.{ptrs, dues_of, order_in, items_of, IsWhole, IsCounted}
+use Rattle.mn_flight_pool.specs.declared.pool.Pool.{Pool}
+use Rattle.mn_flight_pool.specs.declared.tick.Tick.{Tick}
+use Rattle.mn_flight_pool.specs.declared.node.Node.{Node}
+use Rattle.mn_flight_pool.specs.declared.node.Pair.TheVariants.{Number, Channel, Due}
+use Rattle.mn_flight_pool.proofs.Left.{nodes_before}
+use Rattle.mn_flight_pool.proofs.Held.{held_left, items_without, order_after}
+use Rattle.mn_flight_pool.proofs.PastDue.{alike_unlink, held_alike, order_alike, items_kept}
+use Rattle.mn_flight_pool.proofs.Counted.{counted_left, counted_alike, some_counted}
+use Rattle.mn_flight_pool.proofs.DueLeft as dues
+use Rattle.mn_flight_pool.proofs.Items.{item_member}
+use Rattle.mn_flight_pool.proofs.Sides as sides
+use Rattle.mn_flight_pool.proofs.Sooner.{in_cut}
+use Rattle.mn_flight_pool.proofs.Traces.{trace_ring}
+use Rattle.mn_flight_pool.proofs.Whole.{ptrs_length, order_length, flight}
+
+some_at : (xs : List Ptr) (c : ℕ) → c < length xs → (f : Ptr) × (slice_get xs c ≡ Some f)
+some_at [] c h = absurd (omega (arith, h))
+some_at (x ∷ xs) zero h = (x, refl)
+some_at (x ∷ xs) (suc c) h = some_at xs c (omega (arith, h))
+
+module _ {T : Type 0} (pool : Pool T) (whole : IsWhole pool) (p : Ptr) (i : IsIn p (order_in pool)) where
+  abbrev head : Ptr
+  head = pool.head.ptr
+
+  abbrev heads : List Ptr
+  heads = ptrs pool.heads.items
+
+  abbrev free : List Ptr
+  free = ptrs pool.free.items
+
+  abbrev n : ℕ
+  n = pool.count - 1
+
+  pub some_count : 0 < pool.count
+  some_count = omega (arith, order_length pool whole, many (order_in pool) i)
+    where
+      many : (ps : List Ptr) → IsIn p ps → 0 < length ps
+      many [] j = absurd j
+      many (q ∷ qs) j = omega arith
+
+  count_is : pool.count ≡ suc n
+  count_is = omega (arith, some_count)
+
+  cut : (us : List Ptr) × (vs : List Ptr) × (order_in pool ≡ us ++ p ∷ vs)
+  cut = in_cut p (order_in pool) i
+
+  abbrev us : List Ptr
+  us = cut.0
+
+  abbrev vs : List Ptr
+  vs = cut.1
+
+  linked : IsLinked head heads free (us ++ p ∷ vs) pool.store
+  linked = subst (λ l. IsLinked head heads free l pool.store) cut.2 whole.held.linked
+
+  abbrev old_dues : List Ptr
+  old_dues = dues_of head pool.count pool.store
+
+  due : IsByDue head (us ++ p ∷ vs) old_dues pool.ticks.items pool.store
+  due = subst (λ l. IsByDue head l old_dues pool.ticks.items pool.store) cut.2 whole.by_due
+
+  due_ring : (fs : List Ptr) × (bs : List Ptr) × IsRing Due pool.store head (fs ++ p ∷ bs)
+  due_ring = let c = in_cut p old_dues (whole.by_due.stands p i) in (c.0, c.1, subst (λ l. IsRing Due pool.store head l) c.2 whole.by_due.ring)
+
+  pub next_there : IsSome (value_at (next_of Due pool.store p) pool.store)
+  next_there = let r = due_ring in sides.next_there Due pool.store head r.0 p r.1 r.2
+
+  pub prev_there : IsSome (value_at (prev_of Due pool.store p) pool.store)
+  prev_there = let r = due_ring in sides.prev_there Due pool.store head r.0 p r.1 r.2
+
+  pub no_item : (o : Option (Item T)) → None ≡ o → IsSome o → ⊥
+  no_item None e h = cc
+  no_item (Some y) e h = cc
+
+  -- the item that is read and the one that is taken are one
+  pub same_item : (one : List (Ptr × Node T)) → one ≡ unlink Due p pool.store → (x y : Item T) → Some x ≡ item_at pool.store p → Some y ≡ item_at one p → (item_at pool.store p ≡ Some y) × (x ≡ y)
+  same_item one e x y f h =
+      let there : item_at pool.store p ≡ Some y = sym (h ∙ ap (λ c. item_at c p) e ∙ (alike_unlink p pool.store).items p) in
+      (there, same_Some x y (f ∙ there))
+
+  module _ (x : Item T) (holds : item_at pool.store p ≡ Some x) where
+    pub below : x.channel < length pool.heads.items
+    below =
+        let at = members.contains_of_in (items_of pool) x (item_member pool.store (order_in pool) p x i holds) in
+        subst (λ (z : Item T). z.channel < length pool.heads.items) at.2 ((flight pool whole).on_channels at.0 x at.1)
+
+    first_at : (f : Ptr) × (slice_get heads x.channel ≡ Some f)
+    first_at = some_at heads x.channel (omega (arith, below, ptrs_length pool.heads.items))
+
+    abbrev first : Ptr
+    first = first_at.0
+
+    abbrev mid : List (Ptr × Node T)
+    mid = unlink Due p pool.store
+
+    held_mid : IsHeld head heads free (suc n) mid
+    held_mid = held_alike pool.store mid (alike_unlink p pool.store) head heads free (suc n) (subst (λ m. IsHeld head heads free m pool.store) count_is whole.held)
+
+    order_mid : order_of head (suc n) mid ≡ us ++ p ∷ vs
+    order_mid = order_alike pool.store mid (alike_unlink p pool.store) head heads free (suc n) (subst (λ m. IsHeld head heads free m pool.store) count_is whole.held) ∙ ap (λ m. order_of head m pool.store) (sym count_is) ∙ cut.2
+
+    holds_mid : item_at mid p ≡ Some x
+    holds_mid = (alike_unlink p pool.store).items p ∙ holds
+
+    linked_mid : IsLinked head heads free (us ++ p ∷ vs) mid
+    linked_mid = subst (λ l. IsLinked head heads free l mid) order_mid held_mid.linked
+
+    counted_mid : IsCounted pool.counts.items (length pool.heads.items) (us ++ p ∷ vs) mid
+    counted_mid = counted_alike pool.counts.items (length pool.heads.items) (us ++ p ∷ vs) pool.store mid (alike_unlink p pool.store) (subst (λ l. IsCounted pool.counts.items (length pool.heads.items) l pool.store) cut.2 whole.counted)
+
+    pub some_on : 0 < get_or pool.counts.items x.channel 0
+    some_on = some_counted head heads free us p vs mid linked_mid x first holds_mid first_at.1 pool.counts.items (length pool.heads.items) counted_mid below
+
+    own : nodes_on mid x.channel (us ++ p ∷ vs) ≡ nodes_on mid x.channel us ++ p ∷ nodes_on mid x.channel vs
+    own =
+        nodes_before head heads free us p vs mid linked_mid x first holds_mid first_at.1 x.channel
+        ∙ ap (λ b. nodes_on mid x.channel us ++ cond b (p ∷ nodes_on mid x.channel vs) (nodes_on mid x.channel vs)) (eq-eqb x.channel x.channel refl)
+
+    module _ (one : List (Ptr × Node T)) (one_is : one ≡ mid) where
+      pub number_ring : (s : Ptr) × (fs : List Ptr) × (bs : List Ptr) × IsRing Number one s (fs ++ p ∷ bs)
+      number_ring = (head, us, vs, subst (λ c. IsRing Number c head (us ++ p ∷ vs)) (sym one_is) linked_mid.number)
+
+      pub channel_ring : (s : Ptr) × (fs : List Ptr) × (bs : List Ptr) × IsRing Channel one s (fs ++ p ∷ bs)
+      channel_ring = (
+        first,
+        nodes_on mid x.channel us,
+        nodes_on mid x.channel vs,
+        subst (λ c. IsRing Channel c first (nodes_on mid x.channel us ++ p ∷ nodes_on mid x.channel vs)) (sym one_is) (subst (λ l. IsRing Channel mid first l) own (linked_mid.channel x.channel first first_at.1)),
+      )
+
+      pub item_one : item_at one p ≡ Some x
+      item_one = ap (λ c. item_at c p) one_is ∙ holds_mid
+
+      module _ (two : List (Ptr × Node T)) (two_is : two ≡ left p one) where
+        is : two ≡ left p mid
+        is = two_is ∙ ap (λ c. left p c) one_is
+
+        order_two : order_of head n (left p mid) ≡ us ++ vs
+        order_two = order_after head heads free us p vs n mid held_mid order_mid x first holds_mid first_at.1
+
+        pub take_held : (frees : List Ptr) → frees ≡ free ++ p ∷ [] → IsHeld head heads frees n two
+        take_held frees e =
+            subst (λ l. IsHeld head heads l n two) (sym e)
+            (subst (λ c. IsHeld head heads (free ++ p ∷ []) n c) (sym is) (held_left head heads free us p vs n mid held_mid order_mid x first holds_mid first_at.1))
+
+        pub take_items : items_in two (order_of head n two) ≡ without (Some x) (items_of pool)
+        take_items =
+            subst (λ c. items_in c (order_of head n c) ≡ without (Some x) (items_of pool)) (sym is)
+            (items_without head heads free us p vs n mid held_mid order_mid x first holds_mid first_at.1
+            ∙ ap (λ l. without (Some x) l) (items_kept pool.store mid (alike_unlink p pool.store) head heads free (suc n) (subst (λ m. IsHeld head heads free m pool.store) count_is whole.held)
+            ∙ ap (λ m. items_in pool.store (order_of head m pool.store)) (sym count_is)))
+
+        pub take_counted : (counts : List ℕ) → counts ≡ slice_set pool.counts.items x.channel (get_or pool.counts.items x.channel 0 - 1) → IsCounted counts (length pool.heads.items) (order_of head n two) two
+        take_counted counts e =
+            subst (λ c. IsCounted counts (length pool.heads.items) (order_of head n c) c) (sym is)
+            (subst (λ o. IsCounted counts (length pool.heads.items) o (left p mid)) (sym order_two)
+            (subst (λ l. IsCounted l (length pool.heads.items) (us ++ vs) (left p mid)) (sym e)
+            (counted_left head heads free us p vs mid linked_mid x first holds_mid first_at.1 pool.counts.items (length pool.heads.items) counted_mid below)))
+
+        abbrev dues_then : List Ptr
+        dues_then = dues.then head heads free us p vs pool.store linked x holds old_dues pool.ticks.items due
+
+        abbrev ticks_then : List Tick
+        ticks_then = ticks_left x.due (prev_of Due pool.store p) (item_at pool.store (prev_of Due pool.store p)) (item_at pool.store (next_of Due pool.store p)) pool.ticks.items
+
+        left_due : IsByDue head (us ++ vs) dues_then ticks_then (left p mid)
+        left_due = dues.due_left head heads free us p vs pool.store linked x holds old_dues pool.ticks.items due
+
+        dues_two : dues_of head n (left p mid) ≡ dues_then
+        dues_two =
+            let many : length dues_then ≡ n = omega (arith, left_due.many, order_length pool whole, ap length cut.2, length-append us vs, length-append us (p ∷ vs)) in
+            ap (λ m. trace (next_of Due (left p mid)) head m) (sym many) ∙ trace_ring Due (left p mid) head dues_then left_due.ring
+
+        pub take_by_due : (ticks : List Tick) → ticks ≡ ticks_then → IsByDue head (order_of head n two) (dues_of head n two) ticks two
+        take_by_due ticks e =
+            subst (λ c. IsByDue head (order_of head n c) (dues_of head n c) ticks c) (sym is)
+            (subst (λ o. IsByDue head o (dues_of head n (left p mid)) ticks (left p mid)) (sym order_two)
+            (subst (λ d. IsByDue head (us ++ vs) d ticks (left p mid)) (sym dues_two)
+            (subst (λ l. IsByDue head (us ++ vs) dues_then l (left p mid)) (sym e) left_due)))

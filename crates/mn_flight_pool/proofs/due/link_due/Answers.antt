@@ -1,0 +1,11 @@
+use Rattle.std.proofs.Common.{IsSome, sym, ap, ◌∙◌, subst}
+use denote.RawPtr.{Ptr}
+use Rattle.mn_flight_pool.specs.Cells.{value_at}
+use Rattle.mn_flight_pool.specs.Rings.{next_of}
+use Rattle.mn_flight_pool.specs.Ticks.{last_by}
+use Rattle.mn_flight_pool.specs.declared.node.Pair.TheVariants.{Due}
+use Rattle.mn_flight_pool.proofs.due.link_due.Goals as goal
+
+pub link_behind-requires-clause-next : goal.link_behind-requires-clause-next
+link_behind-requires-clause-next g c =
+    subst (λ (p : Ptr). IsSome (value_at (next_of Due c.args.store.now p) c.args.store.now)) (sym (c.last_due_by-at.ensures ∙ ap (λ ts. last_by c.args.due c.args.head.ptr ts) c.deref.ensures.value)) c.requires.next

@@ -1,0 +1,14 @@
+use Rattle.std.proofs.Common.{◌≡◌, ◌≤◌, ◌-◌, vec_len}
+use Rattle.mn_flight_pool.specs.Whole.{items_of, IsWhole}
+use Rattle.mn_flight_pool.proofs.flight.PoolFlightFlight.reserve.Given as goal
+
+abbrev pub invariant-loop-self : goal.invariant-loop-self
+invariant-loop-self g l = record {
+  whole : IsWhole l.self-inside.pool;
+  items : items_of l.self-inside.pool ≡ l.fn.self.items;
+  channels : vec_len l.self-inside.pool.heads ≡ l.fn.self.channels;
+  spare : l.fn.self.spare ≤ vec_len l.self-inside.pool.free;
+}
+
+abbrev pub decreases-loop-self : goal.decreases-loop-self
+decreases-loop-self g l = l.more - vec_len l.self-inside.pool.free

@@ -1,0 +1,7 @@
+use Rattle.std.proofs.Common.{◌≡◌}
+use Rattle.mn_flight_pool.specs.Rings.{prev_of}
+use Rattle.mn_flight_pool.specs.Pool.{steps_of}
+use Rattle.mn_flight_pool.proofs.walk.back.Given as goal
+
+abbrev pub invariant-loop : goal.invariant-loop
+invariant-loop g l = l.at.ptr ≡ steps_of (prev_of l.pair l.store) l.fn.first.ptr l.counter

@@ -1,0 +1,69 @@
+//! A node comes to stand in the ring by due tick, or leaves it.
+ghost use Rattle.std.specs.Prelude.{◌≡◌, ◌<◌, ◌≤◌, IsSome, vec_len};
+ghost use Rattle.std.specs.Vec.{vec_capacity};
+ghost use Rattle.mn_flight_pool.specs.Cells.{value_at};
+ghost use Rattle.mn_flight_pool.specs.Rings.{item_at, next_of, prev_of, link_behind as linked_behind, unlink as unlinked};
+ghost use Rattle.mn_flight_pool.specs.Ticks.{AreAscending, last_by, put_tick};
+ghost use Rattle.mn_flight_pool.specs.ByDue.{is_due, ticks_left};
+ghost use Rattle.mn_flight_pool.specs.declared.node.Pair.TheVariants.{Due};
+
+use crate::arena::Place;
+use crate::node::Pair;
+use crate::store::Store;
+use crate::tick::{self, Tick};
+
+/// Whether a node has an item that is due at a tick.
+fn is_due_at<T: Drop>(store: &Store<T>, node: Place, due: u64) -> bool
+    requires { IsSome (value_at node.ptr store.now) }
+    ensures { result ≡ is_due due (item_at store.now node.ptr) }
+{
+    match store.item(node) {
+        Some(item) => item.due == due,
+        None => false,
+    }
+}
+
+/// Links a node in behind all that are due no later.
+pub fn link_due<T: Drop>(
+    store: &mut Store<T>,
+    ticks: &mut Vec<Tick>,
+    head: Place,
+    node: Place,
+    due: u64,
+)
+    requires ascending { AreAscending ticks.old.items }
+    requires room { vec_len ticks.old < vec_capacity ticks.old }
+    requires node { IsSome (value_at node.ptr store.old) }
+    requires at { IsSome (value_at (last_by due head.ptr ticks.old.items) store.old) }
+    requires next { IsSome (value_at (next_of Due store.old (last_by due head.ptr ticks.old.items)) store.old) }
+    ensures store { store.new ≡ linked_behind Due node.ptr (last_by due head.ptr ticks.old.items) store.old }
+    ensures ticks { ticks.new.items ≡ put_tick due node.ptr ticks.old.items }
+    ensures capacity { vec_capacity ticks.old ≤ vec_capacity ticks.new }
+{
+    let at = tick::last_due_by(ticks, head, due);
+    store.link_behind(Pair::Due, node, at);
+    tick::put(ticks, due, node);
+}
+
+/// Takes a node out that is due at a tick.
+pub fn unlink_due<T: Drop>(store: &mut Store<T>, ticks: &mut Vec<Tick>, node: Place, due: u64)
+    requires ascending { AreAscending ticks.old.items }
+    requires node { IsSome (value_at node.ptr store.old) }
+    requires next { IsSome (value_at (next_of Due store.old node.ptr) store.old) }
+    requires prev { IsSome (value_at (prev_of Due store.old node.ptr) store.old) }
+    ensures store { store.new ≡ unlinked Due node.ptr store.old }
+    ensures ticks { ticks.new.items ≡ ticks_left due (prev_of Due store.old node.ptr) (item_at store.old (prev_of Due store.old node.ptr)) (item_at store.old (next_of Due store.old node.ptr)) ticks.old.items }
+    ensures capacity { vec_capacity ticks.new ≡ vec_capacity ticks.old }
+{
+    let before = store.prev(Pair::Due, node);
+    let after = store.next(Pair::Due, node);
+    if !is_due_at(store, after, due) {
+        // It is the last that is due then.
+        if is_due_at(store, before, due) {
+            tick::renew(ticks, due, before);
+        } else {
+            tick::end(ticks, due);
+        }
+    }
+    store.unlink(Pair::Due, node);
+}

@@ -1,0 +1,39 @@
+//! Items in flight, in nodes that are linked by raw pointers: the `Flight` of `mn_flight` that is fast at a million items.
+//!
+//! Each node that holds an item stands in three rings: that of all items by number, that of its channel, and that of all
+//! items by due tick and number. A ring begins with a node that holds no item, so each node has a neighbour on either side,
+//! and no pointer is null or compared.
+//!
+//! ```text
+//!            +--------------------------------------------------+
+//!            v                                                  |
+//!   number   head <-> 4 <-> 7 <-> 9 <-> 12 <-> (head)           |  the list that contracts see
+//!   channel  first of 2 <-> 7 <-> 12 <-> (first of 2)           |
+//!   due      head <-> 7 <-> 12 <-> 4 <-> 9 <-> (head)  ---------+  ticks: (10, 12), (11, 9)
+//! ```
+//!
+//! Beside the ring by due tick stands a list of the due ticks in flight, ascending, each with its last node. So a push looks
+//! for its tick in that list, and takes no walk over what is due later. A node that comes free is kept and used again.
+//!
+//! - `arena`: values that stay where they lie, named by raw pointers; all that follows a pointer
+//! - `node`, `store`: a node with its pairs of pointers; all nodes, freed at the end
+//! - `walk`: steps along a ring
+//! - `moves`: a node enters or leaves the rings by number and of its channel
+//! - `tick`, `due`: the list of due ticks; a node enters or leaves the ring by due tick
+//! - `pool`: the nodes, which hold items and which are free
+//! - `flight`: `PoolFlight`
+#![tactic(auto)]
+
+mod arena;
+mod due;
+mod flight;
+mod moves;
+mod node;
+mod pool;
+mod store;
+#[cfg(test)]
+mod tests;
+mod tick;
+mod walk;
+
+pub use flight::PoolFlight;

@@ -1,0 +1,33 @@
+//! Walks along a ring.
+ghost use Rattle.std.specs.Prelude.{◌≡◌, List};
+ghost use denote.RawPtr.{Ptr};
+ghost use Rattle.mn_flight_pool.specs.Rings.{IsRing, next_of, prev_of};
+ghost use Rattle.mn_flight_pool.specs.Pool.{steps_of};
+
+use crate::arena::Place;
+use crate::node::Pair;
+use crate::store::Store;
+
+/// The node so many steps behind one.
+pub fn forth<T: Drop>(store: &Store<T>, pair: Pair, first: Place, steps: u64) -> Place
+    requires { (order : List Ptr) × IsRing pair store.now first.ptr order }
+    ensures { result.ptr ≡ steps_of (next_of pair store.now) first.ptr steps }
+{
+    let mut at = first;
+    for _ in 0..steps {
+        at = store.next(pair, at);
+    }
+    at
+}
+
+/// The node so many steps before one.
+pub fn back<T: Drop>(store: &Store<T>, pair: Pair, first: Place, steps: u64) -> Place
+    requires { (order : List Ptr) × IsRing pair store.now first.ptr order }
+    ensures { result.ptr ≡ steps_of (prev_of pair store.now) first.ptr steps }
+{
+    let mut at = first;
+    for _ in 0..steps {
+        at = store.prev(pair, at);
+    }
+    at
+}
