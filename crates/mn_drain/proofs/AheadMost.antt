@@ -47,12 +47,15 @@ module _ (t : Network) (lawful : IsLawful t) (v : View) where
   abbrev greeted : ℕ
   greeted = (length t.loopbacks + 3) * (2 + length t.loopbacks * (4 * length t.links))
 
-  end-most : (s : Sessions) (x l : ℕ) → end_weight (wiring_of t) v s x l ≤ length (drop (s.heard l (across (wiring_of t) l x)) (s.said l x)) * (2 + length t.loopbacks * (4 * length t.links)) + greeted
+  end-most : (s : Sessions) (x l : ℕ) → end_weight (wiring_of t) v s x l
+      ≤ length (drop (s.heard l (across (wiring_of t) l x)) (s.said l x)) * (2 + length t.loopbacks * (4 * length t.links)) + greeted
   end-most s x l = omega (
     arith,
-    measured-most (message_weight (wiring_of t) v l (across (wiring_of t) l x)) (2 + length t.loopbacks * (4 * length t.links)) (message-most l (across (wiring_of t) l x)) (drop (s.heard l (across (wiring_of t) l x)) (s.said l x)),
+    measured-most (message_weight (wiring_of t) v l (across (wiring_of t) l x)) (2 + length t.loopbacks * (4 * length t.links))
+        (message-most l (across (wiring_of t) l x)) (drop (s.heard l (across (wiring_of t) l x)) (s.said l x)),
     greeting-most (s.heard l x) (all_mentions_weight (wiring_of t) v l (across (wiring_of t) l x)),
-    total-most (length t.loopbacks) (λ q. mention_weight (wiring_of t) v q l (across (wiring_of t) l x)) (2 + length t.loopbacks * (4 * length t.links)) (λ q h. mention-most q l (across (wiring_of t) l x)),
+    total-most (length t.loopbacks) (λ q. mention_weight (wiring_of t) v q l (across (wiring_of t) l x)) (2 + length t.loopbacks * (4 * length t.links))
+        (λ q h. mention-most q l (across (wiring_of t) l x)),
     greetings (length t.loopbacks) (2 + length t.loopbacks * (4 * length t.links)) (omega arith),
   )
 
@@ -61,25 +64,33 @@ module _ (t : Network) (lawful : IsLawful t) (v : View) where
   where-both true false x y k m h = omega arith
   where-both false b x y k m h = omega arith
 
-  pub ahead-most : (c : Config) (s : Sessions) → ahead (wiring_of t) v c s ≤ (ldp_messages t c s + length t.links * 2 * (length t.loopbacks + 3)) * (2 + length t.loopbacks * (4 * length t.links))
+  pub ahead-most : (c : Config) (s : Sessions) → ahead (wiring_of t) v c s
+      ≤ (ldp_messages t c s + length t.links * 2 * (length t.loopbacks + 3)) * (2 + length t.loopbacks * (4 * length t.links))
   ahead-most c s = finish
     where
-      node-most : (x : ℕ) → node_weight (wiring_of t) v c s x ≤ total (length t.links) (unheard_on t c s x) * (2 + length t.loopbacks * (4 * length t.links)) + degree (wiring_of t) x * greeted
+      node-most : (x : ℕ) → node_weight (wiring_of t) v c s x
+          ≤ total (length t.links) (unheard_on t c s x) * (2 + length t.loopbacks * (4 * length t.links)) + degree (wiring_of t) x * greeted
       node-most x = omega (
         arith,
-        total-below (length t.links) (λ l. where_so (is_end (wiring_of t) l x && lives c l) (end_weight (wiring_of t) v s x l)) (λ l. unheard_on t c s x l * (2 + length t.loopbacks * (4 * length t.links)) + where_so (is_end (wiring_of t) l x) greeted)
+        total-below (length t.links) (λ l. where_so (is_end (wiring_of t) l x && lives c l) (end_weight (wiring_of t) v s x l))
+            (λ l. unheard_on t c s x l * (2 + length t.loopbacks * (4 * length t.links)) + where_so (is_end (wiring_of t) l x) greeted)
             (λ l h. where-both (is_end (wiring_of t) l x) (lives c l) _ _ (2 + length t.loopbacks * (4 * length t.links)) greeted (end-most s x l)),
-        total-add (length t.links) (λ l. unheard_on t c s x l * (2 + length t.loopbacks * (4 * length t.links))) (λ l. where_so (is_end (wiring_of t) l x) greeted),
+        total-add (length t.links) (λ l. unheard_on t c s x l * (2 + length t.loopbacks * (4 * length t.links)))
+            (λ l. where_so (is_end (wiring_of t) l x) greeted),
         total-scale (length t.links) (unheard_on t c s x) (2 + length t.loopbacks * (4 * length t.links)),
-        total-same (length t.links) (λ l. where_so (is_end (wiring_of t) l x) greeted) (λ l. where_so (is_end (wiring_of t) l x) 1 * greeted) (λ l h. where-scale (is_end (wiring_of t) l x) greeted),
+        total-same (length t.links) (λ l. where_so (is_end (wiring_of t) l x) greeted) (λ l. where_so (is_end (wiring_of t) l x) 1 * greeted)
+            (λ l h. where-scale (is_end (wiring_of t) l x) greeted),
         total-scale (length t.links) (λ l. where_so (is_end (wiring_of t) l x) 1) greeted,
       )
 
       all-most : ahead (wiring_of t) v c s ≤ ldp_messages t c s * (2 + length t.loopbacks * (4 * length t.links)) + length t.links * 2 * greeted
       all-most = omega (
         arith,
-        total-below (length t.loopbacks) (node_weight (wiring_of t) v c s) (λ x. total (length t.links) (unheard_on t c s x) * (2 + length t.loopbacks * (4 * length t.links)) + degree (wiring_of t) x * greeted) (λ x h. node-most x),
-        total-add (length t.loopbacks) (λ x. total (length t.links) (unheard_on t c s x) * (2 + length t.loopbacks * (4 * length t.links))) (λ x. degree (wiring_of t) x * greeted),
+        total-below (length t.loopbacks) (node_weight (wiring_of t) v c s)
+            (λ x. total (length t.links) (unheard_on t c s x) * (2 + length t.loopbacks * (4 * length t.links)) + degree (wiring_of t) x * greeted)
+            (λ x h. node-most x),
+        total-add (length t.loopbacks) (λ x. total (length t.links) (unheard_on t c s x) * (2 + length t.loopbacks * (4 * length t.links)))
+            (λ x. degree (wiring_of t) x * greeted),
         total-scale (length t.loopbacks) (λ x. total (length t.links) (unheard_on t c s x)) (2 + length t.loopbacks * (4 * length t.links)),
         total-scale (length t.loopbacks) (degree (wiring_of t)) greeted,
         times-up (total (length t.loopbacks) (degree (wiring_of t))) (length t.links * 2) greeted (degrees t v lawful 0),
@@ -88,5 +99,8 @@ module _ (t : Network) (lawful : IsLawful t) (v : View) where
       regroup : (m l p k : ℕ) → m * k + l * 2 * ((p + 3) * k) ≡ (m + l * 2 * (p + 3)) * k
       regroup m l p k = grind arith
 
-      finish : ahead (wiring_of t) v c s ≤ (ldp_messages t c s + length t.links * 2 * (length t.loopbacks + 3)) * (2 + length t.loopbacks * (4 * length t.links))
-      finish = subst (λ z. ahead (wiring_of t) v c s ≤ z) (regroup (ldp_messages t c s) (length t.links) (length t.loopbacks) (2 + length t.loopbacks * (4 * length t.links))) all-most
+      finish : ahead (wiring_of t) v c s ≤ (ldp_messages t c s + length t.links * 2 * (length t.loopbacks + 3))
+          * (2 + length t.loopbacks * (4 * length t.links))
+      finish =
+          subst (λ z. ahead (wiring_of t) v c s ≤ z) (regroup (ldp_messages t c s) (length t.links) (length t.loopbacks)
+            (2 + length t.loopbacks * (4 * length t.links))) all-most

@@ -1,5 +1,6 @@
 -- A drain takes no more steps than its bound.
-use Rattle.std.proofs.Common.{ℕ, zero, suc, ◌≡◌, ◌≢◌, ◌+◌, ◌*◌, ◌<◌, ◌≤◌, inl, inr, Bool, true, false, List, [], ◌∷◌, ◌++◌, map, length, drop, refl, arith, sym, ◌∙◌, ap, subst}
+use Rattle.std.proofs.Common.{ℕ, zero, suc, ◌≡◌, ◌≢◌, ◌+◌, ◌*◌, ◌<◌, ◌≤◌, inl, inr, Bool, true, false, List, [], ◌∷◌, ◌++◌, map, length, drop, refl, arith, sym}
+use Rattle.std.proofs.Common.{◌∙◌, ap, subst}
 use Rattle.std.specs.Prelude.{◌==◌, ◌&&◌, ◌||◌, ◌%◌, not, nat_lt, nat_le, slice_index_or}
 use Rattle.std.specs.List.{flat_map, list_all}
 use Rattle.std.proofs.lemmas.Bool.Decides.{eqb_tells, leb_tells, nat_tests}
@@ -15,7 +16,7 @@ use Rattle.mn_topo.specs.declared.steps.JournalEntry.{JournalEntry}
 use Rattle.mn_ledger.specs.World.{Config, Views, World, Address, Open, Telling}
 use Rattle.mn_ledger.specs.Transport.{lives, is_active, state_by, view_of, knowledge_of, answer, said_on, news, counted, with_said, sessions_after}
 use Rattle.mn_ledger.specs.Vpn as vpn
-use Rattle.mn_ledger.specs.Vpn.{peers_live, state_of, state_heard, reply, told_to, with_told, exports_of, peerings_after}
+use Rattle.mn_ledger.specs.Vpn.{peers_live, reply, told_to, with_told, exports_of, peerings_after}
 use Rattle.mn_ledger.specs.Places.{edges}
 use Rattle.mn_ledger.specs.Ledger.{after, no_packets, world_of}
 use Rattle.mn_ledger.specs.Lawful.{IsLawfulJournal}
@@ -26,7 +27,8 @@ use Rattle.mn_ledger.proofs.Peers.{live_sym, state_alive}
 use Rattle.mn_ledger.proofs.InTurn.{goes_step, in_turn}
 use Rattle.mn_drain.specs.Sums.{total, where_so}
 use Rattle.mn_drain.specs.Ahead.{ahead}
-use Rattle.mn_drain.specs.Drain.{AllLearned, IsDrainStep, IsDrain, notices, ldp_messages, is_direction, bgp_messages, directions, all_exports, messages, bound_of, drain_bound, greeting_length, told_ahead, bgp_ahead}
+use Rattle.mn_drain.specs.Drain.{AllLearned, IsDrainStep, IsDrain, notices, ldp_messages, is_direction, bgp_messages, directions, all_exports, messages}
+use Rattle.mn_drain.specs.Drain.{bound_of, drain_bound, greeting_length, told_ahead, bgp_ahead}
 use Rattle.mn_settled.proofs.Offering.{ends_below}
 use Rattle.mn_settled.proofs.Ways.{same-map}
 use Rattle.mn_drain.proofs.Hearing.{hearing-lowers}
@@ -52,11 +54,14 @@ abbrev known_view : Network → Views → View
 known_view t v = map (λ l. v.changes l % 2 == 1) (links_of (wiring_of t))
 
 one-view : (t : Network) (v : Views) (n : ℕ) → AllLearned t v → n < length t.loopbacks → view_of (wiring_of t) v n ≡ known_view t v
-one-view t v n all h = same-map (λ l. v.learned n l % 2 == 1) (λ l. v.changes l % 2 == 1) 0 (length t.links) (λ l g. ap (λ i. i % 2 == 1) (all n l h (omega (arith, g))))
+one-view t v n all h =
+    same-map (λ l. v.learned n l % 2 == 1) (λ l. v.changes l % 2 == 1) 0 (length t.links) (λ l g. ap (λ i. i % 2 == 1) (all n l h (omega (arith, g))))
 
 -- 1. A hearing of an LDP message
 
-ldp-lowers : (t : Network) (w : World) (l : _) (dir : _) → IsLawful t → IsInTurn t w → IsDrainStep t w (step.HearLdp l dir) → ahead (wiring_of t) (known_view t w.views) w.config (after t w (step.HearLdp l dir)).sessions + 1 ≤ ahead (wiring_of t) (known_view t w.views) w.config w.sessions
+ldp-lowers : (t : Network) (w : World) (l : _) (dir : _) → IsLawful t → IsInTurn t w → IsDrainStep t w (step.HearLdp l dir)
+    → ahead (wiring_of t) (known_view t w.views) w.config (after t w (step.HearLdp l dir)).sessions + 1
+    ≤ ahead (wiring_of t) (known_view t w.views) w.config w.sessions
 unfolding sessions_after
 ldp-lowers t w l dir lawful g d =
     let there : l.0 < length t.links = less-is l.0 (length t.links) d.fitting in
@@ -64,18 +69,25 @@ ldp-lowers t w l dir lawful g d =
     let n : ℕ = receiver (wiring_of t) l.0 dir in
     let parts = or_both _ _ d.there in
     let alive : lives w.config l.0 ≡ true = not_false _ parts.0 in
-    let more : w.sessions.heard l.0 n < length (w.sessions.said l.0 (across (wiring_of t) l.0 n)) = subst (λ m. w.sessions.heard l.0 n < length (w.sessions.said l.0 m)) (sym ends.1) (above _ _ parts.1) in
-    subst (λ m. ahead (wiring_of t) (known_view t w.views) w.config (with_said (counted t w.sessions (step.HearLdp l dir)) (said_on l.0 n (answer (state_by (is_active t l.0 n) (w.sessions.heard l.0 n)) (slice_index_or (w.sessions.said l.0 m) (w.sessions.heard l.0 n) Address))
-    ++ flat_map (λ x. news (wiring_of t) (knowledge_of (wiring_of t) w.config w.views w.sessions x) (knowledge_of (wiring_of t) w.config w.views (counted t w.sessions (step.HearLdp l dir)) x) x) (nodes_of (wiring_of t)))) + 1
+    let more : w.sessions.heard l.0 n < length (w.sessions.said l.0 (across (wiring_of t) l.0 n)) = subst (λ m. w.sessions.heard l.0 n < length
+        (w.sessions.said l.0 m)) (sym ends.1) (above _ _ parts.1) in
+    subst (λ m. ahead (wiring_of t) (known_view t w.views) w.config
+        (with_said (counted t w.sessions (step.HearLdp l dir))
+        (said_on l.0 n (answer (state_by (is_active t l.0 n) (w.sessions.heard l.0 n))
+        (slice_index_or (w.sessions.said l.0 m) (w.sessions.heard l.0 n) Address))
+    ++ flat_map (λ x. news (wiring_of t) (knowledge_of (wiring_of t) w.config w.views w.sessions x)
+        (knowledge_of (wiring_of t) w.config w.views (counted t w.sessions (step.HearLdp l dir)) x) x) (nodes_of (wiring_of t)))) + 1
     ≤ ahead (wiring_of t) (known_view t w.views) w.config w.sessions) ends.1
-    (hearing-lowers t lawful w.config w.views w.sessions (known_view t w.views) l.0 n there ends.0 alive more g.ldp (one-view t w.views n d.in_turn (ends_below t lawful.joins_nodes l.0 n there ends.0)))
+    (hearing-lowers t lawful w.config w.views w.sessions (known_view t w.views) l.0 n there ends.0 alive more g.ldp
+        (one-view t w.views n d.in_turn (ends_below t lawful.joins_nodes l.0 n there ends.0)))
 
 -- 2. A hearing of a BGP message
 
 at-node : (k : ℕ) (vs : List VrfDef) (e : ℕ) → list_all (is_vrf_of k) vs ≡ true → is_edge vs e ≡ true → e < k
 at-node k [] e all h = absurd (clash (sym h))
 at-node k (x ∷ vs) e all h = elim (eqb_tells e x.node.0) [
-  | inl q ↦ subst (λ n. n < k) (sym q.1) (less-is x.node.0 k (and-both (nat_lt x.node.0 k) (has_rd_form x.rd.0) (and-both (is_vrf_of k x) (list_all (is_vrf_of k) vs) all).0).0)
+  | inl q ↦ subst (λ n. n < k) (sym q.1) (less-is x.node.0 k
+      (and-both (nat_lt x.node.0 k) (has_rd_form x.rd.0) (and-both (is_vrf_of k x) (list_all (is_vrf_of k) vs) all).0).0)
   | inr q ↦ at-node k vs e (and-both (is_vrf_of k x) (list_all (is_vrf_of k) vs) all).1 (sym (ap (λ b. b || is_edge vs e) q.0) ∙ h)
 ]
 
@@ -88,12 +100,14 @@ unequal a b h e = clash (sym h ∙ ap not (elim (eqb_tells a b) [ inl q ↦ q.0 
 pub differs : (a b : ℕ) → a ≢ b → (a == b) ≡ false
 differs a b d = elim (eqb_tells a b) [ inl q ↦ absurd (d q.1) | inr q ↦ q.0 ]
 
-direction-on : (t : Network) (c : Config) (a b : ℕ) → is_edge t.vrfs a ≡ true → is_edge t.vrfs b ≡ true → a ≢ b → peers_live c a b ≡ true → is_direction t c a b ≡ true
+direction-on : (t : Network) (c : Config) (a b : ℕ) → is_edge t.vrfs a ≡ true → is_edge t.vrfs b ≡ true → a ≢ b → peers_live c a b ≡ true
+    → is_direction t c a b ≡ true
 direction-on t c a b ea eb d live =
     ap (λ x. (x && is_edge t.vrfs b) && (not (a == b) && peers_live c a b)) ea ∙ ap (λ x. x && (not (a == b) && peers_live c a b)) eb
     ∙ ap (λ x. not x && peers_live c a b) (differs a b d) ∙ live
 
-bgp-lowers : (t : Network) (w : World) (a b : _) → IsLawful t → IsInTurn t w → IsDrainStep t w (step.HearBgp a b) → bgp_ahead t w.config (after t w (step.HearBgp a b)).peerings + 1 ≤ bgp_ahead t w.config w.peerings
+bgp-lowers : (t : Network) (w : World) (a b : _) → IsLawful t → IsInTurn t w → IsDrainStep t w (step.HearBgp a b)
+    → bgp_ahead t w.config (after t w (step.HearBgp a b)).peerings + 1 ≤ bgp_ahead t w.config w.peerings
 unfolding peerings_after
 bgp-lowers t w a b lawful g d =
     let fit = and-both (is_edge t.vrfs a.0 && is_edge t.vrfs b.0) (not (a.0 == b.0)) d.fitting in
@@ -103,10 +117,13 @@ bgp-lowers t w a b lawful g d =
     let alive : peers_live w.config a.0 b.0 ≡ true = not_false _ parts.0 in
     let back : peers_live w.config b.0 a.0 ≡ true = sym (live_sym w.config a.0 b.0 apart) ∙ alive in
     let message : Telling = slice_index_or (w.peerings.told a.0 b.0) (w.peerings.heard b.0 a.0) Open in
-    subst (λ st. bgp_ahead t w.config (with_told (vpn.counted w.peerings (step.HearBgp a b)) (told_to b.0 a.0 (reply st message (exports_of t w.config b.0)) ++ flat_map (vpn.news t w.config w.peerings w.config (vpn.counted w.peerings (step.HearBgp a b))) (edges t))) + 1 ≤ bgp_ahead t w.config w.peerings)
+    subst (λ st. bgp_ahead t w.config (with_told (vpn.counted w.peerings (step.HearBgp a b))
+        (told_to b.0 a.0 (reply st message (exports_of t w.config b.0))
+        ++ flat_map (vpn.news t w.config w.peerings w.config (vpn.counted w.peerings (step.HearBgp a b))) (edges t))) + 1 ≤ bgp_ahead t w.config w.peerings)
     (sym (state_alive w.config w.peerings b.0 a.0 back))
     (telling-lowers t w.config w.peerings a.0 b.0 message apart (edge-below t lawful a.0 both.0) (edge-below t lawful b.0 both.1)
-    (direction-on t w.config a.0 b.0 both.0 both.1 apart alive) (direction-on t w.config b.0 a.0 both.1 both.0 (λ e. apart (sym e)) back) (above _ _ parts.1) g.bgp)
+    (direction-on t w.config a.0 b.0 both.0 both.1 apart alive) (direction-on t w.config b.0 a.0 both.1 both.0 (λ e. apart (sym e)) back)
+        (above _ _ parts.1) g.bgp)
 
 -- 3. While messages are heard
 
@@ -129,7 +146,8 @@ hear-phase t (step.Learn node l ∷ ss) w lawful g all d =
     let fit = and-both (nat_lt node.0 (length t.loopbacks)) (nat_lt l.0 (length t.links)) d.0.fitting in
     absurd (nothing-less node.0 l.0 w.views (all node.0 l.0 (less-is node.0 (length t.loopbacks) fit.0) (less-is l.0 (length t.links) fit.1)) d.0.there)
 hear-phase t (step.HearLdp l dir ∷ ss) w lawful g all d =
-    omega (arith, ldp-lowers t w l dir lawful g d.0, hear-phase t ss (after t w (step.HearLdp l dir)) lawful (goes-on t w (step.HearLdp l dir) lawful g d.0) all d.1)
+    omega (arith, ldp-lowers t w l dir lawful g d.0, hear-phase t ss (after t w (step.HearLdp l dir)) lawful
+        (goes-on t w (step.HearLdp l dir) lawful g d.0) all d.1)
 hear-phase t (step.HearBgp a b ∷ ss) w lawful g all d =
     omega (arith, bgp-lowers t w a b lawful g d.0, hear-phase t ss (after t w (step.HearBgp a b)) lawful (goes-on t w (step.HearBgp a b) lawful g d.0) all d.1)
 hear-phase t (step.LinkUp l ∷ ss) w lawful g all d = absurd d.0.in_turn
@@ -152,7 +170,8 @@ hear-phase t (step.Lose l dir place ∷ ss) w lawful g all d = absurd d.0.in_tur
 -- what the whole drain takes at most, but for BGP
 abbrev transport_bound : Network → World → ℕ
 transport_bound t w =
-    notices t w.views + ((ldp_messages t w.config w.sessions + notices t w.views * (length t.links * length t.loopbacks)) + length t.links * 2 * (length t.loopbacks + 3)) * (2 + length t.loopbacks * (4 * length t.links))
+    notices t w.views + ((ldp_messages t w.config w.sessions + notices t w.views * (length t.links * length t.loopbacks)) + length t.links * 2
+        * (length t.loopbacks + 3)) * (2 + length t.loopbacks * (4 * length t.links))
 
 learn-less : (q p m n e k z : ℕ) → p + 1 ≤ q → n ≤ m + e → p + ((n + p * e) + k) * z + 1 ≤ q + ((m + q * e) + k) * z
 learn-less q p m n e k z h g = omega (arith, h, times-up ((n + p * e) + k) ((m + q * e) + k) z (omega (arith, g, times-up (p + 1) q e h, one-more)))
@@ -160,15 +179,19 @@ learn-less q p m n e k z h g = omega (arith, h, times-up ((n + p * e) + k) ((m +
     one-more : (p + 1) * e ≡ p * e + e
     one-more = grind arith
 
-hear-less : (t : Network) (ss : List Step) (w : World) → IsLawful t → IsInTurn t w → AllLearned t w.views → IsDrain t w ss → length ss ≤ transport_bound t w + bgp_ahead t w.config w.peerings
+hear-less : (t : Network) (ss : List Step) (w : World) → IsLawful t → IsInTurn t w → AllLearned t w.views → IsDrain t w ss
+    → length ss ≤ transport_bound t w + bgp_ahead t w.config w.peerings
 hear-less t ss w lawful g all d = omega (
   arith,
   hear-phase t ss w lawful g all d,
   ahead-most t lawful (known_view t w.views) w.config w.sessions,
-  times-up (ldp_messages t w.config w.sessions + length t.links * 2 * (length t.loopbacks + 3)) ((ldp_messages t w.config w.sessions + notices t w.views * (length t.links * length t.loopbacks)) + length t.links * 2 * (length t.loopbacks + 3)) (2 + length t.loopbacks * (4 * length t.links)) (omega arith),
+  times-up (ldp_messages t w.config w.sessions + length t.links * 2 * (length t.loopbacks + 3))
+      ((ldp_messages t w.config w.sessions + notices t w.views * (length t.links * length t.loopbacks)) + length t.links * 2 * (length t.loopbacks + 3))
+      (2 + length t.loopbacks * (4 * length t.links)) (omega arith),
 )
 
-drain-less : (t : Network) (ss : List Step) (w : World) → IsLawful t → IsInTurn t w → IsDrain t w ss → length ss ≤ transport_bound t w + bgp_ahead t w.config w.peerings
+drain-less : (t : Network) (ss : List Step) (w : World) → IsLawful t → IsInTurn t w → IsDrain t w ss
+    → length ss ≤ transport_bound t w + bgp_ahead t w.config w.peerings
 unfolding sessions_after peerings_after
 drain-less t [] w lawful g d = omega arith
 drain-less t (step.Learn node l ∷ ss) w lawful g d =
@@ -180,8 +203,10 @@ drain-less t (step.Learn node l ∷ ss) w lawful g d =
     omega (
       arith,
       drain-less t ss (after t w (step.Learn node l)) lawful (goes-on t w (step.Learn node l) lawful g d.0) d.1,
-      learn-less (notices t w.views) (notices t then_world.views) (ldp_messages t w.config w.sessions) (ldp_messages t w.config then_world.sessions) (length t.links * length t.loopbacks) (length t.links * 2 * (length t.loopbacks + 3)) (2 + length t.loopbacks * (4 * length t.links))
-          (notices-fall t lawful w.config w.views w.sessions node.0 l.0 hn hl g.ldp less) (messages-grow t lawful w.config w.views w.sessions node.0 l.0 hn hl g.ldp),
+      learn-less (notices t w.views) (notices t then_world.views) (ldp_messages t w.config w.sessions) (ldp_messages t w.config then_world.sessions)
+          (length t.links * length t.loopbacks) (length t.links * 2 * (length t.loopbacks + 3)) (2 + length t.loopbacks * (4 * length t.links))
+          (notices-fall t lawful w.config w.views w.sessions node.0 l.0 hn hl g.ldp less)
+              (messages-grow t lawful w.config w.views w.sessions node.0 l.0 hn hl g.ldp),
     )
 drain-less t (step.HearLdp l dir ∷ ss) w lawful g d = hear-less t (step.HearLdp l dir ∷ ss) w lawful g d.0.in_turn d
 drain-less t (step.HearBgp a b ∷ ss) w lawful g d = hear-less t (step.HearBgp a b ∷ ss) w lawful g d.0.in_turn d
@@ -211,29 +236,37 @@ where-both : (b : Bool) (x y k : ℕ) → x ≤ y + k → where_so b x ≤ where
 where-both true x y k h = omega (arith, h)
 where-both false x y k h = omega arith
 
-bgp-most : (t : Network) (w : World) → bgp_ahead t w.config w.peerings ≤ bgp_messages t w.config w.peerings + directions t w.config * (all_exports t w.config + 2)
+bgp-most : (t : Network) (w : World) → bgp_ahead t w.config w.peerings
+    ≤ bgp_messages t w.config w.peerings + directions t w.config * (all_exports t w.config + 2)
 bgp-most t w = omega (
   arith,
   total-below (length t.loopbacks) (λ a. total (length t.loopbacks) (λ b. where_so (is_direction t w.config a b) (told_ahead t w.config w.peerings a b)))
-      (λ a. total (length t.loopbacks) (heard_less a) + total (length t.loopbacks) (λ b. where_so (is_direction t w.config a b) 1) * (all_exports t w.config + 2)) row,
-  total-add (length t.loopbacks) (λ a. total (length t.loopbacks) (heard_less a)) (λ a. total (length t.loopbacks) (λ b. where_so (is_direction t w.config a b) 1) * (all_exports t w.config + 2)),
+      (λ a. total (length t.loopbacks) (heard_less a) + total (length t.loopbacks)
+          (λ b. where_so (is_direction t w.config a b) 1) * (all_exports t w.config + 2)) row,
+  total-add (length t.loopbacks) (λ a. total (length t.loopbacks) (heard_less a))
+      (λ a. total (length t.loopbacks) (λ b. where_so (is_direction t w.config a b) 1) * (all_exports t w.config + 2)),
   total-scale (length t.loopbacks) (λ a. total (length t.loopbacks) (λ b. where_so (is_direction t w.config a b) 1)) (all_exports t w.config + 2),
 )
   where
     heard_less : ℕ → ℕ → ℕ
     heard_less a b = where_so (is_direction t w.config a b) (length (drop (w.peerings.heard b a) (w.peerings.told a b)))
 
-    row : (a : ℕ) → a < length t.loopbacks → total (length t.loopbacks) (λ b. where_so (is_direction t w.config a b) (told_ahead t w.config w.peerings a b)) ≤ total (length t.loopbacks) (heard_less a) + total (length t.loopbacks) (λ b. where_so (is_direction t w.config a b) 1) * (all_exports t w.config + 2)
+    row : (a : ℕ) → a < length t.loopbacks → total (length t.loopbacks) (λ b. where_so (is_direction t w.config a b) (told_ahead t w.config w.peerings a b))
+        ≤ total (length t.loopbacks) (heard_less a) + total (length t.loopbacks) (λ b. where_so (is_direction t w.config a b) 1) * (all_exports t w.config + 2)
     row a h = omega (
       arith,
-      total-below (length t.loopbacks) (λ b. where_so (is_direction t w.config a b) (told_ahead t w.config w.peerings a b)) (λ b. heard_less a b + where_so (is_direction t w.config a b) 1 * (all_exports t w.config + 2))
-          (λ b g. where-both (is_direction t w.config a b) (told_ahead t w.config w.peerings a b) (length (drop (w.peerings.heard b a) (w.peerings.told a b))) (all_exports t w.config + 2)
-          (omega (arith, greeting-most (w.peerings.heard a b) (length (exports_of t w.config a)), total-one (length t.loopbacks) (λ e. length (exports_of t w.config e)) a h))),
+      total-below (length t.loopbacks) (λ b. where_so (is_direction t w.config a b) (told_ahead t w.config w.peerings a b))
+          (λ b. heard_less a b + where_so (is_direction t w.config a b) 1 * (all_exports t w.config + 2))
+          (λ b g. where-both (is_direction t w.config a b) (told_ahead t w.config w.peerings a b) (length (drop (w.peerings.heard b a) (w.peerings.told a b)))
+              (all_exports t w.config + 2)
+          (omega (arith, greeting-most (w.peerings.heard a b) (length (exports_of t w.config a)),
+              total-one (length t.loopbacks) (λ e. length (exports_of t w.config e)) a h))),
       total-add (length t.loopbacks) (heard_less a) (λ b. where_so (is_direction t w.config a b) 1 * (all_exports t w.config + 2)),
       total-scale (length t.loopbacks) (λ b. where_so (is_direction t w.config a b) 1) (all_exports t w.config + 2),
     )
 
-sum-most : (q m b l p x : ℕ) → (q + ((m + q * (l * p)) + l * 2 * (p + 3)) * (2 + p * (4 * l))) + (b + x) ≤ q + 2 * (m + b + q * p * l + 2 * l * (p + 3)) * (1 + 2 * l * p) + x
+sum-most : (q m b l p x : ℕ) → (q + ((m + q * (l * p)) + l * 2 * (p + 3)) * (2 + p * (4 * l))) + (b + x)
+    ≤ q + 2 * (m + b + q * p * l + 2 * l * (p + 3)) * (1 + 2 * l * p) + x
 sum-most q m b l p x = omega (arith, regroup, more)
   where
     regroup : 2 * (m + b + q * p * l + 2 * l * (p + 3)) * (1 + 2 * l * p) ≡ ((m + q * (l * p)) + l * 2 * (p + 3)) * (2 + p * (4 * l)) + b * (2 + p * (4 * l))
@@ -242,19 +275,24 @@ sum-most q m b l p x = omega (arith, regroup, more)
     more : b ≤ b * (2 + p * (4 * l))
     more = grind arith
 
-more-messages : (q m k l p x : ℕ) → m ≤ k → q + 2 * (m + q * p * l + 2 * l * (p + 3)) * (1 + 2 * l * p) + x ≤ q + 2 * (k + q * p * l + 2 * l * (p + 3)) * (1 + 2 * l * p) + x
-more-messages q m k l p x h = omega (arith, times-up (2 * (m + q * p * l + 2 * l * (p + 3))) (2 * (k + q * p * l + 2 * l * (p + 3))) (1 + 2 * l * p) (omega (arith, h)))
+more-messages : (q m k l p x : ℕ) → m ≤ k → q + 2 * (m + q * p * l + 2 * l * (p + 3)) * (1 + 2 * l * p) + x
+    ≤ q + 2 * (k + q * p * l + 2 * l * (p + 3)) * (1 + 2 * l * p) + x
+more-messages q m k l p x h =
+    omega (arith, times-up (2 * (m + q * p * l + 2 * l * (p + 3))) (2 * (k + q * p * l + 2 * l * (p + 3))) (1 + 2 * l * p) (omega (arith, h)))
 
-pub drain_is_bounded : (t : Network) (es : List JournalEntry) (ps : List (List ℕ)) (ss : List Step) → IsLawful t → IsLawfulJournal t es ps → IsDrain t (world_of t es) ss → length ss ≤ drain_bound t (world_of t es)
+pub drain_is_bounded : (t : Network) (es : List JournalEntry) (ps : List (List ℕ)) (ss : List Step) → IsLawful t → IsLawfulJournal t es ps
+    → IsDrain t (world_of t es) ss → length ss ≤ drain_bound t (world_of t es)
 drain_is_bounded t es ps ss lawful journal d =
     let w : World = world_of t es in
     let bgp : ℕ = directions t w.config * (all_exports t w.config + 2) in
     let own : ℕ = ldp_messages t w.config w.sessions + bgp_messages t w.config w.peerings in
-    subst (λ q. length ss ≤ bound_of q (messages t w) (length t.links) (length t.loopbacks) (directions t w.config) (all_exports t w.config)) (sym (notices-are t w.views))
+    subst (λ q. length ss ≤ bound_of q (messages t w) (length t.links) (length t.loopbacks) (directions t w.config) (all_exports t w.config))
+        (sym (notices-are t w.views))
     (omega (
       arith,
       drain-less t ss w lawful (in_turn t es ps lawful journal) d,
       bgp-most t w,
       sum-most (notices t w.views) (ldp_messages t w.config w.sessions) (bgp_messages t w.config w.peerings) (length t.links) (length t.loopbacks) bgp,
-      more-messages (notices t w.views) own (messages t w) (length t.links) (length t.loopbacks) bgp (omega (arith, ldp-most t lawful w.config w.sessions, bgp-most-told t w.config w.peerings)),
+      more-messages (notices t w.views) own (messages t w) (length t.links) (length t.loopbacks) bgp
+          (omega (arith, ldp-most t lawful w.config w.sessions, bgp-most-told t w.config w.peerings)),
     ))

@@ -76,20 +76,25 @@ drain-config t (s ∷ ss) w d = drain-config t ss (after t w s) d.1 ∙ same-con
 -- 2. At its end
 
 all-learned : (t : Network) (w : World) → IsInTurn t w → IsDrained t w → AllLearned t w.views
-all-learned t w g done node l hn hl = both-ends (w.views.learned node l) (w.views.changes l) (g.learned node l) (λ less. done (step.Learn (record { 0 = node }) (record { 0 = l })) (record {
+all-learned t w g done node l hn hl =
+    both-ends (w.views.learned node l) (w.views.changes l) (g.learned node l) (λ less. done (step.Learn (record { 0 = node }) (record { 0 = l })) (record {
   fitting = ap (λ b. b && nat_lt l (length t.links)) (less-test node (length t.loopbacks) hn) ∙ less-test l (length t.links) hl;
   there = not-reached (w.views.learned node l) (w.views.changes l) less;
   in_turn = tt;
 }))
 
-hears-end : (t : Network) (w : World) → IsLawful t → IsDrained t w → AllLearned t w.views → (l : ℕ) (dir : Dir) → l < length t.links → lives w.config l ≡ true → w.sessions.heard l (receiver (wiring_of t) l dir) < length (w.sessions.said l (sender (wiring_of t) l dir)) → ⊥
+hears-end : (t : Network) (w : World) → IsLawful t → IsDrained t w → AllLearned t w.views → (l : ℕ) (dir : Dir) → l < length t.links → lives w.config l ≡ true
+    → w.sessions.heard l (receiver (wiring_of t) l dir) < length (w.sessions.said l (sender (wiring_of t) l dir)) → ⊥
 hears-end t w lawful done all l dir h alive less = done (step.HearLdp (record { 0 = l }) dir) (record {
   fitting = less-test l (length t.links) h;
-  there = ap (λ b. not b || nat_le (length (w.sessions.said l (sender (wiring_of t) l dir))) (w.sessions.heard l (receiver (wiring_of t) l dir))) alive ∙ not-reached (w.sessions.heard l (receiver (wiring_of t) l dir)) (length (w.sessions.said l (sender (wiring_of t) l dir))) less;
+  there =
+      ap (λ b. not b || nat_le (length (w.sessions.said l (sender (wiring_of t) l dir))) (w.sessions.heard l (receiver (wiring_of t) l dir))) alive
+        ∙ not-reached (w.sessions.heard l (receiver (wiring_of t) l dir)) (length (w.sessions.said l (sender (wiring_of t) l dir))) less;
   in_turn = all;
 })
 
-all-heard : (t : Network) (w : World) → IsLawful t → IsDrained t w → AllLearned t w.views → (l node : ℕ) → l < length t.links → is_end (wiring_of t) l node ≡ true → lives w.config l ≡ true → w.sessions.heard l node < length (w.sessions.said l (across (wiring_of t) l node)) → ⊥
+all-heard : (t : Network) (w : World) → IsLawful t → IsDrained t w → AllLearned t w.views → (l node : ℕ) → l < length t.links
+    → is_end (wiring_of t) l node ≡ true → lives w.config l ≡ true → w.sessions.heard l node < length (w.sessions.said l (across (wiring_of t) l node)) → ⊥
 all-heard t w lawful done all l node h e alive less = elim (end_is (wiring_of t) l node e) [
   | inl q ↦ by_dir Back q
   | inr q ↦ by_dir Forth q
@@ -102,10 +107,13 @@ all-heard t w lawful done all l node h e alive less = elim (end_is (wiring_of t)
         (subst (λ n. w.sessions.heard l (receiver (wiring_of t) l dir) < length (w.sessions.said l n)) ends.1
         (subst (λ n. w.sessions.heard l n < length (w.sessions.said l (across (wiring_of t) l n))) (sym q) less))
 
-all-told : (t : Network) (w : World) → IsDrained t w → AllLearned t w.views → (one other : ℕ) → one ≢ other → is_edge t.vrfs one ≡ true → is_edge t.vrfs other ≡ true → peers_live w.config one other ≡ true → w.peerings.heard one other < length (w.peerings.told other one) → ⊥
+all-told : (t : Network) (w : World) → IsDrained t w → AllLearned t w.views → (one other : ℕ) → one ≢ other → is_edge t.vrfs one ≡ true
+    → is_edge t.vrfs other ≡ true → peers_live w.config one other ≡ true → w.peerings.heard one other < length (w.peerings.told other one) → ⊥
 all-told t w done all one other d e f live less = done (step.HearBgp (record { 0 = other }) (record { 0 = one })) (record {
   fitting = ap (λ b. (b && is_edge t.vrfs one) && not (other == one)) f ∙ ap (λ b. b && not (other == one)) e ∙ ap not (differs other one (λ q. d (sym q)));
-  there = ap (λ b. not b || nat_le (length (w.peerings.told other one)) (w.peerings.heard one other)) (sym (live_sym w.config one other d) ∙ live) ∙ not-reached (w.peerings.heard one other) (length (w.peerings.told other one)) less;
+  there =
+      ap (λ b. not b || nat_le (length (w.peerings.told other one)) (w.peerings.heard one other)) (sym (live_sym w.config one other d) ∙ live)
+        ∙ not-reached (w.peerings.heard one other) (length (w.peerings.told other one)) less;
   in_turn = all;
 })
 
@@ -115,12 +123,18 @@ settles t w lawful g done on =
     record {
       learned = all;
       switched = on.switched;
-      heard = λ l node h e alive. both-ends (w.sessions.heard l node) (length (w.sessions.said l (across (wiring_of t) l node))) (g.ldp l node h e).heard (all-heard t w lawful done all l node h e alive);
+      heard =
+          λ l node h e alive. both-ends (w.sessions.heard l node) (length (w.sessions.said l (across (wiring_of t) l node))) (g.ldp l node h e).heard
+            (all-heard t w lawful done all l node h e alive);
       peered = on.peered;
-      told = λ one other d e f. both-ends (w.peerings.heard one other) (length (w.peerings.told other one)) (g.bgp one other d).heard (all-told t w done all one other d e f (on.peered one other d e f));
+      told =
+          λ one other d e f. both-ends (w.peerings.heard one other) (length (w.peerings.told other one)) (g.bgp one other d).heard
+            (all-told t w done all one other d e f (on.peered one other d e f));
     }
 
-pub drained_is_settled : (t : Network) (es : List JournalEntry) (ps : List (List ℕ)) (ss : List Step) → IsLawful t → IsLawfulJournal t es ps → IsDrain t (world_of t es) ss → IsDrained t (after_steps t (world_of t es) ss) → IsSwitchedOn t (world_of t es).config → IsSettled t (after_steps t (world_of t es) ss)
+pub drained_is_settled : (t : Network) (es : List JournalEntry) (ps : List (List ℕ)) (ss : List Step) → IsLawful t → IsLawfulJournal t es ps
+    → IsDrain t (world_of t es) ss → IsDrained t (after_steps t (world_of t es) ss) → IsSwitchedOn t (world_of t es).config
+    → IsSettled t (after_steps t (world_of t es) ss)
 drained_is_settled t es ps ss lawful journal d done on =
     settles t (after_steps t (world_of t es) ss) lawful (drain-goes t ss (world_of t es) lawful (in_turn t es ps lawful journal) d) done
     (subst (IsSwitchedOn t) (sym (drain-config t ss (world_of t es) d)) on)
@@ -134,7 +148,8 @@ settled_is_drained t w lawful settled (step.HearLdp l dir) d =
     let there : l.0 < length t.links = less-is l.0 (length t.links) d.fitting in
     let ends = dir_ends (wiring_of t) l.0 dir (lawful.ends_differ l.0 there) in
     let parts = or_both _ _ d.there in
-    equal-not-less (settled.heard l.0 (receiver (wiring_of t) l.0 dir) there ends.0 (not_false _ parts.0) ∙ ap (λ m. length (w.sessions.said l.0 m)) ends.1) parts.1
+    equal-not-less (settled.heard l.0 (receiver (wiring_of t) l.0 dir) there ends.0 (not_false _ parts.0) ∙ ap (λ m. length (w.sessions.said l.0 m)) ends.1)
+        parts.1
 settled_is_drained t w lawful settled (step.HearBgp a b) d =
     let fit = and-both (is_edge t.vrfs a.0 && is_edge t.vrfs b.0) (not (a.0 == b.0)) d.fitting in
     let both = and-both (is_edge t.vrfs a.0) (is_edge t.vrfs b.0) fit.0 in
@@ -164,7 +179,8 @@ world_after_drain t es more = world-from-steps t more (world_of t es) ∙ sym (w
 
 -- 4. A journal that isn't full takes each step of a drain
 
-pub drain_is_lawful : (t : Network) (w : World) (k : Packets) (count : ℕ) (s : Step) (b : List ℕ) → nat_le 4000000 count ≡ false → IsDrainStep t w s → refusal_at t w k count s b ≡ None
+pub drain_is_lawful : (t : Network) (w : World) (k : Packets) (count : ℕ) (s : Step) (b : List ℕ) → nat_le 4000000 count ≡ false → IsDrainStep t w s
+    → refusal_at t w k count s b ≡ None
 drain_is_lawful t w k count (step.Learn n l) b room d = rw (d.there, room) refl
 drain_is_lawful t w k count (step.HearLdp l dir) b room d = rw (d.there, room) refl
 drain_is_lawful t w k count (step.HearBgp x y) b room d = rw (d.there, room) refl

@@ -1,5 +1,6 @@
 -- Where a node learns of a change, a notice less is in flight, and no more messages than one for each FEC and link.
-use Rattle.std.proofs.Common.{ℕ, ◌≡◌, ◌≢◌, ◌+◌, ◌-◌, ◌*◌, ◌<◌, ◌≤◌, inl, inr, Bool, true, false, List, [], ◌∷◌, ◌++◌, map, length, drop, refl, arith, sym, ◌∙◌, ap, subst}
+use Rattle.std.proofs.Common.{ℕ, ◌≡◌, ◌≢◌, ◌+◌, ◌-◌, ◌*◌, ◌<◌, ◌≤◌, inl, inr, Bool, true, false, List, [], ◌∷◌, ◌++◌, map, length, drop, refl, arith, sym, ◌∙◌}
+use Rattle.std.proofs.Common.{ap, subst}
 use Rattle.std.specs.Prelude.{◌==◌, ◌&&◌, ◌%◌}
 use Rattle.std.specs.List.{flat_map}
 use Rattle.std.proofs.lemmas.List.{drop-append-le, length-append}
@@ -39,22 +40,27 @@ where-plus true true x y z h = h refl
 where-plus true false x y z h = omega arith
 where-plus false b x y z h = omega arith
 
-module _ (t : Network) (lawful : IsLawful t) (c : Config) (v : Views) (s : Sessions) (n l : ℕ) (hn : n < length t.loopbacks) (hl : l < length t.links) (go : EndsAreInTurn t c s) where
+module _ (t : Network) (lawful : IsLawful t) (c : Config) (v : Views) (s : Sessions) (n l : ℕ) (hn : n < length t.loopbacks) (hl : l < length t.links)
+    (go : EndsAreInTurn t c s) where
   abbrev views_then : Views
   views_then = record v { learned = put_pair v.learned n l (v.learned n l + 1) }
 
   -- 1. Notices
 
   pub notices-fall : v.learned n l < v.changes l → notices t views_then + 1 ≤ notices t v
-  notices-fall less = omega (arith, total-but-one (length t.loopbacks) (λ x. total (length t.links) (λ j. v.changes j - v.learned x j)) (λ x. total (length t.links) (λ j. v.changes j - put_pair v.learned n l (v.learned n l + 1) x j)) n 1 0 hn others here)
+  notices-fall less =
+      omega (arith, total-but-one (length t.loopbacks) (λ x. total (length t.links) (λ j. v.changes j - v.learned x j))
+        (λ x. total (length t.links) (λ j. v.changes j - put_pair v.learned n l (v.learned n l + 1) x j)) n 1 0 hn others here)
     where
       same : {x y : ℕ} → x ≡ y → x ≤ y
       same e = omega (arith, e)
 
-      others : (x : ℕ) → x < length t.loopbacks → x ≢ n → total (length t.links) (λ j. v.changes j - put_pair v.learned n l (v.learned n l + 1) x j) ≤ total (length t.links) (λ j. v.changes j - v.learned x j)
+      others : (x : ℕ) → x < length t.loopbacks → x ≢ n → total (length t.links) (λ j. v.changes j - put_pair v.learned n l (v.learned n l + 1) x j)
+          ≤ total (length t.links) (λ j. v.changes j - v.learned x j)
       others x h d = total-below (length t.links) _ _ (λ j g. same (ap (λ i. v.changes j - i) (pair_off v.learned n l (v.learned n l + 1) x j (inl d))))
 
-      here : total (length t.links) (λ j. v.changes j - put_pair v.learned n l (v.learned n l + 1) n j) + 1 ≤ total (length t.links) (λ j. v.changes j - v.learned n j) + 0
+      here : total (length t.links) (λ j. v.changes j - put_pair v.learned n l (v.learned n l + 1) n j) + 1
+          ≤ total (length t.links) (λ j. v.changes j - v.learned n j) + 0
       here = total-but-one (length t.links) (λ j. v.changes j - v.learned n j) (λ j. v.changes j - put_pair v.learned n l (v.learned n l + 1) n j) l 1 0 hl
           (λ j g d. same (ap (λ i. v.changes j - i) (pair_off v.learned n l (v.learned n l + 1) n j (inr d))))
           (omega (arith, ap (λ i. v.changes l - i) (pair_here v.learned n l (v.learned n l + 1)), less))
@@ -74,10 +80,13 @@ module _ (t : Network) (lawful : IsLawful t) (c : Config) (v : Views) (s : Sessi
   unfolding knowledge_of
   known-same x d =
       ap (λ (view : View). record { view = view; hearings = map (hearing_at (wiring_of t) c s x) (links_of (wiring_of t)) })
-      (same-map (λ j. v.learned x j % 2 == 1) (λ j. put_pair v.learned n l (v.learned n l + 1) x j % 2 == 1) 0 (length t.links) (λ j h. ap (λ i. i % 2 == 1) (sym (pair_off v.learned n l (v.learned n l + 1) x j (inl d)))))
+      (same-map (λ j. v.learned x j % 2 == 1) (λ j. put_pair v.learned n l (v.learned n l + 1) x j % 2 == 1) 0 (length t.links)
+          (λ j h. ap (λ i. i % 2 == 1) (sym (pair_off v.learned n l (v.learned n l + 1) x j (inl d)))))
 
   abbrev fec_count : ℕ → ℕ → ℕ → ℕ
-  fec_count x j q = one_fec (wiring_of t) one (λ p. 1) (λ p. refl) (λ p. refl) (before x) (after x) j x q (offers (wiring_of t) (before x) x q) (offers (wiring_of t) (after x) x q)
+  fec_count x j q =
+      one_fec (wiring_of t) one (λ p. 1) (λ p. refl) (λ p. refl) (before x) (after x) j x q (offers (wiring_of t) (before x) x q)
+        (offers (wiring_of t) (after x) x q)
 
   said-most : (x j : ℕ) → length (messages_of j x told) ≤ total (length t.loopbacks) (fec_count x j)
   said-most x j = omega (
@@ -92,7 +101,8 @@ module _ (t : Network) (lawful : IsLawful t) (c : Config) (v : Views) (s : Sessi
     arith,
     said-most x j,
     total-none (length t.loopbacks) (fec_count x j) (λ q h. where-none _ 1
-        (sym (ap (λ (k : Knowledge). is_operational k j && differ (is_operational (before x) j && offers (wiring_of t) (before x) x q) (offers (wiring_of t) k x q)) (known-same x d))
+        (sym (ap (λ (k : Knowledge). is_operational k j && differ (is_operational (before x) j && offers (wiring_of t) (before x) x q)
+            (offers (wiring_of t) k x q)) (known-same x d))
         ∙ same-says (is_operational (before x) j) (offers (wiring_of t) (before x) x q))),
   )
 
@@ -100,30 +110,41 @@ module _ (t : Network) (lawful : IsLawful t) (c : Config) (v : Views) (s : Sessi
   said-here j = omega (arith, said-most n j, total-most (length t.loopbacks) (fec_count n j) 1 (λ q h. where-most _ 1))
 
   unheard-then : (x j : ℕ) → j < length t.links → is_end (wiring_of t) j x ≡ true
-      → length (drop (s.heard j (across (wiring_of t) j x)) (s.said j x ++ messages_of j x told)) ≡ length (drop (s.heard j (across (wiring_of t) j x)) (s.said j x)) + length (messages_of j x told)
+      → length (drop (s.heard j (across (wiring_of t) j x)) (s.said j x ++ messages_of j x told))
+          ≡ length (drop (s.heard j (across (wiring_of t) j x)) (s.said j x)) + length (messages_of j x told)
   unheard-then x j h e =
       let other = across-end (wiring_of t) j x (lawful.ends_differ j h) e in
-      ap length (drop-append-le (s.heard j (across (wiring_of t) j x)) (s.said j x) (messages_of j x told) (subst (λ y. s.heard j (across (wiring_of t) j x) ≤ length (s.said j y)) other.1 (go j (across (wiring_of t) j x) h other.0).heard))
+      ap length (drop-append-le (s.heard j (across (wiring_of t) j x)) (s.said j x) (messages_of j x told)
+          (subst (λ y. s.heard j (across (wiring_of t) j x) ≤ length (s.said j y)) other.1 (go j (across (wiring_of t) j x) h other.0).heard))
       ∙ length-append (drop (s.heard j (across (wiring_of t) j x)) (s.said j x)) (messages_of j x told)
 
   -- on each link
   link-grows : (x j a : ℕ) → j < length t.links → length (messages_of j x told) ≤ a → unheard_on t c (with_said s ([] ++ told)) x j ≤ unheard_on t c s x j + a
-  link-grows x j a h most = where-plus (is_end (wiring_of t) j x) (lives c j) (length (drop (s.heard j (across (wiring_of t) j x)) (s.said j x ++ messages_of j x told))) (length (drop (s.heard j (across (wiring_of t) j x)) (s.said j x))) a
+  link-grows x j a h most =
+      where-plus (is_end (wiring_of t) j x) (lives c j) (length (drop (s.heard j (across (wiring_of t) j x)) (s.said j x ++ messages_of j x told)))
+        (length (drop (s.heard j (across (wiring_of t) j x)) (s.said j x))) a
       (λ e. omega (arith, unheard-then x j h e, most))
 
   pub messages-grow : ldp_messages t c (with_said s ([] ++ told)) ≤ ldp_messages t c s + length t.links * length t.loopbacks
-  messages-grow = omega (arith, total-but-one (length t.loopbacks) (λ x. total (length t.links) (unheard_on t c s x)) (λ x. total (length t.links) (unheard_on t c (with_said s ([] ++ told)) x)) n 0 (length t.links * length t.loopbacks) hn others here)
+  messages-grow =
+      omega (arith, total-but-one (length t.loopbacks) (λ x. total (length t.links) (unheard_on t c s x))
+        (λ x. total (length t.links) (unheard_on t c (with_said s ([] ++ told)) x)) n 0 (length t.links * length t.loopbacks) hn others here)
     where
       none : (x y : ℕ) → x ≤ y + 0 → x ≤ y
       none x y h = omega (arith, h)
 
-      others : (x : ℕ) → x < length t.loopbacks → x ≢ n → total (length t.links) (unheard_on t c (with_said s ([] ++ told)) x) ≤ total (length t.links) (unheard_on t c s x)
-      others x h d = total-below (length t.links) (unheard_on t c (with_said s ([] ++ told)) x) (unheard_on t c s x) (λ j g. none (unheard_on t c (with_said s ([] ++ told)) x j) (unheard_on t c s x j) (link-grows x j 0 g (said-off x j d)))
+      others : (x : ℕ) → x < length t.loopbacks → x ≢ n → total (length t.links) (unheard_on t c (with_said s ([] ++ told)) x)
+          ≤ total (length t.links) (unheard_on t c s x)
+      others x h d =
+          total-below (length t.links) (unheard_on t c (with_said s ([] ++ told)) x) (unheard_on t c s x)
+            (λ j g. none (unheard_on t c (with_said s ([] ++ told)) x j) (unheard_on t c s x j) (link-grows x j 0 g (said-off x j d)))
 
-      here : total (length t.links) (unheard_on t c (with_said s ([] ++ told)) n) + 0 ≤ total (length t.links) (unheard_on t c s n) + length t.links * length t.loopbacks
+      here : total (length t.links) (unheard_on t c (with_said s ([] ++ told)) n) + 0
+          ≤ total (length t.links) (unheard_on t c s n) + length t.links * length t.loopbacks
       here = omega (
         arith,
-        total-below (length t.links) (unheard_on t c (with_said s ([] ++ told)) n) (λ j. unheard_on t c s n j + length t.loopbacks) (λ j g. link-grows n j (length t.loopbacks) g (said-here j)),
+        total-below (length t.links) (unheard_on t c (with_said s ([] ++ told)) n) (λ j. unheard_on t c s n j + length t.loopbacks)
+            (λ j g. link-grows n j (length t.loopbacks) g (said-here j)),
         total-add (length t.links) (unheard_on t c s n) (λ j. length t.loopbacks),
         total-most (length t.links) (λ j. length t.loopbacks) (length t.loopbacks) (λ j g. same),
       )

@@ -10,5 +10,4 @@ pub mod Flying
 pub mod Drain
 pub mod Drained
 pub mod Taking
-pub mod Channels
 pub mod Witness

@@ -1,16 +1,19 @@
 -- Each hearing of a BGP message lowers what lies ahead.
-use Rattle.std.proofs.Common.{ℕ, zero, suc, ◌≡◌, ◌≢◌, ◌+◌, ◌<◌, ◌≤◌, ◌⊎◌, inl, inr, Bool, true, false, cond, List, [], ◌∷◌, ◌++◌, map, filter, length, drop, refl, arith, sym, ◌∙◌, ap, subst, append-nil, add-one}
+use Rattle.std.proofs.Common.{ℕ, zero, suc, ◌≡◌, ◌≢◌, ◌+◌, ◌<◌, ◌≤◌, ◌⊎◌, inl, inr, Bool, true, false, cond, List, [], ◌∷◌, ◌++◌, map, filter, length, drop}
+use Rattle.std.proofs.Common.{refl, arith, sym, ◌∙◌, ap, subst, append-nil, add-one}
 use Rattle.std.specs.Prelude.{◌&&◌, ◌||◌, not}
 use Rattle.std.specs.List.{flat_map, list_any}
 use Rattle.std.proofs.lemmas.Bool.Decides.{eqb_tells}
 use Rattle.std.proofs.lemmas.List.{drop-append-le, length-append, length-map, length-drop}
+use Rattle.mn_base.proofs.Bools.{and_left}
 use Rattle.mn_base.specs.declared.states.BgpState.TheVariants.{OpenSent, OpenConfirm, Established}
 use Rattle.mn_topo.specs.Network.{Network}
 use Rattle.mn_ledger.specs.Turns.{PeersAreInTurn}
 use Rattle.mn_ledger.specs.Tables.{put_pair}
 use Rattle.mn_ledger.specs.Places.{edges}
 use Rattle.mn_ledger.specs.World.{Config, Export, Telling, Open, Alive, Announce, Unreach, Peerings}
-use Rattle.mn_ledger.specs.Vpn.{Told, tellings_of, told_to, state_heard, exports_of, is_for, same_export, reply, announced, changed, steady_peers, news, with_told}
+use Rattle.mn_ledger.specs.Vpn.{Told, tellings_of, told_to, state_heard, exports_of, is_for, same_export, reply, announced, changed, steady_peers, news}
+use Rattle.mn_ledger.specs.Vpn.{with_told}
 use Rattle.mn_ledger.proofs.Members.{In}
 use Rattle.mn_ledger.proofs.GoingBy.{pair_here, pair_off}
 use Rattle.mn_drain.specs.Sums.{total, where_so}
@@ -38,18 +41,23 @@ none-left p (x ∷ xs) h = ap (λ b. cond b (x ∷ filter p xs) (filter p xs)) (
 
 nothing-changed : (es : List Export) → changed es es ≡ []
 nothing-changed es =
-    ap (λ ys. map (λ (export : Export). Unreach export.vrf export.prefix) ys ++ announced es es) (none-left (λ export. not (list_any (is_for export.vrf export.prefix) es)) es (λ x i. ap not (any-here (is_for x.vrf x.prefix) es x i (is-for-same x x (refl, refl)))))
-    ∙ ap (map (λ export. Announce export)) (none-left (λ export. not (list_any (same_export export) es)) es (λ x i. ap not (any-here (same_export x) es x i (same-as-itself x))))
+    ap (λ ys. map (λ (export : Export). Unreach export.vrf export.prefix) ys ++ announced es es)
+        (none-left (λ export. not (list_any (is_for export.vrf export.prefix) es)) es
+        (λ x i. ap not (any-here (is_for x.vrf x.prefix) es x i (is-for-same x x (refl, refl)))))
+    ∙ ap (map (λ export. Announce export)) (none-left (λ export. not (list_any (same_export export) es)) es
+        (λ x i. ap not (any-here (same_export x) es x i (same-as-itself x))))
 
 no-news : (t : Network) (c : Config) (p k : Peerings) (es : List ℕ) → flat_map (news t c p c k) es ≡ []
 no-news t c p k [] = refl
 no-news t c p k (e ∷ es) =
-    ap (λ ms. flat_map (λ telling. map (λ peer. record { teller = e; peer = peer; telling = telling }) (steady_peers t c p c k e)) ms ++ flat_map (news t c p c k) es) (nothing-changed (exports_of t c e))
+    ap (λ ms. flat_map (λ telling. map (λ peer. record { teller = e; peer = peer; telling = telling }) (steady_peers t c p c k e)) ms
+        ++ flat_map (news t c p c k) es) (nothing-changed (exports_of t c e))
     ∙ no-news t c p k es
 
 -- 2. The answer is no longer than what the edge had still to tell
 
-answer-length : (n : ℕ) (m : Telling) (es : List Export) → length (reply (state_heard n) m es) + greeting_length (n + 1) (length es) ≤ greeting_length n (length es)
+answer-length : (n : ℕ) (m : Telling) (es : List Export)
+    → length (reply (state_heard n) m es) + greeting_length (n + 1) (length es) ≤ greeting_length n (length es)
 answer-length zero m es = first m
   where
     first : (m : Telling) → length (reply OpenSent m es) + greeting_length (0 + 1) (length es) ≤ greeting_length 0 (length es)
@@ -64,7 +72,9 @@ answer-length (suc zero) m es = second m
     second Open = omega arith
     second (Announce x) = omega arith
     second (Unreach v x) = omega arith
-answer-length (suc (suc n)) m es = subst (λ i. length (reply (state_heard (suc (suc n))) m es) + greeting_length i (length es) ≤ greeting_length (suc (suc n)) (length es)) (sym (add-one (suc (suc n)))) (later m)
+answer-length (suc (suc n)) m es =
+    subst (λ i. length (reply (state_heard (suc (suc n))) m es) + greeting_length i (length es) ≤ greeting_length (suc (suc n)) (length es))
+      (sym (add-one (suc (suc n)))) (later m)
   where
     later : (m : Telling) → length (reply Established m es) + greeting_length (suc (suc (suc n))) (length es) ≤ greeting_length (suc (suc n)) (length es)
     later Open = omega arith
@@ -76,14 +86,6 @@ where-if : (a : Bool) (x y : ℕ) → (a ≡ true → x ≤ y) → where_so a x 
 where-if true x y h = h refl
 where-if false x y h = omega arith
 
-two_ways : (b : Bool) → (b ≡ true) ⊎ (b ≡ false)
-two_ways true = inl refl
-two_ways false = inr refl
-
-and_left : (a b : Bool) → (a && b) ≡ true → a ≡ true
-and_left true b h = refl
-and_left false b h = h
-
 and_right : (a b : Bool) → (a && b) ≡ true → b ≡ true
 and_right true b h = h
 and_right false b h = absurd (no h)
@@ -93,7 +95,8 @@ and_right false b h = absurd (no h)
 
 -- 3. The edge y hears the next message of its peer x
 
-module _ (t : Network) (c : Config) (p : Peerings) (x y : ℕ) (message : Telling) (apart : x ≢ y) (hx : x < length t.loopbacks) (hy : y < length t.loopbacks) (to : is_direction t c x y ≡ true) (back : is_direction t c y x ≡ true)
+module _ (t : Network) (c : Config) (p : Peerings) (x y : ℕ) (message : Telling) (apart : x ≢ y) (hx : x < length t.loopbacks) (hy : y < length t.loopbacks)
+    (to : is_direction t c x y ≡ true) (back : is_direction t c y x ≡ true)
     (more : p.heard y x < length (p.told x y)) (go : PeersAreInTurn c p) where
   abbrev k : Peerings
   k = record p { heard = put_pair p.heard y x (p.heard y x + 1) }
@@ -102,10 +105,14 @@ module _ (t : Network) (c : Config) (p : Peerings) (x y : ℕ) (message : Tellin
   answers = told_to y x (reply (state_heard (p.heard y x)) message (exports_of t c y))
 
   abbrev afterwards : Peerings
-  afterwards = with_told (record p { heard = put_pair p.heard y x (p.heard y x + 1) }) (answers ++ flat_map (news t c p c (record p { heard = put_pair p.heard y x (p.heard y x + 1) })) (edges t))
+  afterwards =
+      with_told (record p { heard = put_pair p.heard y x (p.heard y x + 1) })
+        (answers ++ flat_map (news t c p c (record p { heard = put_pair p.heard y x (p.heard y x + 1) })) (edges t))
 
   told-is : (a b : ℕ) → afterwards.told a b ≡ p.told a b ++ tellings_of a b answers
-  told-is a b = ap (λ ms. p.told a b ++ tellings_of a b ms) (ap (λ ms. answers ++ ms) (no-news t c p (record p { heard = put_pair p.heard y x (p.heard y x + 1) }) (edges t)) ∙ append-nil answers)
+  told-is a b =
+      ap (λ ms. p.told a b ++ tellings_of a b ms) (ap (λ ms. answers ++ ms)
+        (no-news t c p (record p { heard = put_pair p.heard y x (p.heard y x + 1) }) (edges t)) ∙ append-nil answers)
 
   reach : {i j : ℕ} → i < j → i + 1 ≤ j
   reach h = omega (arith, h)
@@ -116,7 +123,8 @@ module _ (t : Network) (c : Config) (p : Peerings) (x y : ℕ) (message : Tellin
     | inl q ↦ elim (eqb_tells a x) [
       | inr r ↦ off (inr r.1)
       | inl r ↦
-          subst (λ n. n ≤ length (p.told a b)) (sym (ap (λ z. put_pair p.heard y x (p.heard y x + 1) z a) q.1 ∙ ap (put_pair p.heard y x (p.heard y x + 1) y) r.1 ∙ pair_here p.heard y x (p.heard y x + 1)))
+          subst (λ n. n ≤ length (p.told a b)) (sym (ap (λ z. put_pair p.heard y x (p.heard y x + 1) z a) q.1
+              ∙ ap (put_pair p.heard y x (p.heard y x + 1) y) r.1 ∙ pair_here p.heard y x (p.heard y x + 1)))
           (subst (λ z. p.heard y x + 1 ≤ length (p.told z b)) (sym r.1) (subst (λ z. p.heard y x + 1 ≤ length (p.told x z)) (sym q.1) (reach more)))
     ]
   ]
@@ -124,7 +132,8 @@ module _ (t : Network) (c : Config) (p : Peerings) (x y : ℕ) (message : Tellin
       off : (b ≢ y) ⊎ (a ≢ x) → put_pair p.heard y x (p.heard y x + 1) b a ≤ length (p.told a b)
       off e = subst (λ n. n ≤ length (p.told a b)) (sym (pair_off p.heard y x (p.heard y x + 1) b a e)) (go b a (λ q. d (sym q))).heard
 
-  unheard-is : (a b : ℕ) → a ≢ b → length (drop (afterwards.heard b a) (afterwards.told a b)) ≡ length (drop (put_pair p.heard y x (p.heard y x + 1) b a) (p.told a b)) + length (tellings_of a b answers)
+  unheard-is : (a b : ℕ) → a ≢ b → length (drop (afterwards.heard b a) (afterwards.told a b))
+      ≡ length (drop (put_pair p.heard y x (p.heard y x + 1) b a) (p.told a b)) + length (tellings_of a b answers)
   unheard-is a b d =
       ap (λ ms. length (drop (put_pair p.heard y x (p.heard y x + 1) b a) ms)) (told-is a b)
       ∙ ap length (drop-append-le (put_pair p.heard y x (p.heard y x + 1) b a) (p.told a b) (tellings_of a b answers) (within a b d))
@@ -138,7 +147,8 @@ module _ (t : Network) (c : Config) (p : Peerings) (x y : ℕ) (message : Tellin
     arith,
     unheard-is a b d,
     ap (λ n. length (drop n (p.told a b))) (pair_off p.heard y x (p.heard y x + 1) b a f),
-    ap length (told-other a b y x (reply (state_heard (p.heard y x)) message (exports_of t c y)) (elim e [ inl q ↦ inl (λ r. q (sym r)) | inr q ↦ inr (λ r. q (sym r)) ])),
+    ap length (told-other a b y x (reply (state_heard (p.heard y x)) message (exports_of t c y))
+        (elim e [ inl q ↦ inl (λ r. q (sym r)) | inr q ↦ inr (λ r. q (sym r)) ])),
     ap (λ n. greeting_length n (exports_at a)) (pair_off p.heard y x (p.heard y x + 1) a b e),
   )
 
@@ -183,7 +193,8 @@ module _ (t : Network) (c : Config) (p : Peerings) (x y : ℕ) (message : Tellin
         | inr q ↦ pair-off a b (differ a b on) (inl q.1) (inr d)
         | inl q ↦ elim (eqb_tells b x) [
           | inr r ↦ pair-off a b (differ a b on) (inr r.1) (inr d)
-          | inl r ↦ subst (λ z. told_ahead t c afterwards z b ≤ told_ahead t c p z b) (sym q.1) (subst (λ z. told_ahead t c afterwards y z ≤ told_ahead t c p y z) (sym r.1) pair-near)
+          | inl r ↦ subst (λ z. told_ahead t c afterwards z b ≤ told_ahead t c p z b) (sym q.1)
+              (subst (λ z. told_ahead t c afterwards y z ≤ told_ahead t c p y z) (sym r.1) pair-near)
         ]
       ]
 
@@ -193,4 +204,6 @@ module _ (t : Network) (c : Config) (p : Peerings) (x y : ℕ) (message : Tellin
       (omega (arith, pair-far, ap (λ b. where_so b (told_ahead t c afterwards x y)) to, ap (λ b. where_so b (told_ahead t c p x y)) to))
 
   pub telling-lowers : bgp_ahead t c afterwards + 1 ≤ bgp_ahead t c p
-  telling-lowers = omega (arith, total-but-one (length t.loopbacks) (λ a. total (length t.loopbacks) (row p a)) (λ a. total (length t.loopbacks) (row afterwards a)) x 1 0 hx (λ a h d. row-any a d) row-far)
+  telling-lowers =
+      omega (arith, total-but-one (length t.loopbacks) (λ a. total (length t.loopbacks) (row p a)) (λ a. total (length t.loopbacks) (row afterwards a)) x 1 0 hx
+        (λ a h d. row-any a d) row-far)

@@ -1,5 +1,6 @@
 -- A notice can be learned, and a message heard, exactly where one is in flight on its channel.
-use Rattle.std.proofs.Common.{ℕ, suc, ◌≡◌, ◌≢◌, ◌+◌, ◌-◌, ◌<◌, ◌≤◌, ◌⊎◌, inl, inr, Bool, true, false, List, [], ◌∷◌, map, length, drop, refl, arith, sym, ◌∙◌, ap, subst, Some, None}
+use Rattle.std.proofs.Common.{ℕ, suc, ◌≡◌, ◌≢◌, ◌+◌, ◌-◌, ◌<◌, ◌≤◌, inl, inr, Bool, true, false, List, [], ◌∷◌, map, length, drop, refl, arith, sym, ◌∙◌}
+use Rattle.std.proofs.Common.{ap, subst, Some, None}
 use Rattle.std.specs.Prelude.{◌==◌, ◌&&◌, ◌||◌, not, nat_lt, nat_le}
 use Rattle.std.proofs.lemmas.Bool.Decides.{leb_tells}
 use Rattle.std.proofs.lemmas.List.{length-drop}
@@ -34,10 +35,6 @@ none-some on e = cc
 some-same : (a b : Channel) → Some a ≡ Some b → a ≡ b
 some-same a b e = ap (λ o. elim o as (λ _. Channel) [ None ↦ a | Some z ↦ z ]) e
 
-two_ways : (b : Bool) → (b ≡ true) ⊎ (b ≡ false)
-two_ways true = inl refl
-two_ways false = inr refl
-
 -- nothing is left of a list past its end
 nil-drop : {A B : Type 0} (f : A → B) (n : ℕ) (xs : List A) → is_nil (map f (drop n xs)) ≡ nat_le (length xs) n
 nil-drop {A = A} f n xs = by_list (drop n xs) (length-drop n xs)
@@ -70,30 +67,36 @@ dead-or false m n h = ap (λ k. nat_le k n) (h refl) ∙ elim (leb_tells 0 n) [ 
     none : n < 0 → ⊥
     none h = omega (arith, h)
 
-sender-ends : (t : Network) → IsLawful t → (l : ℕ) (dir : Dir) → l < length t.links → (is_end (wiring_of t) l (sender (wiring_of t) l dir) ≡ true) × (across (wiring_of t) l (sender (wiring_of t) l dir) ≡ receiver (wiring_of t) l dir)
+sender-ends : (t : Network) → IsLawful t → (l : ℕ) (dir : Dir) → l < length t.links
+    → (is_end (wiring_of t) l (sender (wiring_of t) l dir) ≡ true) × (across (wiring_of t) l (sender (wiring_of t) l dir) ≡ receiver (wiring_of t) l dir)
 sender-ends t lawful l dir h =
     let ends = dir_ends (wiring_of t) l dir (lawful.ends_differ l h) in
     let other = across-end (wiring_of t) l (receiver (wiring_of t) l dir) (lawful.ends_differ l h) ends.0 in
     (subst (λ n. is_end (wiring_of t) l n ≡ true) ends.1 other.0, subst (λ n. across (wiring_of t) l n ≡ receiver (wiring_of t) l dir) ends.1 other.1)
 
-takes : (t : Network) (w : World) (k : Packets) (made : List Item) (flight : Flight) → IsLawful t → IsInTurn t w → IsInFlight t w k made flight → (s : Step) (on : Channel) → fits t s ≡ true → taken_from t s ≡ Some on → is_empty t w no_packets s ≡ is_nil (loads_on on flight.items)
+takes : (t : Network) (w : World) (k : Packets) (made : List Item) (flight : Flight) → IsLawful t → IsInTurn t w → IsInFlight t w k made flight
+    → (s : Step) (on : Channel) → fits t s ≡ true → taken_from t s ≡ Some on → is_empty t w no_packets s ≡ is_nil (loads_on on flight.items)
 takes t w k made flight lawful turn f (step.Learn n l) on fit e =
     let both = and-both (nat_lt n.0 (length t.loopbacks)) (nat_lt l.0 (length t.links)) fit in
-    sym (nil-count (loads_on (Notices l.0 n.0) flight.items) (w.views.learned n.0 l.0) (w.views.changes l.0) (f.notices l.0 n.0 (less-is n.0 (length t.loopbacks) both.0)))
+    sym (nil-count (loads_on (Notices l.0 n.0) flight.items) (w.views.learned n.0 l.0) (w.views.changes l.0)
+        (f.notices l.0 n.0 (less-is n.0 (length t.loopbacks) both.0)))
     ∙ ap (λ c. is_nil (loads_on c flight.items)) (some-same (Notices l.0 n.0) on e)
 takes t w k made flight lawful turn f (step.HearLdp l dir) on fit e =
     let there : l.0 < length t.links = less-is l.0 (length t.links) fit in
     let m : ℕ = sender (wiring_of t) l.0 dir in
     let ends = sender-ends t lawful l.0 dir there in
-    sym (ap is_nil (f.messages l.0 m there ends.0) ∙ nil-drop (λ message. Says message) (w.sessions.heard l.0 (across (wiring_of t) l.0 m)) (w.sessions.said l.0 m)
+    sym (ap is_nil (f.messages l.0 m there ends.0) ∙ nil-drop (λ message. Says message) (w.sessions.heard l.0 (across (wiring_of t) l.0 m))
+        (w.sessions.said l.0 m)
     ∙ ap (λ n. nat_le (length (w.sessions.said l.0 m)) (w.sessions.heard l.0 n)) ends.1
-    ∙ dead-or (lives w.config l.0) (length (w.sessions.said l.0 m)) (w.sessions.heard l.0 (receiver (wiring_of t) l.0 dir)) (λ dead. ap length ((turn.ldp l.0 m there ends.0).silent dead).0))
+    ∙ dead-or (lives w.config l.0) (length (w.sessions.said l.0 m)) (w.sessions.heard l.0 (receiver (wiring_of t) l.0 dir))
+        (λ dead. ap length ((turn.ldp l.0 m there ends.0).silent dead).0))
     ∙ ap (λ c. is_nil (loads_on c flight.items)) (some-same (Messages l.0 m) on e)
 takes t w k made flight lawful turn f (step.HearBgp a b) on fit e =
     let both = and-both (is_edge t.vrfs a.0 && is_edge t.vrfs b.0) (not (a.0 == b.0)) fit in
     let apart : a.0 ≢ b.0 = unequal a.0 b.0 both.1 in
     sym (ap is_nil (f.routes a.0 b.0 apart) ∙ nil-drop (λ telling. Tells telling) (w.peerings.heard b.0 a.0) (w.peerings.told a.0 b.0)
-    ∙ dead-or (peers_live w.config a.0 b.0) (length (w.peerings.told a.0 b.0)) (w.peerings.heard b.0 a.0) (λ dead. ap length ((turn.bgp a.0 b.0 apart).silent dead).0))
+    ∙ dead-or (peers_live w.config a.0 b.0) (length (w.peerings.told a.0 b.0)) (w.peerings.heard b.0 a.0)
+        (λ dead. ap length ((turn.bgp a.0 b.0 apart).silent dead).0))
     ∙ ap (λ c. is_nil (loads_on c flight.items)) (some-same (Routes a.0 b.0) on e)
 takes t w k made flight lawful turn f (step.LinkUp l) on fit e = absurd (none-some on e)
 takes t w k made flight lawful turn f (step.LinkDown l) on fit e = absurd (none-some on e)
@@ -110,24 +113,31 @@ takes t w k made flight lawful turn f (step.Inject s n) on fit e = absurd (none-
 takes t w k made flight lawful turn f (step.Carry l dir place) on fit e = absurd (none-some on e)
 takes t w k made flight lawful turn f (step.Lose l dir place) on fit e = absurd (none-some on e)
 
-pub takes_what_flies : (t : Network) (es : List JournalEntry) (ps : List (List ℕ)) (s : Step) (on : Channel) → IsLawful t → IsLawfulJournal t es ps → fits t s ≡ true → taken_from t s ≡ Some on
+pub takes_what_flies : (t : Network) (es : List JournalEntry) (ps : List (List ℕ)) (s : Step) (on : Channel) → IsLawful t → IsLawfulJournal t es ps
+    → fits t s ≡ true → taken_from t s ≡ Some on
     → is_empty t (world_of t es) no_packets s ≡ is_nil (loads_on on (flight_of t es ps).items)
-takes_what_flies t es ps s on lawful journal fit e = takes t (world_of t es) (packets_of t es ps) (made_by t es ps) (flight_of t es ps) lawful (in_turn t es ps lawful journal) (in_flight t es ps lawful journal) s on fit e
+takes_what_flies t es ps s on lawful journal fit e =
+    takes t (world_of t es) (packets_of t es ps) (made_by t es ps) (flight_of t es ps) lawful (in_turn t es ps lawful journal)
+      (in_flight t es ps lawful journal) s on fit e
 
 -- 2. Where no notice and no message flies, nothing is left to a drain
 
 clash : true ≡ false → ⊥
 clash e = cc
 
-leaves-none : (t : Network) (es : List JournalEntry) (ps : List (List ℕ)) → IsLawful t → IsLawfulJournal t es ps → ((on : Channel) → is_in_order on ≡ true → loads_on on (flight_of t es ps).items ≡ [])
+leaves-none : (t : Network) (es : List JournalEntry) (ps : List (List ℕ)) → IsLawful t → IsLawfulJournal t es ps
+    → ((on : Channel) → is_in_order on ≡ true → loads_on on (flight_of t es ps).items ≡ [])
     → (s : Step) (on : Channel) → taken_from t s ≡ Some on → is_in_order on ≡ true → IsDrainStep t (world_of t es) s → ⊥
 leaves-none t es ps lawful journal none s on e order d =
     clash (sym (takes_what_flies t es ps s on lawful journal d.fitting e ∙ ap is_nil (none on order)) ∙ d.there)
 
-pub drained_where_none_flies : (t : Network) (es : List JournalEntry) (ps : List (List ℕ)) → IsLawful t → IsLawfulJournal t es ps → ((on : Channel) → is_in_order on ≡ true → loads_on on (flight_of t es ps).items ≡ []) → IsDrained t (world_of t es)
+pub drained_where_none_flies : (t : Network) (es : List JournalEntry) (ps : List (List ℕ)) → IsLawful t → IsLawfulJournal t es ps
+    → ((on : Channel) → is_in_order on ≡ true → loads_on on (flight_of t es ps).items ≡ []) → IsDrained t (world_of t es)
 drained_where_none_flies t es ps lawful journal none (step.Learn n l) d = leaves-none t es ps lawful journal none (step.Learn n l) (Notices l.0 n.0) refl refl d
-drained_where_none_flies t es ps lawful journal none (step.HearLdp l dir) d = leaves-none t es ps lawful journal none (step.HearLdp l dir) (Messages l.0 (sender (wiring_of t) l.0 dir)) refl refl d
-drained_where_none_flies t es ps lawful journal none (step.HearBgp a b) d = leaves-none t es ps lawful journal none (step.HearBgp a b) (Routes a.0 b.0) refl refl d
+drained_where_none_flies t es ps lawful journal none (step.HearLdp l dir) d =
+    leaves-none t es ps lawful journal none (step.HearLdp l dir) (Messages l.0 (sender (wiring_of t) l.0 dir)) refl refl d
+drained_where_none_flies t es ps lawful journal none (step.HearBgp a b) d =
+    leaves-none t es ps lawful journal none (step.HearBgp a b) (Routes a.0 b.0) refl refl d
 drained_where_none_flies t es ps lawful journal none (step.LinkUp l) d = d.in_turn
 drained_where_none_flies t es ps lawful journal none (step.LinkDown l) d = d.in_turn
 drained_where_none_flies t es ps lawful journal none (step.LdpAdmin l o) d = d.in_turn

@@ -1,12 +1,13 @@
 -- A change of what a node offers weighs as much as all that it says of it, and at most 4 for each node and link.
-use Rattle.std.proofs.Common.{ℕ, zero, suc, ◌≡◌, ◌≢◌, ◌+◌, ◌*◌, ◌<◌, ◌≤◌, ◌⊎◌, inl, inr, Bool, true, false, List, [], ◌∷◌, length, refl, arith, sym, ◌∙◌, ap, subst, Option, None, Some}
+use Rattle.std.proofs.Common.{ℕ, zero, suc, ◌≡◌, ◌≢◌, ◌+◌, ◌*◌, ◌<◌, ◌≤◌, inl, inr, Bool, true, false, List, [], ◌∷◌, length, refl, arith, sym, ◌∙◌, ap}
+use Rattle.std.proofs.Common.{subst, Option, None, Some}
 use Rattle.std.specs.Prelude.{◌==◌, ◌||◌, eqb}
 use Rattle.std.specs.List.{IsDistinct, list_any}
 use Rattle.std.proofs.lemmas.Bool.Decides.{eqb_tells}
 use Rattle.std.proofs.lemmas.Map.Steps.{length-le_from_distinct_below}
+use Rattle.mn_base.proofs.Bools.{two_ways}
 use Rattle.mn_base.specs.Wiring.{View, link, is_end, across}
-use Rattle.mn_base.specs.Paths.{IsLeast, IsNext, next, next_by, dists_to}
-use Rattle.mn_base.proofs.Next.{next_is}
+use Rattle.mn_base.specs.Paths.{IsLeast, next}
 use Rattle.mn_topo.specs.Network.{Network, wiring_of}
 use Rattle.mn_topo.specs.Lawful.{IsLawful}
 use Rattle.mn_ledger.proofs.Nearer.{nearer}
@@ -14,7 +15,6 @@ use Rattle.mn_ledger.proofs.Turning.{across-end}
 use Rattle.mn_drain.specs.Sums.{total, where_so}
 use Rattle.mn_drain.specs.Weights.{degree, to_node, one_on, passed, is_node, is_over, after_hops, weight, mention_weight}
 use Rattle.mn_drain.proofs.Sums.{total-below, total-same, total-add, total-none, total-turn, total-one, total-only, total-most}
-use Rattle.mn_settled.proofs.Offering.{ends_below}
 use Rattle.mn_settled.proofs.Hops.{some-next, hop-below}
 use Rattle.mn_settled.proofs.Route.{any-none, or-tells}
 
@@ -26,10 +26,6 @@ none-some x e = cc
 
 some-same : {A : Type 0} (x y : A) → Some x ≡ Some y → x ≡ y
 some-same {A = A} x y e = ap (λ o. elim o as (λ _. A) [ None ↦ x | Some z ↦ z ]) e
-
-two_ways : (b : Bool) → (b ≡ true) ⊎ (b ≡ false)
-two_ways true = inl refl
-two_ways false = inr refl
 
 -- 1. Sums of numbers that count only where a test holds
 
@@ -86,7 +82,8 @@ module _ (t : Network) (v : View) (lawful : IsLawful t) (p : ℕ) where
 
   -- where so many hops lead, and the nodes before it, all farther
   abbrev Trail : ℕ → ℕ → Type 0
-  Trail j y = (seen : List ℕ) × (length seen ≡ j) × IsDistinct eqb seen × (y < length t.loopbacks) × ((d : ℕ) → IsLeast (wiring_of t) v y p d → AreFarther d seen)
+  Trail j y =
+      (seen : List ℕ) × (length seen ≡ j) × IsDistinct eqb seen × (y < length t.loopbacks) × ((d : ℕ) → IsLeast (wiring_of t) v y p d → AreFarther d seen)
 
   trail-on : (j y : ℕ) (hop : ℕ × ℕ) → Trail j y → next (wiring_of t) v y p ≡ Some hop → Trail (suc j) hop.0 × (r : ℕ) × IsLeast (wiring_of t) v hop.0 p r
   unfolding IsDistinct
@@ -118,7 +115,8 @@ module _ (t : Network) (v : View) (lawful : IsLawful t) (p : ℕ) where
       by_hop z None trail e f = absurd (none-some y f)
       by_hop z (Some hop) trail e f = subst (Trail (suc j)) (some-same hop.0 y f) (trail-on j z hop trail e).0
 
-      by_last : ((z : ℕ) → passed (wiring_of t) v p j x ≡ Some z → Trail j z) → (o : Option ℕ) → passed (wiring_of t) v p j x ≡ o → one_on (wiring_of t) v p o ≡ Some y → Trail (suc j) y
+      by_last : ((z : ℕ) → passed (wiring_of t) v p j x ≡ Some z → Trail j z) → (o : Option ℕ) → passed (wiring_of t) v p j x ≡ o
+          → one_on (wiring_of t) v p o ≡ Some y → Trail (suc j) y
       by_last before None e f = absurd (none-some y f)
       by_last before (Some z) e f = by_hop z (next (wiring_of t) v z p) (before z e) refl f
 
@@ -134,7 +132,8 @@ module _ (t : Network) (v : View) (lawful : IsLawful t) (p : ℕ) where
           let next_trail : Trail (suc j) hop.0 = on.0 in
           let far : AreFarther on.1 next_trail.0 = next_trail.4 on.1 on.2 in
           subst (λ n. suc n ≤ length t.loopbacks) next_trail.1
-          (length-le_from_distinct_below (hop.0 ∷ next_trail.0) (length t.loopbacks) (any-none hop.0 next_trail.0 (not-seen on.1 hop.0 next_trail.0 on.2 far), next_trail.2) (λ q h. elim (eqb_tells q hop.0) [
+          (length-le_from_distinct_below (hop.0 ∷ next_trail.0) (length t.loopbacks)
+              (any-none hop.0 next_trail.0 (not-seen on.1 hop.0 next_trail.0 on.2 far), next_trail.2) (λ q h. elim (eqb_tells q hop.0) [
             | inl g ↦ subst (λ n. n < length t.loopbacks) (sym g.1) next_trail.3
             | inr g ↦ (far q (or-tells (eqb q hop.0) (list_any (eqb q) next_trail.0) h g.0)).0
           ]))
@@ -167,9 +166,12 @@ module _ (t : Network) (v : View) (lawful : IsLawful t) (p : ℕ) where
 
   -- of the links at a node at most one leads to a neighbour whose next hop it is
   abbrev over_link : ℕ → Option ℕ → ℕ → ℕ → ℕ
-  over_link n o d l = where_so (is_end (wiring_of t) l n) (where_so (is_over (next (wiring_of t) v (across (wiring_of t) l n) p) l) (where_so (is_node o (across (wiring_of t) l n)) d))
+  over_link n o d l =
+      where_so (is_end (wiring_of t) l n) (where_so (is_over (next (wiring_of t) v (across (wiring_of t) l n) p) l)
+        (where_so (is_node o (across (wiring_of t) l n)) d))
 
-  over-off : (n : ℕ) (o : Option ℕ) (d l : ℕ) → (is_end (wiring_of t) l n ≡ true → is_over (next (wiring_of t) v (across (wiring_of t) l n) p) l ≡ true → is_node o (across (wiring_of t) l n) ≡ true → ⊥) → over_link n o d l ≡ 0
+  over-off : (n : ℕ) (o : Option ℕ) (d l : ℕ) → (is_end (wiring_of t) l n ≡ true → is_over (next (wiring_of t) v (across (wiring_of t) l n) p) l ≡ true
+      → is_node o (across (wiring_of t) l n) ≡ true → ⊥) → over_link n o d l ≡ 0
   over-off n o d l h = by_tests _ _ _ h
     where
       by_tests : (a b c : Bool) → (a ≡ true → b ≡ true → c ≡ true → ⊥) → where_so a (where_so b (where_so c d)) ≡ 0
@@ -193,7 +195,8 @@ module _ (t : Network) (v : View) (lawful : IsLawful t) (p : ℕ) where
   none-is : (l : ℕ) (o : Option (ℕ × ℕ)) → o ≡ None → is_over o l ≡ true → ⊥
   none-is l o e h = clash (sym h ∙ ap (λ q. is_over q l) e)
 
-  by-child : (n : ℕ) (o : Option ℕ) (d : ℕ) → ((k : ℕ) → o ≡ Some k → k < length t.loopbacks) → total (length t.links) (over_link n o d) ≤ where_so (is_node (one_on (wiring_of t) v p o) n) d
+  by-child : (n : ℕ) (o : Option ℕ) (d : ℕ) → ((k : ℕ) → o ≡ Some k → k < length t.loopbacks)
+      → total (length t.links) (over_link n o d) ≤ where_so (is_node (one_on (wiring_of t) v p o) n) d
   by-child n None d inside = at_none (total-none (length t.links) (over_link n None d) (λ l h. over-off n None d l (λ a b c. clash (sym c))))
     where
       at_none : {x : ℕ} → x ≡ 0 → x ≤ 0
@@ -204,11 +207,16 @@ module _ (t : Network) (v : View) (lawful : IsLawful t) (p : ℕ) where
       at_none e = omega (arith, e)
 
       by_hop : (o : Option (ℕ × ℕ)) → next (wiring_of t) v k p ≡ o → total (length t.links) (over_link n (Some k) d) ≤ where_so (is_node (to_node o) n) d
-      by_hop None e = at_none (total-none (length t.links) (over_link n (Some k) d) (λ l h. over-off n (Some k) d l (λ a b c. none-is l (next (wiring_of t) v (across (wiring_of t) l n) p) (ap (λ j. next (wiring_of t) v j p) (sym (same-numbers k (across (wiring_of t) l n) c)) ∙ e) b)))
+      by_hop None e =
+          at_none (total-none (length t.links) (over_link n (Some k) d)
+            (λ l h. over-off n (Some k) d l (λ a b c. none-is l (next (wiring_of t) v (across (wiring_of t) l n) p)
+            (ap (λ j. next (wiring_of t) v j p) (sym (same-numbers k (across (wiring_of t) l n) c)) ∙ e) b)))
       by_hop (Some hop) e = total-only (length t.links) (over_link n (Some k) d) hop.1 (where_so (hop.0 == n) d) others here
         where
           others : (l : ℕ) → l < length t.links → l ≢ hop.1 → over_link n (Some k) d l ≡ 0
-          others l h apart = over-off n (Some k) d l (λ a b c. apart (sym (same-numbers hop.1 l (sym (ap (λ q. is_over q l) (ap (λ j. next (wiring_of t) v j p) (sym (same-numbers k (across (wiring_of t) l n) c)) ∙ e)) ∙ b))))
+          others l h apart =
+              over-off n (Some k) d l (λ a b c. apart (sym (same-numbers hop.1 l
+                (sym (ap (λ q. is_over q l) (ap (λ j. next (wiring_of t) v j p) (sym (same-numbers k (across (wiring_of t) l n) c)) ∙ e)) ∙ b))))
 
           here : over_link n (Some k) d hop.1 ≤ where_so (hop.0 == n) d
           here = elim (two_ways (hop.0 == n)) [
@@ -229,31 +237,43 @@ module _ (t : Network) (v : View) (lawful : IsLawful t) (p : ℕ) where
 
   -- what is caused by way of the neighbours whose next hop it is
   abbrev by_way : ℕ → ℕ → ℕ
-  by_way n l = where_so (is_end (wiring_of t) l n) (where_so (is_over (next (wiring_of t) v (across (wiring_of t) l n) p) l) (weight (wiring_of t) v p (across (wiring_of t) l n)))
+  by_way n l =
+      where_so (is_end (wiring_of t) l n) (where_so (is_over (next (wiring_of t) v (across (wiring_of t) l n) p) l)
+        (weight (wiring_of t) v p (across (wiring_of t) l n)))
 
-  way-is : (n l : ℕ) → by_way n l ≡ total (length t.loopbacks) (λ j. total (length t.loopbacks) (λ x. over_link n (passed (wiring_of t) v p j x) (2 * degree (wiring_of t) x) l))
+  way-is : (n l : ℕ) → by_way n l ≡ total (length t.loopbacks)
+      (λ j. total (length t.loopbacks) (λ x. over_link n (passed (wiring_of t) v p j x) (2 * degree (wiring_of t) x) l))
   way-is n l =
-      where-total (is_end (wiring_of t) l n) (is_over (next (wiring_of t) v (across (wiring_of t) l n) p) l) (length t.loopbacks) (after_hops (wiring_of t) v p (across (wiring_of t) l n))
-      ∙ total-same (length t.loopbacks) _ _ (λ j h. where-total (is_end (wiring_of t) l n) (is_over (next (wiring_of t) v (across (wiring_of t) l n) p) l) (length t.loopbacks)
+      where-total (is_end (wiring_of t) l n) (is_over (next (wiring_of t) v (across (wiring_of t) l n) p) l) (length t.loopbacks)
+          (after_hops (wiring_of t) v p (across (wiring_of t) l n))
+      ∙ total-same (length t.loopbacks) _ _ (λ j h. where-total (is_end (wiring_of t) l n) (is_over (next (wiring_of t) v (across (wiring_of t) l n) p) l)
+          (length t.loopbacks)
       (λ x. where_so (is_node (passed (wiring_of t) v p j x) (across (wiring_of t) l n)) (2 * degree (wiring_of t) x)))
 
   ways-weigh : (n : ℕ) → total (length t.links) (by_way n) ≤ total (length t.loopbacks) (λ j. after_hops (wiring_of t) v p n (suc j))
   ways-weigh n = subst (λ x. x ≤ total (length t.loopbacks) (λ j. after_hops (wiring_of t) v p n (suc j))) (sym turned)
-      (total-below (length t.loopbacks) _ _ (λ j h. total-below (length t.loopbacks) _ _ (λ x g. by-child n (passed (wiring_of t) v p j x) (2 * degree (wiring_of t) x) (λ k e. (trails j x k g e).3))))
+      (total-below (length t.loopbacks) _ _ (λ j h. total-below (length t.loopbacks) _ _
+          (λ x g. by-child n (passed (wiring_of t) v p j x) (2 * degree (wiring_of t) x) (λ k e. (trails j x k g e).3))))
     where
-      turned : total (length t.links) (by_way n) ≡ total (length t.loopbacks) (λ j. total (length t.loopbacks) (λ x. total (length t.links) (over_link n (passed (wiring_of t) v p j x) (2 * degree (wiring_of t) x))))
+      turned : total (length t.links) (by_way n) ≡ total (length t.loopbacks)
+          (λ j. total (length t.loopbacks) (λ x. total (length t.links) (over_link n (passed (wiring_of t) v p j x) (2 * degree (wiring_of t) x))))
       turned =
           total-same (length t.links) (by_way n) _ (λ l h. way-is n l)
-          ∙ total-turn (length t.links) (length t.loopbacks) (λ l j. total (length t.loopbacks) (λ x. over_link n (passed (wiring_of t) v p j x) (2 * degree (wiring_of t) x) l))
-          ∙ total-same (length t.loopbacks) _ _ (λ j h. total-turn (length t.links) (length t.loopbacks) (λ l x. over_link n (passed (wiring_of t) v p j x) (2 * degree (wiring_of t) x) l))
+          ∙ total-turn (length t.links) (length t.loopbacks)
+              (λ l j. total (length t.loopbacks) (λ x. over_link n (passed (wiring_of t) v p j x) (2 * degree (wiring_of t) x) l))
+          ∙ total-same (length t.loopbacks) _ _ (λ j h. total-turn (length t.links) (length t.loopbacks)
+              (λ l x. over_link n (passed (wiring_of t) v p j x) (2 * degree (wiring_of t) x) l))
 
   -- all mentions that a change causes at once weigh no more than the change
-  pub weighs : (n : ℕ) → n < length t.loopbacks → total (length t.links) (λ l. where_so (is_end (wiring_of t) l n) (mention_weight (wiring_of t) v p l (across (wiring_of t) l n))) ≤ weight (wiring_of t) v p n
+  pub weighs : (n : ℕ) → n < length t.loopbacks → total (length t.links)
+      (λ l. where_so (is_end (wiring_of t) l n) (mention_weight (wiring_of t) v p l (across (wiring_of t) l n))) ≤ weight (wiring_of t) v p n
   weighs n below = omega (arith, split, twice, ways-weigh n, total-shift (length t.loopbacks) (after_hops (wiring_of t) v p n), first, last)
     where
-      split : total (length t.links) (λ l. where_so (is_end (wiring_of t) l n) (mention_weight (wiring_of t) v p l (across (wiring_of t) l n))) ≡ total (length t.links) (λ l. where_so (is_end (wiring_of t) l n) 2) + total (length t.links) (by_way n)
+      split : total (length t.links) (λ l. where_so (is_end (wiring_of t) l n) (mention_weight (wiring_of t) v p l (across (wiring_of t) l n)))
+          ≡ total (length t.links) (λ l. where_so (is_end (wiring_of t) l n) 2) + total (length t.links) (by_way n)
       split =
-          total-same (length t.links) _ _ (λ l h. where-add (is_end (wiring_of t) l n) 2 (where_so (is_over (next (wiring_of t) v (across (wiring_of t) l n) p) l) (weight (wiring_of t) v p (across (wiring_of t) l n))))
+          total-same (length t.links) _ _ (λ l h. where-add (is_end (wiring_of t) l n) 2
+              (where_so (is_over (next (wiring_of t) v (across (wiring_of t) l n) p) l) (weight (wiring_of t) v p (across (wiring_of t) l n))))
           ∙ total-add (length t.links) (λ l. where_so (is_end (wiring_of t) l n) 2) (by_way n)
 
       twice : total (length t.links) (λ l. where_so (is_end (wiring_of t) l n) 2) ≡ degree (wiring_of t) n + degree (wiring_of t) n
@@ -262,10 +282,14 @@ module _ (t : Network) (v : View) (lawful : IsLawful t) (p : ℕ) where
           ∙ total-add (length t.links) (λ l. where_so (is_end (wiring_of t) l n) 1) (λ l. where_so (is_end (wiring_of t) l n) 1)
 
       first : degree (wiring_of t) n + degree (wiring_of t) n ≤ after_hops (wiring_of t) v p n 0
-      first = omega (arith, total-one (length t.loopbacks) (λ x. where_so (x == n) (2 * degree (wiring_of t) x)) n below, where-on (n == n) (2 * degree (wiring_of t) n) (same-test n))
+      first =
+          omega (arith, total-one (length t.loopbacks) (λ x. where_so (x == n) (2 * degree (wiring_of t) x)) n below,
+            where-on (n == n) (2 * degree (wiring_of t) n) (same-test n))
 
       last : after_hops (wiring_of t) v p n (length t.loopbacks) ≡ 0
-      last = total-none (length t.loopbacks) _ (λ x h. where-off (is_node (passed (wiring_of t) v p (length t.loopbacks) x) n) (2 * degree (wiring_of t) x) (none-after n x h))
+      last =
+          total-none (length t.loopbacks) _ (λ x h. where-off (is_node (passed (wiring_of t) v p (length t.loopbacks) x) n) (2 * degree (wiring_of t) x)
+            (none-after n x h))
 
   -- each link has two ends
   ends-or : (a b : Bool) → where_so (a || b) 1 ≤ where_so a 1 + where_so b 1
@@ -281,7 +305,9 @@ module _ (t : Network) (v : View) (lawful : IsLawful t) (p : ℕ) where
   two-ends : (l : ℕ) → total (length t.loopbacks) (λ x. where_so (is_end (wiring_of t) l x) 1) ≤ 2
   two-ends l = omega (
     arith,
-    total-below (length t.loopbacks) (λ x. where_so (is_end (wiring_of t) l x) 1) (λ x. where_so ((link (wiring_of t) l).a.0 == x) 1 + where_so ((link (wiring_of t) l).b.0 == x) 1) (λ x h. ends-or ((link (wiring_of t) l).a.0 == x) ((link (wiring_of t) l).b.0 == x)),
+    total-below (length t.loopbacks) (λ x. where_so (is_end (wiring_of t) l x) 1)
+        (λ x. where_so ((link (wiring_of t) l).a.0 == x) 1 + where_so ((link (wiring_of t) l).b.0 == x) 1)
+        (λ x h. ends-or ((link (wiring_of t) l).a.0 == x) ((link (wiring_of t) l).b.0 == x)),
     total-add (length t.loopbacks) (λ x. where_so ((link (wiring_of t) l).a.0 == x) 1) (λ x. where_so ((link (wiring_of t) l).b.0 == x) 1),
     one-number (length t.loopbacks) (link (wiring_of t) l).a.0,
     one-number (length t.loopbacks) (link (wiring_of t) l).b.0,
@@ -298,7 +324,8 @@ module _ (t : Network) (v : View) (lawful : IsLawful t) (p : ℕ) where
   pub weight-most : (n : ℕ) → weight (wiring_of t) v p n ≤ length t.loopbacks * (4 * length t.links)
   weight-most n = total-most (length t.loopbacks) (after_hops (wiring_of t) v p n) (4 * length t.links) (λ j h. omega (
     arith,
-    total-below (length t.loopbacks) (λ x. where_so (is_node (passed (wiring_of t) v p j x) n) (2 * degree (wiring_of t) x)) (λ x. 2 * degree (wiring_of t) x) (λ x g. where-most (is_node (passed (wiring_of t) v p j x) n) (2 * degree (wiring_of t) x)),
+    total-below (length t.loopbacks) (λ x. where_so (is_node (passed (wiring_of t) v p j x) n) (2 * degree (wiring_of t) x)) (λ x. 2 * degree (wiring_of t) x)
+        (λ x g. where-most (is_node (passed (wiring_of t) v p j x) n) (2 * degree (wiring_of t) x)),
     double (length t.loopbacks) (degree (wiring_of t)),
     degrees,
   ))

@@ -40,7 +40,8 @@ end_weight wiring view sessions node l =
 
 -- on all links of a node
 abbrev pub node_weight : Wiring → View → Config → Sessions → ℕ → ℕ
-node_weight wiring view config sessions node = total (length wiring.ends) (λ l. where_so (is_end wiring l node && lives config l) (end_weight wiring view sessions node l))
+node_weight wiring view config sessions node =
+    total (length wiring.ends) (λ l. where_so (is_end wiring l node && lives config l) (end_weight wiring view sessions node l))
 
 abbrev pub ahead : Wiring → View → Config → Sessions → ℕ
 ahead wiring view config sessions = total (length wiring.loopbacks) (node_weight wiring view config sessions)

@@ -1,6 +1,7 @@
 -- A drain: while notices are in flight they are learned, and then messages are heard, until none is left. How many steps it
 -- takes at most, in whatever order the notices are learned and the messages heard.
-use Rattle.std.specs.Prelude.{◌≡◌, ◌≢◌, ◌<◌, sum, map, ℕ, zero, suc, ◌+◌, ◌-◌, ◌*◌, ◌==◌, ◌&&◌, Bool, true, false, not, List, [], ◌∷◌, drop, length, Option, Some, None, ⊤}
+use Rattle.std.specs.Prelude.{◌≡◌, ◌≢◌, ◌<◌, sum, map, ℕ, zero, suc, ◌+◌, ◌-◌, ◌*◌, ◌==◌, ◌&&◌, Bool, true, false, not, List, [], ◌∷◌, drop, length, Option}
+use Rattle.std.specs.Prelude.{Some, None, ⊤}
 use Rattle.mn_base.specs.Wiring.{links_of, is_end, across, sender}
 use Rattle.mn_topo.specs.VrfTable.{is_edge}
 use Rattle.mn_topo.specs.Network.{Network, wiring_of}
@@ -12,7 +13,7 @@ use Rattle.mn_ledger.specs.Transport.{lives}
 use Rattle.mn_ledger.specs.Vpn.{peers_live, exports_of}
 use Rattle.mn_ledger.specs.Ledger.{after, no_packets}
 use Rattle.mn_ledger.specs.Refusal.{is_empty, notices_unlearned, unheard_over, unheard_by}
-use Rattle.mn_ledger.specs.Items.{Channel, Notices, Messages, Routes, Frames}
+use Rattle.mn_ledger.specs.Items.{Channel, Notices, Messages, Routes}
 use Rattle.mn_ledger.specs.Places.{edges}
 use Rattle.mn_drain.specs.Sums.{total, where_so}
 
@@ -57,13 +58,6 @@ taken_from topology (HearLdp l dir) = Some (Messages l.0 (sender (wiring_of topo
 taken_from topology (HearBgp a b) = Some (Routes a.0 b.0)
 taken_from topology _ = None
 
--- the channel is of a link and a node, of a link and one of its ends, or of two edges
-abbrev pub IsOfTopology : Network → Channel → Type 0
-IsOfTopology topology (Notices l node) = (l < length topology.links) × (node < length topology.loopbacks)
-IsOfTopology topology (Messages l end) = (l < length topology.links) × (is_end (wiring_of topology) l end ≡ true)
-IsOfTopology topology (Routes edge peer) = (is_edge topology.vrfs edge ≡ true) × (is_edge topology.vrfs peer ≡ true) × (edge ≢ peer)
-IsOfTopology topology (Frames l dir) = ⊤
-
 abbrev pub is_nil : {A : Type 0} → List A → Bool
 is_nil [] = true
 is_nil (x ∷ xs) = false
@@ -75,7 +69,8 @@ abbrev pub is_direction : Network → Config → ℕ → ℕ → Bool
 is_direction topology config edge peer = (is_edge topology.vrfs edge && is_edge topology.vrfs peer) && (not (edge == peer) && peers_live config edge peer)
 
 abbrev pub over_directions : Network → Config → (ℕ → ℕ → ℕ) → ℕ
-over_directions topology config f = total (length topology.loopbacks) (λ edge. total (length topology.loopbacks) (λ peer. where_so (is_direction topology config edge peer) (f edge peer)))
+over_directions topology config f =
+    total (length topology.loopbacks) (λ edge. total (length topology.loopbacks) (λ peer. where_so (is_direction topology config edge peer) (f edge peer)))
 
 abbrev pub directions : Network → Config → ℕ
 directions topology config = over_directions topology config (λ edge peer. 1)
@@ -86,7 +81,8 @@ all_exports topology config = total (length topology.loopbacks) (λ edge. length
 
 -- the LDP and BGP messages in flight
 abbrev pub messages : Network → World → ℕ
-messages topology world = sum (map (unheard_over topology world.sessions) (links_of (wiring_of topology))) + sum (map (unheard_by topology world.peerings) (edges topology))
+messages topology world =
+    sum (map (unheard_over topology world.sessions) (links_of (wiring_of topology))) + sum (map (unheard_by topology world.peerings) (edges topology))
 
 -- with q notices and m messages in flight, L links, P nodes, B directions of living BGP sessions and E exports
 abbrev pub bound_of : ℕ → ℕ → ℕ → ℕ → ℕ → ℕ → ℕ
@@ -95,7 +91,8 @@ bound_of q m links nodes directions exports =
 
 abbrev pub drain_bound : Network → World → ℕ
 drain_bound topology world =
-    bound_of (notices_unlearned topology world.views) (messages topology world) (length topology.links) (length topology.loopbacks) (directions topology world.config) (all_exports topology world.config)
+    bound_of (notices_unlearned topology world.views) (messages topology world) (length topology.links) (length topology.loopbacks)
+        (directions topology world.config) (all_exports topology world.config)
 
 -- 3. What is in flight, by nodes and links
 
@@ -106,7 +103,8 @@ notices topology views = total (length topology.loopbacks) (λ node. total (leng
 -- of what an end of a link has said, what the other hasn't heard
 abbrev pub unheard_on : Network → Config → Sessions → ℕ → ℕ → ℕ
 unheard_on topology config sessions node l =
-    where_so (is_end (wiring_of topology) l node && lives config l) (length (drop (sessions.heard l (across (wiring_of topology) l node)) (sessions.said l node)))
+    where_so (is_end (wiring_of topology) l node && lives config l)
+        (length (drop (sessions.heard l (across (wiring_of topology) l node)) (sessions.said l node)))
 
 -- LDP messages
 abbrev pub ldp_messages : Network → Config → Sessions → ℕ

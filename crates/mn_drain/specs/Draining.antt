@@ -9,7 +9,6 @@ use Rattle.mn_topo.specs.declared.steps.Step.TheVariants.{LinkUp, Learn, HearLdp
 use Rattle.mn_topo.specs.declared.steps.JournalEntry.{JournalEntry}
 use Rattle.mn_ledger.specs.Ledger.{world_of}
 use Rattle.mn_ledger.specs.Lawful.{IsLawfulJournal}
-use Rattle.mn_ledger.specs.Settled.{IsSettled}
 use Rattle.mn_ledger.proofs.TwoLinks.{node_no, link_no, two_links, at_start}
 use Rattle.mn_drain.specs.Drain.{IsDrain, IsDrained, IsSwitchedOn, after_steps, drain_bound}
 

@@ -19,17 +19,15 @@ ghost use Rattle.mn_topo.specs.Lawful.{IsLawful};
 ghost use Rattle.mn_topo.specs.declared.steps.JournalEntry.{JournalEntry};
 ghost use Rattle.mn_ledger.specs.Ledger.{world_of, no_packets};
 ghost use Rattle.mn_ledger.specs.Refusal.{is_empty, refusal_at};
-ghost use Rattle.mn_ledger.specs.Items.{Channel, Item, loads_on, flight_of};
+ghost use Rattle.mn_ledger.specs.Items.{Channel, loads_on, flight_of};
 ghost use Rattle.mn_ledger.specs.InFlight.{is_in_order};
 ghost use Rattle.mn_topo.specs.Steps.{fits};
 ghost use Rattle.mn_ledger.specs.World.{World};
 ghost use Rattle.mn_ledger.specs.Packets.{Packets};
 ghost use Rattle.mn_ledger.specs.Lawful.{IsLawfulJournal};
 ghost use Rattle.mn_ledger.specs.Settled.{IsSettled};
-ghost use Rattle.std.specs.List.{Contains};
-ghost use Rattle.mn_ledger.specs.Places.{edges};
 ghost use Rattle.mn_topo.specs.declared.steps.Step.{Step};
-ghost use Rattle.mn_drain.specs.Drain.{IsOfTopology, taken_from, is_nil, IsDrain, after_steps, IsDrained, IsSwitchedOn, IsDrainStep, drain_bound};
+ghost use Rattle.mn_drain.specs.Drain.{taken_from, is_nil, IsDrain, after_steps, IsDrained, IsSwitchedOn, IsDrainStep, drain_bound};
 ghost use Rattle.mn_drain.specs.Draining.{TwoLinksDrain};
 
 // 1. Steps of a drain
@@ -39,12 +37,6 @@ pub fn what_flies_can_be_taken()
     ensures { (topology : Network) (entries : List JournalEntry) (inputs : List (List ℕ)) (step : Step) (on : Channel) →
         IsLawful topology → IsLawfulJournal topology entries inputs → fits topology step ≡ true → taken_from topology step ≡ Some on →
         is_empty topology (world_of topology entries) no_packets step ≡ is_nil (loads_on on (flight_of topology entries inputs).items) }
-{}
-
-/// After a lawful journal each item in flight is on a channel of the topology.
-pub fn what_flies_is_on_channels_of_the_topology()
-    ensures { (topology : Network) (entries : List JournalEntry) (inputs : List (List ℕ)) (item : Item) →
-        IsLawful topology → IsLawfulJournal topology entries inputs → Contains (flight_of topology entries inputs).items item → IsOfTopology topology item.on }
 {}
 
 /// A step of a drain is refused only where the journal is full.

@@ -1,5 +1,6 @@
 -- In a settled world each VRF holds the routes that the present configuration gives it.
-use Rattle.std.proofs.Common.{ℕ, zero, suc, ◌≡◌, ◌≢◌, ◌+◌, ◌<◌, ◌≤◌, inl, inr, Bool, true, false, cond, List, [], ◌∷◌, ◌++◌, map, filter, length, take, refl, arith, sym, ◌∙◌, ap, subst, Option, None, Some}
+use Rattle.std.proofs.Common.{ℕ, zero, suc, ◌≡◌, ◌≢◌, ◌+◌, ◌<◌, ◌≤◌, inl, inr, Bool, true, false, cond, List, [], ◌∷◌, ◌++◌, map, filter, length, take, refl}
+use Rattle.std.proofs.Common.{arith, sym, ◌∙◌, ap, subst, Option, None, Some}
 use Rattle.std.specs.Prelude.{◌==◌, ◌&&◌, not, nat_le, is_some, unwrap_or, if◌then◌else◌}
 use Rattle.std.specs.List.{flat_map, range_with_len, Contains, list_any}
 use Rattle.std.proofs.lemmas.Bool.Decides.{eqb_tells, leb_tells}
@@ -11,7 +12,8 @@ use Rattle.mn_base.specs.Wiring.{JoinsNodes, EndsDiffer}
 use Rattle.mn_topo.specs.declared.steps.JournalEntry.{JournalEntry}
 use Rattle.mn_ledger.specs.Places.{loopback, vrf_at, edges}
 use Rattle.mn_ledger.specs.World.{Config, Export, Telling, World}
-use Rattle.mn_ledger.specs.Vpn.{peers_live, is_established, exports_of, present_with, HeldRoute, Own, Near, Far, held_by, own_routes, near_routes, imported, meet, heard_of, believed, believed_from, far_routes, held, is_better, matching, unbeaten, first_of, best}
+use Rattle.mn_ledger.specs.Vpn.{peers_live, is_established, exports_of, present_with, HeldRoute, Own, Near, Far, held_by, own_routes, near_routes, imported}
+use Rattle.mn_ledger.specs.Vpn.{meet, heard_of, believed, believed_from, far_routes, held, is_better, matching, unbeaten, first_of, best}
 use Rattle.mn_ledger.specs.Ledger.{after, start, no_packets, next_of, left_by, world_from, world_of}
 use Rattle.mn_ledger.specs.Packets.{Packets, packets_after}
 use Rattle.mn_ledger.specs.Lawful.{IsLawfulFrom, IsLawfulJournal}
@@ -25,7 +27,7 @@ use Rattle.mn_ledger.proofs.Tellings.{Behind, behind, exported_by}
 use Rattle.mn_ledger.proofs.Peers.{and_right}
 use Rattle.mn_ledger.proofs.InTurn.{goes_step, begins, not_empty, in_order, in_turn}
 use Rattle.mn_settled.specs.Routes as routes
-use Rattle.mn_settled.specs.Routes.{HasTold, TellTheirExports, HoldsItsRoutes, routes_of}
+use Rattle.mn_settled.specs.Routes.{TellTheirExports, HoldsItsRoutes, routes_of}
 use Rattle.mn_settled.proofs.Mapped.{flat_map_in}
 use Rattle.mn_settled.proofs.Changes.{AreSame}
 use Rattle.mn_settled.proofs.Exporting.{Tells, AllTell, tells-step}
@@ -35,7 +37,9 @@ clash e = cc
 
 -- 1. Over a journal
 
-tells-on : (t : Network) → Apart t → JoinsNodes (wiring_of t) → EndsDiffer (wiring_of t) → (es : List JournalEntry) (tick : ℕ) (w : World) (k : Packets) (i : ℕ) (ps : List (List ℕ)) → IsLawfulFrom t tick w k i es ps → IsInTurn t w → HasStatics t w.config.statics → AllTell t w.config w.peerings
+tells-on : (t : Network) → Apart t → JoinsNodes (wiring_of t) → EndsDiffer (wiring_of t)
+    → (es : List JournalEntry) (tick : ℕ) (w : World) (k : Packets) (i : ℕ) (ps : List (List ℕ)) → IsLawfulFrom t tick w k i es ps → IsInTurn t w
+    → HasStatics t w.config.statics → AllTell t w.config w.peerings
     → AllTell t (world_from t w es).config (world_from t w es).peerings
 tells-on t apart joins differ [] tick w k i ps lawful g statics h = h
 tells-on t apart joins differ (e ∷ es) tick w k i ps lawful g statics h =
@@ -51,9 +55,11 @@ tells-first t a b d i j = record { on = λ e. absurd (clash (sym e ∙ never)); 
     never : is_established (start t).config (start t).peerings a b ≡ false
     never = elim (leb_tells (suc a) b) [ inl q ↦ ap (λ x. (cond x false false) && nat_le 2 0) q.0 | inr q ↦ ap (λ x. (cond x false false) && nat_le 2 0) q.0 ]
 
-pub all-tell : (t : Network) (es : List JournalEntry) (ps : List (List ℕ)) → IsLawful t → IsLawfulJournal t es ps → AllTell t (world_of t es).config (world_of t es).peerings
+pub all-tell : (t : Network) (es : List JournalEntry) (ps : List (List ℕ)) → IsLawful t → IsLawfulJournal t es ps
+    → AllTell t (world_of t es).config (world_of t es).peerings
 all-tell t es ps lawful journal =
-    tells-on t (loopbacks_apart t lawful) lawful.joins_nodes lawful.ends_differ es 0 (start t) no_packets 0 ps journal (begins t) (first_statics t lawful) (tells-first t)
+    tells-on t (loopbacks_apart t lawful) lawful.joins_nodes lawful.ends_differ es 0 (start t) no_packets 0 ps journal (begins t) (first_statics t lawful)
+        (tells-first t)
 
 pub tell_their_exports : (t : Network) (es : List JournalEntry) (ps : List (List ℕ)) → IsLawful t → IsLawfulJournal t es ps → TellTheirExports t (world_of t es)
 tell_their_exports t es ps lawful journal a b x d i j =
@@ -64,10 +70,12 @@ tell_their_exports t es ps lawful journal a b x d i j =
       all = λ on c. contained_in (believed_from [] (w.peerings.told a b)) x ((h.on on x).1 (in_contained (exports_of t w.config a) x c));
     }
   where
-    only : (w : World) → Tells t w.config w.peerings a b → In (believed_from [] (w.peerings.told a b)) x → (is_established w.config w.peerings a b ≡ true) × Contains (exports_of t w.config a) x
+    only : (w : World) → Tells t w.config w.peerings a b → In (believed_from [] (w.peerings.told a b)) x
+        → (is_established w.config w.peerings a b ≡ true) × Contains (exports_of t w.config a) x
     only w h m = either (is_established w.config w.peerings a b) refl
       where
-        either : (on : Bool) → is_established w.config w.peerings a b ≡ on → (is_established w.config w.peerings a b ≡ true) × Contains (exports_of t w.config a) x
+        either : (on : Bool) → is_established w.config w.peerings a b ≡ on
+            → (is_established w.config w.peerings a b ≡ true) × Contains (exports_of t w.config a) x
         either true e = (e, contained_in (exports_of t w.config a) x ((h.on e x).0 m))
         either false e = absurd (h.off e x m)
 
@@ -102,8 +110,10 @@ module _ (t : Network) (w : World) (turn : IsInTurn t w) (settled : IsSettled t 
           less a b = omega (arith, a, b)
 
   -- an edge believes what its peer exports
-  believes : (edge peer : ℕ) → edge ≢ peer → In (edges t) edge → In (edges t) peer → AreSame (believed w.config w.peerings edge peer) (exports_of t w.config peer)
-  believes edge peer d i j = subst (λ ys. AreSame ys (exports_of t w.config peer)) (sym is) ((tell peer edge (λ e. d (sym e)) j i).on (established peer edge (λ e. d (sym e)) j i))
+  believes : (edge peer : ℕ) → edge ≢ peer → In (edges t) edge → In (edges t) peer
+      → AreSame (believed w.config w.peerings edge peer) (exports_of t w.config peer)
+  believes edge peer d i j =
+      subst (λ ys. AreSame ys (exports_of t w.config peer)) (sym is) ((tell peer edge (λ e. d (sym e)) j i).on (established peer edge (λ e. d (sym e)) j i))
     where
       is : believed w.config w.peerings edge peer ≡ believed_from [] (w.peerings.told peer edge)
       is =
@@ -119,29 +129,36 @@ module _ (t : Network) (w : World) (turn : IsInTurn t w) (settled : IsSettled t 
   route_from peer export = held_by peer (Far (loopback t peer) (vrf_at t export.vrf).rd.0) export
 
   -- the routes of one list of exports are those of another with the same
-  same-routes : (v peer : ℕ) (xs ys : List Export) → ((x : Export) → In xs x → In ys x) → (r : HeldRoute) → In (map (route_from peer) (imported w.config v xs)) r → In (map (route_from peer) (imported w.config v ys)) r
+  same-routes : (v peer : ℕ) (xs ys : List Export) → ((x : Export) → In xs x → In ys x) → (r : HeldRoute)
+      → In (map (route_from peer) (imported w.config v xs)) r → In (map (route_from peer) (imported w.config v ys)) r
   same-routes v peer xs ys same r i =
       let m = in_map (route_from peer) (imported w.config v xs) r i in
       let f = in_filter (λ (export : Export). meet export.targets (w.config.imports v)) xs m.0 m.1 in
-      subst (In (map (route_from peer) (imported w.config v ys))) m.2 (map_in (route_from peer) (imported w.config v ys) m.0 (filter_in (λ (export : Export). meet export.targets (w.config.imports v)) ys m.0 (same m.0 f.0) f.1))
+      subst (In (map (route_from peer) (imported w.config v ys))) m.2
+          (map_in (route_from peer) (imported w.config v ys) m.0
+          (filter_in (λ (export : Export). meet export.targets (w.config.imports v)) ys m.0 (same m.0 f.0) f.1))
 
   not-self : (edge peer : ℕ) → not (peer == edge) ≡ true → edge ≢ peer
   not-self edge peer h e = clash (sym h ∙ ap not (elim (eqb_tells peer edge) [ inl q ↦ q.0 | inr q ↦ absurd (q.1 (sym e)) ]))
 
   others-same : (edge v : ℕ) → In (edges t) edge → (r : HeldRoute)
-      → (In (flat_map (far_routes t w.config w.peerings edge v) (filter (λ peer. not (peer == edge)) (edges t))) r → In (flat_map (routes.exported_by t w.config v) (filter (λ peer. not (peer == edge)) (edges t))) r)
-      × (In (flat_map (routes.exported_by t w.config v) (filter (λ peer. not (peer == edge)) (edges t))) r → In (flat_map (far_routes t w.config w.peerings edge v) (filter (λ peer. not (peer == edge)) (edges t))) r)
+      → (In (flat_map (far_routes t w.config w.peerings edge v) (filter (λ peer. not (peer == edge)) (edges t))) r
+          → In (flat_map (routes.exported_by t w.config v) (filter (λ peer. not (peer == edge)) (edges t))) r)
+      × (In (flat_map (routes.exported_by t w.config v) (filter (λ peer. not (peer == edge)) (edges t))) r
+          → In (flat_map (far_routes t w.config w.peerings edge v) (filter (λ peer. not (peer == edge)) (edges t))) r)
   others-same edge v i r = (
     λ h.
         let m = in_flat_map (far_routes t w.config w.peerings edge v) (filter (λ peer. not (peer == edge)) (edges t)) r h in
         let f = in_filter (λ peer. not (peer == edge)) (edges t) m.0 m.1 in
         flat_map_in (routes.exported_by t w.config v) (filter (λ peer. not (peer == edge)) (edges t)) m.0 r m.1
-        (same-routes v m.0 (believed w.config w.peerings edge m.0) (exports_of t w.config m.0) (λ x k. (believes edge m.0 (not-self edge m.0 f.1) i f.0 x).0 k) r m.2),
+        (same-routes v m.0 (believed w.config w.peerings edge m.0) (exports_of t w.config m.0)
+            (λ x k. (believes edge m.0 (not-self edge m.0 f.1) i f.0 x).0 k) r m.2),
     λ h.
         let m = in_flat_map (routes.exported_by t w.config v) (filter (λ peer. not (peer == edge)) (edges t)) r h in
         let f = in_filter (λ peer. not (peer == edge)) (edges t) m.0 m.1 in
         flat_map_in (far_routes t w.config w.peerings edge v) (filter (λ peer. not (peer == edge)) (edges t)) m.0 r m.1
-        (same-routes v m.0 (exports_of t w.config m.0) (believed w.config w.peerings edge m.0) (λ x k. (believes edge m.0 (not-self edge m.0 f.1) i f.0 x).1 k) r m.2),
+        (same-routes v m.0 (exports_of t w.config m.0) (believed w.config w.peerings edge m.0)
+            (λ x k. (believes edge m.0 (not-self edge m.0 f.1) i f.0 x).1 k) r m.2),
   )
 
   -- the third part alone differs
@@ -161,8 +178,12 @@ module _ (t : Network) (w : World) (turn : IsInTurn t w) (settled : IsSettled t 
       let far = flat_map (far_routes t w.config w.peerings edge v) (filter (λ peer. not (peer == edge)) (edges t)) in
       let exported = flat_map (routes.exported_by t w.config v) (filter (λ peer. not (peer == edge)) (edges t)) in
       record {
-        only = λ c. contained_in (routes_of t w.config edge v) r (third (own_routes t w.config edge v) (near_routes t w.config edge v) far exported r same.0 (in_contained (held t w.config w.peerings edge v) r c));
-        all = λ c. contained_in (held t w.config w.peerings edge v) r (third (own_routes t w.config edge v) (near_routes t w.config edge v) exported far r same.1 (in_contained (routes_of t w.config edge v) r c));
+        only =
+            λ c. contained_in (routes_of t w.config edge v) r (third (own_routes t w.config edge v) (near_routes t w.config edge v) far exported r same.0
+              (in_contained (held t w.config w.peerings edge v) r c));
+        all =
+            λ c. contained_in (held t w.config w.peerings edge v) r
+              (third (own_routes t w.config edge v) (near_routes t w.config edge v) exported far r same.1 (in_contained (routes_of t w.config edge v) r c));
       }
 
   -- 3. Behind each route is the present attachment of its site, at an edge
@@ -183,14 +204,19 @@ module _ (t : Network) (w : World) (turn : IsInTurn t w) (settled : IsSettled t 
   export-attached edge x i = present-attached w.config x.vrf (w.config.exports x.vrf) x (exported_by t w.config edge x i).1
 
   route-attached : (edge v : ℕ) (r : HeldRoute) → In (edges t) edge → In (routes_of t w.config edge v) r → IsBehind r
-  route-attached edge v r i h = elim (in_append (own_routes t w.config edge v) (near_routes t w.config edge v ++ flat_map (routes.exported_by t w.config v) (filter (λ peer. not (peer == edge)) (edges t))) r h) [
+  route-attached edge v r i h =
+      elim (in_append (own_routes t w.config edge v) (near_routes t w.config edge v
+        ++ flat_map (routes.exported_by t w.config v) (filter (λ peer. not (peer == edge)) (edges t))) r h) [
     | inl j ↦
         let m = in_map (held_by edge Own) (present_with t w.config v []) r j in
         subst IsBehind m.2 (present-attached w.config v [] m.0 (behind t w.config v [] m.0 m.1), i)
-    | inr j ↦ elim (in_append (near_routes t w.config edge v) (flat_map (routes.exported_by t w.config v) (filter (λ peer. not (peer == edge)) (edges t))) r j) [
+    | inr j ↦ elim (in_append (near_routes t w.config edge v)
+        (flat_map (routes.exported_by t w.config v) (filter (λ peer. not (peer == edge)) (edges t))) r j) [
       | inl k ↦
-          let m = in_map (λ (export : Export). held_by edge (Near export.vrf) export) (imported w.config v (filter (λ export. not (export.vrf == v)) (exports_of t w.config edge))) r k in
-          let f = in_filter (λ (export : Export). meet export.targets (w.config.imports v)) (filter (λ export. not (export.vrf == v)) (exports_of t w.config edge)) m.0 m.1 in
+          let m = in_map (λ (export : Export). held_by edge (Near export.vrf) export)
+              (imported w.config v (filter (λ export. not (export.vrf == v)) (exports_of t w.config edge))) r k in
+          let f = in_filter (λ (export : Export). meet export.targets (w.config.imports v))
+              (filter (λ export. not (export.vrf == v)) (exports_of t w.config edge)) m.0 m.1 in
           let g = in_filter (λ (export : Export). not (export.vrf == v)) (exports_of t w.config edge) m.0 f.0 in
           subst IsBehind m.2 (export-attached edge m.0 g.0, i)
       | inr k ↦
@@ -211,12 +237,16 @@ module _ (t : Network) (w : World) (turn : IsInTurn t w) (settled : IsSettled t 
   best-in : (rs : List HeldRoute) (address : ℕ) (r : HeldRoute) → best rs address ≡ Some r → In rs r
   best-in rs address r e =
       (in_filter (λ route. contains route.prefix address) rs r
-      (in_filter (λ route. not (list_any (λ other. is_better other route) (matching address rs))) (matching address rs) r (first-in (unbeaten (matching address rs)) r e)).0).0
+      (in_filter (λ route. not (list_any (λ other. is_better other route) (matching address rs))) (matching address rs) r
+          (first-in (unbeaten (matching address rs)) r e)).0).0
 
-  pub best-attached : (edge v address : ℕ) (r : HeldRoute) → In (edges t) edge → best (held t w.config w.peerings edge v) address ≡ Some r → (w.config.attached r.site ≡ Some r.attachment) × In (edges t) r.edge
+  pub best-attached : (edge v address : ℕ) (r : HeldRoute) → In (edges t) edge → best (held t w.config w.peerings edge v) address ≡ Some r
+      → (w.config.attached r.site ≡ Some r.attachment) × In (edges t) r.edge
   best-attached edge v address r i e =
-      route-attached edge v r i (in_contained (routes_of t w.config edge v) r ((holds edge v i r).only (contained_in (held t w.config w.peerings edge v) r (best-in (held t w.config w.peerings edge v) address r e))))
+      route-attached edge v r i (in_contained (routes_of t w.config edge v) r
+          ((holds edge v i r).only (contained_in (held t w.config w.peerings edge v) r (best-in (held t w.config w.peerings edge v) address r e))))
 
-pub hold_their_routes : (t : Network) (es : List JournalEntry) (ps : List (List ℕ)) → IsLawful t → IsLawfulJournal t es ps → IsSettled t (world_of t es) → (edge v : ℕ) (route : HeldRoute) → Contains (edges t) edge → HoldsItsRoutes t (world_of t es) edge v route
+pub hold_their_routes : (t : Network) (es : List JournalEntry) (ps : List (List ℕ)) → IsLawful t → IsLawfulJournal t es ps → IsSettled t (world_of t es)
+    → (edge v : ℕ) (route : HeldRoute) → Contains (edges t) edge → HoldsItsRoutes t (world_of t es) edge v route
 hold_their_routes t es ps lawful journal settled edge v route i =
     holds t (world_of t es) (in_turn t es ps lawful journal) settled (all-tell t es ps lawful journal) edge v (in_contained (edges t) edge i) route

@@ -34,12 +34,17 @@ module _ (t : Network) (w : World) (lawful : IsLawful t) (ways : KnowTheWays t w
       let l : ℕ = g.1 in
       let some = (some-next t (links_up t w) lawful p n (hop, l) below (sym (ways n p below inside).way_is ∙ g.2)).1 in
       let rest = least-way hops hop (hop-below t (links_up t w) lawful p n (hop, l) some) g.4 in
-      let far : IsLeast (wiring_of t) (links_up t w) hop p some.1.rest = subst (λ j. IsLeast (wiring_of t) (links_up t w) j p some.1.rest) (sym some.0) some.1.after in
-      let same : some.1.rest ≡ cost_of (wiring_of t) rest.links = both (one-least t (links_up t w) hop p some.1.rest (cost_of (wiring_of t) rest.links) far rest.least) (one-least t (links_up t w) hop p (cost_of (wiring_of t) rest.links) some.1.rest rest.least far) in
+      let far : IsLeast (wiring_of t) (links_up t w) hop p some.1.rest = subst (λ j. IsLeast (wiring_of t) (links_up t w) j p some.1.rest)
+          (sym some.0) some.1.after in
+      let same : some.1.rest ≡ cost_of (wiring_of t) rest.links = both
+          (one-least t (links_up t w) hop p some.1.rest (cost_of (wiring_of t) rest.links) far rest.least)
+          (one-least t (links_up t w) hop p (cost_of (wiring_of t) rest.links) some.1.rest rest.least far) in
       record {
         links = l ∷ rest.links;
         nodes_are = ap (λ xs. n ∷ xs) (rest.nodes_are ∙ ap (λ j. nodes_over t j rest.links) g.3);
-        ends = ap (λ b. cond b (walk_end (wiring_of t) (links_up t w) (across (wiring_of t) l n) rest.links) None) (goes some.1.up some.1.at_node some.1.there) ∙ ap (λ j. walk_end (wiring_of t) (links_up t w) j rest.links) (sym g.3) ∙ rest.ends;
+        ends =
+            ap (λ b. cond b (walk_end (wiring_of t) (links_up t w) (across (wiring_of t) l n) rest.links) None) (goes some.1.up some.1.at_node some.1.there)
+              ∙ ap (λ j. walk_end (wiring_of t) (links_up t w) j rest.links) (sym g.3) ∙ rest.ends;
         least = subst (λ c. IsLeast (wiring_of t) (links_up t w) n p ((link (wiring_of t) l).cost + c)) same some.1.whole;
       }
     where
@@ -47,9 +52,11 @@ module _ (t : Network) (w : World) (lawful : IsLawful t) (ways : KnowTheWays t w
       both h g = omega (arith, h, g)
 
       goes : {l : ℕ} → is_up (links_up t w) l ≡ true → is_end (wiring_of t) l n ≡ true → l < length t.links → may_go (wiring_of t) (links_up t w) n l ≡ true
-      goes {l = l} u e h = ap (λ b. b && (is_end (wiring_of t) l n && nat_lt l (length t.links))) u ∙ ap (λ b. b && nat_lt l (length t.links)) e ∙ less-test l (length t.links) h
+      goes {l = l} u e h =
+          ap (λ b. b && (is_end (wiring_of t) l n && nat_lt l (length t.links))) u ∙ ap (λ b. b && nat_lt l (length t.links)) e ∙ less-test l (length t.links) h
 
-pub route_is_least : (t : Network) (es : List JournalEntry) (ps : List (List ℕ)) → IsLawful t → IsLawfulJournal t es ps → IsSettled t (world_of t es) → (from to : ℕ) → from < length t.loopbacks → to < length t.loopbacks → Reaches t (world_of t es) from to
+pub route_is_least : (t : Network) (es : List JournalEntry) (ps : List (List ℕ)) → IsLawful t → IsLawfulJournal t es ps → IsSettled t (world_of t es)
+    → (from to : ℕ) → from < length t.loopbacks → to < length t.loopbacks → Reaches t (world_of t es) from to
     → IsLeastWay t (world_of t es) from to (route t (world_of t es) from to)
 route_is_least t es ps lawful journal settled from to below inside reaches =
     let ways = know_the_ways t es ps lawful journal settled in

@@ -36,7 +36,8 @@ one_more n = elim (eqb_tells (n % 2) 1) [
     neither : (n : ℕ) → n % 2 ≢ 1 → (n + 1) % 2 ≢ 1 → ⊥
     neither n a b = grind (arith, a, b)
 
-turned : (w : World) (at : ℕ) (on : Bool) → AreUpWhereOdd w → w.config.is_up at ≡ not on → (l : ℕ) → put w.config.is_up at on l ≡ (put w.views.changes at (w.views.changes at + 1) l % 2 == 1)
+turned : (w : World) (at : ℕ) (on : Bool) → AreUpWhereOdd w → w.config.is_up at ≡ not on → (l : ℕ)
+    → put w.config.is_up at on l ≡ (put w.views.changes at (w.views.changes at + 1) l % 2 == 1)
 turned w at on h was l = elim (eqb_tells l at) [
   | inl p ↦
       ap (put w.config.is_up at on) p.1 ∙ put_here w.config.is_up at on ∙ back on (w.config.is_up at) was ∙ ap not (h at) ∙ sym (one_more (w.views.changes at))
@@ -53,7 +54,8 @@ odd-step t w (LinkUp l) new h = turned w l.0 true h new
 odd-step t w (LinkDown l) new h = turned w l.0 false h (not_false (w.config.is_up l.0) new)
 odd-step t w _ new h = h
 
-odd-on : (t : Network) (es : List JournalEntry) (tick : ℕ) (w : World) (k : Packets) (i : ℕ) (ps : List (List ℕ)) → IsLawfulFrom t tick w k i es ps → AreUpWhereOdd w → AreUpWhereOdd (world_from t w es)
+odd-on : (t : Network) (es : List JournalEntry) (tick : ℕ) (w : World) (k : Packets) (i : ℕ) (ps : List (List ℕ)) → IsLawfulFrom t tick w k i es ps
+    → AreUpWhereOdd w → AreUpWhereOdd (world_from t w es)
 odd-on t [] tick w k i ps lawful h = h
 odd-on t (e ∷ es) tick w k i ps lawful h =
     odd-on t es e.tick (after t w e.step) (packets_after t (after t w e.step) k e.step (next_of ps)) (i + 1) (left_by e.step ps) lawful.3

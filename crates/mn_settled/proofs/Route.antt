@@ -1,5 +1,6 @@
 -- In a settled world the route leads by the next hops to its end.
-use Rattle.std.proofs.Common.{ℕ, zero, suc, ◌≡◌, ◌≢◌, ◌+◌, ◌<◌, ◌≤◌, inl, inr, Bool, true, false, List, [], ◌∷◌, length, refl, arith, sym, ◌∙◌, ap, subst, Option, None, Some}
+use Rattle.std.proofs.Common.{ℕ, zero, suc, ◌≡◌, ◌≢◌, ◌+◌, ◌<◌, ◌≤◌, inl, inr, Bool, true, false, List, [], ◌∷◌, length, refl, arith, sym, ◌∙◌, ap, subst}
+use Rattle.std.proofs.Common.{Option, None, Some}
 use Rattle.std.specs.Prelude.{◌||◌, eqb}
 use Rattle.std.specs.List.{IsDistinct, list_any, AllByRecursion}
 use Rattle.std.proofs.lemmas.Bool.Decides.{eqb_tells}
@@ -31,7 +32,8 @@ one-least t w q p a b x y = subst (λ n. a ≤ n) y.walk.2 (x.least y.walk.0 y.w
 clash : true ≡ false → ⊥
 clash e = cc
 
-not-seen : (t : Network) (w : World) (p d n : ℕ) (seen : List ℕ) → IsLeast (wiring_of t) (links_up t w) n p d → AreFarther t w p d seen → list_any (eqb n) seen ≡ false
+not-seen : (t : Network) (w : World) (p d n : ℕ) (seen : List ℕ) → IsLeast (wiring_of t) (links_up t w) n p d → AreFarther t w p d seen
+    → list_any (eqb n) seen ≡ false
 not-seen t w p d n seen least far = either (list_any (eqb n) seen) refl
   where
     over : {a b : ℕ} → b ≤ a → a < b → ⊥
@@ -45,7 +47,8 @@ pub or-tells : (a b : Bool) → (a || b) ≡ true → a ≡ false → b ≡ true
 or-tells true b h e = absurd (clash e)
 or-tells false b h e = h
 
-more-seen : (t : Network) (w : World) (p d r n : ℕ) (seen : List ℕ) → n < length t.loopbacks → IsLeast (wiring_of t) (links_up t w) n p d → r < d → AreFarther t w p d seen → AreFarther t w p r (n ∷ seen)
+more-seen : (t : Network) (w : World) (p d r n : ℕ) (seen : List ℕ) → n < length t.loopbacks → IsLeast (wiring_of t) (links_up t w) n p d → r < d
+    → AreFarther t w p d seen → AreFarther t w p r (n ∷ seen)
 more-seen t w p d r n seen below least less far q h = elim (eqb_tells q n) [
   | inl e ↦ (subst (λ j. j < length t.loopbacks) (sym e.1) below, d, subst (λ j. IsLeast (wiring_of t) (links_up t w) j p d) (sym e.1) least, less)
   | inr e ↦ let f = far q (or-tells (eqb q n) (list_any (eqb q) seen) h e.0) in (f.0, f.1, f.2, omega (arith, f.3, less))
@@ -59,7 +62,8 @@ any-none x (y ∷ ys) h = let p = or_off (eqb x y) (list_any (eqb x) ys) h in (p
     or_off true b h = absurd (clash h)
     or_off false b h = (refl, h)
 
-too-many : (n : ℕ) (seen : List ℕ) (bound : ℕ) → list_any (eqb n) seen ≡ false → IsDistinct eqb seen → n < bound → ((q : ℕ) → list_any (eqb q) seen ≡ true → q < bound) → suc (length seen) ≤ bound
+too-many : (n : ℕ) (seen : List ℕ) (bound : ℕ) → list_any (eqb n) seen ≡ false → IsDistinct eqb seen → n < bound
+    → ((q : ℕ) → list_any (eqb q) seen ≡ true → q < bound) → suc (length seen) ≤ bound
 unfolding IsDistinct
 too-many n seen bound new distinct below all = length-le_from_distinct_below (n ∷ seen) bound (any-none n seen new, distinct) (λ q h. elim (eqb_tells q n) [
   | inl e ↦ subst (λ j. j < bound) (sym e.1) below
@@ -79,20 +83,24 @@ module _ (t : Network) (w : World) (lawful : IsLawful t) (ways : KnowTheWays t w
     where
       none : next (wiring_of t) (view_of (wiring_of t) w.views n) n p ≡ None
       none = elim (eqb_tells n p) [
-        | inl q ↦ ap (λ b. elim b as (λ _. Option (ℕ × ℕ)) [ true ↦ None | false ↦ next_by (wiring_of t) (view_of (wiring_of t) w.views n) (dists_to (wiring_of t) (view_of (wiring_of t) w.views n) p) n ]) q.0
+        | inl q ↦ ap (λ b. elim b as (λ _. Option (ℕ × ℕ)) [ true ↦ None
+            | false ↦ next_by (wiring_of t) (view_of (wiring_of t) w.views n) (dists_to (wiring_of t) (view_of (wiring_of t) w.views n) p) n ]) q.0
         | inr q ↦ absurd (q.1 e)
       ]
 
-  one-hop : (fuel n : ℕ) (hop : ℕ × ℕ) → n < length t.loopbacks → next (wiring_of t) (links_up t w) n p ≡ Some hop → hops_from t w (suc fuel) n p ≡ n ∷ hops_from t w fuel hop.0 p
+  one-hop : (fuel n : ℕ) (hop : ℕ × ℕ) → n < length t.loopbacks → next (wiring_of t) (links_up t w) n p ≡ Some hop
+      → hops_from t w (suc fuel) n p ≡ n ∷ hops_from t w fuel hop.0 p
   one-hop fuel n hop below is =
-      ap (λ o. elim o as (λ _. List ℕ) [ None ↦ n ∷ [] | Some h ↦ n ∷ hops_from t w fuel h.0 p ]) (ap (λ v. next (wiring_of t) v n p) (ways n p below inside).view ∙ is)
+      ap (λ o. elim o as (λ _. List ℕ) [ None ↦ n ∷ [] | Some h ↦ n ∷ hops_from t w fuel h.0 p ])
+          (ap (λ v. next (wiring_of t) v n p) (ways n p below inside).view ∙ is)
 
   hop-below : (n : ℕ) (hop : ℕ × ℕ) → IsNext (wiring_of t) (links_up t w) n p (Some hop) → hop.0 < length t.loopbacks
   hop-below n hop some =
       let other = across-end (wiring_of t) hop.1 n (lawful.ends_differ hop.1 some.1.there) some.1.at_node in
       subst (λ j. j < length t.loopbacks) (sym some.0) (ends_below t lawful.joins_nodes hop.1 (across (wiring_of t) hop.1 n) some.1.there other.0)
 
-  onward : (fuel n d : ℕ) (seen : List ℕ) → n < length t.loopbacks → IsLeast (wiring_of t) (links_up t w) n p d → IsDistinct eqb seen → AreFarther t w p d seen → length t.loopbacks ≤ fuel + length seen → Arrives fuel n
+  onward : (fuel n d : ℕ) (seen : List ℕ) → n < length t.loopbacks → IsLeast (wiring_of t) (links_up t w) n p d → IsDistinct eqb seen → AreFarther t w p d seen
+      → length t.loopbacks ≤ fuel + length seen → Arrives fuel n
   unfolding IsDistinct
   onward zero n d seen below least distinct far enough =
       absurd (over enough (too-many n seen (length t.loopbacks) (not-seen t w p d n seen least far) distinct below (λ q h. (far q h).0)))
@@ -101,15 +109,18 @@ module _ (t : Network) (w : World) (lawful : IsLawful t) (ways : KnowTheWays t w
       over g h = omega (arith, g, h)
   onward (suc fuel) n d seen below least distinct far enough = elim (eqb_tells n p) [
     | inl e ↦ here (suc fuel) n below e.1
-    | inr e ↦ by_hop (λ m r s. onward fuel m r s) e.1 (next (wiring_of t) (links_up t w) n p) refl (next_is (wiring_of t) (links_up t w) p lawful.joins_nodes n below e.1)
+    | inr e ↦ by_hop (λ m r s. onward fuel m r s) e.1 (next (wiring_of t) (links_up t w) n p) refl
+        (next_is (wiring_of t) (links_up t w) p lawful.joins_nodes n below e.1)
   ]
     where
-      by_hop : ((m r : ℕ) (s : List ℕ) → m < length t.loopbacks → IsLeast (wiring_of t) (links_up t w) m p r → IsDistinct eqb s → AreFarther t w p r s → length t.loopbacks ≤ fuel + length s → Arrives fuel m)
+      by_hop : ((m r : ℕ) (s : List ℕ) → m < length t.loopbacks → IsLeast (wiring_of t) (links_up t w) m p r → IsDistinct eqb s → AreFarther t w p r s
+          → length t.loopbacks ≤ fuel + length s → Arrives fuel m)
           → n ≢ p → (o : Option (ℕ × ℕ)) → next (wiring_of t) (links_up t w) n p ≡ o → IsNext (wiring_of t) (links_up t w) n p o → Arrives (suc fuel) n
       by_hop rest apart None is none = absurd (none least.walk.0 least.walk.1)
       by_hop rest apart (Some hop) is some =
           let near = nearer t (links_up t w) n p d hop lawful below apart is least in
-          let on = rest hop.0 near.rest (n ∷ seen) (hop-below n hop some) near.is_least (any-none n seen (not-seen t w p d n seen least far), distinct) (more-seen t w p d near.rest n seen below least near.is_less far) (omega (arith, enough)) in
+          let on = rest hop.0 near.rest (n ∷ seen) (hop-below n hop some) near.is_least (any-none n seen (not-seen t w p d n seen least far), distinct)
+              (more-seen t w p d near.rest n seen below least near.is_less far) (omega (arith, enough)) in
           (hop.0 ∷ on.0, one-hop fuel n hop below is ∙ ap (λ xs. n ∷ xs) on.1, (apart, hop.1, (ways n p below inside).way_is ∙ is, some.0, on.2))
 
   -- from whom it is reached, by the least cost

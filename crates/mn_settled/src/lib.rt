@@ -76,7 +76,8 @@ pub fn settled_nodes_know_the_ways()
 pub fn the_route_is_a_least_walk()
     ensures { (topology : Network) (entries : List JournalEntry) (inputs : List (List ℕ)) →
         IsLawful topology → IsLawfulJournal topology entries inputs → IsSettled topology (world_of topology entries) →
-        (from to : ℕ) → from < length topology.loopbacks → to < length topology.loopbacks → Reaches topology (world_of topology entries) from to →
+        (from to : ℕ) → from < length topology.loopbacks → to < length topology.loopbacks →
+        Reaches topology (world_of topology entries) from to →
         IsLeastWay topology (world_of topology entries) from to (route topology (world_of topology entries) from to) }
 {}
 
@@ -93,7 +94,8 @@ pub fn settled_edges_look_up_their_routes()
     ensures { (topology : Network) (entries : List JournalEntry) (inputs : List (List ℕ)) →
         IsLawful topology → IsLawfulJournal topology entries inputs → IsSettled topology (world_of topology entries) →
         (edge v address : ℕ) → Contains (edges topology) edge →
-        best (held topology (world_of topology entries).config (world_of topology entries).peerings edge v) address ≡ best (routes_of topology (world_of topology entries).config edge v) address }
+        best (held topology (world_of topology entries).config (world_of topology entries).peerings edge v) address
+        ≡ best (routes_of topology (world_of topology entries).config edge v) address }
 {}
 
 // 3. Arrival
@@ -101,7 +103,8 @@ pub fn settled_edges_look_up_their_routes()
 /// A packet that is sent in a settled network, in a stretch that only moves packets and after which none flies, arrives: it
 /// was at each node of its route, and its TTL is less by the number of these nodes. Frames may overtake each other.
 pub fn what_is_sent_arrives()
-    ensures { (topology : Network) (before earlier later : List JournalEntry) (tick number : ℕ) (site : SiteNo) (inputs : List (List ℕ)) (to : HeldRoute) →
+    ensures { (topology : Network) (before earlier later : List JournalEntry) (tick number : ℕ) (site : SiteNo) (inputs : List (List ℕ))
+        (to : HeldRoute) →
         IsLawful topology → IsLawfulJournal topology before inputs →
         IsSteady topology before (earlier ++ record { tick = tick; step = Inject site number } ∷ later) →
         site.0 < length topology.sites →
@@ -109,7 +112,8 @@ pub fn what_is_sent_arrives()
         Reaches topology (world_of topology before) (home_of topology site.0) to.edge →
         length (route_to topology (world_of topology before) site.0 to) + 1 ≤ ttl_of (next_of (left_after (before ++ earlier) inputs)) →
         ((at : ℕ) → (packets_of topology ((before ++ earlier) ++ record { tick = tick; step = Inject site number } ∷ later) inputs).flying at ≡ []) →
-        HasArrived topology (world_of topology before) (packets_of topology ((before ++ earlier) ++ record { tick = tick; step = Inject site number } ∷ later) inputs)
+        HasArrived topology (world_of topology before)
+        (packets_of topology ((before ++ earlier) ++ record { tick = tick; step = Inject site number } ∷ later) inputs)
         (injections (before ++ earlier)) site.0 (next_of (left_after (before ++ earlier) inputs)) to }
 {}
 
