@@ -5,7 +5,7 @@ use Rattle.mn_flight_pool.proofs.tests.three_thousand_calls_answer_alike_on_both
 abbrev pub invariant-loop-number : goal.invariant-loop-number
 invariant-loop-number g l = record {
   pool_channels : l.pool.channels ≡ 3;
-  pool : All (λ earlier. earlier.number < l.number) l.pool.items;
+  pool : All (λ earlier. earlier.number < l.number-counter) l.pool.items;
   list_channels : l.list.channels ≡ 3;
-  list : All (λ earlier. earlier.number < l.number) l.list.items;
+  list : All (λ earlier. earlier.number < l.number-counter) l.list.items;
 }
