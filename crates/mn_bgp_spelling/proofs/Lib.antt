@@ -1,0 +1,3 @@
+pub mod Wire
+pub mod Coming
+pub mod Writable
