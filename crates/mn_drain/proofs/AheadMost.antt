@@ -103,4 +103,4 @@ module _ (t : Network) (lawful : IsLawful t) (v : View) where
           * (2 + length t.loopbacks * (4 * length t.links))
       finish =
           subst (λ z. ahead (wiring_of t) v c s ≤ z) (regroup (ldp_messages t c s) (length t.links) (length t.loopbacks)
-            (2 + length t.loopbacks * (4 * length t.links))) all-most
+          (2 + length t.loopbacks * (4 * length t.links))) all-most

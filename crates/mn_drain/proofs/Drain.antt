@@ -70,16 +70,16 @@ ldp-lowers t w l dir lawful g d =
     let parts = or_both _ _ d.there in
     let alive : lives w.config l.0 ≡ true = not_false _ parts.0 in
     let more : w.sessions.heard l.0 n < length (w.sessions.said l.0 (across (wiring_of t) l.0 n)) = subst (λ m. w.sessions.heard l.0 n < length
-        (w.sessions.said l.0 m)) (sym ends.1) (above _ _ parts.1) in
+    (w.sessions.said l.0 m)) (sym ends.1) (above _ _ parts.1) in
     subst (λ m. ahead (wiring_of t) (known_view t w.views) w.config
-        (with_said (counted t w.sessions (step.HearLdp l dir))
-        (said_on l.0 n (answer (state_by (is_active t l.0 n) (w.sessions.heard l.0 n))
-        (slice_index_or (w.sessions.said l.0 m) (w.sessions.heard l.0 n) Address))
+    (with_said (counted t w.sessions (step.HearLdp l dir))
+    (said_on l.0 n (answer (state_by (is_active t l.0 n) (w.sessions.heard l.0 n))
+    (slice_index_or (w.sessions.said l.0 m) (w.sessions.heard l.0 n) Address))
     ++ flat_map (λ x. news (wiring_of t) (knowledge_of (wiring_of t) w.config w.views w.sessions x)
-        (knowledge_of (wiring_of t) w.config w.views (counted t w.sessions (step.HearLdp l dir)) x) x) (nodes_of (wiring_of t)))) + 1
+    (knowledge_of (wiring_of t) w.config w.views (counted t w.sessions (step.HearLdp l dir)) x) x) (nodes_of (wiring_of t)))) + 1
     ≤ ahead (wiring_of t) (known_view t w.views) w.config w.sessions) ends.1
     (hearing-lowers t lawful w.config w.views w.sessions (known_view t w.views) l.0 n there ends.0 alive more g.ldp
-        (one-view t w.views n d.in_turn (ends_below t lawful.joins_nodes l.0 n there ends.0)))
+    (one-view t w.views n d.in_turn (ends_below t lawful.joins_nodes l.0 n there ends.0)))
 
 -- 2. A hearing of a BGP message
 
@@ -118,12 +118,12 @@ bgp-lowers t w a b lawful g d =
     let back : peers_live w.config b.0 a.0 ≡ true = sym (live_sym w.config a.0 b.0 apart) ∙ alive in
     let message : Telling = slice_index_or (w.peerings.told a.0 b.0) (w.peerings.heard b.0 a.0) Open in
     subst (λ st. bgp_ahead t w.config (with_told (vpn.counted w.peerings (step.HearBgp a b))
-        (told_to b.0 a.0 (reply st message (exports_of t w.config b.0))
-        ++ flat_map (vpn.news t w.config w.peerings w.config (vpn.counted w.peerings (step.HearBgp a b))) (edges t))) + 1 ≤ bgp_ahead t w.config w.peerings)
+    (told_to b.0 a.0 (reply st message (exports_of t w.config b.0))
+    ++ flat_map (vpn.news t w.config w.peerings w.config (vpn.counted w.peerings (step.HearBgp a b))) (edges t))) + 1 ≤ bgp_ahead t w.config w.peerings)
     (sym (state_alive w.config w.peerings b.0 a.0 back))
     (telling-lowers t w.config w.peerings a.0 b.0 message apart (edge-below t lawful a.0 both.0) (edge-below t lawful b.0 both.1)
     (direction-on t w.config a.0 b.0 both.0 both.1 apart alive) (direction-on t w.config b.0 a.0 both.1 both.0 (λ e. apart (sym e)) back)
-        (above _ _ parts.1) g.bgp)
+    (above _ _ parts.1) g.bgp)
 
 -- 3. While messages are heard
 
@@ -146,8 +146,12 @@ hear-phase t (step.Learn node l ∷ ss) w lawful g all d =
     let fit = and-both (nat_lt node.0 (length t.loopbacks)) (nat_lt l.0 (length t.links)) d.0.fitting in
     absurd (nothing-less node.0 l.0 w.views (all node.0 l.0 (less-is node.0 (length t.loopbacks) fit.0) (less-is l.0 (length t.links) fit.1)) d.0.there)
 hear-phase t (step.HearLdp l dir ∷ ss) w lawful g all d =
-    omega (arith, ldp-lowers t w l dir lawful g d.0, hear-phase t ss (after t w (step.HearLdp l dir)) lawful
-        (goes-on t w (step.HearLdp l dir) lawful g d.0) all d.1)
+    omega (
+      arith,
+      ldp-lowers t w l dir lawful g d.0,
+      hear-phase t ss (after t w (step.HearLdp l dir)) lawful
+          (goes-on t w (step.HearLdp l dir) lawful g d.0) all d.1,
+    )
 hear-phase t (step.HearBgp a b ∷ ss) w lawful g all d =
     omega (arith, bgp-lowers t w a b lawful g d.0, hear-phase t ss (after t w (step.HearBgp a b)) lawful (goes-on t w (step.HearBgp a b) lawful g d.0) all d.1)
 hear-phase t (step.LinkUp l ∷ ss) w lawful g all d = absurd d.0.in_turn
@@ -171,7 +175,7 @@ hear-phase t (step.Lose l dir place ∷ ss) w lawful g all d = absurd d.0.in_tur
 abbrev transport_bound : Network → World → ℕ
 transport_bound t w =
     notices t w.views + ((ldp_messages t w.config w.sessions + notices t w.views * (length t.links * length t.loopbacks)) + length t.links * 2
-        * (length t.loopbacks + 3)) * (2 + length t.loopbacks * (4 * length t.links))
+    * (length t.loopbacks + 3)) * (2 + length t.loopbacks * (4 * length t.links))
 
 learn-less : (q p m n e k z : ℕ) → p + 1 ≤ q → n ≤ m + e → p + ((n + p * e) + k) * z + 1 ≤ q + ((m + q * e) + k) * z
 learn-less q p m n e k z h g = omega (arith, h, times-up ((n + p * e) + k) ((m + q * e) + k) z (omega (arith, g, times-up (p + 1) q e h, one-more)))
@@ -206,7 +210,7 @@ drain-less t (step.Learn node l ∷ ss) w lawful g d =
       learn-less (notices t w.views) (notices t then_world.views) (ldp_messages t w.config w.sessions) (ldp_messages t w.config then_world.sessions)
           (length t.links * length t.loopbacks) (length t.links * 2 * (length t.loopbacks + 3)) (2 + length t.loopbacks * (4 * length t.links))
           (notices-fall t lawful w.config w.views w.sessions node.0 l.0 hn hl g.ldp less)
-              (messages-grow t lawful w.config w.views w.sessions node.0 l.0 hn hl g.ldp),
+          (messages-grow t lawful w.config w.views w.sessions node.0 l.0 hn hl g.ldp),
     )
 drain-less t (step.HearLdp l dir ∷ ss) w lawful g d = hear-less t (step.HearLdp l dir ∷ ss) w lawful g d.0.in_turn d
 drain-less t (step.HearBgp a b ∷ ss) w lawful g d = hear-less t (step.HearBgp a b ∷ ss) w lawful g d.0.in_turn d
@@ -242,7 +246,7 @@ bgp-most t w = omega (
   arith,
   total-below (length t.loopbacks) (λ a. total (length t.loopbacks) (λ b. where_so (is_direction t w.config a b) (told_ahead t w.config w.peerings a b)))
       (λ a. total (length t.loopbacks) (heard_less a) + total (length t.loopbacks)
-          (λ b. where_so (is_direction t w.config a b) 1) * (all_exports t w.config + 2)) row,
+      (λ b. where_so (is_direction t w.config a b) 1) * (all_exports t w.config + 2)) row,
   total-add (length t.loopbacks) (λ a. total (length t.loopbacks) (heard_less a))
       (λ a. total (length t.loopbacks) (λ b. where_so (is_direction t w.config a b) 1) * (all_exports t w.config + 2)),
   total-scale (length t.loopbacks) (λ a. total (length t.loopbacks) (λ b. where_so (is_direction t w.config a b) 1)) (all_exports t w.config + 2),
@@ -258,9 +262,12 @@ bgp-most t w = omega (
       total-below (length t.loopbacks) (λ b. where_so (is_direction t w.config a b) (told_ahead t w.config w.peerings a b))
           (λ b. heard_less a b + where_so (is_direction t w.config a b) 1 * (all_exports t w.config + 2))
           (λ b g. where-both (is_direction t w.config a b) (told_ahead t w.config w.peerings a b) (length (drop (w.peerings.heard b a) (w.peerings.told a b)))
-              (all_exports t w.config + 2)
-          (omega (arith, greeting-most (w.peerings.heard a b) (length (exports_of t w.config a)),
-              total-one (length t.loopbacks) (λ e. length (exports_of t w.config e)) a h))),
+          (all_exports t w.config + 2)
+          (omega (
+            arith,
+            greeting-most (w.peerings.heard a b) (length (exports_of t w.config a)),
+            total-one (length t.loopbacks) (λ e. length (exports_of t w.config e)) a h,
+          ))),
       total-add (length t.loopbacks) (heard_less a) (λ b. where_so (is_direction t w.config a b) 1 * (all_exports t w.config + 2)),
       total-scale (length t.loopbacks) (λ b. where_so (is_direction t w.config a b) 1) (all_exports t w.config + 2),
     )
@@ -287,7 +294,7 @@ drain_is_bounded t es ps ss lawful journal d =
     let bgp : ℕ = directions t w.config * (all_exports t w.config + 2) in
     let own : ℕ = ldp_messages t w.config w.sessions + bgp_messages t w.config w.peerings in
     subst (λ q. length ss ≤ bound_of q (messages t w) (length t.links) (length t.loopbacks) (directions t w.config) (all_exports t w.config))
-        (sym (notices-are t w.views))
+    (sym (notices-are t w.views))
     (omega (
       arith,
       drain-less t ss w lawful (in_turn t es ps lawful journal) d,

@@ -78,10 +78,10 @@ drain-config t (s ∷ ss) w d = drain-config t ss (after t w s) d.1 ∙ same-con
 all-learned : (t : Network) (w : World) → IsInTurn t w → IsDrained t w → AllLearned t w.views
 all-learned t w g done node l hn hl =
     both-ends (w.views.learned node l) (w.views.changes l) (g.learned node l) (λ less. done (step.Learn (record { 0 = node }) (record { 0 = l })) (record {
-  fitting = ap (λ b. b && nat_lt l (length t.links)) (less-test node (length t.loopbacks) hn) ∙ less-test l (length t.links) hl;
-  there = not-reached (w.views.learned node l) (w.views.changes l) less;
-  in_turn = tt;
-}))
+      fitting = ap (λ b. b && nat_lt l (length t.links)) (less-test node (length t.loopbacks) hn) ∙ less-test l (length t.links) hl;
+      there = not-reached (w.views.learned node l) (w.views.changes l) less;
+      in_turn = tt;
+    }))
 
 hears-end : (t : Network) (w : World) → IsLawful t → IsDrained t w → AllLearned t w.views → (l : ℕ) (dir : Dir) → l < length t.links → lives w.config l ≡ true
     → w.sessions.heard l (receiver (wiring_of t) l dir) < length (w.sessions.said l (sender (wiring_of t) l dir)) → ⊥
@@ -89,7 +89,7 @@ hears-end t w lawful done all l dir h alive less = done (step.HearLdp (record { 
   fitting = less-test l (length t.links) h;
   there =
       ap (λ b. not b || nat_le (length (w.sessions.said l (sender (wiring_of t) l dir))) (w.sessions.heard l (receiver (wiring_of t) l dir))) alive
-        ∙ not-reached (w.sessions.heard l (receiver (wiring_of t) l dir)) (length (w.sessions.said l (sender (wiring_of t) l dir))) less;
+      ∙ not-reached (w.sessions.heard l (receiver (wiring_of t) l dir)) (length (w.sessions.said l (sender (wiring_of t) l dir))) less;
   in_turn = all;
 })
 
@@ -113,7 +113,7 @@ all-told t w done all one other d e f live less = done (step.HearBgp (record { 0
   fitting = ap (λ b. (b && is_edge t.vrfs one) && not (other == one)) f ∙ ap (λ b. b && not (other == one)) e ∙ ap not (differs other one (λ q. d (sym q)));
   there =
       ap (λ b. not b || nat_le (length (w.peerings.told other one)) (w.peerings.heard one other)) (sym (live_sym w.config one other d) ∙ live)
-        ∙ not-reached (w.peerings.heard one other) (length (w.peerings.told other one)) less;
+      ∙ not-reached (w.peerings.heard one other) (length (w.peerings.told other one)) less;
   in_turn = all;
 })
 
@@ -125,11 +125,11 @@ settles t w lawful g done on =
       switched = on.switched;
       heard =
           λ l node h e alive. both-ends (w.sessions.heard l node) (length (w.sessions.said l (across (wiring_of t) l node))) (g.ldp l node h e).heard
-            (all-heard t w lawful done all l node h e alive);
+          (all-heard t w lawful done all l node h e alive);
       peered = on.peered;
       told =
           λ one other d e f. both-ends (w.peerings.heard one other) (length (w.peerings.told other one)) (g.bgp one other d).heard
-            (all-told t w done all one other d e f (on.peered one other d e f));
+          (all-told t w done all one other d e f (on.peered one other d e f));
     }
 
 pub drained_is_settled : (t : Network) (es : List JournalEntry) (ps : List (List ℕ)) (ss : List Step) → IsLawful t → IsLawfulJournal t es ps
@@ -149,7 +149,7 @@ settled_is_drained t w lawful settled (step.HearLdp l dir) d =
     let ends = dir_ends (wiring_of t) l.0 dir (lawful.ends_differ l.0 there) in
     let parts = or_both _ _ d.there in
     equal-not-less (settled.heard l.0 (receiver (wiring_of t) l.0 dir) there ends.0 (not_false _ parts.0) ∙ ap (λ m. length (w.sessions.said l.0 m)) ends.1)
-        parts.1
+    parts.1
 settled_is_drained t w lawful settled (step.HearBgp a b) d =
     let fit = and-both (is_edge t.vrfs a.0 && is_edge t.vrfs b.0) (not (a.0 == b.0)) d.fitting in
     let both = and-both (is_edge t.vrfs a.0) (is_edge t.vrfs b.0) fit.0 in

@@ -33,7 +33,7 @@ sum-from : (f : ℕ → ℕ) (a n : ℕ) → sum (map f (range_with_len a n)) �
 sum-from f a zero = refl
 sum-from f a (suc n) =
     sum-cons (f a) (map f (range_with_len (a + 1) n)) ∙ ap (λ z. f a + z)
-        (sum-from f (a + 1) n ∙ total-same n (λ i. f (a + 1 + i)) (λ i. f (a + suc i)) (λ i h. ap f (omega arith)))
+    (sum-from f (a + 1) n ∙ total-same n (λ i. f (a + 1 + i)) (λ i. f (a + suc i)) (λ i h. ap f (omega arith)))
     ∙ ap (λ z. f z + total n (λ i. f (a + suc i))) (omega arith) ∙ total-shift n (λ i. f (a + i))
 
 sum-below : (f : ℕ → ℕ) (n : ℕ) → sum (map f (range_with_len 0 n)) ≡ total n f
@@ -59,7 +59,7 @@ notices-are t v =
     sum-flat (λ node. map (λ l. v.changes l - v.learned node l) (links_of (wiring_of t))) (nodes_of (wiring_of t))
     ∙ sum-below (λ node. sum (map (λ l. v.changes l - v.learned node l) (links_of (wiring_of t)))) (length t.loopbacks)
     ∙ total-same (length t.loopbacks) (λ node. sum (map (λ l. v.changes l - v.learned node l) (links_of (wiring_of t))))
-        (λ node. total (length t.links) (λ l. v.changes l - v.learned node l)) (λ node h. sum-below (λ l. v.changes l - v.learned node l) (length t.links))
+    (λ node. total (length t.links) (λ l. v.changes l - v.learned node l)) (λ node h. sum-below (λ l. v.changes l - v.learned node l) (length t.links))
 
 -- 3. LDP messages
 
@@ -153,7 +153,7 @@ bgp-most-told t c p = omega (
             ≤ where_so (is_edge t.vrfs edge) (where_so (is_edge t.vrfs peer) (length (p.told peer edge) - p.heard edge peer))
         one peer =
             subst (λ n. where_so (is_direction t c peer edge) n
-              ≤ where_so (is_edge t.vrfs edge) (where_so (is_edge t.vrfs peer) (length (p.told peer edge) - p.heard edge peer)))
-              (sym (length-drop (p.heard edge peer) (p.told peer edge)))
+            ≤ where_so (is_edge t.vrfs edge) (where_so (is_edge t.vrfs peer) (length (p.told peer edge) - p.heard edge peer)))
+            (sym (length-drop (p.heard edge peer) (p.told peer edge)))
             (both-edges (is_edge t.vrfs peer) (is_edge t.vrfs edge) (not (peer == edge) && peers_live c peer edge)
-                (length (p.told peer edge) - p.heard edge peer))
+            (length (p.told peer edge) - p.heard edge peer))

@@ -136,7 +136,7 @@ module _ (t : Network) (lawful : IsLawful t) (c : Config) (vs : Views) (s : Sess
   hearing-off j x h d =
       hearing-is (wiring_of t) c vs s x j h
       ∙ ap (λ i. record { alive = lives c j && is_end (wiring_of t) j x; count = i; messages = take i (s.said j (across (wiring_of t) j x)) })
-          (sym (heard-off j x d))
+      (sym (heard-off j x d))
       ∙ sym (hearing-is (wiring_of t) c vs (record s { heard = put_pair s.heard l n (s.heard l n + 1) }) x j h)
 
   on-off : (j x : ℕ) → j < length t.links → (j ≢ l) ⊎ (x ≢ n) → is_operational (before x) j ≡ is_operational (after x) j
@@ -151,7 +151,7 @@ module _ (t : Network) (lawful : IsLawful t) (c : Config) (vs : Views) (s : Sess
   many-before : 2 ≤ s.heard l n → is_operational (before n) l ≡ true
   many-before many =
       operational-is (wiring_of t) c vs s n l below ∙ ap (λ b. (b && is_end (wiring_of t) l n) && nat_le 2 (s.heard l n)) alive
-          ∙ ap (λ b. b && nat_le 2 (s.heard l n)) at_end
+      ∙ ap (λ b. b && nat_le 2 (s.heard l n)) at_end
       ∙ elim (leb_tells 2 (s.heard l n)) [ inl p ↦ p.0 | inr p ↦ absurd (less many p.1) ]
     where
       less : {x : ℕ} → 2 ≤ x → x < 2 → ⊥
@@ -161,7 +161,7 @@ module _ (t : Network) (lawful : IsLawful t) (c : Config) (vs : Views) (s : Sess
   many-after many =
       operational-is (wiring_of t) c vs (record s { heard = put_pair s.heard l n (s.heard l n + 1) }) n l below
       ∙ ap (λ b. (b && is_end (wiring_of t) l n) && nat_le 2 (put_pair s.heard l n (s.heard l n + 1) l n)) alive
-          ∙ ap (λ b. b && nat_le 2 (put_pair s.heard l n (s.heard l n + 1) l n)) at_end
+      ∙ ap (λ b. b && nat_le 2 (put_pair s.heard l n (s.heard l n + 1) l n)) at_end
       ∙ ap (nat_le 2) heard-here
       ∙ elim (leb_tells 2 (s.heard l n + 1)) [ inl p ↦ p.0 | inr p ↦ absurd (less many p.1) ]
     where
@@ -171,7 +171,7 @@ module _ (t : Network) (lawful : IsLawful t) (c : Config) (vs : Views) (s : Sess
   few-after : s.heard l n < 1 → is_operational (after n) l ≡ false
   few-after few =
       few-off (wiring_of t) c vs (record s { heard = put_pair s.heard l n (s.heard l n + 1) }) n l below
-        (subst (λ x. x < 2) (sym heard-here) (omega (arith, few)))
+      (subst (λ x. x < 2) (sym heard-here) (omega (arith, few)))
 
   messages-before : (hearing (before n) l).messages ≡ take (s.heard l n) (s.said l (across (wiring_of t) l n))
   messages-before = ap (λ (g : Hearing). g.messages) (hearing-is (wiring_of t) c vs s n l below)
@@ -194,7 +194,7 @@ module _ (t : Network) (lawful : IsLawful t) (c : Config) (vs : Views) (s : Sess
           and_off (is_operational (after n) l) (is_mapped false q (hearing (after n) l).messages) (few-after (subst (λ x. x < 1) (sym e) (omega arith)))
       none (suc zero) e =
           let front = talk-front (is_active t l (across (wiring_of t) l n)) (s.heard l (across (wiring_of t) l n)) (s.said l (across (wiring_of t) l n))
-              ((go l (across (wiring_of t) l n) below far.0).talk alive) (omega (arith, more, e)) in
+          ((go l (across (wiring_of t) l n) below far.0).talk alive) (omega (arith, more, e)) in
           and_off_right (is_operational (after n) l) (is_mapped false q (hearing (after n) l).messages)
           (ap (is_mapped false q) (messages-after ∙ ap (λ i. take (i + 1) (s.said l (across (wiring_of t) l n))) e ∙ ap (take 2) front.1))
       none (suc (suc i)) e = absurd (over few e)
@@ -221,7 +221,7 @@ module _ (t : Network) (lawful : IsLawful t) (c : Config) (vs : Views) (s : Sess
     | inr e ↦
         ap (λ x. (n == q) || is_some (usable_over (before n) q (next (wiring_of t) x n q))) sees
         ∙ ap (λ o. (n == q) || is_some o) (over-by-test (wiring_of t) v (before n) (after n) n q (next (wiring_of t) v n q)
-            (next_is (wiring_of t) v q lawful.joins_nodes n n-below e.1) tests)
+        (next_is (wiring_of t) v q lawful.joins_nodes n n-below e.1) tests)
         ∙ sym (ap (λ x. (n == q) || is_some (usable_over (after n) q (next (wiring_of t) x n q))) sees)
   ]
     where
@@ -260,7 +260,7 @@ module _ (t : Network) (lawful : IsLawful t) (c : Config) (vs : Views) (s : Sess
   abbrev fec_weight : ℕ → ℕ → ℕ → ℕ
   fec_weight x j q =
       one_fec (wiring_of t) (message_weight (wiring_of t) v j (across (wiring_of t) j x)) (λ p. mention_weight (wiring_of t) v p j (across (wiring_of t) j x))
-        (λ p. refl) (λ p. refl) (before x) (after x) j x q (offers (wiring_of t) (before x) x q) (offers (wiring_of t) (after x) x q)
+      (λ p. refl) (λ p. refl) (before x) (after x) j x q (offers (wiring_of t) (before x) x q) (offers (wiring_of t) (after x) x q)
 
   told-most : (x j : ℕ) → told_weight x j ≤ total (length t.loopbacks) (fec_weight x j)
   told-most x j = omega (
@@ -311,7 +311,7 @@ module _ (t : Network) (lawful : IsLawful t) (c : Config) (vs : Views) (s : Sess
       → total (length t.links) (λ j. where_so (is_end (wiring_of t) j n) (told_weight n j)) ≡ 0
   told-none on nothing =
       total-none (length t.links) (λ j. where_so (is_end (wiring_of t) j n) (told_weight n j))
-        (λ j h. at-most-none (most-weight (is_end (wiring_of t) j n) (told_weight n j)) (told-kept j h (on j h) nothing))
+      (λ j h. at-most-none (most-weight (is_end (wiring_of t) j n) (told_weight n j)) (told-kept j h (on j h) nothing))
 
   -- 4. What is said weighs less than what was heard, and what the end had still to say
 
@@ -331,7 +331,7 @@ module _ (t : Network) (lawful : IsLawful t) (c : Config) (vs : Views) (s : Sess
   turn : IsNth (s.heard l n) message
   turn =
       talk-nth (is_active t l (across (wiring_of t) l n)) (s.heard l (across (wiring_of t) l n)) (s.said l (across (wiring_of t) l n)) (s.heard l n)
-        ((go l (across (wiring_of t) l n) below far.0).talk alive) more
+      ((go l (across (wiring_of t) l n) below far.0).talk alive) more
 
   falls-by : (i a : ℕ) → s.heard l n ≡ i → greeting_weight (i + 1) mentions + a ≤ greeting_weight i mentions
       → greeting_weight (s.heard l n + 1) mentions + a ≤ greeting_weight (s.heard l n) mentions
@@ -422,7 +422,7 @@ module _ (t : Network) (lawful : IsLawful t) (c : Config) (vs : Views) (s : Sess
         told-most n j,
         total-only (length t.loopbacks) (fec_weight n j) p (mention_weight (wiring_of t) v p j (across (wiring_of t) j n))
             (λ q i d. kept-fec n j q (on-all many j h) (offers-kept q (inr (inl (others q d)))))
-                (most-weight _ (mention_weight (wiring_of t) v p j (across (wiring_of t) j n))),
+            (most-weight _ (mention_weight (wiring_of t) v p j (across (wiring_of t) j n))),
       )
 
       where_below : (b : Bool) (x y : ℕ) → x ≤ y → where_so b x ≤ where_so b y
@@ -456,8 +456,14 @@ module _ (t : Network) (lawful : IsLawful t) (c : Config) (vs : Views) (s : Sess
         owed = 0;
         falls = falls_none;
         enough =
-            omega (arith, answers-are (suc (suc i)) x e is, quiet, ap (message_weight (wiring_of t) v l n) is, one,
-              told-none (on-all many) (λ q. inr (inl (ap (names q) is ∙ none q))));
+            omega (
+              arith,
+              answers-are (suc (suc i)) x e is,
+              quiet,
+              ap (message_weight (wiring_of t) v l n) is,
+              one,
+              told-none (on-all many) (λ q. inr (inl (ap (names q) is ∙ none q))),
+            );
       }
 
       named : (x : Message) (p : ℕ) → message ≡ x → ((q : ℕ) → names q x ≡ (q == p))
@@ -506,7 +512,7 @@ module _ (t : Network) (lawful : IsLawful t) (c : Config) (vs : Views) (s : Sess
   answered-off : (x j : ℕ) → (j ≢ l) ⊎ (x ≢ n) → answered_on x j ≡ 0
   answered-off x j d =
       ap (messages_weight (wiring_of t) v j (across (wiring_of t) j x))
-        (said-other j x l n _ (elim d [ inl p ↦ inl (λ e. p (sym e)) | inr p ↦ inr (λ e. p (sym e)) ]))
+      (said-other j x l n _ (elim d [ inl p ↦ inl (λ e. p (sym e)) | inr p ↦ inr (λ e. p (sym e)) ]))
 
   answered-here : answered_on n l ≡ answers_weight
   answered-here = ap (messages_weight (wiring_of t) v l (across (wiring_of t) l n)) (said-own l n (answer (state_by (is_active t l n) (s.heard l n)) message))
@@ -517,19 +523,19 @@ module _ (t : Network) (lawful : IsLawful t) (c : Config) (vs : Views) (s : Sess
 
   unheard-then : (x j : ℕ) → j < length t.links → is_end (wiring_of t) j x ≡ true
       → messages_weight (wiring_of t) v j (across (wiring_of t) j x) (drop (then.heard j (across (wiring_of t) j x)) (then.said j x))
-          ≡ unheard x j (put_pair s.heard l n (s.heard l n + 1) j (across (wiring_of t) j x)) + (answered_on x j + told_weight x j)
+      ≡ unheard x j (put_pair s.heard l n (s.heard l n + 1) j (across (wiring_of t) j x)) + (answered_on x j + told_weight x j)
   unheard-then x j h e =
       let other = across-end (wiring_of t) j x (lawful.ends_differ j h) e in
       let within : put_pair s.heard l n (s.heard l n + 1) j (across (wiring_of t) j x) ≤ length (s.said j x) =
       subst (λ y. put_pair s.heard l n (s.heard l n + 1) j (across (wiring_of t) j x) ≤ length (s.said j y)) other.1
-          (counts-heard t c s l n more go j (across (wiring_of t) j x) h other.0).far in
+      (counts-heard t c s l n more go j (across (wiring_of t) j x) h other.0).far in
       ap (messages_weight (wiring_of t) v j (across (wiring_of t) j x))
-          (drop-append-le (put_pair s.heard l n (s.heard l n + 1) j (across (wiring_of t) j x)) (s.said j x) (messages_of j x all_said) within)
+      (drop-append-le (put_pair s.heard l n (s.heard l n + 1) j (across (wiring_of t) j x)) (s.said j x) (messages_of j x all_said) within)
       ∙ weight-append (message_weight (wiring_of t) v j (across (wiring_of t) j x))
-          (drop (put_pair s.heard l n (s.heard l n + 1) j (across (wiring_of t) j x)) (s.said j x)) (messages_of j x all_said)
+      (drop (put_pair s.heard l n (s.heard l n + 1) j (across (wiring_of t) j x)) (s.said j x)) (messages_of j x all_said)
       ∙ ap (λ z. unheard x j (put_pair s.heard l n (s.heard l n + 1) j (across (wiring_of t) j x)) + z)
-          (weight-said (message_weight (wiring_of t) v j (across (wiring_of t) j x)) j x
-          (said_on l n (answer (state_by (is_active t l n) (s.heard l n)) message)) told)
+      (weight-said (message_weight (wiring_of t) v j (across (wiring_of t) j x)) j x
+      (said_on l n (answer (state_by (is_active t l n) (s.heard l n)) message)) told)
 
   abbrev mentions_on : ℕ → ℕ → ℕ
   mentions_on x j = all_mentions_weight (wiring_of t) v j (across (wiring_of t) j x)
@@ -583,9 +589,9 @@ module _ (t : Network) (lawful : IsLawful t) (c : Config) (vs : Views) (s : Sess
           ≡ message_weight (wiring_of t) v l n message + unheard (across (wiring_of t) l n) l (s.heard l n + 1)
       first =
           ap (messages_weight (wiring_of t) v l (across (wiring_of t) l (across (wiring_of t) l n)))
-              (drop-cons (s.said l (across (wiring_of t) l n)) (s.heard l n) Address more)
+          (drop-cons (s.said l (across (wiring_of t) l n)) (s.heard l n) Address more)
           ∙ ap (λ y. message_weight (wiring_of t) v l y message + messages_weight (wiring_of t) v l (across (wiring_of t) l (across (wiring_of t) l n))
-              (drop (suc (s.heard l n)) (s.said l (across (wiring_of t) l n)))) far.1
+          (drop (suc (s.heard l n)) (s.said l (across (wiring_of t) l n)))) far.1
           ∙ ap (λ i. message_weight (wiring_of t) v l n message + unheard (across (wiring_of t) l n) l i) (sym (add-one (s.heard l n)))
 
   -- 6. At each node, and in all
@@ -612,7 +618,7 @@ module _ (t : Network) (lawful : IsLawful t) (c : Config) (vs : Views) (s : Sess
   node-off : (x : ℕ) → x < length t.loopbacks → x ≢ n → x ≢ across (wiring_of t) l n → node_weight (wiring_of t) v c then x ≤ node_weight (wiring_of t) v c s x
   node-off x b d g =
       total-below (length t.links) (counted_end then x) (counted_end s x)
-        (λ j h. where-if (is_end (wiring_of t) j x) (lives c j) _ _ (λ e. end-off x j b h e d (apart j h e)))
+      (λ j h. where-if (is_end (wiring_of t) j x) (lives c j) _ _ (λ e. end-off x j b h e d (apart j h e)))
     where
       apart : (j : ℕ) → j < length t.links → is_end (wiring_of t) j x ≡ true → (j ≢ l) ⊎ (across (wiring_of t) j x ≢ n)
       apart j h e = elim (eqb_tells j l) [
@@ -625,11 +631,15 @@ module _ (t : Network) (lawful : IsLawful t) (c : Config) (vs : Views) (s : Sess
       ≤ node_weight (wiring_of t) v c s (across (wiring_of t) l n) + 0
   node-far =
       total-but-one (length t.links) (counted_end s (across (wiring_of t) l n)) (counted_end then (across (wiring_of t) l n)) l
-        (message_weight (wiring_of t) v l n message) 0 below
+      (message_weight (wiring_of t) v l n message) 0 below
       (λ j h d. where-if (is_end (wiring_of t) j (across (wiring_of t) l n)) (lives c j) _ _
-          (λ e. end-off (across (wiring_of t) l n) j m-below h e far.2 (inl d)))
-      (omega (arith, end-far, ap (λ b. where_so b (end_weight (wiring_of t) v then (across (wiring_of t) l n) l)) far-on,
-          ap (λ b. where_so b (end_weight (wiring_of t) v s (across (wiring_of t) l n) l)) far-on))
+      (λ e. end-off (across (wiring_of t) l n) j m-below h e far.2 (inl d)))
+      (omega (
+        arith,
+        end-far,
+        ap (λ b. where_so b (end_weight (wiring_of t) v then (across (wiring_of t) l n) l)) far-on,
+        ap (λ b. where_so b (end_weight (wiring_of t) v s (across (wiring_of t) l n) l)) far-on,
+      ))
 
   node-here : node_weight (wiring_of t) v c then n + less.owed
       ≤ (node_weight (wiring_of t) v c s n + total (length t.links) (λ j. where_so (is_end (wiring_of t) j n) (told_weight n j))) + answers_weight
@@ -638,8 +648,13 @@ module _ (t : Network) (lawful : IsLawful t) (c : Config) (vs : Views) (s : Sess
     total-but-one (length t.links) (λ j. counted_end s n j + where_so (is_end (wiring_of t) j n) (told_weight n j))
         (counted_end then n) l less.owed answers_weight below
         (λ j h d. where-plus (is_end (wiring_of t) j n) (lives c j) _ _ (told_weight n j) (λ e. end-near j h e d))
-        (omega (arith, end-here, ap (λ b. where_so b (end_weight (wiring_of t) v then n l)) both-on,
-            ap (λ b. where_so b (end_weight (wiring_of t) v s n l)) both-on, ap (λ b. where_so b (told_weight n l)) at_end)),
+        (omega (
+          arith,
+          end-here,
+          ap (λ b. where_so b (end_weight (wiring_of t) v then n l)) both-on,
+          ap (λ b. where_so b (end_weight (wiring_of t) v s n l)) both-on,
+          ap (λ b. where_so b (told_weight n l)) at_end,
+        )),
     total-add (length t.links) (counted_end s n) (λ j. where_so (is_end (wiring_of t) j n) (told_weight n j)),
   )
 

@@ -49,8 +49,11 @@ module _ (t : Network) (lawful : IsLawful t) (c : Config) (v : Views) (s : Sessi
 
   pub notices-fall : v.learned n l < v.changes l → notices t views_then + 1 ≤ notices t v
   notices-fall less =
-      omega (arith, total-but-one (length t.loopbacks) (λ x. total (length t.links) (λ j. v.changes j - v.learned x j))
-        (λ x. total (length t.links) (λ j. v.changes j - put_pair v.learned n l (v.learned n l + 1) x j)) n 1 0 hn others here)
+      omega (
+        arith,
+        total-but-one (length t.loopbacks) (λ x. total (length t.links) (λ j. v.changes j - v.learned x j))
+            (λ x. total (length t.links) (λ j. v.changes j - put_pair v.learned n l (v.learned n l + 1) x j)) n 1 0 hn others here,
+      )
     where
       same : {x y : ℕ} → x ≡ y → x ≤ y
       same e = omega (arith, e)
@@ -81,12 +84,12 @@ module _ (t : Network) (lawful : IsLawful t) (c : Config) (v : Views) (s : Sessi
   known-same x d =
       ap (λ (view : View). record { view = view; hearings = map (hearing_at (wiring_of t) c s x) (links_of (wiring_of t)) })
       (same-map (λ j. v.learned x j % 2 == 1) (λ j. put_pair v.learned n l (v.learned n l + 1) x j % 2 == 1) 0 (length t.links)
-          (λ j h. ap (λ i. i % 2 == 1) (sym (pair_off v.learned n l (v.learned n l + 1) x j (inl d)))))
+      (λ j h. ap (λ i. i % 2 == 1) (sym (pair_off v.learned n l (v.learned n l + 1) x j (inl d)))))
 
   abbrev fec_count : ℕ → ℕ → ℕ → ℕ
   fec_count x j q =
       one_fec (wiring_of t) one (λ p. 1) (λ p. refl) (λ p. refl) (before x) (after x) j x q (offers (wiring_of t) (before x) x q)
-        (offers (wiring_of t) (after x) x q)
+      (offers (wiring_of t) (after x) x q)
 
   said-most : (x j : ℕ) → length (messages_of j x told) ≤ total (length t.loopbacks) (fec_count x j)
   said-most x j = omega (
@@ -102,7 +105,7 @@ module _ (t : Network) (lawful : IsLawful t) (c : Config) (v : Views) (s : Sessi
     said-most x j,
     total-none (length t.loopbacks) (fec_count x j) (λ q h. where-none _ 1
         (sym (ap (λ (k : Knowledge). is_operational k j && differ (is_operational (before x) j && offers (wiring_of t) (before x) x q)
-            (offers (wiring_of t) k x q)) (known-same x d))
+        (offers (wiring_of t) k x q)) (known-same x d))
         ∙ same-says (is_operational (before x) j) (offers (wiring_of t) (before x) x q))),
   )
 
@@ -111,24 +114,27 @@ module _ (t : Network) (lawful : IsLawful t) (c : Config) (v : Views) (s : Sessi
 
   unheard-then : (x j : ℕ) → j < length t.links → is_end (wiring_of t) j x ≡ true
       → length (drop (s.heard j (across (wiring_of t) j x)) (s.said j x ++ messages_of j x told))
-          ≡ length (drop (s.heard j (across (wiring_of t) j x)) (s.said j x)) + length (messages_of j x told)
+      ≡ length (drop (s.heard j (across (wiring_of t) j x)) (s.said j x)) + length (messages_of j x told)
   unheard-then x j h e =
       let other = across-end (wiring_of t) j x (lawful.ends_differ j h) e in
       ap length (drop-append-le (s.heard j (across (wiring_of t) j x)) (s.said j x) (messages_of j x told)
-          (subst (λ y. s.heard j (across (wiring_of t) j x) ≤ length (s.said j y)) other.1 (go j (across (wiring_of t) j x) h other.0).heard))
+      (subst (λ y. s.heard j (across (wiring_of t) j x) ≤ length (s.said j y)) other.1 (go j (across (wiring_of t) j x) h other.0).heard))
       ∙ length-append (drop (s.heard j (across (wiring_of t) j x)) (s.said j x)) (messages_of j x told)
 
   -- on each link
   link-grows : (x j a : ℕ) → j < length t.links → length (messages_of j x told) ≤ a → unheard_on t c (with_said s ([] ++ told)) x j ≤ unheard_on t c s x j + a
   link-grows x j a h most =
       where-plus (is_end (wiring_of t) j x) (lives c j) (length (drop (s.heard j (across (wiring_of t) j x)) (s.said j x ++ messages_of j x told)))
-        (length (drop (s.heard j (across (wiring_of t) j x)) (s.said j x))) a
+      (length (drop (s.heard j (across (wiring_of t) j x)) (s.said j x))) a
       (λ e. omega (arith, unheard-then x j h e, most))
 
   pub messages-grow : ldp_messages t c (with_said s ([] ++ told)) ≤ ldp_messages t c s + length t.links * length t.loopbacks
   messages-grow =
-      omega (arith, total-but-one (length t.loopbacks) (λ x. total (length t.links) (unheard_on t c s x))
-        (λ x. total (length t.links) (unheard_on t c (with_said s ([] ++ told)) x)) n 0 (length t.links * length t.loopbacks) hn others here)
+      omega (
+        arith,
+        total-but-one (length t.loopbacks) (λ x. total (length t.links) (unheard_on t c s x))
+            (λ x. total (length t.links) (unheard_on t c (with_said s ([] ++ told)) x)) n 0 (length t.links * length t.loopbacks) hn others here,
+      )
     where
       none : (x y : ℕ) → x ≤ y + 0 → x ≤ y
       none x y h = omega (arith, h)
@@ -137,7 +143,7 @@ module _ (t : Network) (lawful : IsLawful t) (c : Config) (v : Views) (s : Sessi
           ≤ total (length t.links) (unheard_on t c s x)
       others x h d =
           total-below (length t.links) (unheard_on t c (with_said s ([] ++ told)) x) (unheard_on t c s x)
-            (λ j g. none (unheard_on t c (with_said s ([] ++ told)) x j) (unheard_on t c s x j) (link-grows x j 0 g (said-off x j d)))
+          (λ j g. none (unheard_on t c (with_said s ([] ++ told)) x j) (unheard_on t c s x j) (link-grows x j 0 g (said-off x j d)))
 
       here : total (length t.links) (unheard_on t c (with_said s ([] ++ told)) n) + 0
           ≤ total (length t.links) (unheard_on t c s n) + length t.links * length t.loopbacks

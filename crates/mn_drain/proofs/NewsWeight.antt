@@ -36,7 +36,7 @@ once-neighbours : (w : Wiring) (n l a k : ℕ) → IsOnce l (flat_map (joining w
 once-neighbours w n l a zero = tt
 once-neighbours w n l a (suc k) =
     once-append l (joining w n a) (flat_map (joining w n) (range_with_len (a + 1) k)) (once-filter _ l _ (once-filter _ l _ (once-range l 0 (length w.ends))))
-        (once-neighbours w n l (a + 1) k)
+    (once-neighbours w n l (a + 1) k)
     (λ i j. beyond (leads i) (later j))
   where
     leads : {b : ℕ} → In (joining w n b) l → across w l n ≡ b
@@ -91,7 +91,7 @@ module _ (w : Wiring) (size : Message → ℕ) (g : ℕ → ℕ) (maps : (q : �
           ≡ where_so (on && differ (is_operational before l && was) is) (g q)
       either true =
           ap (measured size) (said-own l n (mention (is_operational before l && was) is q))
-            ∙ mention-weighs size g maps withdraws q (is_operational before l && was) is
+          ∙ mention-weighs size g maps withdraws q (is_operational before l && was) is
       either false = refl
 
   no-link : (q : ℕ) (was is : Bool) (ks : List ℕ) → (In ks l → ⊥) → messages_of l n (flat_map (mentioned_on before after n q was is) ks) ≡ []
@@ -169,7 +169,7 @@ nobody w before after l n a zero h = refl
 nobody w before after l n a (suc k) h =
     messages-append l n (news w (before a) (after a) a) (flat_map (λ x. news w (before x) (after x) x) (range_with_len (a + 1) k))
     ∙ ap (λ ms. ms ++ messages_of l n (flat_map (λ x. news w (before x) (after x) x) (range_with_len (a + 1) k)))
-        (news-else w (before a) (after a) l n a (apart h))
+    (news-else w (before a) (after a) l n a (apart h))
     ∙ nobody w before after l n (a + 1) k (omega (arith, h))
   where
     apart : n < a → a ≢ n

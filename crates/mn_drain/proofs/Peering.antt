@@ -42,16 +42,16 @@ none-left p (x ∷ xs) h = ap (λ b. cond b (x ∷ filter p xs) (filter p xs)) (
 nothing-changed : (es : List Export) → changed es es ≡ []
 nothing-changed es =
     ap (λ ys. map (λ (export : Export). Unreach export.vrf export.prefix) ys ++ announced es es)
-        (none-left (λ export. not (list_any (is_for export.vrf export.prefix) es)) es
-        (λ x i. ap not (any-here (is_for x.vrf x.prefix) es x i (is-for-same x x (refl, refl)))))
+    (none-left (λ export. not (list_any (is_for export.vrf export.prefix) es)) es
+    (λ x i. ap not (any-here (is_for x.vrf x.prefix) es x i (is-for-same x x (refl, refl)))))
     ∙ ap (map (λ export. Announce export)) (none-left (λ export. not (list_any (same_export export) es)) es
-        (λ x i. ap not (any-here (same_export x) es x i (same-as-itself x))))
+    (λ x i. ap not (any-here (same_export x) es x i (same-as-itself x))))
 
 no-news : (t : Network) (c : Config) (p k : Peerings) (es : List ℕ) → flat_map (news t c p c k) es ≡ []
 no-news t c p k [] = refl
 no-news t c p k (e ∷ es) =
     ap (λ ms. flat_map (λ telling. map (λ peer. record { teller = e; peer = peer; telling = telling }) (steady_peers t c p c k e)) ms
-        ++ flat_map (news t c p c k) es) (nothing-changed (exports_of t c e))
+    ++ flat_map (news t c p c k) es) (nothing-changed (exports_of t c e))
     ∙ no-news t c p k es
 
 -- 2. The answer is no longer than what the edge had still to tell
@@ -74,7 +74,7 @@ answer-length (suc zero) m es = second m
     second (Unreach v x) = omega arith
 answer-length (suc (suc n)) m es =
     subst (λ i. length (reply (state_heard (suc (suc n))) m es) + greeting_length i (length es) ≤ greeting_length (suc (suc n)) (length es))
-      (sym (add-one (suc (suc n)))) (later m)
+    (sym (add-one (suc (suc n)))) (later m)
   where
     later : (m : Telling) → length (reply Established m es) + greeting_length (suc (suc (suc n))) (length es) ≤ greeting_length (suc (suc n)) (length es)
     later Open = omega arith
@@ -107,12 +107,12 @@ module _ (t : Network) (c : Config) (p : Peerings) (x y : ℕ) (message : Tellin
   abbrev afterwards : Peerings
   afterwards =
       with_told (record p { heard = put_pair p.heard y x (p.heard y x + 1) })
-        (answers ++ flat_map (news t c p c (record p { heard = put_pair p.heard y x (p.heard y x + 1) })) (edges t))
+      (answers ++ flat_map (news t c p c (record p { heard = put_pair p.heard y x (p.heard y x + 1) })) (edges t))
 
   told-is : (a b : ℕ) → afterwards.told a b ≡ p.told a b ++ tellings_of a b answers
   told-is a b =
       ap (λ ms. p.told a b ++ tellings_of a b ms) (ap (λ ms. answers ++ ms)
-        (no-news t c p (record p { heard = put_pair p.heard y x (p.heard y x + 1) }) (edges t)) ∙ append-nil answers)
+      (no-news t c p (record p { heard = put_pair p.heard y x (p.heard y x + 1) }) (edges t)) ∙ append-nil answers)
 
   reach : {i j : ℕ} → i < j → i + 1 ≤ j
   reach h = omega (arith, h)
@@ -124,7 +124,7 @@ module _ (t : Network) (c : Config) (p : Peerings) (x y : ℕ) (message : Tellin
       | inr r ↦ off (inr r.1)
       | inl r ↦
           subst (λ n. n ≤ length (p.told a b)) (sym (ap (λ z. put_pair p.heard y x (p.heard y x + 1) z a) q.1
-              ∙ ap (put_pair p.heard y x (p.heard y x + 1) y) r.1 ∙ pair_here p.heard y x (p.heard y x + 1)))
+          ∙ ap (put_pair p.heard y x (p.heard y x + 1) y) r.1 ∙ pair_here p.heard y x (p.heard y x + 1)))
           (subst (λ z. p.heard y x + 1 ≤ length (p.told z b)) (sym r.1) (subst (λ z. p.heard y x + 1 ≤ length (p.told x z)) (sym q.1) (reach more)))
     ]
   ]
@@ -205,5 +205,8 @@ module _ (t : Network) (c : Config) (p : Peerings) (x y : ℕ) (message : Tellin
 
   pub telling-lowers : bgp_ahead t c afterwards + 1 ≤ bgp_ahead t c p
   telling-lowers =
-      omega (arith, total-but-one (length t.loopbacks) (λ a. total (length t.loopbacks) (row p a)) (λ a. total (length t.loopbacks) (row afterwards a)) x 1 0 hx
-        (λ a h d. row-any a d) row-far)
+      omega (
+        arith,
+        total-but-one (length t.loopbacks) (λ a. total (length t.loopbacks) (row p a)) (λ a. total (length t.loopbacks) (row afterwards a)) x 1 0 hx
+            (λ a h d. row-any a d) row-far,
+      )

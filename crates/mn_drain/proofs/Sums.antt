@@ -79,8 +79,11 @@ total-times n f false = total-none n (λ i. 0) (λ i l. refl)
 pub total-but-two : (n : ℕ) (f g : ℕ → ℕ) (k j a c b : ℕ) → k < n → j < n → k ≢ j → ((i : ℕ) → i < n → i ≢ k → i ≢ j → g i ≤ f i) → g k + a ≤ f k
     → g j + c ≤ f j + b → total n g + a + c ≤ total n f + b
 total-but-two n f g k j a c b hk hj apart others at_k at_j =
-    omega (arith, total-but-one n f half k a 0 hk (λ i h d. same (ap (λ z. cond z (g i) (f i)) (unequal i k d))) (omega (arith, here, at_k)),
-      total-but-one n half g j c b hj last (omega (arith, at_j, off)))
+    omega (
+      arith,
+      total-but-one n f half k a 0 hk (λ i h d. same (ap (λ z. cond z (g i) (f i)) (unequal i k d))) (omega (arith, here, at_k)),
+      total-but-one n half g j c b hj last (omega (arith, at_j, off)),
+    )
   where
     half : ℕ → ℕ
     half i = cond (i == k) (g i) (f i)

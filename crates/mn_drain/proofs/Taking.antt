@@ -79,24 +79,24 @@ takes : (t : Network) (w : World) (k : Packets) (made : List Item) (flight : Fli
 takes t w k made flight lawful turn f (step.Learn n l) on fit e =
     let both = and-both (nat_lt n.0 (length t.loopbacks)) (nat_lt l.0 (length t.links)) fit in
     sym (nil-count (loads_on (Notices l.0 n.0) flight.items) (w.views.learned n.0 l.0) (w.views.changes l.0)
-        (f.notices l.0 n.0 (less-is n.0 (length t.loopbacks) both.0)))
+    (f.notices l.0 n.0 (less-is n.0 (length t.loopbacks) both.0)))
     ∙ ap (λ c. is_nil (loads_on c flight.items)) (some-same (Notices l.0 n.0) on e)
 takes t w k made flight lawful turn f (step.HearLdp l dir) on fit e =
     let there : l.0 < length t.links = less-is l.0 (length t.links) fit in
     let m : ℕ = sender (wiring_of t) l.0 dir in
     let ends = sender-ends t lawful l.0 dir there in
     sym (ap is_nil (f.messages l.0 m there ends.0) ∙ nil-drop (λ message. Says message) (w.sessions.heard l.0 (across (wiring_of t) l.0 m))
-        (w.sessions.said l.0 m)
+    (w.sessions.said l.0 m)
     ∙ ap (λ n. nat_le (length (w.sessions.said l.0 m)) (w.sessions.heard l.0 n)) ends.1
     ∙ dead-or (lives w.config l.0) (length (w.sessions.said l.0 m)) (w.sessions.heard l.0 (receiver (wiring_of t) l.0 dir))
-        (λ dead. ap length ((turn.ldp l.0 m there ends.0).silent dead).0))
+    (λ dead. ap length ((turn.ldp l.0 m there ends.0).silent dead).0))
     ∙ ap (λ c. is_nil (loads_on c flight.items)) (some-same (Messages l.0 m) on e)
 takes t w k made flight lawful turn f (step.HearBgp a b) on fit e =
     let both = and-both (is_edge t.vrfs a.0 && is_edge t.vrfs b.0) (not (a.0 == b.0)) fit in
     let apart : a.0 ≢ b.0 = unequal a.0 b.0 both.1 in
     sym (ap is_nil (f.routes a.0 b.0 apart) ∙ nil-drop (λ telling. Tells telling) (w.peerings.heard b.0 a.0) (w.peerings.told a.0 b.0)
     ∙ dead-or (peers_live w.config a.0 b.0) (length (w.peerings.told a.0 b.0)) (w.peerings.heard b.0 a.0)
-        (λ dead. ap length ((turn.bgp a.0 b.0 apart).silent dead).0))
+    (λ dead. ap length ((turn.bgp a.0 b.0 apart).silent dead).0))
     ∙ ap (λ c. is_nil (loads_on c flight.items)) (some-same (Routes a.0 b.0) on e)
 takes t w k made flight lawful turn f (step.LinkUp l) on fit e = absurd (none-some on e)
 takes t w k made flight lawful turn f (step.LinkDown l) on fit e = absurd (none-some on e)
@@ -118,7 +118,7 @@ pub takes_what_flies : (t : Network) (es : List JournalEntry) (ps : List (List �
     → is_empty t (world_of t es) no_packets s ≡ is_nil (loads_on on (flight_of t es ps).items)
 takes_what_flies t es ps s on lawful journal fit e =
     takes t (world_of t es) (packets_of t es ps) (made_by t es ps) (flight_of t es ps) lawful (in_turn t es ps lawful journal)
-      (in_flight t es ps lawful journal) s on fit e
+    (in_flight t es ps lawful journal) s on fit e
 
 -- 2. Where no notice and no message flies, nothing is left to a drain
 

@@ -133,7 +133,7 @@ module _ (t : Network) (v : View) (lawful : IsLawful t) (p : ℕ) where
           let far : AreFarther on.1 next_trail.0 = next_trail.4 on.1 on.2 in
           subst (λ n. suc n ≤ length t.loopbacks) next_trail.1
           (length-le_from_distinct_below (hop.0 ∷ next_trail.0) (length t.loopbacks)
-              (any-none hop.0 next_trail.0 (not-seen on.1 hop.0 next_trail.0 on.2 far), next_trail.2) (λ q h. elim (eqb_tells q hop.0) [
+          (any-none hop.0 next_trail.0 (not-seen on.1 hop.0 next_trail.0 on.2 far), next_trail.2) (λ q h. elim (eqb_tells q hop.0) [
             | inl g ↦ subst (λ n. n < length t.loopbacks) (sym g.1) next_trail.3
             | inr g ↦ (far q (or-tells (eqb q hop.0) (list_any (eqb q) next_trail.0) h g.0)).0
           ]))
@@ -168,7 +168,7 @@ module _ (t : Network) (v : View) (lawful : IsLawful t) (p : ℕ) where
   abbrev over_link : ℕ → Option ℕ → ℕ → ℕ → ℕ
   over_link n o d l =
       where_so (is_end (wiring_of t) l n) (where_so (is_over (next (wiring_of t) v (across (wiring_of t) l n) p) l)
-        (where_so (is_node o (across (wiring_of t) l n)) d))
+      (where_so (is_node o (across (wiring_of t) l n)) d))
 
   over-off : (n : ℕ) (o : Option ℕ) (d l : ℕ) → (is_end (wiring_of t) l n ≡ true → is_over (next (wiring_of t) v (across (wiring_of t) l n) p) l ≡ true
       → is_node o (across (wiring_of t) l n) ≡ true → ⊥) → over_link n o d l ≡ 0
@@ -209,14 +209,14 @@ module _ (t : Network) (v : View) (lawful : IsLawful t) (p : ℕ) where
       by_hop : (o : Option (ℕ × ℕ)) → next (wiring_of t) v k p ≡ o → total (length t.links) (over_link n (Some k) d) ≤ where_so (is_node (to_node o) n) d
       by_hop None e =
           at_none (total-none (length t.links) (over_link n (Some k) d)
-            (λ l h. over-off n (Some k) d l (λ a b c. none-is l (next (wiring_of t) v (across (wiring_of t) l n) p)
-            (ap (λ j. next (wiring_of t) v j p) (sym (same-numbers k (across (wiring_of t) l n) c)) ∙ e) b)))
+          (λ l h. over-off n (Some k) d l (λ a b c. none-is l (next (wiring_of t) v (across (wiring_of t) l n) p)
+          (ap (λ j. next (wiring_of t) v j p) (sym (same-numbers k (across (wiring_of t) l n) c)) ∙ e) b)))
       by_hop (Some hop) e = total-only (length t.links) (over_link n (Some k) d) hop.1 (where_so (hop.0 == n) d) others here
         where
           others : (l : ℕ) → l < length t.links → l ≢ hop.1 → over_link n (Some k) d l ≡ 0
           others l h apart =
               over-off n (Some k) d l (λ a b c. apart (sym (same-numbers hop.1 l
-                (sym (ap (λ q. is_over q l) (ap (λ j. next (wiring_of t) v j p) (sym (same-numbers k (across (wiring_of t) l n) c)) ∙ e)) ∙ b))))
+              (sym (ap (λ q. is_over q l) (ap (λ j. next (wiring_of t) v j p) (sym (same-numbers k (across (wiring_of t) l n) c)) ∙ e)) ∙ b))))
 
           here : over_link n (Some k) d hop.1 ≤ where_so (hop.0 == n) d
           here = elim (two_ways (hop.0 == n)) [
@@ -239,30 +239,30 @@ module _ (t : Network) (v : View) (lawful : IsLawful t) (p : ℕ) where
   abbrev by_way : ℕ → ℕ → ℕ
   by_way n l =
       where_so (is_end (wiring_of t) l n) (where_so (is_over (next (wiring_of t) v (across (wiring_of t) l n) p) l)
-        (weight (wiring_of t) v p (across (wiring_of t) l n)))
+      (weight (wiring_of t) v p (across (wiring_of t) l n)))
 
   way-is : (n l : ℕ) → by_way n l ≡ total (length t.loopbacks)
       (λ j. total (length t.loopbacks) (λ x. over_link n (passed (wiring_of t) v p j x) (2 * degree (wiring_of t) x) l))
   way-is n l =
       where-total (is_end (wiring_of t) l n) (is_over (next (wiring_of t) v (across (wiring_of t) l n) p) l) (length t.loopbacks)
-          (after_hops (wiring_of t) v p (across (wiring_of t) l n))
+      (after_hops (wiring_of t) v p (across (wiring_of t) l n))
       ∙ total-same (length t.loopbacks) _ _ (λ j h. where-total (is_end (wiring_of t) l n) (is_over (next (wiring_of t) v (across (wiring_of t) l n) p) l)
-          (length t.loopbacks)
+      (length t.loopbacks)
       (λ x. where_so (is_node (passed (wiring_of t) v p j x) (across (wiring_of t) l n)) (2 * degree (wiring_of t) x)))
 
   ways-weigh : (n : ℕ) → total (length t.links) (by_way n) ≤ total (length t.loopbacks) (λ j. after_hops (wiring_of t) v p n (suc j))
   ways-weigh n = subst (λ x. x ≤ total (length t.loopbacks) (λ j. after_hops (wiring_of t) v p n (suc j))) (sym turned)
       (total-below (length t.loopbacks) _ _ (λ j h. total-below (length t.loopbacks) _ _
-          (λ x g. by-child n (passed (wiring_of t) v p j x) (2 * degree (wiring_of t) x) (λ k e. (trails j x k g e).3))))
+      (λ x g. by-child n (passed (wiring_of t) v p j x) (2 * degree (wiring_of t) x) (λ k e. (trails j x k g e).3))))
     where
       turned : total (length t.links) (by_way n) ≡ total (length t.loopbacks)
           (λ j. total (length t.loopbacks) (λ x. total (length t.links) (over_link n (passed (wiring_of t) v p j x) (2 * degree (wiring_of t) x))))
       turned =
           total-same (length t.links) (by_way n) _ (λ l h. way-is n l)
           ∙ total-turn (length t.links) (length t.loopbacks)
-              (λ l j. total (length t.loopbacks) (λ x. over_link n (passed (wiring_of t) v p j x) (2 * degree (wiring_of t) x) l))
+          (λ l j. total (length t.loopbacks) (λ x. over_link n (passed (wiring_of t) v p j x) (2 * degree (wiring_of t) x) l))
           ∙ total-same (length t.loopbacks) _ _ (λ j h. total-turn (length t.links) (length t.loopbacks)
-              (λ l x. over_link n (passed (wiring_of t) v p j x) (2 * degree (wiring_of t) x) l))
+          (λ l x. over_link n (passed (wiring_of t) v p j x) (2 * degree (wiring_of t) x) l))
 
   -- all mentions that a change causes at once weigh no more than the change
   pub weighs : (n : ℕ) → n < length t.loopbacks → total (length t.links)
@@ -273,7 +273,7 @@ module _ (t : Network) (v : View) (lawful : IsLawful t) (p : ℕ) where
           ≡ total (length t.links) (λ l. where_so (is_end (wiring_of t) l n) 2) + total (length t.links) (by_way n)
       split =
           total-same (length t.links) _ _ (λ l h. where-add (is_end (wiring_of t) l n) 2
-              (where_so (is_over (next (wiring_of t) v (across (wiring_of t) l n) p) l) (weight (wiring_of t) v p (across (wiring_of t) l n))))
+          (where_so (is_over (next (wiring_of t) v (across (wiring_of t) l n) p) l) (weight (wiring_of t) v p (across (wiring_of t) l n))))
           ∙ total-add (length t.links) (λ l. where_so (is_end (wiring_of t) l n) 2) (by_way n)
 
       twice : total (length t.links) (λ l. where_so (is_end (wiring_of t) l n) 2) ≡ degree (wiring_of t) n + degree (wiring_of t) n
@@ -283,13 +283,16 @@ module _ (t : Network) (v : View) (lawful : IsLawful t) (p : ℕ) where
 
       first : degree (wiring_of t) n + degree (wiring_of t) n ≤ after_hops (wiring_of t) v p n 0
       first =
-          omega (arith, total-one (length t.loopbacks) (λ x. where_so (x == n) (2 * degree (wiring_of t) x)) n below,
-            where-on (n == n) (2 * degree (wiring_of t) n) (same-test n))
+          omega (
+            arith,
+            total-one (length t.loopbacks) (λ x. where_so (x == n) (2 * degree (wiring_of t) x)) n below,
+            where-on (n == n) (2 * degree (wiring_of t) n) (same-test n),
+          )
 
       last : after_hops (wiring_of t) v p n (length t.loopbacks) ≡ 0
       last =
           total-none (length t.loopbacks) _ (λ x h. where-off (is_node (passed (wiring_of t) v p (length t.loopbacks) x) n) (2 * degree (wiring_of t) x)
-            (none-after n x h))
+          (none-after n x h))
 
   -- each link has two ends
   ends-or : (a b : Bool) → where_so (a || b) 1 ≤ where_so a 1 + where_so b 1

@@ -32,44 +32,115 @@ all_learned node l h g = the_world_is_settled.learned node l h g
 it_is_a_drain : IsDrain two_links (world_of two_links beginning) drains
 unfolding next knowledge_of news sessions_after peerings_after held packets_after is_not_ipv4 is_malformed is_truncated has_bad_checksum good
     checksum_for with_ttl aged in_flight bytes_flying
-it_is_a_drain =
-    ( record { fitting = refl; there = refl; in_turn = tt },
-    ( record { fitting = refl; there = refl; in_turn = tt },
-    ( record { fitting = refl; there = refl; in_turn = tt },
-    ( record { fitting = refl; there = refl; in_turn = tt },
-    ( record { fitting = refl; there = refl; in_turn = tt },
-    ( record { fitting = refl; there = refl; in_turn = tt },
-    ( record { fitting = refl; there = refl; in_turn = all_learned },
-    ( record { fitting = refl; there = refl; in_turn = all_learned },
-    ( record { fitting = refl; there = refl; in_turn = all_learned },
-    ( record { fitting = refl; there = refl; in_turn = all_learned },
-    ( record { fitting = refl; there = refl; in_turn = all_learned },
-    ( record { fitting = refl; there = refl; in_turn = all_learned },
-    ( record { fitting = refl; there = refl; in_turn = all_learned },
-    ( record { fitting = refl; there = refl; in_turn = all_learned },
-    ( record { fitting = refl; there = refl; in_turn = all_learned },
-    ( record { fitting = refl; there = refl; in_turn = all_learned },
-    ( record { fitting = refl; there = refl; in_turn = all_learned },
-    ( record { fitting = refl; there = refl; in_turn = all_learned },
-    ( record { fitting = refl; there = refl; in_turn = all_learned },
-    ( record { fitting = refl; there = refl; in_turn = all_learned },
-    ( record { fitting = refl; there = refl; in_turn = all_learned },
-    ( record { fitting = refl; there = refl; in_turn = all_learned },
-    ( record { fitting = refl; there = refl; in_turn = all_learned },
-    ( record { fitting = refl; there = refl; in_turn = all_learned },
-    ( record { fitting = refl; there = refl; in_turn = all_learned },
-    ( record { fitting = refl; there = refl; in_turn = all_learned },
-    ( record { fitting = refl; there = refl; in_turn = all_learned },
-    ( record { fitting = refl; there = refl; in_turn = all_learned },
-    ( record { fitting = refl; there = refl; in_turn = all_learned },
-    ( record { fitting = refl; there = refl; in_turn = all_learned },
-    ( record { fitting = refl; there = refl; in_turn = all_learned },
-    ( record { fitting = refl; there = refl; in_turn = all_learned },
-    ( record { fitting = refl; there = refl; in_turn = all_learned },
-    ( record { fitting = refl; there = refl; in_turn = all_learned },
-    ( record { fitting = refl; there = refl; in_turn = all_learned },
-    ( record { fitting = refl; there = refl; in_turn = all_learned },
-    tt ) ) ) ) ) ) ) ) ) ) ) ) ) ) ) ) ) ) ) ) ) ) ) ) ) ) ) ) ) ) ) ) ) ) ) )
+it_is_a_drain = (
+  record { fitting = refl; there = refl; in_turn = tt },
+  (
+    record { fitting = refl; there = refl; in_turn = tt },
+    (
+      record { fitting = refl; there = refl; in_turn = tt },
+      (
+        record { fitting = refl; there = refl; in_turn = tt },
+        (
+          record { fitting = refl; there = refl; in_turn = tt },
+          (
+            record { fitting = refl; there = refl; in_turn = tt },
+            (
+              record { fitting = refl; there = refl; in_turn = all_learned },
+              (
+                record { fitting = refl; there = refl; in_turn = all_learned },
+                (
+                  record { fitting = refl; there = refl; in_turn = all_learned },
+                  (
+                    record { fitting = refl; there = refl; in_turn = all_learned },
+                    (
+                      record { fitting = refl; there = refl; in_turn = all_learned },
+                      (
+                        record { fitting = refl; there = refl; in_turn = all_learned },
+                        (
+                          record { fitting = refl; there = refl; in_turn = all_learned },
+                          (
+                            record { fitting = refl; there = refl; in_turn = all_learned },
+                            (
+                              record { fitting = refl; there = refl; in_turn = all_learned },
+                              (
+                                record { fitting = refl; there = refl; in_turn = all_learned },
+                                (
+                                  record { fitting = refl; there = refl; in_turn = all_learned },
+                                  (
+                                    record { fitting = refl; there = refl; in_turn = all_learned },
+                                    (
+                                      record { fitting = refl; there = refl; in_turn = all_learned },
+                                      (
+                                        record { fitting = refl; there = refl; in_turn = all_learned },
+                                        (
+                                          record { fitting = refl; there = refl; in_turn = all_learned },
+                                          (
+                                            record { fitting = refl; there = refl; in_turn = all_learned },
+                                            (
+                                              record { fitting = refl; there = refl; in_turn = all_learned },
+                                              (
+                                                record { fitting = refl; there = refl; in_turn = all_learned },
+                                                (
+                                                  record { fitting = refl; there = refl; in_turn = all_learned },
+                                                  (
+                                                    record { fitting = refl; there = refl; in_turn = all_learned },
+                                                    (
+                                                      record { fitting = refl; there = refl; in_turn = all_learned },
+                                                      (
+                                                        record { fitting = refl; there = refl; in_turn = all_learned },
+                                                        (
+                                                          record { fitting = refl; there = refl; in_turn = all_learned },
+                                                          (
+                                                            record { fitting = refl; there = refl; in_turn = all_learned },
+                                                            (
+                                                              record { fitting = refl; there = refl; in_turn = all_learned },
+                                                              (
+                                                                record { fitting = refl; there = refl; in_turn = all_learned },
+                                                                (
+                                                                  record { fitting = refl; there = refl; in_turn = all_learned },
+                                                                  (
+                                                                    record { fitting = refl; there = refl; in_turn = all_learned },
+                                                                    (
+                                                                      record { fitting = refl; there = refl; in_turn = all_learned },
+                                                                      (
+                                                                        record { fitting = refl; there = refl; in_turn = all_learned },
+                                                                        tt,
+                                                                      ),
+                                                                    ),
+                                                                  ),
+                                                                ),
+                                                              ),
+                                                            ),
+                                                          ),
+                                                        ),
+                                                      ),
+                                                    ),
+                                                  ),
+                                                ),
+                                              ),
+                                            ),
+                                          ),
+                                        ),
+                                      ),
+                                    ),
+                                  ),
+                                ),
+                              ),
+                            ),
+                          ),
+                        ),
+                      ),
+                    ),
+                  ),
+                ),
+              ),
+            ),
+          ),
+        ),
+      ),
+    ),
+  ),
+)
 
 it_settles : after_steps two_links (world_of two_links beginning) drains ≡ settled_world
 it_settles = refl

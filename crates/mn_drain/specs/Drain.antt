@@ -92,7 +92,7 @@ bound_of q m links nodes directions exports =
 abbrev pub drain_bound : Network → World → ℕ
 drain_bound topology world =
     bound_of (notices_unlearned topology world.views) (messages topology world) (length topology.links) (length topology.loopbacks)
-        (directions topology world.config) (all_exports topology world.config)
+    (directions topology world.config) (all_exports topology world.config)
 
 -- 3. What is in flight, by nodes and links
 
@@ -104,7 +104,7 @@ notices topology views = total (length topology.loopbacks) (λ node. total (leng
 abbrev pub unheard_on : Network → Config → Sessions → ℕ → ℕ → ℕ
 unheard_on topology config sessions node l =
     where_so (is_end (wiring_of topology) l node && lives config l)
-        (length (drop (sessions.heard l (across (wiring_of topology) l node)) (sessions.said l node)))
+    (length (drop (sessions.heard l (across (wiring_of topology) l node)) (sessions.said l node)))
 
 -- LDP messages
 abbrev pub ldp_messages : Network → Config → Sessions → ℕ

@@ -128,14 +128,14 @@ keeps-arrive t w j a k y d =
     either-way j a (nat_le k.ttl 1) _ _ (keeps-judged j k.packet a (Dropped rule.TtlExpired (record { 0 = y })) d)
     (either-way j a (y == k.edge) _ _
     (either-way j a (is_attachment (w.config.attached k.site) k.attachment) _ _ (keeps-deliver j k.packet a k.site (k.ttl - 1) k.bytes d)
-        (keeps-judged j k.packet a (Dropped rule.SiteGone (record { 0 = y })) d))
+    (keeps-judged j k.packet a (Dropped rule.SiteGone (record { 0 = y })) d))
     (keeps-hop t j a (record k { ttl = k.ttl - 1 }) y rule.NoEntry (usable t w.config w.views w.sessions y k.edge) d))
 
 keeps-route : (t : Network) (w : World) (j p : ℕ) (a : Packets) (b : List ℕ) (e : ℕ) (o : Option HeldRoute) → j ≢ p → Keeps j a (route_by t w a p b e o)
 keeps-route t w j p a b e None d = keeps-judged j p a (Dropped rule.NoRoute (record { 0 = e })) d
 keeps-route t w j p a b e (Some r) d =
     either-way j a (r.edge == e) _ _ (keeps-deliver j p a r.site (ttl_of b - 1) b d)
-        (keeps-hop t j a (bound p r b) e rule.NoLsp (usable t w.config w.views w.sessions e r.edge) d)
+    (keeps-hop t j a (bound p r b) e rule.NoLsp (usable t w.config w.views w.sessions e r.edge) d)
 
 keeps-enter : (t : Network) (w : World) (j p : ℕ) (a : Packets) (b : List ℕ) (e v : ℕ) (o : Option Rule) → j ≢ p → Keeps j a (enter_by t w a p b e v o)
 keeps-enter t w j p a b e v (Some cause) d = keeps-judged j p a (Dropped cause (record { 0 = e })) d
@@ -206,7 +206,7 @@ module _ (t : Network) (w : World) (j site edge attachment ttl : ℕ) (whole : L
   abbrev pub Flies : Packets → Type 0
   Flies a =
       (l : ℕ) × (d : Dir) × (verdict_on a j ≡ Flying (record { 0 = l }) d)
-        × ((at : ℕ) (k : Token) → In (a.flying at) k → k.packet ≡ j → IsOnTheWay at k (path_of a j))
+      × ((at : ℕ) (k : Token) → In (a.flying at) k → k.packet ≡ j → IsOnTheWay at k (path_of a j))
 
   abbrev pub Travels : Packets → Type 0
   Travels a = HasCome a ⊎ Flies a
@@ -239,8 +239,21 @@ module _ (t : Network) (w : World) (j site edge attachment ttl : ℕ) (whole : L
             | inr m ↦ elim m [
               | inr empty ↦ absurd empty
               | inl same ↦ subst (λ z. IsOnTheWay at z (path_of a j)) same
-                  (record { to = y; hops = hops; link = l; dir = d; on = q.0; comes = comes-across t l x
-                  ∙ sym far; route = route; goes = goes; site_is = s; edge_is = e; attachment_is = n; ttl_is = ttl_is })
+                  (record {
+                    to = y;
+                    hops = hops;
+                    link = l;
+                    dir = d;
+                    on = q.0;
+                    comes = comes-across t l x
+                        ∙ sym far;
+                    route = route;
+                    goes = goes;
+                    site_is = s;
+                    edge_is = e;
+                    attachment_is = n;
+                    ttl_is = ttl_is;
+                  })
             ]
           ]
         ],
@@ -285,15 +298,17 @@ module _ (t : Network) (w : World) (j site edge attachment ttl : ℕ) (whole : L
 
       is : arrive t w a k y ≡ deliver a k.packet k.site (k.ttl - 1) k.bytes
       is =
-          ap (λ b. elim b as (λ _. Packets) [ true ↦ drop_at a k.packet rule.TtlExpired y
-              | false ↦ elim (y == k.edge) as (λ _. Packets) [ true ↦ leave w a k y | false ↦ hop t w a (record k { ttl = k.ttl - 1 }) y rule.NoEntry ] ])
-              enough
+          ap (λ b. elim b as (λ _. Packets) [
+            | true ↦ drop_at a k.packet rule.TtlExpired y
+            | false ↦ elim (y == k.edge) as (λ _. Packets) [ true ↦ leave w a k y | false ↦ hop t w a (record k { ttl = k.ttl - 1 }) y rule.NoEntry ]
+          ])
+          enough
           ∙ ap (λ b. elim b as (λ _. Packets) [ true ↦ leave w a k y | false ↦ hop t w a (record k { ttl = k.ttl - 1 }) y rule.NoEntry ]) at_edge
           ∙ ap (λ b. elim b as (λ _. Packets) [ true ↦ deliver a k.packet k.site (k.ttl - 1) k.bytes | false ↦ drop_at a k.packet rule.SiteGone y ]) there
   arrives a k y (z ∷ hops) within none own before path route goes s e n ttl_is =
       subst Travels (sym is)
       (hops-off a (record k { ttl = k.ttl - 1 }) y z hops goes.1 rule.NoEntry within none own
-          (ap (λ xs. xs ++ z ∷ hops) path ∙ append_assoc before (y ∷ []) (z ∷ hops) ∙ route) goes.3 goes.4 s e n less)
+      (ap (λ xs. xs ++ z ∷ hops) path ∙ append_assoc before (y ∷ []) (z ∷ hops) ∙ route) goes.3 goes.4 s e n less)
     where
       total : length whole ≡ length before + (1 + (1 + length hops))
       total = sym (ap length route) ∙ length-append before (y ∷ z ∷ hops) ∙ omega arith
@@ -312,9 +327,11 @@ module _ (t : Network) (w : World) (j site edge attachment ttl : ℕ) (whole : L
 
       is : arrive t w a k y ≡ hop_over t a (record k { ttl = k.ttl - 1 }) y rule.NoEntry (Some (z, goes.1))
       is =
-          ap (λ b. elim b as (λ _. Packets) [ true ↦ drop_at a k.packet rule.TtlExpired y
-              | false ↦ elim (y == k.edge) as (λ _. Packets) [ true ↦ leave w a k y | false ↦ hop t w a (record k { ttl = k.ttl - 1 }) y rule.NoEntry ] ])
-              enough
+          ap (λ b. elim b as (λ _. Packets) [
+            | true ↦ drop_at a k.packet rule.TtlExpired y
+            | false ↦ elim (y == k.edge) as (λ _. Packets) [ true ↦ leave w a k y | false ↦ hop t w a (record k { ttl = k.ttl - 1 }) y rule.NoEntry ]
+          ])
+          enough
           ∙ ap (λ b. elim b as (λ _. Packets) [ true ↦ leave w a k y | false ↦ hop t w a (record k { ttl = k.ttl - 1 }) y rule.NoEntry ]) past
           ∙ ap (hop_over t a (record k { ttl = k.ttl - 1 }) y rule.NoEntry) (ap (usable t w.config w.views w.sessions y) e ∙ goes.2)
 
@@ -355,9 +372,9 @@ module _ (t : Network) (w : World) (j site edge attachment ttl : ℕ) (whole : L
       ap (λ p. slice_index_or (slice_set a.paths p (slice_index_or a.paths p [] ++ receiver (wiring_of t) l d ∷ [])) j []) own
       ∙ get_or-set_same a.paths j (slice_index_or a.paths j [] ++ receiver (wiring_of t) l d ∷ []) [] (subst (λ m. j < m) (sym one.paths) below) in
       arrives (visited (taken a l d n) k.packet (receiver (wiring_of t) l d)) k (receiver (wiring_of t) l d) on.hops (not-past a count one below)
-          (loose-none (taken a l d n) count loose) own (path_of a j) here
+      (loose-none (taken a l d n) count loose) own (path_of a j) here
       (subst (λ y. path_of a j ++ y ∷ on.hops ≡ whole) (sym come) on.route)
-          (subst (λ y. GoesBy t w on.hops y edge) (sym come) on.goes) on.site_is on.edge_is on.attachment_is on.ttl_is
+      (subst (λ y. GoesBy t w on.hops y edge) (sym come) on.goes) on.site_is on.edge_is on.attachment_is on.ttl_is
 
   travels-carried : (a : Packets) (l : ℕ) (d : Dir) (n count : ℕ) (o : Option Token) → AreInOnePlace a count → j < count → slice_get (flying_on a l d) n ≡ o
       → Travels a → Travels (carry t w (taken a l d n) (receiver (wiring_of t) l d) o)
@@ -366,7 +383,7 @@ module _ (t : Network) (w : World) (j site edge attachment ttl : ℕ) (whole : L
     | inr q ↦ travels-kept a (arrive t w (visited (taken a l d n) k.packet (receiver (wiring_of t) l d)) k (receiver (wiring_of t) l d))
         (keeps-on j a (taken a l d n) _ (keeps-taken j l d n a)
         (keeps-on j (taken a l d n) (visited (taken a l d n) k.packet (receiver (wiring_of t) l d)) _
-            (keeps-visited j k.packet (receiver (wiring_of t) l d) (taken a l d n) q.1)
+        (keeps-visited j k.packet (receiver (wiring_of t) l d) (taken a l d n) q.1)
         (keeps-arrive t w j (visited (taken a l d n) k.packet (receiver (wiring_of t) l d)) k (receiver (wiring_of t) l d) q.1))) h
     | inl q ↦ elim h [
       | inl come ↦ absurd (none-left a count one come (channel l d) k (got-in (flying_on a l d) n k got) (sym q.1))
@@ -380,7 +397,7 @@ module _ (t : Network) (w : World) (j site edge attachment ttl : ℕ) (whole : L
       travels-kept a (enter t w a s b)
       (keeps-on j a (one_more a (home_of t s)) _ (keeps-more j a (home_of t s) (not-past a count one below) (subst (λ m. j < m) (sym one.paths) below))
       (keeps-enter t w j (length a.verdicts) (one_more a (home_of t s)) b (home_of t s) (vrf_of t s) (first_rule (entry_rules (w.config.attached s) b)) apart))
-          h
+      h
     where
       over : j < count → j ≡ count → ⊥
       over x y = omega (arith, x, y)
@@ -399,7 +416,7 @@ module _ (t : Network) (w : World) (j site edge attachment ttl : ℕ) (whole : L
   travels-on (e ∷ es) a count ps m one below h =
       subst (λ v. Travels (packets_from t v (packets_after t v a e.step (next_of ps)) es (left_by e.step ps))) (sym (still t w e.step (left m)))
       (travels-on es (packets_after t w a e.step (next_of ps)) (one_if (injects e.step) + count) (left_by e.step ps) (right m)
-          (stepped t w a e.step (next_of ps) count one) (more (one_if (injects e.step)) below) (travels-step a e.step (next_of ps) count (left m) one below h))
+      (stepped t w a e.step (next_of ps) count one) (more (one_if (injects e.step)) below) (travels-step a e.step (next_of ps) count (left m) one below h))
     where
       both : (x y : Bool) → (x && y) ≡ true → (x ≡ true) × (y ≡ true)
       both true y e = (refl, e)
@@ -430,9 +447,13 @@ world_from-append t (e ∷ es) fs w = world_from-append t es fs (after t w e.ste
 lawful-front : (t : Network) (es fs : List JournalEntry) (tick : ℕ) (w : World) (k : Packets) (i : ℕ) (ps : List (List ℕ))
     → IsLawfulFrom t tick w k i (es ++ fs) ps → IsLawfulFrom t tick w k i es ps
 lawful-front t [] fs tick w k i ps lawful = tt
-lawful-front t (e ∷ es) fs tick w k i ps lawful =
-    (lawful.0, lawful.1, lawful.2, lawful-front t es fs e.tick (after t w e.step) (packets_after t (after t w e.step) k e.step (next_of ps)) (i + 1)
-        (left_by e.step ps) lawful.3)
+lawful-front t (e ∷ es) fs tick w k i ps lawful = (
+  lawful.0,
+  lawful.1,
+  lawful.2,
+  lawful-front t es fs e.tick (after t w e.step) (packets_after t (after t w e.step) k e.step (next_of ps)) (i + 1)
+      (left_by e.step ps) lawful.3,
+)
 
 pub lawful_begins : (t : Network) (es fs : List JournalEntry) (ps : List (List ℕ)) → IsLawfulJournal t (es ++ fs) ps → IsLawfulJournal t es ps
 lawful_begins t es fs ps lawful = lawful-front t es fs 0 (start t) no_packets 0 ps lawful
@@ -472,7 +493,7 @@ module _ (t : Network) (w : World) (a : Packets) (count s : ℕ) (bytes : List �
   no-token : (at : ℕ) (k : Token) → In ((one_more a (home_of t s)).flying at) k → k.packet ≡ length a.verdicts → ⊥
   no-token =
       loose-none t w (length a.verdicts) to.site to.edge to.attachment (ttl_of bytes) (home_of t s ∷ hops) attached long (one_more a (home_of t s)) (1 + count)
-        (fresh a count (home_of t s) one)
+      (fresh a count (home_of t s) one)
 
   within : length a.verdicts < length (one_more a (home_of t s)).verdicts
   within = (fresh a count (home_of t s) one).within
@@ -483,22 +504,26 @@ module _ (t : Network) (w : World) (a : Packets) (count s : ℕ) (bytes : List �
       by_hops : (xs : List ℕ) → GoesBy t w xs (home_of t s) to.edge → hops ≡ xs
           → Sets (route_by t w (one_more a (home_of t s)) (length a.verdicts) bytes (home_of t s) (Some to))
       by_hops [] g e =
-          subst Sets (sym (ap (λ b. elim b as (λ _. Packets) [ true ↦ deliver (one_more a (home_of t s)) (length a.verdicts) to.site (ttl_of bytes - 1) bytes
-              | false ↦ hop t w (one_more a (home_of t s)) (bound (length a.verdicts) to bytes) (home_of t s) rule.NoLsp ])
-              (same to.edge (home_of t s) (sym g))))
+          subst Sets (sym (ap (λ b. elim b as (λ _. Packets) [
+            | true ↦ deliver (one_more a (home_of t s)) (length a.verdicts) to.site (ttl_of bytes - 1) bytes
+            | false ↦ hop t w (one_more a (home_of t s)) (bound (length a.verdicts) to bytes) (home_of t s) rule.NoLsp
+          ])
+          (same to.edge (home_of t s) (sym g))))
           (delivers t w (length a.verdicts) to.site to.edge to.attachment (ttl_of bytes) (home_of t s ∷ hops) attached long (one_more a (home_of t s))
-              (length a.verdicts) to.site (ttl_of bytes - 1) bytes within refl refl
+          (length a.verdicts) to.site (ttl_of bytes - 1) bytes within refl refl
           (ap (λ n. ttl_of bytes - n) (sym (ap (λ ys. length (home_of t s ∷ ys)) e ∙ omega arith))) (first-path ∙ ap (λ ys. home_of t s ∷ ys) (sym e)))
         where
           same : (x y : ℕ) → x ≡ y → (x == y) ≡ true
           same x y h = elim (eqb_tells x y) [ inl q ↦ q.0 | inr q ↦ absurd (q.1 h) ]
       by_hops (x ∷ xs) g e =
-          subst Sets (sym (ap (λ b. elim b as (λ _. Packets) [ true ↦ deliver (one_more a (home_of t s)) (length a.verdicts) to.site (ttl_of bytes - 1) bytes
-              | false ↦ hop t w (one_more a (home_of t s)) (bound (length a.verdicts) to bytes) (home_of t s) rule.NoLsp ])
-              (differ to.edge (home_of t s) (λ h. g.0 (sym h)))
+          subst Sets (sym (ap (λ b. elim b as (λ _. Packets) [
+            | true ↦ deliver (one_more a (home_of t s)) (length a.verdicts) to.site (ttl_of bytes - 1) bytes
+            | false ↦ hop t w (one_more a (home_of t s)) (bound (length a.verdicts) to bytes) (home_of t s) rule.NoLsp
+          ])
+          (differ to.edge (home_of t s) (λ h. g.0 (sym h)))
           ∙ ap (hop_over t (one_more a (home_of t s)) (bound (length a.verdicts) to bytes) (home_of t s) rule.NoLsp) g.2))
           (hops-off t w (length a.verdicts) to.site to.edge to.attachment (ttl_of bytes) (home_of t s ∷ hops) attached long (one_more a (home_of t s))
-              (bound (length a.verdicts) to bytes) (home_of t s) x xs g.1 rule.NoLsp within no-token refl
+          (bound (length a.verdicts) to bytes) (home_of t s) x xs g.1 rule.NoLsp within no-token refl
           (ap (λ ys. ys ++ x ∷ xs) first-path ∙ ap (λ ys. home_of t s ∷ ys) (sym e)) g.3 g.4 refl refl refl
           (ap (λ n. ttl_of bytes - 1 + n) (ap length first-path ∙ omega arith) ∙ back (ttl_of bytes) (length hops) long))
         where
@@ -511,7 +536,7 @@ module _ (t : Network) (w : World) (a : Packets) (count s : ℕ) (bytes : List �
   sent : Sets (enter t w a s bytes)
   sent =
       subst Sets (sym (ap (enter_by t w (one_more a (home_of t s)) (length a.verdicts) bytes (home_of t s) (vrf_of t s)) addressed.passes
-          ∙ ap (route_by t w (one_more a (home_of t s)) (length a.verdicts) bytes (home_of t s)) addressed.best_is))
+      ∙ ap (route_by t w (one_more a (home_of t s)) (length a.verdicts) bytes (home_of t s)) addressed.best_is))
       sets-out
 
 -- in the end it has come, where nothing flies any more
@@ -550,7 +575,7 @@ nothing-flies a count one none at = by_list (a.flying at) refl
     by_list [] e = e
     by_list (k ∷ ks) e =
         absurd (grounded k.packet (verdict_on a k.packet) refl
-          (subst (λ n. 1 ≤ n) (one.places k.packet at) (in-times k.packet (a.flying at) k (subst (λ xs. In xs k) (sym e) (inl refl)) refl)))
+        (subst (λ n. 1 ≤ n) (one.places k.packet at) (in-times k.packet (a.flying at) k (subst (λ xs. In xs k) (sym e) (inl refl)) refl)))
 
 -- a site's home is an edge
 edge-below : (t : Network) (e : ℕ) → In (edges t) e → e < length t.loopbacks
@@ -572,11 +597,11 @@ home-is-edge : (t : Network) → IsLawful t → (s : ℕ) → s < length t.sites
 home-is-edge t lawful s below =
     let v : ℕ = vrf_of t s in
     let v_below : v < length t.vrfs = less-is v (length t.vrfs)
-        (each-passes (λ (site : SiteDef). nat_lt site.vrf.0 (length t.vrfs)) t.sites _ s lawful.sites.placed below) in
+    (each-passes (λ (site : SiteDef). nat_lt site.vrf.0 (length t.vrfs)) t.sites _ s lawful.sites.placed below) in
     let node_below : home_of t s < length t.loopbacks = less-is (home_of t s) (length t.loopbacks)
-        (and-both _ _ (each-passes (is_vrf_of (length t.loopbacks)) t.vrfs _ v lawful.vrfs.formed v_below)).0 in
+    (and-both _ _ (each-passes (is_vrf_of (length t.loopbacks)) t.vrfs _ v lawful.vrfs.formed v_below)).0 in
     filter_in (λ node. is_edge t.vrfs node) (range_with_len 0 (length t.loopbacks)) (home_of t s)
-        (range_in 0 (length t.loopbacks) (home_of t s) (omega arith) (omega (arith, node_below))) (at-vrf t.vrfs v (home_of t s) v_below refl)
+    (range_in 0 (length t.loopbacks) (home_of t s) (omega arith) (omega (arith, node_below))) (at-vrf t.vrfs v (home_of t s) v_below refl)
   where
     at-vrf : (vs : List VrfDef) (i node : ℕ) → i < length vs
         → (slice_index_or vs i (record { node = record { 0 = 0 }; rd = record { 0 = 0 }; «import» = []; export = [] })).node.0 ≡ node → is_edge vs node ≡ true
@@ -600,13 +625,13 @@ pub has_arrived : (t : Network) (before earlier later : List JournalEntry) (tick
     → length (route_to t (world_of t before) site.0 to) + 1 ≤ ttl_of (next_of (left_after (before ++ earlier) ps))
     → ((at : ℕ) → (packets_of t ((before ++ earlier) ++ record { tick = tick; step = Inject site number } ∷ later) ps).flying at ≡ [])
     → HasArrived t (world_of t before) (packets_of t ((before ++ earlier) ++ record { tick = tick; step = Inject site number } ∷ later) ps)
-        (injections (before ++ earlier)) site.0 (next_of (left_after (before ++ earlier) ps)) to
+    (injections (before ++ earlier)) site.0 (next_of (left_after (before ++ earlier) ps)) to
 unfolding packets_after
 has_arrived t before earlier later tick number site ps to lawful journal steady site_there addressed reaches long none =
     let w : World = world_of t before in
     let home_edge : In (edges t) (home_of t site.0) = home-is-edge t lawful site.0 site_there in
     let behind = best-attached t w (in_turn t before ps lawful journal) steady.settled (all-tell t before ps lawful journal) (home_of t site.0)
-        (vrf_of t site.0) (destination_of (next_of (left_after (before ++ earlier) ps))) to home_edge addressed.best_is in
+    (vrf_of t site.0) (destination_of (next_of (left_after (before ++ earlier) ps))) to home_edge addressed.best_is in
     let attached : w.config.attached to.site ≡ Some to.attachment = behind.0 in
     let home_below : home_of t site.0 < length t.loopbacks = edge-below t (home_of t site.0) home_edge in
     let edge_below : to.edge < length t.loopbacks = edge-below t to.edge behind.1 in
@@ -625,22 +650,22 @@ has_arrived t before earlier later tick number site ps to lawful journal steady 
     let j : ℕ = length k.verdicts in
     let one_a : AreInOnePlace a (1 + injections done) = stepped t w k (Inject site number) bytes (injections done) one in
     let first = sent t w (before_step k) (injections done) site.0 bytes to
-        (unmarked k (injections done) one) addressed attached way_there.0 way_there.2 long_way in
+    (unmarked k (injections done) one) addressed attached way_there.0 way_there.2 long_way in
     let last = travels-on t w j to.site to.edge to.attachment (ttl_of bytes) (home_of t site.0 ∷ way_there.0) attached long_way later a (1 + injections done)
-        (left_by (Inject site number) (left_after done ps)) parts.1 one_a (next_number one.verdicts) first in
+    (left_by (Inject site number) (left_after done ps)) parts.1 one_a (next_number one.verdicts) first in
     let whole : packets_of t all ps ≡ packets_from t w a later (left_by (Inject site number) (left_after done ps)) =
     packets_from-append t done (entry ∷ later) (start t) no_packets ps
     ∙ ap (λ v. packets_from t v k (entry ∷ later) (left_after done ps)) world_then
     ∙ ap (λ v. packets_from t v (packets_after t v k (Inject site number) bytes) later (left_by (Inject site number) (left_after done ps)))
-        (still t w (Inject site number) refl) in
+    (still t w (Inject site number) refl) in
     let come = come-in-the-end t w j to.site to.edge to.attachment (ttl_of bytes) (home_of t site.0 ∷ way_there.0) attached long_way (packets_of t all ps)
-        (injections all) (in_one_place t all ps) none
+    (injections all) (in_one_place t all ps) none
     (subst (Travels t w j to.site to.edge to.attachment (ttl_of bytes) (home_of t site.0 ∷ way_there.0) attached long_way) (sym whole) last) in
     record {
       copy = come.0;
       verdict =
           subst (λ n. verdict_on (packets_of t all ps) n ≡ Delivered (record { 0 = to.site }) (ttl_of bytes - length (route_to t w site.0 to)) come.0)
-            one.verdicts
+          one.verdicts
           (come.1 ∙ ap (λ xs. Delivered (record { 0 = to.site }) (ttl_of bytes - length xs) come.0) (sym way_there.1));
       path = subst (λ n. path_of (packets_of t all ps) n ≡ route_to t w site.0 to) one.verdicts (come.2 ∙ sym way_there.1);
     }

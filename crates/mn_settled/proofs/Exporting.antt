@@ -40,7 +40,7 @@ pub told-own : (a b : ℕ) (xs : List Telling) → tellings_of a b (told_to a b 
 told-own a b [] = refl
 told-own a b (x ∷ xs) =
     pick a b (record { teller = a; peer = b; telling = x }) (told_to a b xs) true (ap (λ o. o && (b == b)) (same_test a) ∙ same_test b)
-      ∙ ap (λ ys. x ∷ ys) (told-own a b xs)
+    ∙ ap (λ ys. x ∷ ys) (told-own a b xs)
 
 pub told-other : (a b j k : ℕ) (xs : List Telling) → (j ≢ a) ⊎ (k ≢ b) → tellings_of a b (told_to j k xs) ≡ []
 told-other a b j k [] d = refl
@@ -56,7 +56,7 @@ each-else : (a b e : ℕ) (peers : List ℕ) (m : Telling) → (e ≢ a) ⊎ (In
 each-else a b e [] m d = refl
 each-else a b e (x ∷ peers) m d =
     pick a b (record { teller = e; peer = x; telling = m }) (to_each e peers m) false off
-      ∙ each-else a b e peers m (elim d [ inl p ↦ inl p | inr p ↦ inr (λ i. p (inr i)) ])
+    ∙ each-else a b e peers m (elim d [ inl p ↦ inl p | inr p ↦ inr (λ i. p (inr i)) ])
   where
     off : ((e == a) && (x == b)) ≡ false
     off = elim d [ inl p ↦ ap (λ o. o && (x == b)) (other_test e a p) | inr p ↦ ap (λ o. (e == a) && o) (other_test x b (λ q. p (inl q))) ∙ and_off (e == a) ]
@@ -76,13 +76,13 @@ all-else : (a b e : ℕ) (peers : List ℕ) (ms : List Telling) → (e ≢ a) �
 all-else a b e peers [] d = refl
 all-else a b e peers (m ∷ ms) d =
     tellings-append a b (to_each e peers m) (flat_map (to_each e peers) ms)
-      ∙ ap (λ xs. xs ++ tellings_of a b (flat_map (to_each e peers) ms)) (each-else a b e peers m d) ∙ all-else a b e peers ms d
+    ∙ ap (λ xs. xs ++ tellings_of a b (flat_map (to_each e peers) ms)) (each-else a b e peers m d) ∙ all-else a b e peers ms d
 
 all-once : (a b : ℕ) (peers : List ℕ) (ms : List Telling) → IsOnce b peers → In peers b → tellings_of a b (flat_map (to_each a peers) ms) ≡ ms
 all-once a b peers [] once i = refl
 all-once a b peers (m ∷ ms) once i =
     tellings-append a b (to_each a peers m) (flat_map (to_each a peers) ms)
-      ∙ ap (λ xs. xs ++ tellings_of a b (flat_map (to_each a peers) ms)) (each-once a b peers m once i) ∙ ap (λ xs. m ∷ xs) (all-once a b peers ms once i)
+    ∙ ap (λ xs. xs ++ tellings_of a b (flat_map (to_each a peers) ms)) (each-once a b peers m once i) ∙ ap (λ xs. m ∷ xs) (all-once a b peers ms once i)
 
 module _ (t : Network) (c : Config) (p : Peerings) (new : Config) (k : Peerings) where
   abbrev is_steady : ℕ → ℕ → Bool
@@ -95,7 +95,7 @@ module _ (t : Network) (c : Config) (p : Peerings) (new : Config) (k : Peerings)
   nobody a b [] out = refl
   nobody a b (e ∷ es) out =
       tellings-append a b (news t c p new k e) (flat_map (news t c p new k) es)
-        ∙ ap (λ xs. xs ++ tellings_of a b (flat_map (news t c p new k) es)) (news-else a b e (λ q. out (inl q))) ∙ nobody a b es (λ i. out (inr i))
+      ∙ ap (λ xs. xs ++ tellings_of a b (flat_map (news t c p new k) es)) (news-else a b e (λ q. out (inl q))) ∙ nobody a b es (λ i. out (inr i))
 
   one-teller : (a b : ℕ) (es : List ℕ) → IsOnce a es → In es a → tellings_of a b (flat_map (news t c p new k) es) ≡ tellings_of a b (news t c p new k a)
   one-teller a b [] once i = absurd i
@@ -121,13 +121,13 @@ module _ (t : Network) (c : Config) (p : Peerings) (new : Config) (k : Peerings)
   tells-steady a b i j on =
       one-teller a b (edges t) (once-edges a) i
       ∙ all-once a b (steady_peers t c p new k a) (changed (exports_of t c a) (exports_of t new a)) (once-peers a b)
-          (filter_in (λ peer. is_established c p a peer && is_established new k a peer) (nodes_of (wiring_of t)) b (in-nodes b j) on)
+      (filter_in (λ peer. is_established c p a peer && is_established new k a peer) (nodes_of (wiring_of t)) b (in-nodes b j) on)
 
   tells-unsteady : (a b : ℕ) → In (edges t) a → is_steady a b ≡ false → tellings_of a b (flat_map (news t c p new k) (edges t)) ≡ []
   tells-unsteady a b i off =
       one-teller a b (edges t) (once-edges a) i
       ∙ all-else a b a (steady_peers t c p new k a) (changed (exports_of t c a) (exports_of t new a))
-          (inr (λ m. clash (sym (in_filter (λ peer. is_established c p a peer && is_established new k a peer) (nodes_of (wiring_of t)) b m).1 ∙ off)))
+      (inr (λ m. clash (sym (in_filter (λ peer. is_established c p a peer && is_established new k a peer) (nodes_of (wiring_of t)) b m).1 ∙ off)))
 
 -- 2. One step, and one pair of edges
 
@@ -190,23 +190,23 @@ module _ (t : Network) (c : Config) (p : Peerings) (new : Config) (k : Peerings)
       → Tells t c p a b → Tells t new (with_told k (xs ++ told)) a b
   tells-kept old_statics new_statics keeps said heard alive quiet h =
       let same : is_established new k a b ≡ is_established c p a b = ap (λ x. x && nat_le 2 (k.heard a b)) alive
-          ∙ ap (λ n. peers_live c a b && nat_le 2 n) heard in
+      ∙ ap (λ n. peers_live c a b && nat_le 2 n) heard in
       record {
         on = λ e.
             let was : is_established c p a b ≡ true = sym same ∙ e in
             let all : (with_told k (xs ++ told)).told a b ≡ p.told a b ++ changed (exports_of t c a) (exports_of t new a) =
             told-is [] quiet (changed (exports_of t c a) (exports_of t new a))
-                (tells-steady t c p new k a b i j (both_on (is_established c p a b) (is_established new k a b) was e))
-                ∙ ap (λ ys. ys ++ changed (exports_of t c a) (exports_of t new a)) said in
+            (tells-steady t c p new k a b i j (both_on (is_established c p a b) (is_established new k a b) was e))
+            ∙ ap (λ ys. ys ++ changed (exports_of t c a) (exports_of t new a)) said in
             subst (λ ys. AreSame ys (exports_of t new a)) (sym
-                (ap (believed_from []) all ∙ believed-append [] (p.told a b) (changed (exports_of t c a) (exports_of t new a))))
+            (ap (believed_from []) all ∙ believed-append [] (p.told a b) (changed (exports_of t c a) (exports_of t new a))))
             (changes-believed (believed_from [] (p.told a b)) (exports_of t c a) (exports_of t new a) (h.on was) (exports-different t c a old_statics)
-                (exports-different t new a new_statics) keeps);
+            (exports-different t new a new_statics) keeps);
         off = λ e x m.
             let was : is_established c p a b ≡ false = sym same ∙ e in
             h.off was x (subst (λ ys. In (believed_from [] ys) x)
-                (told-is [] quiet [] (tells-unsteady t c p new k a b i (left_off (is_established c p a b) (is_established new k a b) was))
-                ∙ append-nil (k.told a b) ∙ said) m);
+            (told-is [] quiet [] (tells-unsteady t c p new k a b i (left_off (is_established c p a b) (is_established new k a b) was))
+            ∙ append-nil (k.told a b) ∙ said) m);
       }
 
 -- it hears the peer's next message, and answers
@@ -221,7 +221,7 @@ module _ (t : Network) (c : Config) (p : Peerings) (a b : ℕ) (i : In (edges t)
   abbrev then : Peerings
   then =
       with_told (record p { heard = put_pair p.heard a b (p.heard a b + 1) })
-        (answers ++ flat_map (news t c p c (record p { heard = put_pair p.heard a b (p.heard a b + 1) })) (edges t))
+      (answers ++ flat_map (news t c p c (record p { heard = put_pair p.heard a b (p.heard a b + 1) })) (edges t))
 
   heard-is : put_pair p.heard a b (p.heard a b + 1) a b ≡ p.heard a b + 1
   heard-is = pair_here p.heard a b (p.heard a b + 1)
@@ -231,7 +231,7 @@ module _ (t : Network) (c : Config) (p : Peerings) (a b : ℕ) (i : In (edges t)
       → then.told a b ≡ p.told a b ++ (ms ++ rest)
   all-told ms rest e f =
       told-is t c p c (record p { heard = put_pair p.heard a b (p.heard a b + 1) }) answers a b i j ms
-        (told-own a b (reply (state_heard (p.heard a b)) message (exports_of t c a)) ∙ e) rest f
+      (told-own a b (reply (state_heard (p.heard a b)) message (exports_of t c a)) ∙ e) rest f
 
   few-before : p.heard a b < 2 → is_established c p a b ≡ false
   few-before few = few_off (peers_live c a b) (p.heard a b) few
@@ -248,13 +248,13 @@ module _ (t : Network) (c : Config) (p : Peerings) (a b : ℕ) (i : In (edges t)
       let is : message ≡ Open = subst (λ n. IsPeerNth n message) e turn in
       let few : p.heard a b < 2 = subst (λ n. n < 2) (sym e) (omega arith) in
       let now_off : is_established c then a b ≡ false = few_off (peers_live c a b) (put_pair p.heard a b (p.heard a b + 1) a b)
-          (subst (λ n. n < 2) (sym (heard-is ∙ ap (λ n. n + 1) e)) (omega arith)) in
+      (subst (λ n. n < 2) (sym (heard-is ∙ ap (λ n. n + 1) e)) (omega arith)) in
       record {
         on = λ f. absurd (clash (sym f ∙ now_off));
         off =
             λ f x m. h.off (few-before few) x (subst (λ ys. In ys x)
-              (ap (believed_from []) (all-told (Alive ∷ []) [] (ap (λ n. reply (state_heard n) message (exports_of t c a)) e
-              ∙ ap (λ y. reply OpenSent y (exports_of t c a)) is) (unsteady few)) ∙ believed-append [] (p.told a b) (Alive ∷ [])) m);
+            (ap (believed_from []) (all-told (Alive ∷ []) [] (ap (λ n. reply (state_heard n) message (exports_of t c a)) e
+            ∙ ap (λ y. reply OpenSent y (exports_of t c a)) is) (unsteady few)) ∙ believed-append [] (p.told a b) (Alive ∷ [])) m);
       }
 
   hears-second : p.heard a b ≡ 1 → IsTold
@@ -262,15 +262,15 @@ module _ (t : Network) (c : Config) (p : Peerings) (a b : ℕ) (i : In (edges t)
       let is : message ≡ Alive = subst (λ n. IsPeerNth n message) e turn in
       let few : p.heard a b < 2 = subst (λ n. n < 2) (sym e) (omega arith) in
       let now_on : is_established c then a b ≡ true = many_on (peers_live c a b) (put_pair p.heard a b (p.heard a b + 1) a b) alive
-          (subst (λ n. 2 ≤ n) (sym (heard-is ∙ ap (λ n. n + 1) e)) (omega arith)) in
+      (subst (λ n. 2 ≤ n) (sym (heard-is ∙ ap (λ n. n + 1) e)) (omega arith)) in
       let all : then.told a b ≡ p.told a b ++ map (λ export. Announce export) (exports_of t c a) =
       all-told (map (λ export. Announce export) (exports_of t c a)) []
-          (ap (λ n. reply (state_heard n) message (exports_of t c a)) e ∙ ap (λ y. reply OpenConfirm y (exports_of t c a)) is) (unsteady few)
+      (ap (λ n. reply (state_heard n) message (exports_of t c a)) e ∙ ap (λ y. reply OpenConfirm y (exports_of t c a)) is) (unsteady few)
       ∙ ap (λ ys. p.told a b ++ ys) (append-nil (map (λ export. Announce export) (exports_of t c a))) in
       record {
         on =
             λ f. subst (λ ys. AreSame ys (exports_of t c a)) (sym
-              (ap (believed_from []) all ∙ believed-append [] (p.told a b) (map (λ export. Announce export) (exports_of t c a))))
+            (ap (believed_from []) all ∙ believed-append [] (p.told a b) (map (λ export. Announce export) (exports_of t c a))))
             (announced-all (believed_from [] (p.told a b)) (exports_of t c a) (h.off (few-before few)) (exports-different t c a statics));
         off = λ f. absurd (clash (sym now_on ∙ f));
       }
@@ -280,16 +280,16 @@ module _ (t : Network) (c : Config) (p : Peerings) (a b : ℕ) (i : In (edges t)
       let many : 2 ≤ p.heard a b = omega (arith, e) in
       let was_on : is_established c p a b ≡ true = many_on (peers_live c a b) (p.heard a b) alive many in
       let now_on : is_established c then a b ≡ true = many_on (peers_live c a b) (put_pair p.heard a b (p.heard a b + 1) a b) alive
-          (subst (λ x. 2 ≤ x) (sym heard-is) (omega (arith, many))) in
+      (subst (λ x. 2 ≤ x) (sym heard-is) (omega (arith, many))) in
       let all : then.told a b ≡ p.told a b ++ changed (exports_of t c a) (exports_of t c a) =
       all-told [] (changed (exports_of t c a) (exports_of t c a)) (ap (λ x. reply (state_heard x) message (exports_of t c a)) e ∙ silent message)
-          (tells-steady t c p c (record p { heard = put_pair p.heard a b (p.heard a b + 1) }) a b i j (both_on (is_established c p a b) _ was_on now_on)) in
+      (tells-steady t c p c (record p { heard = put_pair p.heard a b (p.heard a b + 1) }) a b i j (both_on (is_established c p a b) _ was_on now_on)) in
       record {
         on =
             λ f. subst (λ ys. AreSame ys (exports_of t c a)) (sym
-              (ap (believed_from []) all ∙ believed-append [] (p.told a b) (changed (exports_of t c a) (exports_of t c a))))
+            (ap (believed_from []) all ∙ believed-append [] (p.told a b) (changed (exports_of t c a) (exports_of t c a))))
             (changes-believed (believed_from [] (p.told a b)) (exports_of t c a) (exports_of t c a) (h.on was_on) (exports-different t c a statics)
-                (exports-different t c a statics) (exports-kept t c.statics c c a statics (λ z k. k) (λ z k. k)));
+            (exports-different t c a statics) (exports-kept t c.statics c c a statics (λ z k. k) (λ z k. k)));
         off = λ f. absurd (clash (sym now_on ∙ f));
       }
     where
@@ -330,26 +330,26 @@ session-step : (t : Network) (c : Config) (p : Peerings) (x y : ℕ) (on : Bool)
     → ((a b : ℕ) → (a ≢ x) ⊎ (b ≢ y) → (a ≢ y) ⊎ (b ≢ x) → tellings_of a b xs ≡ [])
     → AllTell t c p
     → AllTell t (record c { bgp_on = put_pair c.bgp_on x y on })
-        (with_told (anew p x y) (xs ++ flat_map (news t c p (record c { bgp_on = put_pair c.bgp_on x y on }) (anew p x y)) (edges t)))
+    (with_told (anew p x y) (xs ++ flat_map (news t c p (record c { bgp_on = put_pair c.bgp_on x y on }) (anew p x y)) (edges t)))
 unfolding Which
 session-step t c p x y on xs apart statics opens others h a b d i j = elim (which x y a b) [
   | inl q ↦ tells-fresh t c p (record c { bgp_on = put_pair c.bgp_on x y on }) (anew p x y) xs a b i j
       (ap (λ z. put_pair (put_pair p.told x y []) y x [] z b) q.0 ∙ ap (put_pair (put_pair p.told x y []) y x [] x) q.1
-          ∙ pair_off (put_pair p.told x y []) y x [] x y (inl apart) ∙ pair_here p.told x y [])
+      ∙ pair_off (put_pair p.told x y []) y x [] x y (inl apart) ∙ pair_here p.told x y [])
       (ap (λ z. put_pair (put_pair p.heard x y 0) y x 0 z b) q.0 ∙ ap (put_pair (put_pair p.heard x y 0) y x 0 x) q.1
-          ∙ pair_off (put_pair p.heard x y 0) y x 0 x y (inl apart) ∙ pair_here p.heard x y 0)
+      ∙ pair_off (put_pair p.heard x y 0) y x 0 x y (inl apart) ∙ pair_here p.heard x y 0)
       (either a b x y q.0 q.1 opens.0)
   | inr r ↦ elim r [
     | inl q ↦ tells-fresh t c p (record c { bgp_on = put_pair c.bgp_on x y on }) (anew p x y) xs a b i j
         (ap (λ z. put_pair (put_pair p.told x y []) y x [] z b) q.0 ∙ ap (put_pair (put_pair p.told x y []) y x [] y) q.1
-            ∙ pair_here (put_pair p.told x y []) y x [])
+        ∙ pair_here (put_pair p.told x y []) y x [])
         (ap (λ z. put_pair (put_pair p.heard x y 0) y x 0 z b) q.0 ∙ ap (put_pair (put_pair p.heard x y 0) y x 0 y) q.1
-            ∙ pair_here (put_pair p.heard x y 0) y x 0)
+        ∙ pair_here (put_pair p.heard x y 0) y x 0)
         (either a b y x q.0 q.1 opens.1)
     | inr q ↦ tells-kept t c p (record c { bgp_on = put_pair c.bgp_on x y on }) (anew p x y) xs a b i j statics statics
         (exports-kept t c.statics c (record c { bgp_on = put_pair c.bgp_on x y on }) a statics (λ z k. k) (λ z k. k))
         (pair_off (put_pair p.told x y []) y x [] a b q.1 ∙ pair_off p.told x y [] a b q.0)
-            (pair_off (put_pair p.heard x y 0) y x 0 a b q.1 ∙ pair_off p.heard x y 0 a b q.0)
+        (pair_off (put_pair p.heard x y 0) y x 0 a b q.1 ∙ pair_off p.heard x y 0 a b q.0)
         (live-off c x y a b on q.0 q.1) (others a b q.0 q.1) (h a b d i j)
   ]
 ]
@@ -366,19 +366,19 @@ opening x y = told_to x y (Open ∷ []) ++ told_to y x (Open ∷ [])
 opens-here : (x y : ℕ) → x ≢ y → tellings_of x y (opening x y) ≡ Open ∷ []
 opens-here x y d =
     tellings-append x y (told_to x y (Open ∷ [])) (told_to y x (Open ∷ []))
-      ∙ ap (λ ys. ys ++ tellings_of x y (told_to y x (Open ∷ []))) (told-own x y (Open ∷ []))
-      ∙ ap (λ ys. Open ∷ ys) (told-other x y y x (Open ∷ []) (inl (λ e. d (sym e))))
+    ∙ ap (λ ys. ys ++ tellings_of x y (told_to y x (Open ∷ []))) (told-own x y (Open ∷ []))
+    ∙ ap (λ ys. Open ∷ ys) (told-other x y y x (Open ∷ []) (inl (λ e. d (sym e))))
 
 opens-back : (x y : ℕ) → x ≢ y → tellings_of y x (opening x y) ≡ Open ∷ []
 opens-back x y d =
     tellings-append y x (told_to x y (Open ∷ [])) (told_to y x (Open ∷ []))
-      ∙ ap (λ ys. ys ++ tellings_of y x (told_to y x (Open ∷ []))) (told-other y x x y (Open ∷ []) (inl d)) ∙ told-own y x (Open ∷ [])
+    ∙ ap (λ ys. ys ++ tellings_of y x (told_to y x (Open ∷ []))) (told-other y x x y (Open ∷ []) (inl d)) ∙ told-own y x (Open ∷ [])
 
 opens-else : (x y a b : ℕ) → (a ≢ x) ⊎ (b ≢ y) → (a ≢ y) ⊎ (b ≢ x) → tellings_of a b (opening x y) ≡ []
 opens-else x y a b d e =
     tellings-append a b (told_to x y (Open ∷ [])) (told_to y x (Open ∷ []))
-      ∙ ap (λ ys. ys ++ tellings_of a b (told_to y x (Open ∷ []))) (told-other a b x y (Open ∷ []) (turned x y a b d))
-      ∙ told-other a b y x (Open ∷ []) (turned y x a b e)
+    ∙ ap (λ ys. ys ++ tellings_of a b (told_to y x (Open ∷ []))) (told-other a b x y (Open ∷ []) (turned x y a b d))
+    ∙ told-other a b y x (Open ∷ []) (turned y x a b e)
 
 -- exports may change
 config-step : (t : Network) (c new : Config) (p : Peerings) (all : List SiteRoute) → HasStatics t c.statics → HasStatics t new.statics → HasStatics t all
@@ -390,8 +390,8 @@ config-step t c new p all old_statics new_statics statics new_in old_in alive h 
 hear-step : (t : Network) (c : Config) (p : Peerings) (x y : ℕ) (message : Telling) → x ≢ y → peers_live c y x ≡ true → IsPeerNth (p.heard y x) message
     → HasStatics t c.statics → AllTell t c p
     → AllTell t c (with_told (record p { heard = put_pair p.heard y x (p.heard y x + 1) })
-        (told_to y x (reply (state_heard (p.heard y x)) message (exports_of t c y))
-        ++ flat_map (news t c p c (record p { heard = put_pair p.heard y x (p.heard y x + 1) })) (edges t)))
+    (told_to y x (reply (state_heard (p.heard y x)) message (exports_of t c y))
+    ++ flat_map (news t c p c (record p { heard = put_pair p.heard y x (p.heard y x + 1) })) (edges t)))
 hear-step t c p x y message apart alive turn statics h a b d i j = elim (eqb_tells a y) [
   | inr q ↦ off (inl q.1)
   | inl q ↦ elim (eqb_tells b x) [
@@ -399,23 +399,23 @@ hear-step t c p x y message apart alive turn statics h a b d i j = elim (eqb_tel
     | inl r ↦
         subst (λ z. Tells t c then_world z b) (sym q.1) (subst (λ z. Tells t c then_world y z) (sym r.1)
         (hears t c p y x (subst (In (edges t)) q.1 i) (subst (In (edges t)) r.1 j) alive message turn statics
-            (h y x (λ e. apart (sym e)) (subst (In (edges t)) q.1 i) (subst (In (edges t)) r.1 j))))
+        (h y x (λ e. apart (sym e)) (subst (In (edges t)) q.1 i) (subst (In (edges t)) r.1 j))))
   ]
 ]
   where
     then_world : Peerings
     then_world =
         with_told (record p { heard = put_pair p.heard y x (p.heard y x + 1) })
-          (told_to y x (reply (state_heard (p.heard y x)) message (exports_of t c y))
-          ++ flat_map (news t c p c (record p { heard = put_pair p.heard y x (p.heard y x + 1) })) (edges t))
+        (told_to y x (reply (state_heard (p.heard y x)) message (exports_of t c y))
+        ++ flat_map (news t c p c (record p { heard = put_pair p.heard y x (p.heard y x + 1) })) (edges t))
 
     off : (a ≢ y) ⊎ (b ≢ x) → Tells t c then_world a b
     off e =
         tells-kept t c p c (record p { heard = put_pair p.heard y x (p.heard y x + 1) })
-          (told_to y x (reply (state_heard (p.heard y x)) message (exports_of t c y))) a b i j statics statics
-          (exports-kept t c.statics c c a statics (λ z k. k) (λ z k. k))
+        (told_to y x (reply (state_heard (p.heard y x)) message (exports_of t c y))) a b i j statics statics
+        (exports-kept t c.statics c c a statics (λ z k. k) (λ z k. k))
         refl (pair_off p.heard y x (p.heard y x + 1) a b e) refl
-            (told-other a b y x (reply (state_heard (p.heard y x)) message (exports_of t c y)) (turned y x a b e)) (h a b d i j)
+        (told-other a b y x (reply (state_heard (p.heard y x)) message (exports_of t c y)) (turned y x a b e)) (h a b d i j)
 
 pub tells-step : (t : Network) (w : World) (k : Packets) (s : Step) → AreInOrder s → is_empty t w k s ≡ false → HasStatics t w.config.statics
     → HasStatics t (config_after w.config s).statics → PeersAreInTurn w.config w.peerings → AllTell t w.config w.peerings
@@ -423,7 +423,7 @@ pub tells-step : (t : Network) (w : World) (k : Packets) (s : Step) → AreInOrd
 unfolding peerings_after
 tells-step t w k (step.BgpUp a b) order full old new go h =
     session-step t w.config w.peerings a.0 b.0 true (opening a.0 b.0) (apart order) old
-        (inr (opens-here a.0 b.0 (apart order)), inr (opens-back a.0 b.0 (apart order))) (opens-else a.0 b.0) h
+    (inr (opens-here a.0 b.0 (apart order)), inr (opens-back a.0 b.0 (apart order))) (opens-else a.0 b.0) h
   where
     apart : a.0 < b.0 → a.0 ≢ b.0
     apart l e = omega (arith, l, e)
@@ -438,18 +438,18 @@ tells-step t w k (step.HearBgp a b) order full old new go h =
     let back : peers_live w.config b.0 a.0 ≡ true = sym (live_sym w.config a.0 b.0 order) ∙ alive in
     let message : Telling = slice_index_or (w.peerings.told a.0 b.0) (w.peerings.heard b.0 a.0) Open in
     let turn : IsPeerNth (w.peerings.heard b.0 a.0) message = peer-nth (w.peerings.heard a.0 b.0) (w.peerings.told a.0 b.0) (w.peerings.heard b.0 a.0)
-        ((go a.0 b.0 order).talk alive) (above _ _ parts.1) in
+    ((go a.0 b.0 order).talk alive) (above _ _ parts.1) in
     subst (λ st. AllTell t w.config (with_told (counted w.peerings (step.HearBgp a b))
-        (told_to b.0 a.0 (reply st message (exports_of t w.config b.0))
-        ++ flat_map (news t w.config w.peerings w.config (counted w.peerings (step.HearBgp a b))) (edges t))))
+    (told_to b.0 a.0 (reply st message (exports_of t w.config b.0))
+    ++ flat_map (news t w.config w.peerings w.config (counted w.peerings (step.HearBgp a b))) (edges t))))
     (sym (state_alive w.config w.peerings b.0 a.0 back))
     (hear-step t w.config w.peerings a.0 b.0 message order back turn old h)
 tells-step t w k (step.AddRoute s prefix) order full old new go h =
     config-step t w.config (config_after w.config (step.AddRoute s prefix)) w.peerings (config_after w.config (step.AddRoute s prefix)).statics old new new
-      (λ z i. i) (λ z i. in_front w.config.statics _ z i) (λ a b. refl) h
+    (λ z i. i) (λ z i. in_front w.config.statics _ z i) (λ a b. refl) h
 tells-step t w k (step.DelRoute s prefix) order full old new go h =
     config-step t w.config (config_after w.config (step.DelRoute s prefix)) w.peerings w.config.statics old new old
-      (λ z i. (in_filter _ w.config.statics z i).0) (λ z i. i) (λ a b. refl) h
+    (λ z i. (in_filter _ w.config.statics z i).0) (λ z i. i) (λ a b. refl) h
 tells-step t w k (step.Import v x on) order full old new go h =
     config-step t w.config (config_after w.config (step.Import v x on)) w.peerings w.config.statics old new old (λ z i. i) (λ z i. i) (λ a b. refl) h
 tells-step t w k (step.Export v x on) order full old new go h =

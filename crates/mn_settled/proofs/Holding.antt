@@ -59,7 +59,7 @@ pub all-tell : (t : Network) (es : List JournalEntry) (ps : List (List ℕ)) →
     → AllTell t (world_of t es).config (world_of t es).peerings
 all-tell t es ps lawful journal =
     tells-on t (loopbacks_apart t lawful) lawful.joins_nodes lawful.ends_differ es 0 (start t) no_packets 0 ps journal (begins t) (first_statics t lawful)
-        (tells-first t)
+    (tells-first t)
 
 pub tell_their_exports : (t : Network) (es : List JournalEntry) (ps : List (List ℕ)) → IsLawful t → IsLawfulJournal t es ps → TellTheirExports t (world_of t es)
 tell_their_exports t es ps lawful journal a b x d i j =
@@ -135,30 +135,30 @@ module _ (t : Network) (w : World) (turn : IsInTurn t w) (settled : IsSettled t 
       let m = in_map (route_from peer) (imported w.config v xs) r i in
       let f = in_filter (λ (export : Export). meet export.targets (w.config.imports v)) xs m.0 m.1 in
       subst (In (map (route_from peer) (imported w.config v ys))) m.2
-          (map_in (route_from peer) (imported w.config v ys) m.0
-          (filter_in (λ (export : Export). meet export.targets (w.config.imports v)) ys m.0 (same m.0 f.0) f.1))
+      (map_in (route_from peer) (imported w.config v ys) m.0
+      (filter_in (λ (export : Export). meet export.targets (w.config.imports v)) ys m.0 (same m.0 f.0) f.1))
 
   not-self : (edge peer : ℕ) → not (peer == edge) ≡ true → edge ≢ peer
   not-self edge peer h e = clash (sym h ∙ ap not (elim (eqb_tells peer edge) [ inl q ↦ q.0 | inr q ↦ absurd (q.1 (sym e)) ]))
 
   others-same : (edge v : ℕ) → In (edges t) edge → (r : HeldRoute)
       → (In (flat_map (far_routes t w.config w.peerings edge v) (filter (λ peer. not (peer == edge)) (edges t))) r
-          → In (flat_map (routes.exported_by t w.config v) (filter (λ peer. not (peer == edge)) (edges t))) r)
+      → In (flat_map (routes.exported_by t w.config v) (filter (λ peer. not (peer == edge)) (edges t))) r)
       × (In (flat_map (routes.exported_by t w.config v) (filter (λ peer. not (peer == edge)) (edges t))) r
-          → In (flat_map (far_routes t w.config w.peerings edge v) (filter (λ peer. not (peer == edge)) (edges t))) r)
+      → In (flat_map (far_routes t w.config w.peerings edge v) (filter (λ peer. not (peer == edge)) (edges t))) r)
   others-same edge v i r = (
     λ h.
         let m = in_flat_map (far_routes t w.config w.peerings edge v) (filter (λ peer. not (peer == edge)) (edges t)) r h in
         let f = in_filter (λ peer. not (peer == edge)) (edges t) m.0 m.1 in
         flat_map_in (routes.exported_by t w.config v) (filter (λ peer. not (peer == edge)) (edges t)) m.0 r m.1
         (same-routes v m.0 (believed w.config w.peerings edge m.0) (exports_of t w.config m.0)
-            (λ x k. (believes edge m.0 (not-self edge m.0 f.1) i f.0 x).0 k) r m.2),
+        (λ x k. (believes edge m.0 (not-self edge m.0 f.1) i f.0 x).0 k) r m.2),
     λ h.
         let m = in_flat_map (routes.exported_by t w.config v) (filter (λ peer. not (peer == edge)) (edges t)) r h in
         let f = in_filter (λ peer. not (peer == edge)) (edges t) m.0 m.1 in
         flat_map_in (far_routes t w.config w.peerings edge v) (filter (λ peer. not (peer == edge)) (edges t)) m.0 r m.1
         (same-routes v m.0 (exports_of t w.config m.0) (believed w.config w.peerings edge m.0)
-            (λ x k. (believes edge m.0 (not-self edge m.0 f.1) i f.0 x).1 k) r m.2),
+        (λ x k. (believes edge m.0 (not-self edge m.0 f.1) i f.0 x).1 k) r m.2),
   )
 
   -- the third part alone differs
@@ -180,10 +180,10 @@ module _ (t : Network) (w : World) (turn : IsInTurn t w) (settled : IsSettled t 
       record {
         only =
             λ c. contained_in (routes_of t w.config edge v) r (third (own_routes t w.config edge v) (near_routes t w.config edge v) far exported r same.0
-              (in_contained (held t w.config w.peerings edge v) r c));
+            (in_contained (held t w.config w.peerings edge v) r c));
         all =
             λ c. contained_in (held t w.config w.peerings edge v) r
-              (third (own_routes t w.config edge v) (near_routes t w.config edge v) exported far r same.1 (in_contained (routes_of t w.config edge v) r c));
+            (third (own_routes t w.config edge v) (near_routes t w.config edge v) exported far r same.1 (in_contained (routes_of t w.config edge v) r c));
       }
 
   -- 3. Behind each route is the present attachment of its site, at an edge
@@ -206,26 +206,26 @@ module _ (t : Network) (w : World) (turn : IsInTurn t w) (settled : IsSettled t 
   route-attached : (edge v : ℕ) (r : HeldRoute) → In (edges t) edge → In (routes_of t w.config edge v) r → IsBehind r
   route-attached edge v r i h =
       elim (in_append (own_routes t w.config edge v) (near_routes t w.config edge v
-        ++ flat_map (routes.exported_by t w.config v) (filter (λ peer. not (peer == edge)) (edges t))) r h) [
-    | inl j ↦
-        let m = in_map (held_by edge Own) (present_with t w.config v []) r j in
-        subst IsBehind m.2 (present-attached w.config v [] m.0 (behind t w.config v [] m.0 m.1), i)
-    | inr j ↦ elim (in_append (near_routes t w.config edge v)
-        (flat_map (routes.exported_by t w.config v) (filter (λ peer. not (peer == edge)) (edges t))) r j) [
-      | inl k ↦
-          let m = in_map (λ (export : Export). held_by edge (Near export.vrf) export)
-              (imported w.config v (filter (λ export. not (export.vrf == v)) (exports_of t w.config edge))) r k in
-          let f = in_filter (λ (export : Export). meet export.targets (w.config.imports v))
-              (filter (λ export. not (export.vrf == v)) (exports_of t w.config edge)) m.0 m.1 in
-          let g = in_filter (λ (export : Export). not (export.vrf == v)) (exports_of t w.config edge) m.0 f.0 in
-          subst IsBehind m.2 (export-attached edge m.0 g.0, i)
-      | inr k ↦
-          let n = in_flat_map (routes.exported_by t w.config v) (filter (λ peer. not (peer == edge)) (edges t)) r k in
-          let m = in_map (route_from n.0) (imported w.config v (exports_of t w.config n.0)) r n.2 in
-          let f = in_filter (λ (export : Export). meet export.targets (w.config.imports v)) (exports_of t w.config n.0) m.0 m.1 in
-          subst IsBehind m.2 (export-attached n.0 m.0 f.0, (in_filter (λ peer. not (peer == edge)) (edges t) n.0 n.1).0)
-    ]
-  ]
+      ++ flat_map (routes.exported_by t w.config v) (filter (λ peer. not (peer == edge)) (edges t))) r h) [
+        | inl j ↦
+            let m = in_map (held_by edge Own) (present_with t w.config v []) r j in
+            subst IsBehind m.2 (present-attached w.config v [] m.0 (behind t w.config v [] m.0 m.1), i)
+        | inr j ↦ elim (in_append (near_routes t w.config edge v)
+            (flat_map (routes.exported_by t w.config v) (filter (λ peer. not (peer == edge)) (edges t))) r j) [
+              | inl k ↦
+                  let m = in_map (λ (export : Export). held_by edge (Near export.vrf) export)
+                  (imported w.config v (filter (λ export. not (export.vrf == v)) (exports_of t w.config edge))) r k in
+                  let f = in_filter (λ (export : Export). meet export.targets (w.config.imports v))
+                  (filter (λ export. not (export.vrf == v)) (exports_of t w.config edge)) m.0 m.1 in
+                  let g = in_filter (λ (export : Export). not (export.vrf == v)) (exports_of t w.config edge) m.0 f.0 in
+                  subst IsBehind m.2 (export-attached edge m.0 g.0, i)
+              | inr k ↦
+                  let n = in_flat_map (routes.exported_by t w.config v) (filter (λ peer. not (peer == edge)) (edges t)) r k in
+                  let m = in_map (route_from n.0) (imported w.config v (exports_of t w.config n.0)) r n.2 in
+                  let f = in_filter (λ (export : Export). meet export.targets (w.config.imports v)) (exports_of t w.config n.0) m.0 m.1 in
+                  subst IsBehind m.2 (export-attached n.0 m.0 f.0, (in_filter (λ peer. not (peer == edge)) (edges t) n.0 n.1).0)
+            ]
+      ]
 
   first-in : (rs : List HeldRoute) (r : HeldRoute) → first_of rs ≡ Some r → In rs r
   first-in [] r e = absurd (none e)
@@ -238,13 +238,13 @@ module _ (t : Network) (w : World) (turn : IsInTurn t w) (settled : IsSettled t 
   best-in rs address r e =
       (in_filter (λ route. contains route.prefix address) rs r
       (in_filter (λ route. not (list_any (λ other. is_better other route) (matching address rs))) (matching address rs) r
-          (first-in (unbeaten (matching address rs)) r e)).0).0
+      (first-in (unbeaten (matching address rs)) r e)).0).0
 
   pub best-attached : (edge v address : ℕ) (r : HeldRoute) → In (edges t) edge → best (held t w.config w.peerings edge v) address ≡ Some r
       → (w.config.attached r.site ≡ Some r.attachment) × In (edges t) r.edge
   best-attached edge v address r i e =
       route-attached edge v r i (in_contained (routes_of t w.config edge v) r
-          ((holds edge v i r).only (contained_in (held t w.config w.peerings edge v) r (best-in (held t w.config w.peerings edge v) address r e))))
+      ((holds edge v i r).only (contained_in (held t w.config w.peerings edge v) r (best-in (held t w.config w.peerings edge v) address r e))))
 
 pub hold_their_routes : (t : Network) (es : List JournalEntry) (ps : List (List ℕ)) → IsLawful t → IsLawfulJournal t es ps → IsSettled t (world_of t es)
     → (edge v : ℕ) (route : HeldRoute) → Contains (edges t) edge → HoldsItsRoutes t (world_of t es) edge v route

@@ -35,16 +35,16 @@ module _ (t : Network) (w : World) (lawful : IsLawful t) (ways : KnowTheWays t w
       let some = (some-next t (links_up t w) lawful p n (hop, l) below (sym (ways n p below inside).way_is ∙ g.2)).1 in
       let rest = least-way hops hop (hop-below t (links_up t w) lawful p n (hop, l) some) g.4 in
       let far : IsLeast (wiring_of t) (links_up t w) hop p some.1.rest = subst (λ j. IsLeast (wiring_of t) (links_up t w) j p some.1.rest)
-          (sym some.0) some.1.after in
+      (sym some.0) some.1.after in
       let same : some.1.rest ≡ cost_of (wiring_of t) rest.links = both
-          (one-least t (links_up t w) hop p some.1.rest (cost_of (wiring_of t) rest.links) far rest.least)
-          (one-least t (links_up t w) hop p (cost_of (wiring_of t) rest.links) some.1.rest rest.least far) in
+      (one-least t (links_up t w) hop p some.1.rest (cost_of (wiring_of t) rest.links) far rest.least)
+      (one-least t (links_up t w) hop p (cost_of (wiring_of t) rest.links) some.1.rest rest.least far) in
       record {
         links = l ∷ rest.links;
         nodes_are = ap (λ xs. n ∷ xs) (rest.nodes_are ∙ ap (λ j. nodes_over t j rest.links) g.3);
         ends =
             ap (λ b. cond b (walk_end (wiring_of t) (links_up t w) (across (wiring_of t) l n) rest.links) None) (goes some.1.up some.1.at_node some.1.there)
-              ∙ ap (λ j. walk_end (wiring_of t) (links_up t w) j rest.links) (sym g.3) ∙ rest.ends;
+            ∙ ap (λ j. walk_end (wiring_of t) (links_up t w) j rest.links) (sym g.3) ∙ rest.ends;
         least = subst (λ c. IsLeast (wiring_of t) (links_up t w) n p ((link (wiring_of t) l).cost + c)) same some.1.whole;
       }
     where

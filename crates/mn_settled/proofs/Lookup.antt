@@ -44,7 +44,7 @@ looks_up t es ps lawful journal settled edge v address at_edge =
     let k : Keeps t w = keeps t es ps lawful journal in
     let holds = λ (r : HeldRoute). hold_their_routes t es ps lawful journal settled edge v r at_edge in
     let back = λ (r : HeldRoute) (i : In (routes_of t w.config edge v) r). in_contained (held t w.config w.peerings edge v) r
-        ((holds r).all (contained_in (routes_of t w.config edge v) r i)) in
+    ((holds r).all (contained_in (routes_of t w.config edge v) r i)) in
     some-best (held t w.config w.peerings edge v) (routes_of t w.config edge v) address (λ r. ((holds r).only, (holds r).all))
     (names_one (held t w.config w.peerings edge v) address (λ a i. held_formed t w.config w.peerings edge v a k.forms k.told i)
     (λ a b i j source prefix. one_held t w.config w.peerings edge v a b lawful (loopbacks_apart t lawful) k.statics k.told i j source prefix))

@@ -85,7 +85,7 @@ over-same : (w : Wiring) (view : View) (one other : Knowledge) (m p : ℕ) (o : 
 over-same w view one other m p None n h = refl
 over-same w view one other m p (Some hop) n h =
     ap (λ (g : Hearing). elim ((g.alive && nat_le 2 g.count) && is_mapped false p g.messages) as (λ _. Option (ℕ × ℕ)) [ true ↦ Some hop | false ↦ None ])
-        (h hop.1 n.1.there n.1.at_node)
+    (h hop.1 n.1.there n.1.at_node)
 
 -- who has the same view, and heard the same on its links, offers the same
 pub offers-same : (w : Wiring) (one other : Knowledge) (m p : ℕ) → JoinsNodes w → m < length w.loopbacks → one.view ≡ other.view
@@ -161,7 +161,7 @@ module _ (t : Network) (c new : Config) (v nv : Views) (s k : Sessions) (step : 
   final-hearing counts l m h e =
       hearing-is (wiring_of t) new nv (with_said k all_said) m l h
       ∙ ap (λ ms. record { alive = lives new l && is_end (wiring_of t) l m; count = k.heard l m; messages = ms })
-          (take-append-le (k.heard l m) (k.said l (across (wiring_of t) l m)) (messages_of l (across (wiring_of t) l m) all_said) (counts l m h e).far)
+      (take-append-le (k.heard l m) (k.said l (across (wiring_of t) l m)) (messages_of l (across (wiring_of t) l m) all_said) (counts l m h e).far)
       ∙ sym (hearing-is (wiring_of t) new nv k m l h)
 
   final-offers : AllCounted t c new s k → (m p : ℕ) → m < length t.loopbacks
@@ -169,7 +169,7 @@ module _ (t : Network) (c new : Config) (v nv : Views) (s k : Sessions) (step : 
   unfolding knowledge_of
   final-offers counts m p below =
       offers-same (wiring_of t) (knowledge_of (wiring_of t) new nv (with_said k all_said) m) (between m) m p joins below refl
-        (λ l h e. final-hearing counts l m h e)
+      (λ l h e. final-hearing counts l m h e)
 
   final-on : (l m : ℕ) → l < length t.links → is_operational (knowledge_of (wiring_of t) new nv (with_said k all_said) m) l ≡ is_operational (between m) l
   final-on l m h = operational-is (wiring_of t) new nv (with_said k all_said) m l h ∙ sym (operational-is (wiring_of t) new nv k m l h)
@@ -183,8 +183,8 @@ module _ (t : Network) (c new : Config) (v nv : Views) (s k : Sessions) (step : 
     | inl q ↦ ap (is_mapped false p) q.0
     | inr q ↦ ap (is_mapped false p) q.0 ∙ says l m p h e inside
         ∙ off_and (is_operational (before m) l) _ (operational-is (wiring_of t) c v s m l h
-            ∙ more_heard (lives c l) (is_end (wiring_of t) l m) (lives new l) (s.heard l m) (k.heard l m) q.1 q.2
-            (sym (operational-is (wiring_of t) new nv k m l h) ∙ off))
+        ∙ more_heard (lives c l) (is_end (wiring_of t) l m) (lives new l) (s.heard l m) (k.heard l m) q.1 q.2
+        (sym (operational-is (wiring_of t) new nv k m l h) ∙ off))
   ]
 
   said-on : AllCounted t c new s k → Says t c v s → (l m p : ℕ) → l < length t.links → is_end (wiring_of t) l m ≡ true → p < length t.loopbacks
@@ -204,7 +204,7 @@ module _ (t : Network) (c new : Config) (v nv : Views) (s k : Sessions) (step : 
         | inl on ↦
             let other = across-end (wiring_of t) l m (differ l h) e in
             speaks (wiring_of t) before between l m p (speakers (wiring_of t) step) (is_mapped false p (k.said l m)) h e
-                (ends_below t joins l (across (wiring_of t) l m) h other.0) inside on (speak l m h e) (said-on counts says l m p h e inside on)
+            (ends_below t joins l (across (wiring_of t) l m) h other.0) inside on (speak l m h e) (said-on counts says l m p h e inside on)
             ∙ sym (on_and (is_operational (between m) l) (offers (wiring_of t) (between m) m p) on)
         | inr off ↦
             ap (is_mapped (is_mapped false p (k.said l m)) p) (messages-none between l m told each off) ∙ said-off counts says l m p h e inside off
@@ -243,7 +243,7 @@ counts-anew t c new s at others g l m h e = elim (eqb_tells l at) [
       record {
         far =
             subst (λ n. n ≤ length (put s.said at (λ node. []) l (across (wiring_of t) l m))) (sym (ap (λ f. f m) heard))
-              (subst (λ (f : ℕ → List Message). s.heard l m ≤ length (f (across (wiring_of t) l m))) (sym said) (g l m h e).heard);
+            (subst (λ (f : ℕ → List Message). s.heard l m ≤ length (f (across (wiring_of t) l m))) (sym said) (g l m h e).heard);
         own = inr (ap (λ f. f m) said, others l p.1, omega (arith, ap (λ f. f m) heard));
       }
 ]
@@ -260,13 +260,13 @@ counts-heard t c s at n more g l m h e = elim (eqb_tells l at) [
     | inr q ↦ off (inr q.1)
     | inl q ↦
         let heard : put_pair s.heard at n (s.heard at n + 1) l m ≡ s.heard at n + 1 = ap (λ j. put_pair s.heard at n (s.heard at n + 1) j m) p.1
-            ∙ ap (put_pair s.heard at n (s.heard at n + 1) at) q.1 ∙ pair_here s.heard at n (s.heard at n + 1) in
+        ∙ ap (put_pair s.heard at n (s.heard at n + 1) at) q.1 ∙ pair_here s.heard at n (s.heard at n + 1) in
         let was : s.heard l m ≡ s.heard at n = ap (λ j. s.heard j m) p.1 ∙ ap (s.heard at) q.1 in
         record {
           far =
               subst (λ i. i ≤ length (s.said l (across (wiring_of t) l m))) (sym heard)
-                (subst (λ j. s.heard at n + 1 ≤ length (s.said j (across (wiring_of t) j m))) (sym p.1)
-                (subst (λ j. s.heard at n + 1 ≤ length (s.said at (across (wiring_of t) at j))) (sym q.1) (reach more)));
+              (subst (λ j. s.heard at n + 1 ≤ length (s.said j (across (wiring_of t) j m))) (sym p.1)
+              (subst (λ j. s.heard at n + 1 ≤ length (s.said at (across (wiring_of t) at j))) (sym q.1) (reach more)));
           own = inr (refl, refl, omega (arith, heard, was));
         }
   ]
@@ -275,8 +275,11 @@ counts-heard t c s at n more g l m h e = elim (eqb_tells l at) [
     off : (l ≢ at) ⊎ (m ≢ n) → IsCounted t c c s (record s { heard = put_pair s.heard at n (s.heard at n + 1) }) l m
     off d =
         let heard : put_pair s.heard at n (s.heard at n + 1) l m ≡ s.heard l m = pair_off s.heard at n (s.heard at n + 1) l m d in
-        record { far = subst (λ i. i ≤ length (s.said l (across (wiring_of t) l m))) (sym heard) (g l m h e).heard; own = inr
-            (refl, refl, omega (arith, heard)) }
+        record {
+          far = subst (λ i. i ≤ length (s.said l (across (wiring_of t) l m))) (sym heard) (g l m h e).heard;
+          own = inr
+              (refl, refl, omega (arith, heard));
+        }
 
     reach : {x y : ℕ} → x < y → x + 1 ≤ y
     reach f = omega (arith, f)
@@ -287,28 +290,28 @@ says-step : (t : Network) (w : World) (k : Packets) (step : Step) → JoinsNodes
 unfolding sessions_after knowledge_of
 says-step t w k (LinkUp l) joins differ there full g h =
     says-then t w.config (config_after w.config (LinkUp l)) w.views (views_after w.views (LinkUp l)) w.sessions (counted t w.sessions (LinkUp l))
-        (LinkUp l) joins differ
+    (LinkUp l) joins differ
     (counts-anew t w.config (config_after w.config (LinkUp l)) w.sessions l.0 (λ j d. ap (λ b. b && w.config.ldp_on j) (put_off w.config.is_up l.0 true j d)) g)
-        h (speaks-ends t joins l.0)
+    h (speaks-ends t joins l.0)
 says-step t w k (LinkDown l) joins differ there full g h =
     says-then t w.config (config_after w.config (LinkDown l)) w.views (views_after w.views (LinkDown l)) w.sessions (counted t w.sessions (LinkDown l))
-        (LinkDown l) joins differ
+    (LinkDown l) joins differ
     (counts-anew t w.config (config_after w.config (LinkDown l)) w.sessions l.0
-        (λ j d. ap (λ b. b && w.config.ldp_on j) (put_off w.config.is_up l.0 false j d)) g) h (speaks-ends t joins l.0)
+    (λ j d. ap (λ b. b && w.config.ldp_on j) (put_off w.config.is_up l.0 false j d)) g) h (speaks-ends t joins l.0)
 says-step t w k (LdpAdmin l on) joins differ there full g h =
     says-then t w.config (config_after w.config (LdpAdmin l on)) w.views (views_after w.views (LdpAdmin l on)) w.sessions (counted t w.sessions (LdpAdmin l on))
-        (LdpAdmin l on) joins differ
+    (LdpAdmin l on) joins differ
     (counts-anew t w.config (config_after w.config (LdpAdmin l on)) w.sessions l.0
-        (λ j d. ap (λ b. w.config.is_up j && b) (put_off w.config.ldp_on l.0 on j d)) g) h (speaks-ends t joins l.0)
+    (λ j d. ap (λ b. w.config.is_up j && b) (put_off w.config.ldp_on l.0 on j d)) g) h (speaks-ends t joins l.0)
 says-step t w k (Learn n l) joins differ there full g h =
     says-then t w.config w.config w.views (views_after w.views (Learn n l)) w.sessions w.sessions (Learn n l) joins differ
-        (counts-same t w.config w.sessions g) h (speaks-all t joins)
+    (counts-same t w.config w.sessions g) h (speaks-all t joins)
 says-step t w k (HearLdp l dir) joins differ there full g h =
     let ends = dir_ends (wiring_of t) l.0 dir (differ l.0 there) in
     says-then t w.config w.config w.views w.views w.sessions (counted t w.sessions (HearLdp l dir)) (HearLdp l dir) joins differ
     (counts-heard t w.config w.sessions l.0 (receiver (wiring_of t) l.0 dir)
-        (subst (λ n. w.sessions.heard l.0 (receiver (wiring_of t) l.0 dir) < length (w.sessions.said l.0 n)) (sym ends.1) (above _ _ (or_both _ _ full).1)) g) h
-        (speaks-all t joins)
+    (subst (λ n. w.sessions.heard l.0 (receiver (wiring_of t) l.0 dir) < length (w.sessions.said l.0 n)) (sym ends.1) (above _ _ (or_both _ _ full).1)) g) h
+    (speaks-all t joins)
 says-step t w k _ joins differ there full g h = h
 
 -- 6. A journal
@@ -326,7 +329,7 @@ says-on t apart joins differ (e ∷ es) tick w k i ps lawful g h =
 says-first : (t : Network) → SaysItsOffers t (start t)
 says-first t l m p h e inside =
     sym (off_and (is_operational (known_before t (start t) m) l) _
-      (few-off (wiring_of t) (start t).config (start t).views (start t).sessions m l h (omega arith)))
+    (few-off (wiring_of t) (start t).config (start t).views (start t).sessions m l h (omega arith)))
 
 pub says_its_offers : (t : Network) (es : List JournalEntry) (ps : List (List ℕ)) → IsLawful t → IsLawfulJournal t es ps → SaysItsOffers t (world_of t es)
 says_its_offers t es ps lawful journal =

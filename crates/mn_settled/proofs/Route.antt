@@ -83,8 +83,10 @@ module _ (t : Network) (w : World) (lawful : IsLawful t) (ways : KnowTheWays t w
     where
       none : next (wiring_of t) (view_of (wiring_of t) w.views n) n p ≡ None
       none = elim (eqb_tells n p) [
-        | inl q ↦ ap (λ b. elim b as (λ _. Option (ℕ × ℕ)) [ true ↦ None
-            | false ↦ next_by (wiring_of t) (view_of (wiring_of t) w.views n) (dists_to (wiring_of t) (view_of (wiring_of t) w.views n) p) n ]) q.0
+        | inl q ↦ ap (λ b. elim b as (λ _. Option (ℕ × ℕ)) [
+          | true ↦ None
+          | false ↦ next_by (wiring_of t) (view_of (wiring_of t) w.views n) (dists_to (wiring_of t) (view_of (wiring_of t) w.views n) p) n
+        ]) q.0
         | inr q ↦ absurd (q.1 e)
       ]
 
@@ -92,7 +94,7 @@ module _ (t : Network) (w : World) (lawful : IsLawful t) (ways : KnowTheWays t w
       → hops_from t w (suc fuel) n p ≡ n ∷ hops_from t w fuel hop.0 p
   one-hop fuel n hop below is =
       ap (λ o. elim o as (λ _. List ℕ) [ None ↦ n ∷ [] | Some h ↦ n ∷ hops_from t w fuel h.0 p ])
-          (ap (λ v. next (wiring_of t) v n p) (ways n p below inside).view ∙ is)
+      (ap (λ v. next (wiring_of t) v n p) (ways n p below inside).view ∙ is)
 
   hop-below : (n : ℕ) (hop : ℕ × ℕ) → IsNext (wiring_of t) (links_up t w) n p (Some hop) → hop.0 < length t.loopbacks
   hop-below n hop some =
@@ -120,7 +122,7 @@ module _ (t : Network) (w : World) (lawful : IsLawful t) (ways : KnowTheWays t w
       by_hop rest apart (Some hop) is some =
           let near = nearer t (links_up t w) n p d hop lawful below apart is least in
           let on = rest hop.0 near.rest (n ∷ seen) (hop-below n hop some) near.is_least (any-none n seen (not-seen t w p d n seen least far), distinct)
-              (more-seen t w p d near.rest n seen below least near.is_less far) (omega (arith, enough)) in
+          (more-seen t w p d near.rest n seen below least near.is_less far) (omega (arith, enough)) in
           (hop.0 ∷ on.0, one-hop fuel n hop below is ∙ ap (λ xs. n ∷ xs) on.1, (apart, hop.1, (ways n p below inside).way_is ∙ is, some.0, on.2))
 
   -- from whom it is reached, by the least cost

@@ -43,7 +43,7 @@ same-map f g a (suc n) h =
 view-is : (t : Network) (w : World) (node : ℕ) → IsSettled t w → AreUpWhereOdd w → node < length t.loopbacks → view_of (wiring_of t) w.views node ≡ links_up t w
 view-is t w node settled odd below =
     same-map (λ l. w.views.learned node l % 2 == 1) w.config.is_up 0 (length t.links)
-      (λ l h. ap (λ n. n % 2 == 1) (settled.learned node l below (omega (arith, h))) ∙ sym (odd l))
+    (λ l h. ap (λ n. n % 2 == 1) (settled.learned node l below (omega (arith, h))) ∙ sym (odd l))
 
 up-is : (t : Network) (w : World) (l : ℕ) → l < length t.links → is_up (links_up t w) l ≡ w.config.is_up l
 up-is t w l h = get_or-map-range_with_len w.config.is_up 0 (length t.links) l l false h (omega arith)
@@ -122,7 +122,7 @@ heard-two t w lawful turn settled l n h e alive =
     let other = across-end (wiring_of t) l n (lawful.ends_differ l h) e in
     both-heard (is_active t l n) (is_active t l m) (w.sessions.heard l n) (w.sessions.heard l m) (w.sessions.said l n) (w.sessions.said l m)
     (one-active t (loopbacks_apart t lawful) lawful.joins_nodes l n h (lawful.ends_differ l h) e) ((turn.ldp l n h e).talk alive)
-        ((turn.ldp l m h other.0).talk alive)
+    ((turn.ldp l m h other.0).talk alive)
     (settled.heard l n h e alive) (settled.heard l m h other.0 alive ∙ ap (λ j. length (w.sessions.said l j)) other.1)
 
 on-link : (t : Network) (w : World) → IsLawful t → IsInTurn t w → IsSettled t w → (l n : ℕ) → l < length t.links → is_end (wiring_of t) l n ≡ true
@@ -157,12 +157,12 @@ module _ (t : Network) (w : World) (lawful : IsLawful t) (turn : IsInTurn t w) (
       let far_on : is_operational (known_before t w m) l ≡ true = on-link t w lawful turn settled l m h other.0 is_up_l in
       let alive : lives w.config l ≡ true = ap (λ b. b && w.config.ldp_on l) is_up_l ∙ settled.switched l h is_up_l in
       let all : (hearing (known_before t w n) l).messages
-          ≡ w.sessions.said l m = ap (λ (g : Hearing). g.messages) (hearing-is (wiring_of t) w.config w.views w.sessions n l h)
-          ∙ ap (λ k. take k (w.sessions.said l m)) (settled.heard l n h e alive)
-          ∙ take_all (length (w.sessions.said l m)) (w.sessions.said l m) (omega arith) in
+      ≡ w.sessions.said l m = ap (λ (g : Hearing). g.messages) (hearing-is (wiring_of t) w.config w.views w.sessions n l h)
+      ∙ ap (λ k. take k (w.sessions.said l m)) (settled.heard l n h e alive)
+      ∙ take_all (length (w.sessions.said l m)) (w.sessions.said l m) (omega arith) in
       let offered : offers (wiring_of t) (known_before t w m) m p ≡ true = subst (λ j. offers (wiring_of t) (known_before t w j) j p ≡ true) next.0 there in
       let mapped : is_mapped false p (hearing (known_before t w n) l).messages ≡ true = ap (is_mapped false p) all ∙ says l m p h other.0 inside
-          ∙ ap (λ b. b && offers (wiring_of t) (known_before t w m) m p) far_on ∙ offered in
+      ∙ ap (λ b. b && offers (wiring_of t) (known_before t w m) m p) far_on ∙ offered in
       ap (λ b. elim (b && is_mapped false p (hearing (known_before t w n) l).messages) as (λ _. Option (ℕ × ℕ)) [ true ↦ Some hop | false ↦ None ]) on
       ∙ ap (λ b. elim b as (λ _. Option (ℕ × ℕ)) [ true ↦ Some hop | false ↦ None ]) mapped
 
@@ -188,7 +188,7 @@ module _ (t : Network) (w : World) (lawful : IsLawful t) (turn : IsInTurn t w) (
     | inr e ↦
         ap (λ o. (n == p) || is_some o) (usable-over n p below)
         ∙ by_hop (λ hop r apart i f'. offers-there fuel r hop p f' apart inside i) e.1 (next (wiring_of t) (links_up t w) n p) refl
-            (next_is (wiring_of t) (links_up t w) p lawful.joins_nodes n below e.1)
+        (next_is (wiring_of t) (links_up t w) p lawful.joins_nodes n below e.1)
   ]
     where
       or_true : (b : Bool) → (b || true) ≡ true
@@ -204,7 +204,7 @@ module _ (t : Network) (w : World) (lawful : IsLawful t) (turn : IsInTurn t w) (
           let near = nearer t (links_up t w) n p d hop lawful below apart is least in
           ap (λ o. (n == p) || is_some (usable_over (known_before t w n) p o)) is
           ∙ ap (λ o. (n == p) || is_some o) (hop-works n p hop inside some
-              (nearer-offers hop.0 near.rest (hop-below n p hop some) near.is_least (less near.is_less f)))
+          (nearer-offers hop.0 near.rest (hop-below n p hop some) near.is_least (less near.is_less f)))
           ∙ or_true (n == p)
         where
           less : {r : ℕ} → r < d → d < suc fuel → r < fuel
@@ -213,8 +213,10 @@ module _ (t : Network) (w : World) (lawful : IsLawful t) (turn : IsInTurn t w) (
   next-self : (n p : ℕ) → n ≡ p → next (wiring_of t) (links_up t w) n p ≡ None
   unfolding next
   next-self n p e = elim (eqb_tells n p) [
-    | inl q ↦ ap (λ b. elim b as (λ _. Option (ℕ × ℕ)) [ true ↦ None
-        | false ↦ next_by (wiring_of t) (links_up t w) (dists_to (wiring_of t) (links_up t w) p) n ]) q.0
+    | inl q ↦ ap (λ b. elim b as (λ _. Option (ℕ × ℕ)) [
+      | true ↦ None
+      | false ↦ next_by (wiring_of t) (links_up t w) (dists_to (wiring_of t) (links_up t w) p) n
+    ]) q.0
     | inr q ↦ absurd (q.1 e)
   ]
 
@@ -254,7 +256,7 @@ module _ (t : Network) (w : World) (lawful : IsLawful t) (turn : IsInTurn t w) (
           let is : next (wiring_of t) (links_up t w) n p ≡ Some hop = sym (way-is n p below inside) ∙ e in
           let apart : n ≢ p = λ q. some-none hop (sym (next-self n p q) ∙ is) in
           let some : IsNext (wiring_of t) (links_up t w) n p (Some hop) = subst (IsNext (wiring_of t) (links_up t w) n p) is
-              (next_is (wiring_of t) (links_up t w) p lawful.joins_nodes n below apart) in
+          (next_is (wiring_of t) (links_up t w) p lawful.joins_nodes n below apart) in
           (apart, (some.1.whole.walk.0, some.1.whole.walk.1))
 
 pub know_the_ways : (t : Network) (es : List JournalEntry) (ps : List (List ℕ)) → IsLawful t → IsLawfulJournal t es ps → IsSettled t (world_of t es)

@@ -25,7 +25,7 @@ no_flight (suc j) l d e = cc
 landed : (at : ℕ) → (packets_of two_links (settling ++ injection ∷ carrying) (packet ∷ [])).flying at ≡ []
 landed =
     nothing-flies (packets_of two_links (settling ++ injection ∷ carrying) (packet ∷ [])) (injections (settling ++ injection ∷ carrying))
-      (in_one_place two_links (settling ++ injection ∷ carrying) (packet ∷ [])) no_flight
+    (in_one_place two_links (settling ++ injection ∷ carrying) (packet ∷ [])) no_flight
 
 pub they_carry_a_packet : TwoLinksCarryAPacket
 unfolding next knowledge_of news sessions_after peerings_after held packets_after is_not_ipv4 is_malformed is_truncated has_bad_checksum good

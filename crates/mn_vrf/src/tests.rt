@@ -1,3 +1,5 @@
+ghost use Rattle.std.specs.Prelude.{◌≡◌, []};
+
 use crate::{Routes, Source, Vrf, VrfBad};
 use mn_base::{NodeNo, Rd, Rt, SiteNo, VrfNo};
 use mn_prefix::Prefix;
@@ -15,15 +17,24 @@ fn prefix(address: u32, length: u8) -> Result<Prefix, Fail> {
 }
 
 /// The VRF with the distinguisher `65000:1`.
-fn red(alloc: Global) -> Vrf {
+fn red(alloc: Global) -> Vrf
+    ensures { result.held ≡ [] }
+{
     Vrf::new(alloc, VrfNo(0), Rd(0x0000_FDE8_0000_0001))
 }
 
-/// A route of the edge with this address, under the distinguisher `65000:rd`.
-fn far(loopback: u32, rd: u64) -> Source {
+/// The distinguishers `65000:1`, `65000:2` and `65000:9`.
+const FIRST: Rd = Rd(0x0000_FDE8_0000_0001);
+
+const SECOND: Rd = Rd(0x0000_FDE8_0000_0002);
+
+const NINTH: Rd = Rd(0x0000_FDE8_0000_0009);
+
+/// A route of the edge with this address, under the distinguisher.
+fn far(loopback: u32, rd: Rd) -> Source {
     Source::Far {
         loopback,
-        rd: Rd(0x0000_FDE8_0000_0000 + rd),
+        rd,
         edge: NodeNo(2),
         label: 17,
     }
@@ -37,8 +48,8 @@ fn the_longest_prefix_is_found(rt: HostRuntime) -> Result<(), Fail> {
     let net = prefix(0x0A02_0000, 24)?;
     let host = prefix(HOST, 32)?;
     vrf.offer(all, Source::Own(SiteNo(0)))?;
-    vrf.offer(net, Source::Own(SiteNo(1)))?;
-    vrf.offer(host, Source::Own(SiteNo(2)))?;
+    vrf.replace(net, Source::Own(SiteNo(1)))?;
+    vrf.replace(host, Source::Own(SiteNo(2)))?;
     assert_eq!(rt; vrf.lookup(HOST), Some((host, Source::Own(SiteNo(2)))));
     vrf.retract(host, &Source::Own(SiteNo(1)));
     assert_eq!(rt; vrf.lookup(HOST), Some((host, Source::Own(SiteNo(2)))));
@@ -51,7 +62,7 @@ fn the_longest_prefix_is_found(rt: HostRuntime) -> Result<(), Fail> {
     Ok(())
 }
 
-/// Routes of one prefix from each kind of source, offered with the least preferred first; the best is taken back each
+/// Routes of one prefix from each kind of source, held with the least preferred first; the best is taken back each
 /// time.
 #[test]
 fn of_one_prefix_the_preferred_route_is_found(rt: HostRuntime) -> Result<(), Fail> {
@@ -61,18 +72,18 @@ fn of_one_prefix_the_preferred_route_is_found(rt: HostRuntime) -> Result<(), Fai
         Source::Own(SiteNo(4)),
         Source::Near(VrfNo(1), SiteNo(3)),
         Source::Near(VrfNo(2), SiteNo(1)),
-        far(0xC000_0202, 9),
-        far(0xC000_0203, 1),
-        far(0xC000_0203, 2),
+        far(0xC000_0202, NINTH),
+        far(0xC000_0203, FIRST),
+        far(0xC000_0203, SECOND),
     ];
     let mut vrf = red(rt.alloc());
     for source in by_preference.iter().rev() {
-        vrf.offer(net, *source)?;
+        vrf.replace(net, *source)?;
     }
-    vrf.replace(other, far(0xC000_0203, 1))?;
+    vrf.replace(other, far(0xC000_0203, FIRST))?;
     for source in by_preference {
         assert_eq!(rt; vrf.lookup(HOST), Some((net, source)));
-        assert_eq!(rt; vrf.held(0), Some((other, far(0xC000_0203, 1))));
+        assert_eq!(rt; vrf.held(0), Some((other, far(0xC000_0203, FIRST))));
         assert_eq!(rt; vrf.held(1), Some((net, source)));
         assert_eq!(rt; vrf.held(2), None);
         vrf.withdraw(net, &source);
