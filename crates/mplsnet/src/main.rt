@@ -3,6 +3,7 @@
 //! All that it does is `mn_run::command` over real files and standard output, which is flushed at the end. It
 //! ends with the outcome's number, or with that of a failed write where the output couldn't be flushed.
 #![tactic(auto)]
+
 ghost use Rattle.std.specs.Prelude.{◌≡◌, Ok, Err};
 ghost use Rattle.mn_edge.specs.declared.device.DeviceBad.TheVariants as bad;
 ghost use Rattle.mn_run.specs.declared.outcome.Outcome.TheVariants as ends;
@@ -11,7 +12,8 @@ ghost use Rattle.mn_run.specs.Status.{status_of};
 use mn_edge::DeviceBad;
 use mn_edge_real::{HostShelf, HostSink};
 use mn_run::{Outcome, command};
-use std::io::BufWriter;
+use std::alloc::AllocError;
+use std::io::{BufWriter, ErrorKind};
 use std::process::ExitCode;
 use std::{env, io};
 
@@ -28,16 +30,25 @@ fn status(outcome: Outcome, flushed: Result<(), DeviceBad>) -> u8
     }
 }
 
-fn main(rt: HostRuntime) -> ExitCode {
-    let Ok(args) = env::args(&rt) else {
-        return ExitCode::from(Outcome::Usage.status());
-    };
+/// The words behind the program's name; none where one of them isn't UTF-8, which is no command line either.
+fn words_of(rt: &HostRuntime) -> Result<Vec<String>, AllocError> {
     let mut words = Vec::new(rt.alloc());
-    for word in args.skip(1) {
-        if words.push(word).is_err() {
-            return ExitCode::from(Outcome::NoMemory.status());
+    match env::args(rt) {
+        Ok(args) => {
+            for word in args.skip(1) {
+                words.push(word)?;
+            }
         }
+        Err(error) if error.kind() == ErrorKind::OutOfMemory => return Err(AllocError),
+        Err(_) => {}
     }
+    Ok(words)
+}
+
+fn main(rt: HostRuntime) -> ExitCode {
+    let Ok(words) = words_of(&rt) else {
+        return ExitCode::from(Outcome::NoMemory.status());
+    };
     let Ok(buffer) = BufWriter::new(rt.alloc(), io::writer(&rt)) else {
         return ExitCode::from(Outcome::NoMemory.status());
     };
