@@ -1,3 +1,4 @@
 pub mod Wire
 pub mod Coming
 pub mod Writable
+pub mod TwoEdges

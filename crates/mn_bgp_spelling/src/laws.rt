@@ -11,6 +11,7 @@ ghost use Rattle.mn_ledger.specs.Turns.{IsInTurn};
 ghost use Rattle.mn_ledger.specs.Ledger.{world_of};
 ghost use Rattle.mn_ledger.specs.Lawful.{IsLawfulJournal};
 ghost use Rattle.mn_bgp_spelling.specs.Spelling.{Labels, message_in, bytes_in, IsWritable};
+ghost use Rattle.mn_bgp_spelling.specs.TwoEdges.{TwoEdgesTalk};
 ghost use Rattle.mn_bgp_spelling.specs.Laws.{IsComing, IsTaken, GoesOn, RepliesByTheTable, AreLabels};
 
 /// What is told is the message that its bytes spell, and is read as it.
@@ -37,4 +38,11 @@ pub fn what_is_told_can_be_written()
     ensures { (topology : Network) (labels : Labels) (entries : List JournalEntry) (inputs : List (List ℕ)) (teller peer : ℕ) (telling : Telling) →
         IsLawful topology → AreLabels labels → IsLawfulJournal topology entries inputs →
         Contains ((world_of topology entries).peerings.told teller peer) telling → IsWritable topology labels telling }
+{}
+
+/// Two edges open their session: what the laws above ask is met there, and the OPEN, KEEPALIVE and UPDATE of the first to the
+/// second are worked byte by byte, 138 bytes in all.
+#[tactic(auto, using(crate::proofs::TwoEdges::they_talk))]
+pub fn two_edges_talk()
+    ensures { TwoEdgesTalk }
 {}

@@ -12,12 +12,14 @@
 //! ```
 //!
 //! Nothing is here but laws: what is told can be written, a message is read as what was told, and the session that hears it
-//! takes it. So an edge of the
-//! network never meets bytes that it can't read, a message that its state doesn't expect, or another peer's OPEN.
+//! takes it. So an edge of the network never meets bytes that it can't read, a message that its state doesn't expect, or
+//! another peer's OPEN.
 //!
 //! RFC 4271, sections 4.2 to 4.4 and 8.2.2; RFC 4760, sections 3, 4 and 8; RFC 4364, section 4.3.
 #![tactic(auto)]
 
 mod laws;
 
-pub use laws::{what_comes_is_taken, what_is_told_can_be_written, what_is_told_is_read};
+pub use laws::{
+    two_edges_talk, what_comes_is_taken, what_is_told_can_be_written, what_is_told_is_read,
+};
