@@ -14,3 +14,4 @@ pub mod Starting
 pub mod Found
 pub mod Fates
 pub mod AtEntry
+pub mod Read

@@ -5,6 +5,12 @@ use Rattle.std.specs.Prelude.{slice_set, slice_index_or}
 none : (k : ℕ) → k < 0 → ⊥
 none k h = omega (arith, h)
 
+-- a place behind the end
+pub set_beyond : {A : Type 0} (xs : List A) (at : ℕ) (v : A) → length xs ≤ at → slice_set xs at v ≡ xs
+set_beyond [] at v h = refl
+set_beyond (x ∷ xs) zero v h = absurd (none (length xs) (omega (arith, h)))
+set_beyond (x ∷ xs) (suc at) v h = ap (λ ys. x ∷ ys) (set_beyond xs at v (omega (arith, h)))
+
 module _ {A : Type 0} (f : A → A) where
   after : (xs : List A) (i : ℕ) (d : A) → i < length xs → slice_set (map f (take i xs) ++ drop i xs) i (f (slice_index_or (map f (take i xs) ++ drop i xs) i d)) ≡ map f (take (suc i) xs) ++ drop (suc i) xs
   after [] i d h = absurd (none i h)

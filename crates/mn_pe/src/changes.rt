@@ -1,5 +1,5 @@
 // What the VRF of a number is told.
-ghost use Rattle.std.specs.Prelude.{◌≡◌, ◌≢◌, ◌<◌, ℕ, length, true, OnOk, OnErr, MatchOption, slice_index_or, None};
+ghost use Rattle.std.specs.Prelude.{◌≡◌, ◌≢◌, ◌<◌, ℕ, length, true, OnOk, OnErr, MatchOption, slice_index_or, slice_set, None};
 ghost use Rattle.mn_base.specs.Ordered.{Ascends};
 ghost use Rattle.mn_targets.specs.Targets.{target_set};
 ghost use Rattle.mn_vrf.specs.Vrf.{VrfState, with_static, without_static, with_imports, with_exports, add_refused, del_refused, set_refused, refusal_of};
@@ -18,6 +18,17 @@ pub(crate) fn is_want(bad: VrfBad) -> bool
     match bad {
         VrfBad::NoMemory => true,
         _ => false,
+    }
+}
+
+/// A site has this label, or none.
+#[tactic(auto, using(crate::proofs::Walks::set_beyond))]
+pub(crate) fn set_label(labels: &mut Vec<Option<u32>>, site: SiteNo, label: Option<u32>)
+    ensures { labels.new.items ≡ slice_set labels.old.items site.0 label }
+{
+    let at = site.0 as usize;
+    if at < labels.len() {
+        labels[at] = label;
     }
 }
 

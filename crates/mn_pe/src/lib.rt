@@ -26,6 +26,7 @@
 //! - `look`: what the VRF of a number holds
 //! - `export`: `Export`, a route that the edge tells
 //! - `entering`: `Entered`, what becomes of a packet that a site sends
+//! - `laws`: what is read can be heard
 //! - `refusal`: why a call gives up
 #![tactic(auto)]
 
@@ -33,6 +34,7 @@ mod changes;
 mod entering;
 mod export;
 mod hearing;
+mod laws;
 mod look;
 mod pe;
 mod rebuild;
@@ -43,5 +45,6 @@ mod tests;
 
 pub use entering::Entered;
 pub use export::Export;
+pub use laws::what_is_read_has_labels;
 pub use pe::Pe;
 pub use refusal::NoMemory;

@@ -13,7 +13,7 @@ ghost use Rattle.mn_topo.specs.Network.{Network};
 ghost use Rattle.mn_ledger.specs.World.{World};
 ghost use Rattle.mn_frames.specs.Given.{Labelling};
 
-use crate::changes::{add_in, del_in, export_in, import_in, is_want};
+use crate::changes::{add_in, del_in, export_in, import_in, is_want, set_label};
 use crate::entering::{entered_over, head_at_entry};
 use crate::export::{export_of_in, exports_at_in, exports_in, exports_over_in};
 use crate::hearing::{forget_in_all, hear_reached, hear_withdrawn};
@@ -92,7 +92,6 @@ impl Pe {
 
     /// Hears the routes of a peer's UPDATE, whose labels have 20 bits: those that are withdrawn go first.
     pub fn hear(&mut self, peer: NodeNo, loopback: u32, update: &Update) -> Result<(), NoMemory>
-        requires there { peer.0 < length self.old.edge.heard }
         requires address { loopback ≡ slice_index_or self.old.edge.loopbacks peer.0 0 }
         requires labels { AreLabelled update.now.reached }
         ensures ok { OnOk result (self.new ≡ record { edge = after_update self.old.edge peer.0 update.now; failed = false }) }
@@ -102,8 +101,11 @@ impl Pe {
         if self.failed {
             return Err(NoMemory);
         }
-        self.failed = true;
         let at = peer.0 as usize;
+        if at >= self.heard.len() {
+            return Ok(());
+        }
+        self.failed = true;
         hear_withdrawn(
             &mut self.vrfs,
             &mut self.heard[at],
@@ -127,7 +129,6 @@ impl Pe {
 
     /// Forgets all that was heard of a peer.
     pub fn forget(&mut self, peer: NodeNo) -> Result<(), NoMemory>
-        requires there { peer.0 < length self.old.edge.heard }
         ensures ok { OnOk result (self.new ≡ record { edge = after_forget self.old.edge peer.0; failed = false }) }
         ensures err { OnErr result (self.new.failed ≡ true) }
         ensures failed { self.old.failed ≡ true ↔ IsErr result }
@@ -136,6 +137,9 @@ impl Pe {
             return Err(NoMemory);
         }
         let at = peer.0 as usize;
+        if at >= self.heard.len() {
+            return Ok(());
+        }
         let loopback = self.loopback(peer);
         forget_in_all(&mut self.vrfs, &self.heard[at], peer, loopback);
         self.heard[at].clear();
@@ -144,7 +148,6 @@ impl Pe {
 
     /// A site gets its label.
     pub fn attach(&mut self, site: SiteNo, label: u32) -> Result<(), NoMemory>
-        requires { site.0 < length self.old.edge.labels }
         ensures ok { OnOk result (self.new ≡ record { edge = after_attach self.old.edge site.0 label; failed = false }) }
         ensures err { OnErr result (self.new.failed ≡ true) }
         ensures failed { self.old.failed ≡ true → IsErr result }
@@ -153,13 +156,12 @@ impl Pe {
             return Err(NoMemory);
         }
         self.failed = true;
-        self.labels[site.0 as usize] = Some(label);
+        set_label(&mut self.labels, site, Some(label));
         self.refresh()
     }
 
     /// A site loses its label.
     pub fn detach(&mut self, site: SiteNo) -> Result<(), NoMemory>
-        requires { site.0 < length self.old.edge.labels }
         ensures ok { OnOk result (self.new ≡ record { edge = after_detach self.old.edge site.0; failed = false }) }
         ensures err { OnErr result (self.new.failed ≡ true) }
         ensures failed { self.old.failed ≡ true → IsErr result }
@@ -168,7 +170,7 @@ impl Pe {
             return Err(NoMemory);
         }
         self.failed = true;
-        self.labels[site.0 as usize] = None;
+        set_label(&mut self.labels, site, None);
         self.refresh()
     }
 
@@ -312,30 +314,31 @@ impl Pe {
         Ok(export)
     }
 
-    /// The best route that a VRF holds for an address. It takes no memory.
+    /// The best route that a VRF holds for an address, while the edge hasn't failed. It takes no memory.
     pub fn lookup(&self, vrf: VrfNo, address: u32) -> Option<(Prefix, Source)>
-        requires works { self.now.failed ≡ false }
-        ensures { result ≡ found_in vrf.0 (λ (state : VrfState). longest_match address (held_by self.now.edge state)) self.now.edge.vrfs }
+        ensures { self.now.failed ≡ false → result ≡ found_in vrf.0 (λ (state : VrfState). longest_match address (held_by self.now.edge state)) self.now.edge.vrfs }
     {
         lookup_in(&self.vrfs, vrf, address)
     }
 
-    /// The held prefix of this place in a VRF, with the best of its routes. It takes no memory.
+    /// The held prefix of this place in a VRF, with the best of its routes, while the edge hasn't failed. It takes no memory.
     pub fn held(&self, vrf: VrfNo, k: u32) -> Option<(Prefix, Source)>
-        requires works { self.now.failed ≡ false }
-        ensures { result ≡ found_in vrf.0 (λ (state : VrfState). slice_get (heads (held_by self.now.edge state)) k) self.now.edge.vrfs }
+        ensures { self.now.failed ≡ false → result ≡ found_in vrf.0 (λ (state : VrfState). slice_get (heads (held_by self.now.edge state)) k) self.now.edge.vrfs }
     {
         held_in(&self.vrfs, vrf, k)
     }
 
     /// What becomes of a packet that a site sends. The packet is copied once, cut to its total length.
     pub fn enter(&self, site: SiteNo, packet: &[u8]) -> Result<Entered, NoMemory>
-        requires works { self.now.failed ≡ false }
         ensures answer { IfOk result (λ entered. entered ≡ entered_at self.now.edge site.0 packet.now) }
         // Where the edge stands for the ledger's world, it is the ledger's fate of the packet.
         ensures fate { IfOk result (λ entered. (topology : Network) (given : Labelling) (world : World) →
             StandsAtEntry self.now.edge topology given world site.0 packet.now → IsItsFate topology given world site.0 packet.now entered) }
+        ensures failed { self.now.failed ≡ true → IsErr result }
     {
+        if self.failed {
+            return Err(NoMemory);
+        }
         self.entered(site, packet)
     }
 
@@ -388,8 +391,8 @@ impl Pe {
         }
     }
 
-    /// A node's loopback.
-    fn loopback(&self, node: NodeNo) -> u32
+    /// A node's loopback, or 0 where there is no such node. It takes no memory.
+    pub fn loopback(&self, node: NodeNo) -> u32
         ensures { result ≡ slice_index_or self.now.edge.loopbacks node.0 0 }
     {
         loopback_at(&self.loopbacks, node)

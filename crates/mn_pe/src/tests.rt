@@ -1,3 +1,6 @@
+ghost use Rattle.std.specs.Prelude.{IfOk};
+ghost use Rattle.mn_pe.specs.Pe.{AreLabelled};
+
 use crate::{Entered, Pe};
 use mn_base::{NodeNo, Rd, Rt, Rule, SiteNo, VrfNo};
 use mn_bgp_wire::{BgpMessage, Update, read_bgp, write_reach, write_unreach};
@@ -60,7 +63,7 @@ const C: SiteNo = SiteNo(2);
 
 const PE_2: NodeNo = NodeNo(1);
 
-/// 192.0.2.3
+/// pe2's, 192.0.2.3.
 const LOOPBACK: u32 = 0xC000_0203;
 
 /// The target `65000:100`.
@@ -147,8 +150,20 @@ fn rule_at(pe: &Pe, site: SiteNo, packet: &[u8]) -> Result<Option<Rule>, Fail> {
     }
 }
 
+/// pe1 hears pe2.
+fn hear(pe: &mut Pe, update: &Update) -> Result<(), Fail>
+    requires { AreLabelled update.now.reached }
+{
+    let loopback = pe.loopback(PE_2);
+    pe.hear(PE_2, loopback, update)?;
+    Ok(())
+}
+
 /// What a peer's UPDATE says.
-fn update(alloc: Global, bytes: &[u8]) -> Result<Update, Fail> {
+#[tactic(auto, using(crate::proofs::Read::read_labels))]
+fn update(alloc: Global, bytes: &[u8]) -> Result<Update, Fail>
+    ensures { IfOk result (λ update. AreLabelled update.reached) }
+{
     match read_bgp(alloc, bytes)? {
         BgpMessage::Update(update) => Ok(update),
         _ => Err("no UPDATE")?,
@@ -156,7 +171,9 @@ fn update(alloc: Global, bytes: &[u8]) -> Result<Update, Fail> {
 }
 
 /// pe2's announcement of 10.2.0.0/16 with the label 33, and its withdrawal.
-fn announced(alloc: Global) -> Result<Update, Fail> {
+fn announced(alloc: Global) -> Result<Update, Fail>
+    ensures { IfOk result (λ update. AreLabelled update.reached) }
+{
     let route = VpnRoute {
         rd: FAR,
         prefix: prefix(0x0A02_0000, 16)?,
@@ -165,7 +182,9 @@ fn announced(alloc: Global) -> Result<Update, Fail> {
     update(alloc, &write_reach(alloc, LOOPBACK, &route, &[TARGET])?)
 }
 
-fn withdrawn(alloc: Global) -> Result<Update, Fail> {
+fn withdrawn(alloc: Global) -> Result<Update, Fail>
+    ensures { IfOk result (λ update. AreLabelled update.reached) }
+{
     update(alloc, &write_unreach(alloc, FAR, prefix(0x0A02_0000, 16)?)?)
 }
 
@@ -197,7 +216,7 @@ fn routes_that_were_heard_come_back_with_the_import(rt: HostRuntime) -> Result<(
         edge: PE_2,
         label: 33,
     };
-    pe.hear(PE_2, LOOPBACK, &announced(rt.alloc())?)?;
+    hear(&mut pe, &announced(rt.alloc())?)?;
     assert_eq!(rt; pe.lookup(RED, HOST), Some((net, Source::Own(B))));
     pe.del_route(B, net)?;
     assert_eq!(rt; pe.lookup(RED, HOST), Some((net, far)));
@@ -206,9 +225,9 @@ fn routes_that_were_heard_come_back_with_the_import(rt: HostRuntime) -> Result<(
     pe.import(RED, TARGET, true)?;
     assert_eq!(rt; pe.lookup(RED, HOST), Some((net, far)));
     assert_eq!(rt; pe.held(RED, 1), Some((net, far)));
-    pe.hear(PE_2, LOOPBACK, &withdrawn(rt.alloc())?)?;
+    hear(&mut pe, &withdrawn(rt.alloc())?)?;
     assert_eq!(rt; pe.lookup(RED, HOST), None);
-    pe.hear(PE_2, LOOPBACK, &announced(rt.alloc())?)?;
+    hear(&mut pe, &announced(rt.alloc())?)?;
     pe.forget(PE_2)?;
     assert_eq!(rt; pe.lookup(RED, HOST), None);
     Ok(())
@@ -327,7 +346,7 @@ fn a_packet_stays_or_leaves_by_its_best_route(rt: HostRuntime) -> Result<(), Fai
             _ => Err("not local")?,
         }
     }
-    pe.hear(PE_2, LOOPBACK, &announced(rt.alloc())?)?;
+    hear(&mut pe, &announced(rt.alloc())?)?;
     pe.del_route(B, prefix(0x0A02_0000, 16)?)?;
     match pe.enter(A, &padded)? {
         Entered::Tunnel { edge, frame } => {
@@ -352,7 +371,7 @@ fn of_three_sources_the_preferred_one_goes_first(rt: HostRuntime) -> Result<(), 
         edge: PE_2,
         label: 33,
     };
-    pe.hear(PE_2, LOOPBACK, &announced(rt.alloc())?)?;
+    hear(&mut pe, &announced(rt.alloc())?)?;
     pe.add_route(C, net)?;
     pe.export(BLUE, TARGET, true)?;
     assert_eq!(rt; pe.lookup(RED, HOST), Some((net, Source::Own(B))));

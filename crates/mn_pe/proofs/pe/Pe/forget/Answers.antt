@@ -1,4 +1,4 @@
-use Rattle.std.proofs.Common.{◌≡◌, ◌<◌, List, [], Bool, false, length, sym, ◌∙◌, ap, subst}
+use Rattle.std.proofs.Common.{◌≡◌, ◌<◌, List, [], Bool, false, length, arith, sym, ◌∙◌, ap, subst}
 use Rattle.std.specs.Prelude.{slice_index_or, slice_set}
 use Rattle.std.proofs.lemmas.List.{get_or_default}
 use Rattle.mn_rib_in.specs.Heard.{Heard}
@@ -10,7 +10,7 @@ use Rattle.mn_pe.proofs.pe.Pe.forget.Goals as goal
 -- each VRF holds what it should
 pub invariant_of-self : goal.invariant_of-self
 invariant_of-self c works =
-    let below : c.args.peer.0 < length c.self.inside.heard.items = subst (λ (p : PeNow). c.args.peer.0 < length p.edge.heard) (sym c.self.view_is) c.requires.there in
+    let below : c.args.peer.0 < length c.self.inside.heard.items = omega arith in
     let new_is : c.forget_in_all.new.vrfs.items ≡ after_forgetting (slice_index_or c.self.inside.loopbacks.items c.args.peer.0 0) c.args.peer.0 c.self.inside.vrfs.items (slice_index_or c.self.inside.heard.items c.args.peer.0 []) =
     c.forget_in_all.ensures
     ∙ ap (after_forgetting c.loopback-loopback.result c.args.peer.0 c.self.inside.vrfs.items) (c.index.ensures ∙ get_or_default c.self.inside.heard.items c.args.peer.0 c.index.result.now [] below)
@@ -21,7 +21,7 @@ invariant_of-self c works =
 -- and the edge is as after it
 pub returns-clause-ok : goal.returns-clause-ok
 returns-clause-ok c =
-    let below : c.args.peer.0 < length c.self.inside.heard.items = subst (λ (p : PeNow). c.args.peer.0 < length p.edge.heard) (sym c.self.view_is) c.requires.there in
+    let below : c.args.peer.0 < length c.self.inside.heard.items = omega arith in
     let new_is : c.forget_in_all.new.vrfs.items ≡ after_forgetting (slice_index_or c.self.inside.loopbacks.items c.args.peer.0 0) c.args.peer.0 c.self.inside.vrfs.items (slice_index_or c.self.inside.heard.items c.args.peer.0 []) =
     c.forget_in_all.ensures
     ∙ ap (after_forgetting c.loopback-loopback.result c.args.peer.0 c.self.inside.vrfs.items) (c.index.ensures ∙ get_or_default c.self.inside.heard.items c.args.peer.0 c.index.result.now [] below)

@@ -1,4 +1,4 @@
-use Rattle.std.proofs.Common.{◌≡◌, ◌<◌, length, sym, ◌∙◌, ap, subst, false}
+use Rattle.std.proofs.Common.{◌≡◌, ◌<◌, length, arith, sym, ◌∙◌, ap, false}
 use Rattle.std.specs.Prelude.{slice_index_or}
 use Rattle.mn_pe.specs.Edge.{Edge, after_withdrawn, after_reached, after_update}
 use Rattle.mn_pe.specs.Pe.{PeNow, after_giving, after_taking}
@@ -9,7 +9,7 @@ use Rattle.mn_pe.proofs.pe.Pe.hear.Goals as goal
 pub invariant_of-self-2 : goal.invariant_of-self-2
 invariant_of-self-2 c _ =
     let address : c.args.loopback ≡ slice_index_or c.self.inside.loopbacks.items c.args.peer.0 0 = c.requires.address ∙ ap (λ (p : PeNow). slice_index_or p.edge.loopbacks c.args.peer.0 0) (sym c.self.view_is) in
-    let below : c.args.peer.0 < length c.self.inside.heard.items = subst (λ (p : PeNow). c.args.peer.0 < length p.edge.heard) (sym c.self.view_is) c.requires.there in
+    let below : c.args.peer.0 < length c.self.inside.heard.items = omega arith in
     heard_sound c.self.inside.vrfs.items c.self.inside.sites.items c.self.inside.labels.items c.self.inside.loopbacks.items c.self.inside.heard.items c.args.peer.0 c.args.update.now c.index_mut.result.now c.index_mut-2.result.now c.hear_withdrawn.new.heard c.hear_reached.new.heard c.hear_withdrawn.new.vrfs.items c.hear_reached.new.vrfs.items
     below
     (record {
@@ -26,7 +26,7 @@ invariant_of-self-2 c _ =
 pub returns-clause-ok : goal.returns-clause-ok
 returns-clause-ok c =
     let address : c.args.loopback ≡ slice_index_or c.self.inside.loopbacks.items c.args.peer.0 0 = c.requires.address ∙ ap (λ (p : PeNow). slice_index_or p.edge.loopbacks c.args.peer.0 0) (sym c.self.view_is) in
-    let below : c.args.peer.0 < length c.self.inside.heard.items = subst (λ (p : PeNow). c.args.peer.0 < length p.edge.heard) (sym c.self.view_is) c.requires.there in
+    let below : c.args.peer.0 < length c.self.inside.heard.items = omega arith in
     ap (λ (e : Edge). let p : PeNow = record { edge = e; failed = false } in p)
     (heard_edge c.self.inside.vrfs.items c.self.inside.sites.items c.self.inside.labels.items c.self.inside.loopbacks.items c.self.inside.heard.items c.args.peer.0 c.args.update.now c.index_mut.result.now c.index_mut-2.result.now c.hear_withdrawn.new.heard c.hear_reached.new.heard c.hear_withdrawn.new.vrfs.items c.hear_reached.new.vrfs.items
     below

@@ -11,9 +11,9 @@ use Rattle.mn_pe.proofs.pe.Pe.held.Goals as goal
 
 -- the VRF holds what it should
 pub returns : goal.returns
-returns c =
+returns c now_works =
     let edge : Edge = edge_of c.self.inside.vrfs.items c.self.inside.sites.items c.self.inside.labels.items c.self.inside.loopbacks.items c.self.inside.heard.items in
-    let works : c.self.inside.failed ≡ false = ap (λ (p : PeNow). p.failed) c.self.view_is ∙ c.requires.works in
+    let works : c.self.inside.failed ≡ false = ap (λ (p : PeNow). p.failed) c.self.view_is ∙ now_works in
     c.held_in.ensures
     ∙ ap (numbered c.args.vrf.0 (λ (holding : Holding). slice_get (heads holding.held) c.args.k)) c.deref.ensures.value
     ∙ by_number edge c.args.vrf.0 c.self.inside.vrfs.items (c.self.invariant works).held (λ (routes : List (AddressBlock × Source)). slice_get (heads routes) c.args.k)

@@ -9,9 +9,9 @@ use Rattle.mn_pe.proofs.pe.Pe.lookup.Goals as goal
 
 -- the VRF holds what it should
 pub returns : goal.returns
-returns c =
+returns c now_works =
     let edge : Edge = edge_of c.self.inside.vrfs.items c.self.inside.sites.items c.self.inside.labels.items c.self.inside.loopbacks.items c.self.inside.heard.items in
-    let works : c.self.inside.failed ≡ false = ap (λ (p : PeNow). p.failed) c.self.view_is ∙ c.requires.works in
+    let works : c.self.inside.failed ≡ false = ap (λ (p : PeNow). p.failed) c.self.view_is ∙ now_works in
     c.lookup_in.ensures
     ∙ ap (numbered c.args.vrf.0 (λ (holding : Holding). longest_match c.args.address holding.held)) c.deref.ensures.value
     ∙ by_number edge c.args.vrf.0 c.self.inside.vrfs.items (c.self.invariant works).held (longest_match c.args.address)
