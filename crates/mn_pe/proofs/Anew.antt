@@ -25,14 +25,17 @@ all_made : (f : Holding → Holding) (Q : Holding → Type 0) → ((h : Holding)
 all_made f Q q [] = tt
 all_made f Q q (h ∷ hs) = (q h, all_made f Q q hs)
 
-module _ (old new : List Holding) (sites : List VrfNo) (labels : List (Option ℕ)) (lbs : List ℕ) (hs : List (List Heard)) (is : new ≡ map (held_anew labels lbs hs (told old)) old) where
+module _ (old new : List Holding) (sites : List VrfNo) (labels : List (Option ℕ)) (lbs : List ℕ) (hs : List (List Heard))
+    (is : new ≡ map (held_anew labels lbs hs (told old)) old) where
   pub anew_edge : edge_of new sites labels lbs hs ≡ edge_of old sites labels lbs hs
-  anew_edge = ap (λ (vs : List VrfState). let e : Edge = record { vrfs = vs; sites = sites; labels = labels; loopbacks = lbs; heard = hs } in e) (ap told is ∙ told_map (held_anew labels lbs hs (told old)) (λ h. refl) old)
+  anew_edge = ap (λ (vs : List VrfState). let e : Edge = record { vrfs = vs; sites = sites; labels = labels; loopbacks = lbs; heard = hs } in e)
+      (ap told is ∙ told_map (held_anew labels lbs hs (told old)) (λ h. refl) old)
 
   pub anew_sound : InOrder (edge_of old sites labels lbs hs) → IsSound (edge_of new sites labels lbs hs) new
   anew_sound order =
       subst (λ e. IsSound e new) (sym anew_edge)
       (subst (IsSound (edge_of old sites labels lbs hs)) (sym is) (record {
         order = order;
-        held = all_made (held_anew labels lbs hs (told old)) (λ h. h.held ≡ held_by (edge_of old sites labels lbs hs) h.vrf) (λ h. sym (rebuilt_is (edge_of old sites labels lbs hs) h.vrf)) old;
+        held = all_made (held_anew labels lbs hs (told old)) (λ h. h.held ≡ held_by (edge_of old sites labels lbs hs) h.vrf)
+            (λ h. sym (rebuilt_is (edge_of old sites labels lbs hs) h.vrf)) old;
       }))

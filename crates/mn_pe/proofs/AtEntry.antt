@@ -19,7 +19,8 @@ use Rattle.mn_ledger.specs.Packets.{entry_rules}
 -- the rule on the site, those on the header, and those after them
 header_first : (p q r s : Bool) (rest : List (Option Rule)) →
     first_rule (when false rule.SiteDown ∷ when p rule.NotIpv4 ∷ when q rule.Malformed ∷ when r rule.Truncated ∷ when s rule.BadChecksum ∷ rest)
-    ≡ option_map_or (λ fault. Some (header_rule fault)) (if p then Some bad.NotIpv4 else if q then Some bad.Malformed else if r then Some bad.Truncated else if s then Some bad.BadChecksum else None) (first_rule rest)
+    ≡ option_map_or (λ fault. Some (header_rule fault)) (if p then Some bad.NotIpv4 else if q then Some bad.Malformed else if r then Some bad.Truncated else
+    if s then Some bad.BadChecksum else None) (first_rule rest)
 header_first true q r s rest = refl
 header_first false true r s rest = refl
 header_first false false true s rest = refl
@@ -30,15 +31,18 @@ abbrev pub later_rules : ℕ → ℕ → List (Option Rule)
 later_rules ttl destination = when (nat_lt ttl 2) rule.TtlExpired ∷ when (not (is_unicast destination)) rule.NotUnicast ∷ []
 
 by_header : (label : Option ℕ) (bytes : List ℕ) → is_none label ≡ false →
-    first_rule (entry_rules label bytes) ≡ option_map_or (λ fault. Some (header_rule fault)) (fault_of bytes) (first_rule (later_rules (ttl_of bytes) (destination_of bytes)))
+    first_rule (entry_rules label bytes) ≡ option_map_or (λ fault. Some (header_rule fault)) (fault_of bytes)
+    (first_rule (later_rules (ttl_of bytes) (destination_of bytes)))
 unfolding fault_of
 by_header None bytes e = absurd (let no : true ≡ false → ⊥ = (λ q. cc) in no e)
 by_header (Some label) bytes e = header_first _ _ _ _ (later_rules (ttl_of bytes) (destination_of bytes))
 
 -- a packet with a bad header
-pub bad_header : (label : Option ℕ) (bytes : List ℕ) (fault : Bad) → is_none label ≡ false → Some fault ≡ fault_of bytes → first_rule (entry_rules label bytes) ≡ Some (header_rule fault)
+pub bad_header : (label : Option ℕ) (bytes : List ℕ) (fault : Bad) → is_none label ≡ false → Some fault ≡ fault_of bytes →
+    first_rule (entry_rules label bytes) ≡ Some (header_rule fault)
 bad_header label bytes fault e h =
-    by_header label bytes e ∙ ap (λ found. option_map_or (λ fault. Some (header_rule fault)) found (first_rule (later_rules (ttl_of bytes) (destination_of bytes)))) (sym h)
+    by_header label bytes e ∙ ap (λ found. option_map_or (λ fault. Some (header_rule fault)) found
+    (first_rule (later_rules (ttl_of bytes) (destination_of bytes)))) (sym h)
 
 -- a packet with a good header
 pub good_header : (label : Option ℕ) (bytes : List ℕ) (head : Head) → is_none label ≡ false → None ≡ fault_of bytes → head ≡ head_of bytes
@@ -78,8 +82,10 @@ cut_total bytes h =
 
 pub cut_is_packet : (bytes : List ℕ) → IsTrue (good bytes) → IsTrue (is_packet (take (total_length bytes) bytes))
 cut_is_packet bytes h =
-    let still : good (take (total_length bytes) bytes) ≡ true = good-from_IsGood (take (total_length bytes) bytes) (IsGood-take bytes (IsGood-from_good bytes h)) in
-    let whole : (length (take (total_length bytes) bytes) == total_length (take (total_length bytes) bytes)) ≡ true = eq-eqb _ _ (cut_length bytes h ∙ sym (cut_total bytes h)) in
+    let still : good (take (total_length bytes) bytes) ≡ true =
+    good-from_IsGood (take (total_length bytes) bytes) (IsGood-take bytes (IsGood-from_good bytes h)) in
+    let whole : (length (take (total_length bytes) bytes) == total_length (take (total_length bytes) bytes)) ≡ true =
+    eq-eqb _ _ (cut_length bytes h ∙ sym (cut_total bytes h)) in
     rw (still, whole) refl
 
 -- with one hop less it is the packet one hop older

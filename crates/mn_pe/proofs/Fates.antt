@@ -32,7 +32,9 @@ unfolding held
 placed t c p edge v r i = elim (in_append (own_routes t c edge v) _ r i) [
   | inl j ↦ let m = in_map (held_by edge vpn.Own) (present_with t c v []) r j in subst (λ (x : HeldRoute). IsPlaced edge x.edge x.source) m.2 refl
   | inr j ↦ elim (in_append (near_routes t c edge v) _ r j) [
-    | inl k ↦ let m = in_map (λ (x : Export). held_by edge (vpn.Near x.vrf) x) (imported c v (filter (λ (x : Export). not (x.vrf == v)) (exports_of t c edge))) r k in subst (λ (x : HeldRoute). IsPlaced edge x.edge x.source) m.2 refl
+    | inl k ↦ let m = in_map (λ (x : Export). held_by edge (vpn.Near x.vrf) x)
+        (imported c v (filter (λ (x : Export). not (x.vrf == v)) (exports_of t c edge))) r k in
+        subst (λ (x : HeldRoute). IsPlaced edge x.edge x.source) m.2 refl
     | inr k ↦
         let f = in_flat_map (far_routes t c p edge v) (filter (λ peer. not (peer == edge)) (edges t)) r k in
         let m = in_map (λ (x : Export). held_by f.0 (vpn.Far _ _) x) (imported c v (believed c p edge f.0)) r f.2 in
@@ -41,12 +43,16 @@ placed t c p edge v r i = elim (in_append (own_routes t c edge v) _ r i) [
   ]
 ]
 
-rules_same : (attachment other : Option ℕ) (bytes : List ℕ) → is_none attachment ≡ is_none other → first_rule (entry_rules attachment bytes) ≡ first_rule (entry_rules other bytes)
+rules_same : (attachment other : Option ℕ) (bytes : List ℕ) → is_none attachment ≡ is_none other →
+    first_rule (entry_rules attachment bytes) ≡ first_rule (entry_rules other bytes)
 rules_same attachment other bytes e =
-    ap (λ b. first_rule (when b rule.SiteDown ∷ when (is_not_ipv4 bytes) rule.NotIpv4 ∷ when (is_malformed bytes) rule.Malformed ∷ when (is_truncated bytes) rule.Truncated
-    ∷ when (has_bad_checksum bytes) rule.BadChecksum ∷ when (nat_lt (ttl_of bytes) 2) rule.TtlExpired ∷ when (not (is_unicast (destination_of bytes))) rule.NotUnicast ∷ [])) e
+    ap (λ b. first_rule (when b rule.SiteDown ∷ when (is_not_ipv4 bytes) rule.NotIpv4 ∷ when (is_malformed bytes) rule.Malformed ∷ when
+    (is_truncated bytes) rule.Truncated
+    ∷ when (has_bad_checksum bytes) rule.BadChecksum ∷ when (nat_lt (ttl_of bytes) 2) rule.TtlExpired ∷ when
+    (not (is_unicast (destination_of bytes))) rule.NotUnicast ∷ [])) e
 
-module _ (t : Network) (g : Labelling) (w : World) (edge : Edge) (s : ℕ) (bytes : List ℕ) (stands : StandsAtEntry edge t g w s bytes) (small : (i : ℕ) → slice_index bytes i < 256) where
+module _ (t : Network) (g : Labelling) (w : World) (edge : Edge) (s : ℕ) (bytes : List ℕ) (stands : StandsAtEntry edge t g w s bytes)
+    (small : (i : ℕ) → slice_index bytes i < 256) where
   abbrev home : ℕ
   home = home_of t s
 
@@ -70,7 +76,8 @@ module _ (t : Network) (g : Labelling) (w : World) (edge : Edge) (s : ℕ) (byte
       let fit : IsFit bytes = fits_or_falls t w s bytes small (λ fall. subst IsFall e fall) in
       record { packet = refl; ttl = fit.ttl; alive = omega (arith, fit.alive) }
 
-  over : (r : HeldRoute) → cause ≡ None → found ≡ Some r → (source : vpn.Source) → IsPlaced home r.edge source → IsItsFate t g w s bytes (entered_over bytes (source_of g r source))
+  over : (r : HeldRoute) → cause ≡ None → found ≡ Some r → (source : vpn.Source) → IsPlaced home r.edge source →
+      IsItsFate t g w s bytes (entered_over bytes (source_of g r source))
   over r e f vpn.Own p = let is = stays r e f p in (is, older r.site is)
   over r e f (vpn.Near v) p = let is = stays r e f p in (is, older r.site is)
   over r e f (vpn.Far address rd) p = let is = leaves r e f p in (r, is, refl, record { stack = refl; packet = refl; sound = stands.sound r is })
@@ -78,10 +85,12 @@ module _ (t : Network) (g : Labelling) (w : World) (edge : Edge) (s : ℕ) (byte
   by_cause : (o : Option Rule) → cause ≡ o → (r : Option HeldRoute) → found ≡ r → IsItsFate t g w s bytes (entered_by bytes o (option_map (as_held g) r))
   by_cause (Some c) e r f = ap (fate_of home found) e
   by_cause None e None f = ap (fate_of home found) e ∙ ap (fate_by home) f
-  by_cause None e (Some r) f = over r e f r.source (placed t w.config w.peerings home (vrf_of t s) r (in_contained routes r (best_is routes (destination_of bytes) r f).held))
+  by_cause None e (Some r) f = over r e f r.source (placed t w.config w.peerings home (vrf_of t s) r
+      (in_contained routes r (best_is routes (destination_of bytes) r f).held))
 
   pub is_its_fate : IsItsFate t g w s bytes (entered_at edge s bytes)
   is_its_fate =
       subst (IsItsFate t g w s bytes)
-      (sym (ap (λ o. entered_by bytes o (route_for edge s (destination_of bytes))) (rules_same (label_of edge s) (w.config.attached s) bytes stands.attached) ∙ ap (entered_by bytes cause) stands.route))
+      (sym (ap (λ o. entered_by bytes o (route_for edge s (destination_of bytes))) (rules_same (label_of edge s) (w.config.attached s) bytes stands.attached)
+      ∙ ap (entered_by bytes cause) stands.route))
       (by_cause cause refl found refl)

@@ -1,4 +1,3 @@
-pub mod Mapped
 pub mod Ranges
 pub mod Walks
 pub mod Present

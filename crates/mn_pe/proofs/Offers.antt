@@ -5,8 +5,8 @@ use Rattle.std.specs.List.{flat_map, range_with_len}
 use Rattle.std.proofs.lemmas.Bool.Decides.{eqb_tells, nat_tests}
 use Rattle.std.proofs.lemmas.List.{get_or-set_same, get_or-set_other}
 use Rattle.mn_prefix.specs.Prefix.{AddressBlock}
-use Rattle.mn_base.proofs.Members.{In, in_append, in_front, in_rest, in_map, in_filter, filter_in, in_flat_map}
-use Rattle.mn_pe.proofs.Mapped.{map_in, flat_map_in}
+use Rattle.mn_base.proofs.Bools.{no}
+use Rattle.mn_base.proofs.Members.{In, in_append, in_front, in_rest, in_map, in_filter, filter_in, in_flat_map, map_in, flat_map_in, range_in}
 use Rattle.mn_base.specs.Ordered.{Ascends, with_one, without_one}
 use Rattle.mn_base.proofs.Orders.{first_same, first_neither}
 use Rattle.mn_base.proofs.Places.{fold_ascends}
@@ -19,7 +19,6 @@ use Rattle.mn_vrf.specs.declared.source.Source.{Source}
 use Rattle.mn_pe.specs.Held.{far_over, held_own, held_near, held_far, in_order}
 use Rattle.mn_base.proofs.Kept.{fold_in, in_fold, with_in, in_with_new, in_with, with_is, without_is}
 use Rattle.mn_vrf.proofs.Orders.{route_order}
-use Rattle.mn_pe.proofs.Ranges.{range_in}
 
 Route : Type 0
 Route = AddressBlock × Source
@@ -34,7 +33,8 @@ HasOnePlaces raw = (g h : AddressBlock × Source) → In raw g → In raw h → 
 
 -- 1. One place of a list in order
 
-module _ (raw new : List (AddressBlock × Source)) (x : AddressBlock × Source) (one : HasOnePlaces raw) (one_new : HasOnePlaces new) (there : (z : AddressBlock × Source) → In raw z → AreApart z x → In new z) where
+module _ (raw new : List (AddressBlock × Source)) (x : AddressBlock × Source) (one : HasOnePlaces raw) (one_new : HasOnePlaces new)
+    (there : (z : AddressBlock × Source) → In raw z → AreApart z x → In new z) where
   up : (ys : List (AddressBlock × Source)) → Ascends route_before (in_order ys)
   up ys = fold_ascends route_before [] ys route_order tt
 
@@ -44,9 +44,11 @@ module _ (raw new : List (AddressBlock × Source)) (x : AddressBlock × Source) 
   from : (ys : List (AddressBlock × Source)) (z : AddressBlock × Source) → In (in_order ys) z → In ys z
   from ys z i = elim (fold_in route_before [] ys z i) [ inl n ↦ absurd n | inr j ↦ j ]
 
-  pub comes_in : In new x → ((z : AddressBlock × Source) → In new z → (x ≡ z) ⊎ (In raw z × AreApart z x)) → in_order new ≡ with_one route_before x (in_order raw)
+  pub comes_in : In new x → ((z : AddressBlock × Source) → In new z → (x ≡ z) ⊎ (In raw z × AreApart z x)) →
+      in_order new ≡ with_one route_before x (in_order raw)
   comes_in here only =
-      with_is route_before route_order x (in_order raw) (in_order new) (up raw) (up new) (kept new one_new x here) (λ z i h. kept new one_new z (there z (from raw z i) h))
+      with_is route_before route_order x (in_order raw) (in_order new) (up raw) (up new) (kept new one_new x here)
+      (λ z i h. kept new one_new z (there z (from raw z i) h))
       (λ z i. elim (only z (from new z i)) [ inl e ↦ inl e | inr j ↦ inr (kept raw one z j.0, j.1) ])
 
   pub goes_out : ((z : AddressBlock × Source) → In new z → In raw z × AreApart z x) → in_order new ≡ without_one route_before x (in_order raw)
@@ -70,19 +72,16 @@ set_length (x ∷ xs) (suc at) v = ap suc (set_length xs at v)
 abbrev pub far_of : Edge → ℕ → Heard → AddressBlock × Source
 far_of edge q route = (route.prefix, far_over (slice_index_or edge.loopbacks q 0) route.rd.0 q route.label)
 
-less_itself : (n : ℕ) → nat_lt n n ≡ false
+pub less_itself : (n : ℕ) → nat_lt n n ≡ false
 less_itself n = grind (arith, nat_tests)
 
-neither_less : (m n : ℕ) → (nat_lt m n || nat_lt n m) ≡ false → m ≡ n
+pub neither_less : (m n : ℕ) → (nat_lt m n || nat_lt n m) ≡ false → m ≡ n
 neither_less m n h = grind (arith, nat_tests, h)
 
 -- places of heard routes, and of held ones
 pub place_apart : (edge : Edge) (q : ℕ) (g h : Heard) → AreApart (far_of edge q g) (far_of edge q h) → (heard_before g h || heard_before h g) ≡ true
 place_apart edge q g h apart = go (heard_before g h || heard_before h g) refl
   where
-    no : false ≡ true → ⊥
-    no e = cc
-
     go : (b : Bool) → (heard_before g h || heard_before h g) ≡ b → (heard_before g h || heard_before h g) ≡ true
     go true e = e
     go false e =
@@ -90,8 +89,12 @@ place_apart edge q g h apart = go (heard_before g h || heard_before h g) refl
         let k = first_neither g.prefix.address h.prefix.address _ _ n.1 in
         let length_same : g.prefix.length ≡ h.prefix.length = neither_less g.prefix.length h.prefix.length k.1 in
         let address : ℕ = slice_index_or edge.loopbacks q 0 in
-        let forth : route_before (far_of edge q g) (far_of edge q h) ≡ false = first_same g.prefix.address h.prefix.address _ k.0 ∙ first_same g.prefix.length h.prefix.length _ length_same ∙ first_same address address _ refl ∙ ap (λ m. nat_lt m h.rd.0) n.0 ∙ less_itself h.rd.0 in
-        let back : route_before (far_of edge q h) (far_of edge q g) ≡ false = first_same h.prefix.address g.prefix.address _ (sym k.0) ∙ first_same h.prefix.length g.prefix.length _ (sym length_same) ∙ first_same address address _ refl ∙ ap (λ m. nat_lt h.rd.0 m) n.0 ∙ less_itself h.rd.0 in
+        let forth : route_before (far_of edge q g) (far_of edge q h) ≡ false = first_same g.prefix.address h.prefix.address _ k.0
+        ∙ first_same g.prefix.length h.prefix.length _ length_same ∙ first_same address address _ refl ∙ ap (λ m. nat_lt m h.rd.0) n.0
+        ∙ less_itself h.rd.0 in
+        let back : route_before (far_of edge q h) (far_of edge q g) ≡ false = first_same h.prefix.address g.prefix.address _ (sym k.0)
+        ∙ first_same h.prefix.length g.prefix.length _ (sym length_same) ∙ first_same address address _ refl ∙ ap (λ m. nat_lt h.rd.0 m) n.0
+        ∙ less_itself h.rd.0 in
         absurd (no (sym (ap (λ b. b || route_before (far_of edge q h) (far_of edge q g)) forth ∙ back) ∙ apart))
 
 module _ (edge : Edge) (vrf : VrfState) (q : ℕ) (below : q < length edge.heard) where
@@ -117,7 +120,9 @@ module _ (edge : Edge) (vrf : VrfState) (q : ℕ) (below : q < length edge.heard
   this_peer heard = ap (λ hs. map (far_of edge q) (filter (λ route. meet route.targets vrf.imports) hs)) (own_now heard)
 
   -- what is held of other peers, or is the edge's own, stays
-  pub moved : (old new : List Heard) (z : AddressBlock × Source) → (In (map (far_of edge q) (filter (λ route. meet route.targets vrf.imports) old)) z → In (map (far_of edge q) (filter (λ route. meet route.targets vrf.imports) new)) z) → In (raw_of (with_peer old)) z → In (raw_of (with_peer new)) z
+  pub moved : (old new : List Heard) (z : AddressBlock × Source) →
+      (In (map (far_of edge q) (filter (λ route. meet route.targets vrf.imports) old)) z →
+      In (map (far_of edge q) (filter (λ route. meet route.targets vrf.imports) new)) z) → In (raw_of (with_peer old)) z → In (raw_of (with_peer new)) z
   unfolding raw_of
   moved old new z step i = elim (in_append (held_own edge vrf) _ z i) [
     | inl j ↦ in_front (held_own edge vrf) _ z j
@@ -125,10 +130,13 @@ module _ (edge : Edge) (vrf : VrfState) (q : ℕ) (below : q < length edge.heard
       | inl k ↦ in_front (held_near edge vrf) _ z k
       | inr k ↦ in_rest (held_near edge vrf) _ z (
           let m = in_flat_map (held_far (with_peer old) vrf) (range_with_len 0 (length (slice_set edge.heard q old))) z k in
-          let range : In (range_with_len 0 (length (slice_set edge.heard q new))) m.0 = subst (λ n. In (range_with_len 0 n) m.0) (set_length edge.heard q old ∙ sym (set_length edge.heard q new)) m.1 in
+          let range : In (range_with_len 0 (length (slice_set edge.heard q new))) m.0 =
+          subst (λ n. In (range_with_len 0 n) m.0) (set_length edge.heard q old ∙ sym (set_length edge.heard q new)) m.1 in
           flat_map_in (held_far (with_peer new) vrf) (range_with_len 0 (length (slice_set edge.heard q new))) m.0 z range
           (elim (eqb_tells m.0 q) [
-            | inl e ↦ subst (λ n. In (held_far (with_peer new) vrf n) z) (sym e.1) (subst (λ xs. In xs z) (sym (this_peer new)) (step (subst (λ xs. In xs z) (this_peer old) (subst (λ n. In (held_far (with_peer old) vrf n) z) e.1 m.2))))
+            | inl e ↦ subst (λ n. In (held_far (with_peer new) vrf n) z) (sym e.1)
+                (subst (λ xs. In xs z) (sym (this_peer new))
+                (step (subst (λ xs. In xs z) (this_peer old) (subst (λ n. In (held_far (with_peer old) vrf n) z) e.1 m.2))))
             | inr e ↦ subst (λ xs. In xs z) (other_peer old m.0 e.1 ∙ sym (other_peer new m.0 e.1)) m.2
           ]))
     ])
@@ -139,11 +147,16 @@ module _ (edge : Edge) (vrf : VrfState) (q : ℕ) (below : q < length edge.heard
   unfolding raw_of
   peers_route heard r i meets =
       in_rest (held_own edge vrf) _ (far_of edge q r) (in_rest (held_near edge vrf) _ (far_of edge q r)
-      (flat_map_in (held_far (with_peer heard) vrf) (range_with_len 0 (length (slice_set edge.heard q heard))) q (far_of edge q r) (subst (λ n. In (range_with_len 0 n) q) (sym (set_length edge.heard q heard)) (range_in 0 (length edge.heard) q (omega arith) (omega (arith, below))))
-      (subst (λ xs. In xs (far_of edge q r)) (sym (this_peer heard)) (map_in (far_of edge q) (filter (λ route. meet route.targets vrf.imports) heard) r (filter_in (λ route. meet route.targets vrf.imports) heard r i meets)))))
+      (flat_map_in (held_far (with_peer heard) vrf) (range_with_len 0 (length (slice_set edge.heard q heard))) q (far_of edge q r)
+      (subst (λ n. In (range_with_len 0 n) q) (sym (set_length edge.heard q heard))
+      (range_in 0 (length edge.heard) q (omega arith) (omega (arith, below))))
+      (subst (λ xs. In xs (far_of edge q r)) (sym (this_peer heard))
+      (map_in (far_of edge q) (filter (λ route. meet route.targets vrf.imports) heard) r
+      (filter_in (λ route. meet route.targets vrf.imports) heard r i meets)))))
 
   -- a route is announced that the VRF imports: it takes its place
-  pub offered : (heard : List Heard) (r : Heard) → meet r.targets vrf.imports ≡ true → HasOnePlaces (raw_of (with_peer heard)) → HasOnePlaces (raw_of (with_peer (with_heard r heard)))
+  pub offered : (heard : List Heard) (r : Heard) → meet r.targets vrf.imports ≡ true → HasOnePlaces (raw_of (with_peer heard)) →
+      HasOnePlaces (raw_of (with_peer (with_heard r heard)))
       → in_order (raw_of (with_peer (with_heard r heard))) ≡ with_one route_before (far_of edge q r) (in_order (raw_of (with_peer heard)))
   offered heard r meets one one_new =
       comes_in (raw_of (with_peer heard)) (raw_of (with_peer (with_heard r heard))) (far_of edge q r) one one_new
@@ -152,7 +165,8 @@ module _ (edge : Edge) (vrf : VrfState) (q : ℕ) (below : q < length edge.heard
       let f = in_filter (λ route. meet route.targets vrf.imports) heard m.0 m.1 in
       subst (In (map (far_of edge q) (filter (λ route. meet route.targets vrf.imports) (with_heard r heard)))) m.2
       (map_in (far_of edge q) (filter (λ route. meet route.targets vrf.imports) (with_heard r heard)) m.0
-      (filter_in (λ route. meet route.targets vrf.imports) (with_heard r heard) m.0 (in_with heard_before r heard m.0 f.0 (place_apart edge q m.0 r (subst (λ w. AreApart w (far_of edge q r)) (sym m.2) h))) f.1))) i)
+      (filter_in (λ route. meet route.targets vrf.imports) (with_heard r heard) m.0
+      (in_with heard_before r heard m.0 f.0 (place_apart edge q m.0 r (subst (λ w. AreApart w (far_of edge q r)) (sym m.2) h))) f.1))) i)
       (peers_route (with_heard r heard) r (in_with_new heard_before r heard) meets)
       (λ z i. elim (one_new z (far_of edge q r) i (peers_route (with_heard r heard) r (in_with_new heard_before r heard) meets)) [
         | inr e ↦ inl e
@@ -161,7 +175,9 @@ module _ (edge : Edge) (vrf : VrfState) (q : ℕ) (below : q < length edge.heard
               let m = in_map (far_of edge q) (filter (λ route. meet route.targets vrf.imports) (with_heard r heard)) z j in
               let f = in_filter (λ route. meet route.targets vrf.imports) (with_heard r heard) m.0 m.1 in
               elim (with_in heard_before r heard m.0 f.0) [
-                | inr k ↦ subst (In (map (far_of edge q) (filter (λ route. meet route.targets vrf.imports) heard))) m.2 (map_in (far_of edge q) (filter (λ route. meet route.targets vrf.imports) heard) m.0 (filter_in (λ route. meet route.targets vrf.imports) heard m.0 k.0 f.1))
+                | inr k ↦ subst (In (map (far_of edge q) (filter (λ route. meet route.targets vrf.imports) heard))) m.2
+                    (map_in (far_of edge q) (filter (λ route. meet route.targets vrf.imports) heard) m.0
+                    (filter_in (λ route. meet route.targets vrf.imports) heard m.0 k.0 f.1))
                 | inl e ↦ absurd (never (far_of edge q r) (subst (λ w. AreApart w (far_of edge q r)) (sym m.2 ∙ ap (far_of edge q) (sym e)) h))
               ]) i,
           h,

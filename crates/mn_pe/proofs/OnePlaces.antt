@@ -4,11 +4,12 @@ use Rattle.std.specs.Prelude.{◌==◌, ◌||◌, ◌&&◌, not, nat_lt, slice_i
 use Rattle.std.specs.List.{flat_map, range_with_len, AllByRecursion}
 use Rattle.std.proofs.lemmas.Bool.Decides.{eqb_tells, nat_tests}
 use Rattle.mn_base.specs.declared.numbers.Rt.{Rt}
-use Rattle.mn_prefix.specs.Prefix.{AddressBlock}
+use Rattle.mn_prefix.specs.Prefix.{AddressBlock, prefix_before}
+use Rattle.mn_base.proofs.Bools.{no, or_left, or_right}
 use Rattle.mn_base.proofs.Members.{In, in_append, in_map, in_filter, in_flat_map, in_range}
 use Rattle.mn_base.specs.Ordered.{Ascends, first_by}
 use Rattle.mn_base.proofs.Orders.{first_neither}
-use Rattle.mn_rib_in.specs.Heard.{Heard, heard_before, prefix_before}
+use Rattle.mn_rib_in.specs.Heard.{Heard, heard_before}
 use Rattle.mn_vrf.specs.Vrf.{Static, VrfState, static_before}
 use Rattle.mn_pe.specs.Edge.{Edge, heard_of_peer}
 use Rattle.mn_targets.specs.Targets.{meet}
@@ -19,9 +20,6 @@ use Rattle.mn_pe.proofs.Present.{export_before, present_ascends}
 use Rattle.mn_pe.proofs.Offers.{AreApart, HasOnePlaces, far_of}
 use Rattle.mn_pe.proofs.Retracts.{by_sources, by_addresses, by_places}
 
-no : false ≡ true → ⊥
-no e = cc
-
 -- what the edge keeps
 pub record IsKept (edge : Edge) : Type 0 where
   pub statics : (vrf : VrfState) → In edge.vrfs vrf → Ascends static_before vrf.statics
@@ -29,16 +27,9 @@ pub record IsKept (edge : Edge) : Type 0 where
   pub heard : (k : ℕ) → Ascends heard_before (heard_of_peer edge k)
   pub loopbacks : (j k : ℕ) → j ≢ k → j < length edge.heard → k < length edge.heard → slice_index_or edge.loopbacks j 0 ≢ slice_index_or edge.loopbacks k 0
 
-all_in : {A : Type 0} (P : A → Type 0) (xs : List A) (x : A) → AllByRecursion P xs → In xs x → P x
+pub all_in : {A : Type 0} (P : A → Type 0) (xs : List A) (x : A) → AllByRecursion P xs → In xs x → P x
 all_in P [] x h i = absurd i
 all_in P (y ∷ ys) x h i = elim i [ inl e ↦ subst P e h.0 | inr j ↦ all_in P ys x h.1 j ]
-
-or_left : (a b : Bool) → a ≡ true → (a || b) ≡ true
-or_left a b h = ap (λ c. c || b) h
-
-or_right : (a b : Bool) → b ≡ true → (a || b) ≡ true
-or_right true b h = refl
-or_right false b h = h
 
 one_of : {A : Type 0} (before : A → A → Bool) (xs : List A) (x y : A) → Ascends before xs → In xs x → In xs y → ((before x y || before y x) ≡ true) ⊎ (y ≡ x)
 one_of before [] x y up i j = absurd i
@@ -56,7 +47,8 @@ one_of before (z ∷ zs) x y up i j = elim i [
 by_prefixes : (p q : AddressBlock) (s r : Source) → (prefix_before p q || prefix_before q p) ≡ true → AreApart (p, s) (q, r)
 by_prefixes p q s r apart = go (route_before (p, s) (q, r) || route_before (q, r) (p, s)) refl
   where
-    equal : (m n : ℕ) → m ≡ n → (first_by p.address q.address (nat_lt p.length q.length) || first_by q.address p.address (nat_lt q.length p.length)) ≡ true → p.address ≡ q.address → p.length ≡ q.length → ⊥
+    equal : (m n : ℕ) → m ≡ n → (first_by p.address q.address (nat_lt p.length q.length) || first_by q.address p.address (nat_lt q.length p.length)) ≡ true →
+        p.address ≡ q.address → p.length ≡ q.length → ⊥
     equal m n e h f g = no (sym (same p.address q.address p.length q.length f g) ∙ h)
       where
         same : (a b x y : ℕ) → a ≡ b → x ≡ y → (first_by a b (nat_lt x y) || first_by b a (nat_lt y x)) ≡ false
@@ -76,10 +68,12 @@ two_vrfs v w s r p q d = by_sources (p, near_over v s) (q, near_over w r) (diffe
     differ v w d = grind (arith, nat_tests, d)
 
 module _ (edge : Edge) (vrf : VrfState) (k : IsKept edge) (there : In edge.vrfs vrf) where
-  one_present : (u : VrfState) (ts : List Rt) (x y : Exported) → In edge.vrfs u → In (present_with edge u ts) x → In (present_with edge u ts) y → ((export_before x y || export_before y x) ≡ true) ⊎ (y ≡ x)
+  one_present : (u : VrfState) (ts : List Rt) (x y : Exported) → In edge.vrfs u → In (present_with edge u ts) x → In (present_with edge u ts) y →
+      ((export_before x y || export_before y x) ≡ true) ⊎ (y ≡ x)
   one_present u ts x y at i j = one_of export_before (present_with edge u ts) x y (present_ascends edge u ts u.statics (k.statics u at)) i j
 
-  one_exported : (u : VrfState) (ts : List Rt) (x y : Exported) → In edge.vrfs u → In (exports_with edge u ts) x → In (exports_with edge u ts) y → ((export_before x y || export_before y x) ≡ true) ⊎ (y ≡ x)
+  one_exported : (u : VrfState) (ts : List Rt) (x y : Exported) → In edge.vrfs u → In (exports_with edge u ts) x → In (exports_with edge u ts) y →
+      ((export_before x y || export_before y x) ≡ true) ⊎ (y ≡ x)
   one_exported u [] x y at i j = absurd i
   one_exported u (target ∷ ts) x y at i j = one_present u (target ∷ ts) x y at i j
 
@@ -124,7 +118,8 @@ module _ (edge : Edge) (vrf : VrfState) (k : IsKept edge) (there : In edge.vrfs 
     | inl j ↦ inl (in_map (λ (x : Exported). (x.prefix, own_over x.site)) (present_with edge vrf []) g j)
     | inr j ↦ inr (elim (in_append (held_near edge vrf) _ g j) [
       | inl n ↦
-          let m = in_map (λ (x : Exported). (x.prefix, near_over x.vrf x.site)) (filter (λ (x : Exported). not (x.vrf == vrf.number) && meet x.targets vrf.imports) (exports_of edge)) g n in
+          let m = in_map (λ (x : Exported). (x.prefix, near_over x.vrf x.site))
+          (filter (λ (x : Exported). not (x.vrf == vrf.number) && meet x.targets vrf.imports) (exports_of edge)) g n in
           inl (m.0, (in_filter (λ (x : Exported). not (x.vrf == vrf.number) && meet x.targets vrf.imports) (exports_of edge) m.0 m.1).0, m.2)
       | inr n ↦
           let f = in_flat_map (held_far edge vrf) (range_with_len 0 (length edge.heard)) g n in
@@ -139,34 +134,46 @@ module _ (edge : Edge) (vrf : VrfState) (k : IsKept edge) (there : In edge.vrfs 
   one_places g h i j = elim (kinds g i) [
     | inl a ↦ elim (kinds h j) [
       | inl b ↦ elim (one_present vrf [] a.0 b.0 there a.1 b.1) [
-        | inl e ↦ inl (subst (λ z. AreApart z h) a.2 (subst (AreApart (a.0.prefix, own_over a.0.site)) b.2 (by_prefixes a.0.prefix b.0.prefix (own_over a.0.site) (own_over b.0.site) e)))
+        | inl e ↦ inl (subst (λ z. AreApart z h) a.2 (subst (AreApart (a.0.prefix, own_over a.0.site)) b.2
+            (by_prefixes a.0.prefix b.0.prefix (own_over a.0.site) (own_over b.0.site) e)))
         | inr e ↦ inr (sym b.2 ∙ ap (λ (x : Exported). (x.prefix, own_over x.site)) e ∙ a.2)
       ]
       | inr q ↦ elim q [
-        | inl b ↦ inl (subst (λ z. AreApart z h) a.2 (subst (AreApart (a.0.prefix, own_over a.0.site)) b.2 (by_sources (a.0.prefix, own_over a.0.site) (b.0.prefix, near_over b.0.vrf b.0.site) refl)))
-        | inr b ↦ inl (subst (λ z. AreApart z h) a.2 (subst (AreApart (a.0.prefix, own_over a.0.site)) b.4 (by_sources (a.0.prefix, own_over a.0.site) (far_of edge b.0 b.2) refl)))
+        | inl b ↦ inl (subst (λ z. AreApart z h) a.2 (subst (AreApart (a.0.prefix, own_over a.0.site)) b.2
+            (by_sources (a.0.prefix, own_over a.0.site) (b.0.prefix, near_over b.0.vrf b.0.site) refl)))
+        | inr b ↦ inl (subst (λ z. AreApart z h) a.2 (subst (AreApart (a.0.prefix, own_over a.0.site)) b.4
+            (by_sources (a.0.prefix, own_over a.0.site) (far_of edge b.0 b.2) refl)))
       ]
     ]
     | inr p ↦ elim p [
       | inl a ↦ elim (kinds h j) [
-        | inl b ↦ inl (subst (λ z. AreApart z h) a.2 (subst (AreApart (a.0.prefix, near_over a.0.vrf a.0.site)) b.2 (by_sources (a.0.prefix, near_over a.0.vrf a.0.site) (b.0.prefix, own_over b.0.site) refl)))
+        | inl b ↦ inl (subst (λ z. AreApart z h) a.2 (subst (AreApart (a.0.prefix, near_over a.0.vrf a.0.site)) b.2
+            (by_sources (a.0.prefix, near_over a.0.vrf a.0.site) (b.0.prefix, own_over b.0.site) refl)))
         | inr q ↦ elim q [
           | inl b ↦ elim (eqb_tells a.0.vrf b.0.vrf) [
             | inl same ↦ elim (one_export a.0 b.0 a.1 b.1 same.1) [
-              | inl e ↦ inl (subst (λ z. AreApart z h) a.2 (subst (AreApart (a.0.prefix, near_over a.0.vrf a.0.site)) b.2 (by_prefixes a.0.prefix b.0.prefix (near_over a.0.vrf a.0.site) (near_over b.0.vrf b.0.site) e)))
+              | inl e ↦ inl (subst (λ z. AreApart z h) a.2 (subst (AreApart (a.0.prefix, near_over a.0.vrf a.0.site)) b.2
+                  (by_prefixes a.0.prefix b.0.prefix (near_over a.0.vrf a.0.site) (near_over b.0.vrf b.0.site) e)))
               | inr e ↦ inr (sym b.2 ∙ ap (λ (x : Exported). (x.prefix, near_over x.vrf x.site)) e ∙ a.2)
             ]
-            | inr d ↦ inl (subst (λ z. AreApart z h) a.2 (subst (AreApart (a.0.prefix, near_over a.0.vrf a.0.site)) b.2 (two_vrfs a.0.vrf b.0.vrf a.0.site b.0.site a.0.prefix b.0.prefix d.1)))
+            | inr d ↦ inl (subst (λ z. AreApart z h) a.2 (subst (AreApart (a.0.prefix, near_over a.0.vrf a.0.site)) b.2
+                (two_vrfs a.0.vrf b.0.vrf a.0.site b.0.site a.0.prefix b.0.prefix d.1)))
           ]
-          | inr b ↦ inl (subst (λ z. AreApart z h) a.2 (subst (AreApart (a.0.prefix, near_over a.0.vrf a.0.site)) b.4 (by_sources (a.0.prefix, near_over a.0.vrf a.0.site) (far_of edge b.0 b.2) refl)))
+          | inr b ↦ inl (subst (λ z. AreApart z h) a.2 (subst (AreApart (a.0.prefix, near_over a.0.vrf a.0.site)) b.4
+              (by_sources (a.0.prefix, near_over a.0.vrf a.0.site) (far_of edge b.0 b.2) refl)))
         ]
       ]
       | inr a ↦ elim (kinds h j) [
-        | inl b ↦ inl (subst (λ z. AreApart z h) a.4 (subst (AreApart (far_of edge a.0 a.2)) b.2 (by_sources (far_of edge a.0 a.2) (b.0.prefix, own_over b.0.site) refl)))
+        | inl b ↦ inl (subst (λ z. AreApart z h) a.4 (subst (AreApart (far_of edge a.0 a.2)) b.2
+            (by_sources (far_of edge a.0 a.2) (b.0.prefix, own_over b.0.site) refl)))
         | inr q ↦ elim q [
-          | inl b ↦ inl (subst (λ z. AreApart z h) a.4 (subst (AreApart (far_of edge a.0 a.2)) b.2 (by_sources (far_of edge a.0 a.2) (b.0.prefix, near_over b.0.vrf b.0.site) refl)))
+          | inl b ↦ inl (subst (λ z. AreApart z h) a.4 (subst (AreApart (far_of edge a.0 a.2)) b.2
+              (by_sources (far_of edge a.0 a.2) (b.0.prefix, near_over b.0.vrf b.0.site) refl)))
           | inr b ↦ elim (eqb_tells a.0 b.0) [
-            | inr d ↦ inl (subst (λ z. AreApart z h) a.4 (subst (AreApart (far_of edge a.0 a.2)) b.4 (by_sources (far_of edge a.0 a.2) (far_of edge b.0 b.2) (by_addresses (slice_index_or edge.loopbacks a.0 0) (slice_index_or edge.loopbacks b.0 0) a.2.rd.0 b.2.rd.0 (k.loopbacks a.0 b.0 d.1 a.1 b.1)))))
+            | inr d ↦ inl (subst (λ z. AreApart z h) a.4 (subst (AreApart (far_of edge a.0 a.2)) b.4
+                (by_sources (far_of edge a.0 a.2) (far_of edge b.0 b.2)
+                (by_addresses (slice_index_or edge.loopbacks a.0 0) (slice_index_or edge.loopbacks b.0 0) a.2.rd.0 b.2.rd.0
+                (k.loopbacks a.0 b.0 d.1 a.1 b.1)))))
             | inl same ↦
                 let here : In (heard_of_peer edge a.0) b.2 = subst (λ n. In (heard_of_peer edge n) b.2) (sym same.1) b.3 in
                 let is : far_of edge a.0 b.2 ≡ h = ap (λ n. far_of edge n b.2) same.1 ∙ b.4 in

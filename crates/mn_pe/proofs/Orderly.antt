@@ -7,7 +7,8 @@ use Rattle.mn_vrf.specs.Vrf.{VrfState, static_before}
 use Rattle.mn_pe.specs.Edge.{Edge, after_vrf}
 use Rattle.mn_pe.specs.Pe.{InOrder, by_number}
 
-module _ (v : ℕ) (f : VrfState → VrfState) (keeps : (u : VrfState) → Ascends static_before u.statics → Ascends static_before (f u).statics) (stays : (u : VrfState) → (f u).number ≡ u.number) where
+module _ (v : ℕ) (f : VrfState → VrfState) (keeps : (u : VrfState) → Ascends static_before u.statics → Ascends static_before (f u).statics)
+    (stays : (u : VrfState) → (f u).number ≡ u.number) where
   g : VrfState → VrfState
   g vrf = cond (vrf.number == v) (f vrf) vrf
 
@@ -27,15 +28,18 @@ module _ (v : ℕ) (f : VrfState → VrfState) (keeps : (u : VrfState) → Ascen
       split true = stays u
       split false = λ i. u.number
 
-  all_keep : (us : List VrfState) → AllByRecursion (λ (vrf : VrfState). Ascends static_before vrf.statics) us → AllByRecursion (λ (vrf : VrfState). Ascends static_before vrf.statics) (map g us)
+  all_keep : (us : List VrfState) → AllByRecursion (λ (vrf : VrfState). Ascends static_before vrf.statics) us →
+      AllByRecursion (λ (vrf : VrfState). Ascends static_before vrf.statics) (map g us)
   all_keep [] all = tt
   all_keep (u ∷ us) all = (g_keeps u all.0, all_keep us all.1)
 
-  behind : (n : ℕ) (us : List VrfState) → AllByRecursion (λ (w : VrfState). nat_lt n w.number ≡ true) us → AllByRecursion (λ (w : VrfState). nat_lt n w.number ≡ true) (map g us)
+  behind : (n : ℕ) (us : List VrfState) → AllByRecursion (λ (w : VrfState). nat_lt n w.number ≡ true) us →
+      AllByRecursion (λ (w : VrfState). nat_lt n w.number ≡ true) (map g us)
   behind n [] all = tt
   behind n (u ∷ us) all = (ap (nat_lt n) (g_stays u) ∙ all.0, behind n us all.1)
 
-  first_same : (u : VrfState) (us : List VrfState) → AllByRecursion (λ (w : VrfState). nat_lt u.number w.number ≡ true) us → AllByRecursion (λ (w : VrfState). nat_lt (g u).number w.number ≡ true) us
+  first_same : (u : VrfState) (us : List VrfState) → AllByRecursion (λ (w : VrfState). nat_lt u.number w.number ≡ true) us →
+      AllByRecursion (λ (w : VrfState). nat_lt (g u).number w.number ≡ true) us
   first_same u [] all = tt
   first_same u (w ∷ us) all = (ap (λ n. nat_lt n w.number) (g_stays u) ∙ all.0, first_same u us all.1)
 

@@ -38,7 +38,8 @@ all_index P (h ∷ hs) all (suc k) d lt = all_index P hs all.1 k d (omega (arith
 -- those behind a VRF have other numbers
 others : (v : ℕ) (h : Holding) (hs : List Holding) → Ascends by_number (told (h ∷ hs)) → h.vrf.number ≡ v → IsAbsent v hs
 others v h hs up e k d lt same =
-    let less : h.vrf.number < (slice_index_or hs k d).vrf.number = less_tells h.vrf.number (slice_index_or hs k d).vrf.number (all_index (λ w. by_number h.vrf w ≡ true) hs up.0 k d lt) in
+    let less : h.vrf.number < (slice_index_or hs k d).vrf.number =
+    less_tells h.vrf.number (slice_index_or hs k d).vrf.number (all_index (λ w. by_number h.vrf w ≡ true) hs up.0 k d lt) in
     omega (arith, less, e, same)
 
 tail_at : (v : ℕ) (h : Holding) (hs : List Holding) (at : ℕ) → IsAt v (h ∷ hs) (suc at) → IsAt v hs at
@@ -47,11 +48,13 @@ tail_at v h hs at is = record { there = let lt = is.there in omega (arith, lt); 
 -- those before it too
 not_first : (v : ℕ) (h : Holding) (hs : List Holding) (at : ℕ) → Ascends by_number (told (h ∷ hs)) → IsAt v hs at → h.vrf.number ≢ v
 not_first v h hs at up is e =
-    let less : h.vrf.number < (slice_index_or hs at h).vrf.number = less_tells h.vrf.number (slice_index_or hs at h).vrf.number (all_index (λ w. by_number h.vrf w ≡ true) hs up.0 at h is.there) in
+    let less : h.vrf.number < (slice_index_or hs at h).vrf.number =
+    less_tells h.vrf.number (slice_index_or hs at h).vrf.number (all_index (λ w. by_number h.vrf w ≡ true) hs up.0 at h is.there) in
     let same : (slice_index_or hs at h).vrf.number ≡ v = is.is h in
     omega (arith, less, e, same)
 
-pub changed_at : (v : ℕ) (f : VrfState → VrfState) (hs : List Holding) (at : ℕ) (one new : Holding) → Ascends by_number (told hs) → IsAt v hs at → one ≡ slice_index_or hs at one → new.vrf ≡ f one.vrf → told (slice_set hs at new) ≡ on_vrf v f (told hs)
+pub changed_at : (v : ℕ) (f : VrfState → VrfState) (hs : List Holding) (at : ℕ) (one new : Holding) → Ascends by_number (told hs) → IsAt v hs at →
+    one ≡ slice_index_or hs at one → new.vrf ≡ f one.vrf → told (slice_set hs at new) ≡ on_vrf v f (told hs)
 changed_at v f [] at one new up is one_is e = absurd (none_below at is.there)
 changed_at v f (h ∷ hs) zero one new up is one_is e =
     ap (λ w. w ∷ told hs) (e ∙ ap (λ (x : Holding). f x.vrf) one_is)
@@ -61,7 +64,8 @@ changed_at v f (h ∷ hs) (suc at) one new up is one_is e =
     ap (λ vs. h.vrf ∷ vs) (changed_at v f hs at one new up.1 (tail_at v h hs at is) one_is e)
     ∙ ap (λ b. cond b (f h.vrf) h.vrf ∷ on_vrf v f (told hs)) (sym (other_test h.vrf.number v (not_first v h hs at up (tail_at v h hs at is))))
 
-pub found_at : {A : Type 0} (v : ℕ) (g : VrfState → Option A) (hs : List Holding) (at : ℕ) (one : Holding) → Ascends by_number (told hs) → IsAt v hs at → one ≡ slice_index_or hs at one → found_in v g (told hs) ≡ g one.vrf
+pub found_at : {A : Type 0} (v : ℕ) (g : VrfState → Option A) (hs : List Holding) (at : ℕ) (one : Holding) → Ascends by_number (told hs) → IsAt v hs at →
+    one ≡ slice_index_or hs at one → found_in v g (told hs) ≡ g one.vrf
 found_at v g [] at one up is one_is = absurd (none_below at is.there)
 found_at v g (h ∷ hs) zero one up is one_is =
     ap (λ b. if b then g h.vrf else found_in v g (told hs)) (test_same h.vrf.number v (is.is h)) ∙ sym (ap (λ (x : Holding). g x.vrf) one_is)

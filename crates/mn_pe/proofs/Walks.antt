@@ -12,13 +12,15 @@ set_beyond (x ∷ xs) zero v h = absurd (none (length xs) (omega (arith, h)))
 set_beyond (x ∷ xs) (suc at) v h = ap (λ ys. x ∷ ys) (set_beyond xs at v (omega (arith, h)))
 
 module _ {A : Type 0} (f : A → A) where
-  after : (xs : List A) (i : ℕ) (d : A) → i < length xs → slice_set (map f (take i xs) ++ drop i xs) i (f (slice_index_or (map f (take i xs) ++ drop i xs) i d)) ≡ map f (take (suc i) xs) ++ drop (suc i) xs
+  after : (xs : List A) (i : ℕ) (d : A) → i < length xs → slice_set (map f (take i xs) ++ drop i xs) i
+      (f (slice_index_or (map f (take i xs) ++ drop i xs) i d)) ≡ map f (take (suc i) xs) ++ drop (suc i) xs
   after [] i d h = absurd (none i h)
   after (x ∷ xs) zero d h = refl
   after (x ∷ xs) (suc i) d h = ap (λ ys. f x ∷ ys) (after xs i d (omega (arith, h)))
 
   -- one more is changed
-  pub next : (xs : List A) (i : ℕ) (d : A) → i < length xs → slice_set (map f (take i xs) ++ drop i xs) i (f (slice_index_or (map f (take i xs) ++ drop i xs) i d)) ≡ map f (take (i + 1) xs) ++ drop (i + 1) xs
+  pub next : (xs : List A) (i : ℕ) (d : A) → i < length xs →
+      slice_set (map f (take i xs) ++ drop i xs) i (f (slice_index_or (map f (take i xs) ++ drop i xs) i d)) ≡ map f (take (i + 1) xs) ++ drop (i + 1) xs
   next xs i d h = after xs i d h ∙ ap (λ j. map f (take j xs) ++ drop j xs) (one_more i)
     where
       one_more : (i : ℕ) → suc i ≡ i + 1

@@ -23,5 +23,10 @@ returns c =
     c.set_ip_ttl.ensures.packet
     ∙ ap (λ (f : Labelled). let g : Labelled = record f { packet = with_ttl f.packet (c.args.head.now.ttl - 1) } in g) c.in_ok-frame.ensures
     ∙ ap (λ n. let g : Labelled = record { entries = []; packet = with_ttl (take n c.args.packet.now) (c.args.head.now.ttl - 1); room = 2 } in g) total
-    ∙ ap (λ (x : Head). let g : Labelled = record { entries = []; packet = with_ttl (take (total_length c.args.packet.now) c.args.packet.now) (x.ttl - 1); room = 2 } in g) c.requires.fields
+    ∙ ap (λ (x : Head). let g : Labelled = record {
+      entries = [];
+      packet =
+          with_ttl (take (total_length c.args.packet.now) c.args.packet.now) (x.ttl - 1);
+      room = 2;
+    } in g) c.requires.fields
     ∙ ap (λ packet. let g : Labelled = record { entries = []; packet = packet; room = 2 } in g) (cut_aged c.args.packet.now)

@@ -7,5 +7,6 @@ use Rattle.mn_pe.proofs.hearing.hear_reached.Given as goal
 abbrev pub invariant-loop-route : goal.invariant-loop-route
 invariant-loop-route l = record {
   heard : after_reached l.targets l.heard (drop l.route-index l.routes) ≡ after_reached l.targets l.fn.heard l.routes;
-  vrfs : after_taking l.loopback l.peer.0 l.targets l.vrfs.items (drop l.route-index l.routes) ≡ after_taking l.loopback l.peer.0 l.targets l.fn.vrfs.items l.routes;
+  vrfs : after_taking l.loopback l.peer.0 l.targets l.vrfs.items
+      (drop l.route-index l.routes) ≡ after_taking l.loopback l.peer.0 l.targets l.fn.vrfs.items l.routes;
 }

@@ -6,4 +6,5 @@ use Rattle.mn_pe.proofs.look.lookup_in.Given as goal
 
 -- it is none of those so far
 abbrev pub invariant-loop-vrf : goal.invariant-loop-vrf
-invariant-loop-vrf l = numbered l.number.0 (λ (holding : Holding). longest_match l.address holding.held) (drop l.vrf-index l.vrfs) ≡ numbered l.number.0 (λ (holding : Holding). longest_match l.address holding.held) l.vrfs
+invariant-loop-vrf l = numbered l.number.0 (λ (holding : Holding). longest_match l.address holding.held) (drop l.vrf-index l.vrfs) ≡ numbered l.number.0
+    (λ (holding : Holding). longest_match l.address holding.held) l.vrfs

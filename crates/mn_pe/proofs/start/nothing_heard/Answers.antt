@@ -4,7 +4,8 @@ use Rattle.mn_rib_in.specs.Heard.{Heard}
 use Rattle.mn_pe.proofs.start.nothing_heard.Goals as goal
 
 -- one more of which nothing was heard
-one_more : (xs : List ℕ) (i : ℕ) → i < length xs → map (λ (loopback : ℕ). let none : List Heard = [] in none) (take i xs) ++ [] ∷ [] ≡ map (λ (loopback : ℕ). let none : List Heard = [] in none) (take (suc i) xs)
+one_more : (xs : List ℕ) (i : ℕ) → i < length xs → map (λ (loopback : ℕ). let none : List Heard = [] in none) (take i xs) ++ [] ∷ [] ≡ map
+    (λ (loopback : ℕ). let none : List Heard = [] in none) (take (suc i) xs)
 one_more [] i h = absurd (none_below i h)
 one_more (x ∷ xs) zero h = refl
 one_more (x ∷ xs) (suc i) h = ap (λ ys. [] ∷ ys) (one_more xs i (omega (arith, h)))

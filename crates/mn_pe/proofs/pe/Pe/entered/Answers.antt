@@ -12,4 +12,5 @@ entered_over-requires-clause-label c =
     let works : c.self.inside.failed ≡ false = ap (λ (p : PeNow). p.failed) c.self.view_is ∙ c.requires.works in
     found_label c.args.self.now.edge c.args.site.0 c.in-Ok.head.destination (c.in-Some.field-0-0, c.in-Some.source)
     (subst (λ (p : PeNow). InOrder p.edge) c.self.view_is (c.self.invariant works).order)
-    (ap (λ v. found_in v (λ (state : VrfState). longest_match c.in-Ok.head.destination (held_by c.args.self.now.edge state)) c.args.self.now.edge.vrfs) (sym c.vrf_of.ensures) ∙ sym (c.in-Some.ensures c.requires.works))
+    (ap (λ v. found_in v (λ (state : VrfState). longest_match c.in-Ok.head.destination (held_by c.args.self.now.edge state)) c.args.self.now.edge.vrfs)
+    (sym c.vrf_of.ensures) ∙ sym (c.in-Some.ensures c.requires.works))

@@ -10,7 +10,8 @@ use Rattle.mn_pe.proofs.pe.Pe.lookup.Goals as goal
 -- the VRF holds what it should
 pub returns : goal.returns
 returns c now_works =
-    let edge : Edge = edge_of c.self.inside.vrfs.items c.self.inside.sites.items c.self.inside.labels.items c.self.inside.loopbacks.items c.self.inside.heard.items in
+    let edge : Edge = edge_of c.self.inside.vrfs.items c.self.inside.sites.items c.self.inside.labels.items c.self.inside.loopbacks.items
+    c.self.inside.heard.items in
     let works : c.self.inside.failed ≡ false = ap (λ (p : PeNow). p.failed) c.self.view_is ∙ now_works in
     c.lookup_in.ensures
     ∙ ap (numbered c.args.vrf.0 (λ (holding : Holding). longest_match c.args.address holding.held)) c.deref.ensures.value
