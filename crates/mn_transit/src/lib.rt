@@ -35,6 +35,8 @@ mod laws;
 mod loss;
 mod path;
 mod tell;
+#[cfg(test)]
+mod tests;
 mod transit;
 
 pub use entered::Entered;
