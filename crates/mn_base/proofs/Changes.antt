@@ -3,19 +3,17 @@ use Rattle.std.proofs.Common.{ℕ, zero, suc, ◌≡◌, ◌+◌, ◌<◌, ◌�
 use Rattle.std.specs.Prelude.{slice_set}
 use Rattle.std.proofs.lemmas.List.{get_or_default}
 use Rattle.std.specs.List.{insert, remove}
+use Rattle.mn_base.proofs.Bools.{none_below}
 use Rattle.mn_base.specs.Ordered.{Ascends, IsOrder, IsPlaceFor, StandsAt, StandsBehind, with_one, without_one}
 use Rattle.mn_base.proofs.Places.{earlier, later, with_absent, with_held, without_held, without_absent}
 
-none : (k : ℕ) → k < 0 → ⊥
-none k h = omega (arith, h)
-
 set_parts : {A : Type 0} (xs : List A) (x : A) (at : ℕ) → at < length xs → slice_set xs at x ≡ take at xs ++ x ∷ drop (suc at) xs
-set_parts [] x at h = absurd (none at h)
+set_parts [] x at h = absurd (none_below at h)
 set_parts (y ∷ ys) x zero h = refl
 set_parts (y ∷ ys) x (suc at) h = ap (λ zs. y ∷ zs) (set_parts ys x at (omega (arith, h)))
 
 remove_parts : {A : Type 0} (xs : List A) (at : ℕ) → at < length xs → remove xs at ≡ take at xs ++ drop (suc at) xs
-remove_parts [] at h = absurd (none at h)
+remove_parts [] at h = absurd (none_below at h)
 remove_parts (y ∷ ys) zero h = refl
 remove_parts (y ∷ ys) (suc at) h = ap (λ zs. y ∷ zs) (remove_parts ys at (omega (arith, h)))
 

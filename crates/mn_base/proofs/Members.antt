@@ -1,10 +1,8 @@
 -- What a list has, and lists of which no two elements are alike.
 use Rattle.std.proofs.Common.{ℕ, zero, suc, ◌≡◌, ◌+◌, ◌<◌, ◌≤◌, ◌⊎◌, inl, inr, Bool, true, false, cond, List, [], ◌∷◌, ◌++◌, map, filter, length, take, refl, arith, sym, ◌∙◌, ap, subst}
-use Rattle.std.specs.Prelude.{◌||◌, slice_index_or, ⊤}
+use Rattle.std.specs.Prelude.{◌≢◌, ◌==◌, ◌||◌, slice_index_or, ⊤}
 use Rattle.std.specs.List.{Contains, flat_map, list_any, range_with_len}
-
-no : false ≡ true → ⊥
-no e = cc
+use Rattle.mn_base.proofs.Bools.{no, two_ways, or_off, none_below, same_numbers, other_numbers}
 
 -- 1. Members
 
@@ -13,10 +11,7 @@ In [] x = ⊥
 In (y ∷ ys) x = (y ≡ x) ⊎ In ys x
 
 in_at : {A : Type 0} (xs : List A) (x : A) (k : ℕ) → k < length xs → slice_index_or xs k x ≡ x → In xs x
-in_at [] x k h e = absurd (none k h)
-  where
-    none : (k : ℕ) → k < 0 → ⊥
-    none k h = omega (arith, h)
+in_at [] x k h e = absurd (none_below k h)
 in_at (y ∷ ys) x zero h e = inl e
 in_at (y ∷ ys) x (suc k) h e = inr (in_at ys x k (omega (arith, h)) e)
 
@@ -52,6 +47,10 @@ in_map f (x ∷ xs) y i = elim i [
   | inr j ↦ let h = in_map f xs y j in (h.0, inr h.1, h.2)
 ]
 
+pub map_in : {A B : Type 0} (f : A → B) (xs : List A) (x : A) → In xs x → In (map f xs) (f x)
+map_in f [] x i = absurd i
+map_in f (y ∷ ys) x i = elim i [ inl e ↦ inl (ap f e) | inr j ↦ inr (map_in f ys x j) ]
+
 pub in_filter : {A : Type 0} (p : A → Bool) (xs : List A) (x : A) → In (filter p xs) x → In xs x × (p x ≡ true)
 in_filter p [] x i = absurd i
 in_filter p (y ∷ ys) x i = split (p y) refl (in_filter p ys x) i
@@ -75,6 +74,13 @@ in_flat_map f (x ∷ xs) y i = elim (in_append (f x) (flat_map f xs) y i) [
   | inr j ↦ let h = in_flat_map f xs y j in (h.0, inr h.1, h.2)
 ]
 
+pub flat_map_in : {A B : Type 0} (f : A → List B) (xs : List A) (x : A) (y : B) → In xs x → In (f x) y → In (flat_map f xs) y
+flat_map_in f [] x y i j = absurd i
+flat_map_in f (z ∷ zs) x y i j = elim i [
+  | inl e ↦ in_front (f z) (flat_map f zs) y (subst (λ w. In (f w) y) (sym e) j)
+  | inr k ↦ in_rest (f z) (flat_map f zs) y (flat_map_in f zs x y k j)
+]
+
 pub in_take : {A : Type 0} (n : ℕ) (xs : List A) (x : A) → In (take n xs) x → In xs x
 in_take zero xs x i = absurd i
 in_take (suc n) [] x i = absurd i
@@ -87,9 +93,18 @@ in_range a (suc n) x i = elim i [
   | inr j ↦ let h = in_range (a + 1) n x j in (omega (arith, h.0), omega (arith, h.1))
 ]
 
-or_off : (a b : Bool) → (a || b) ≡ false → (a ≡ false) × (b ≡ false)
-or_off true b h = absurd (no (sym h))
-or_off false b h = (refl, h)
+pub range_in : (a n x : ℕ) → a ≤ x → x < a + n → In (range_with_len a n) x
+range_in a zero x h g = absurd (none h g)
+  where
+    none : a ≤ x → x < a + 0 → ⊥
+    none h g = omega (arith, h, g)
+range_in a (suc n) x h g = elim (two_ways (a == x)) [
+  | inl e ↦ inl (same_numbers a x e)
+  | inr e ↦ inr (range_in (a + 1) n x (later h (other_numbers a x e)) (omega (arith, g)))
+]
+  where
+    later : a ≤ x → a ≢ x → a + 1 ≤ x
+    later h d = grind (arith, h, d)
 
 pub none_passes : {A : Type 0} (p : A → Bool) (xs : List A) (x : A) → list_any p xs ≡ false → In xs x → p x ≡ false
 none_passes p [] x h i = absurd i

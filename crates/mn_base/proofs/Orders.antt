@@ -1,23 +1,12 @@
 -- Orders by one number after another.
-use Rattle.std.proofs.Common.{ℕ, suc, ◌≡◌, ◌<◌, ◌⊎◌, inl, inr, Bool, true, false, refl, arith, sym, ◌∙◌, ap}
+use Rattle.std.proofs.Common.{ℕ, suc, ◌≡◌, ◌<◌, ◌⊎◌, inl, inr, Bool, true, false, arith, sym, ◌∙◌, ap}
 use Rattle.std.specs.Prelude.{◌==◌, ◌&&◌, ◌||◌, nat_lt}
 use Rattle.std.proofs.lemmas.Bool.Decides.{eqb_tells, leb_tells, nat_tests}
+use Rattle.mn_base.proofs.Bools.{no, less_is, less_tells, or_off, test_same}
 use Rattle.mn_base.specs.Ordered.{first_by, IsOrder}
-
-no : false ≡ true → ⊥
-no e = cc
-
-less_is : (m n : ℕ) → m < n → nat_lt m n ≡ true
-less_is m n h = grind (arith, nat_tests, h)
 
 less_not : (m n : ℕ) → m ≡ n → nat_lt m n ≡ false
 less_not m n h = grind (arith, nat_tests, h)
-
-same_is : (m n : ℕ) → m ≡ n → (m == n) ≡ true
-same_is m n h = grind (arith, nat_tests, h)
-
-less_tells : (m n : ℕ) → nat_lt m n ≡ true → m < n
-less_tells m n h = grind (arith, nat_tests, h)
 
 pub first_tells : (m n : ℕ) (later : Bool) → first_by m n later ≡ true → (m < n) ⊎ ((m ≡ n) × (later ≡ true))
 first_tells m n later h = elim (leb_tells (suc m) n) [
@@ -32,11 +21,7 @@ pub first_less : (m n : ℕ) (later : Bool) → m < n → first_by m n later ≡
 first_less m n later h = ap (λ b. b || ((m == n) && later)) (less_is m n h)
 
 pub first_same : (m n : ℕ) (later : Bool) → m ≡ n → first_by m n later ≡ later
-first_same m n later h = ap (λ b. b || ((m == n) && later)) (less_not m n h) ∙ ap (λ b. b && later) (same_is m n h)
-
-or_off : (a b : Bool) → (a || b) ≡ false → (a ≡ false) × (b ≡ false)
-or_off true b h = absurd (no (sym h))
-or_off false b h = (refl, h)
+first_same m n later h = ap (λ b. b || ((m == n) && later)) (less_not m n h) ∙ ap (λ b. b && later) (test_same m n h)
 
 -- neither comes first
 pub first_neither : (m n : ℕ) (later sooner : Bool) → (first_by m n later || first_by n m sooner) ≡ false → (m ≡ n) × ((later || sooner) ≡ false)

@@ -3,13 +3,8 @@ use Rattle.std.proofs.Common.{ℕ, zero, suc, ◌≡◌, ◌<◌, ◌≤◌, Boo
 use Rattle.std.specs.Prelude.{◌||◌, not, fold, if◌then◌else◌}
 use Rattle.std.proofs.lemmas.List.Elements.{filter-append}
 use Rattle.std.specs.List.{AllByRecursion, insert, list_any}
+use Rattle.mn_base.proofs.Bools.{no, none_below, two_ways}
 use Rattle.mn_base.specs.Ordered.{with_one, without_one, has_one, one_at, Ascends, IsOrder, IsPlaceFor, StandsAt, StandsBehind}
-
-no : false ≡ true → ⊥
-no e = cc
-
-none : (k : ℕ) → k < 0 → ⊥
-none k h = omega (arith, h)
 
 -- 1. All pass, or none
 
@@ -24,7 +19,7 @@ filter_none p (x ∷ xs) h = ap (λ b. cond b (x ∷ filter p xs) (filter p xs))
 -- the first so many pass, and no other
 pub filter_front : {A : Type 0} (p : A → Bool) (xs : List A) (at : ℕ) → at ≤ length xs → ((k : ℕ) (d : A) → k < at → p (get_or xs k d) ≡ true) → ((k : ℕ) (d : A) → at ≤ k → k < length xs → p (get_or xs k d) ≡ false) → filter p xs ≡ take at xs
 filter_front p xs zero h pass never = filter_none p xs (λ k d lt. never k d (omega arith) lt)
-filter_front p [] (suc at) h pass never = absurd (none at (omega (arith, h)))
+filter_front p [] (suc at) h pass never = absurd (none_below at (omega (arith, h)))
 filter_front p (x ∷ xs) (suc at) h pass never =
     ap (λ b. cond b (x ∷ filter p xs) (filter p xs)) (pass 0 x (omega arith))
     ∙ ap (λ ys. x ∷ ys) (filter_front p xs at (omega (arith, h)) (λ k d lt. pass (suc k) d (omega (arith, lt))) (λ k d le lt. never (suc k) d (omega (arith, le)) (omega (arith, lt))))
@@ -32,21 +27,21 @@ filter_front p (x ∷ xs) (suc at) h pass never =
 -- the first so many don't pass, and each other does
 pub filter_back : {A : Type 0} (p : A → Bool) (xs : List A) (at : ℕ) → at ≤ length xs → ((k : ℕ) (d : A) → k < at → p (get_or xs k d) ≡ false) → ((k : ℕ) (d : A) → at ≤ k → k < length xs → p (get_or xs k d) ≡ true) → filter p xs ≡ drop at xs
 filter_back p xs zero h never pass = filter_all p xs (λ k d lt. pass k d (omega arith) lt)
-filter_back p [] (suc at) h never pass = absurd (none at (omega (arith, h)))
+filter_back p [] (suc at) h never pass = absurd (none_below at (omega (arith, h)))
 filter_back p (x ∷ xs) (suc at) h never pass =
     ap (λ b. cond b (x ∷ filter p xs) (filter p xs)) (never 0 x (omega arith))
     ∙ filter_back p xs at (omega (arith, h)) (λ k d lt. never (suc k) d (omega (arith, lt))) (λ k d le lt. pass (suc k) d (omega (arith, le)) (omega (arith, lt)))
 
 -- all pass but the one at this place
 pub filter_but : {A : Type 0} (p : A → Bool) (xs : List A) (at : ℕ) → at < length xs → ((k : ℕ) (d : A) → k < at → p (get_or xs k d) ≡ true) → ((d : A) → p (get_or xs at d) ≡ false) → ((k : ℕ) (d : A) → suc at ≤ k → k < length xs → p (get_or xs k d) ≡ true) → filter p xs ≡ take at xs ++ drop (suc at) xs
-filter_but p [] at h pass fail more = absurd (none at h)
+filter_but p [] at h pass fail more = absurd (none_below at h)
 filter_but p (x ∷ xs) zero h pass fail more = ap (λ b. cond b (x ∷ filter p xs) (filter p xs)) (fail x) ∙ filter_all p xs (λ k d lt. more (suc k) d (omega arith) (omega (arith, lt)))
 filter_but p (x ∷ xs) (suc at) h pass fail more =
     ap (λ b. cond b (x ∷ filter p xs) (filter p xs)) (pass 0 x (omega arith))
     ∙ ap (λ ys. x ∷ ys) (filter_but p xs at (omega (arith, h)) (λ k d lt. pass (suc k) d (omega (arith, lt))) fail (λ k d le lt. more (suc k) d (omega (arith, le)) (omega (arith, lt))))
 
 pub any_at : {A : Type 0} (p : A → Bool) (xs : List A) (at : ℕ) → at < length xs → ((d : A) → p (get_or xs at d) ≡ true) → list_any p xs ≡ true
-any_at p [] at h e = absurd (none at h)
+any_at p [] at h e = absurd (none_below at h)
 any_at p (x ∷ xs) zero h e = ap (λ b. b || list_any p xs) (e x)
 any_at p (x ∷ xs) (suc at) h e = ap (λ b. p x || b) (any_at p xs at (omega (arith, h)) e) ∙ or_true (p x)
   where
@@ -63,7 +58,7 @@ none_there before x [] h = refl
 none_there before x (y ∷ ys) h = ap (λ b. if b then one_at before x ys else Some y) (h 0 y (omega arith)) ∙ none_there before x ys (λ k d lt. h (suc k) d (omega (arith, lt)))
 
 pub some_there : {A : Type 0} (before : A → A → Bool) (x : A) (xs : List A) (at : ℕ) (e : A) → at < length xs → ((k : ℕ) (d : A) → k < at → (before (get_or xs k d) x || before x (get_or xs k d)) ≡ true) → ((d : A) → (before (get_or xs at d) x || before x (get_or xs at d)) ≡ false) → one_at before x xs ≡ Some (get_or xs at e)
-some_there before x [] at e h apart same = absurd (none at h)
+some_there before x [] at e h apart same = absurd (none_below at h)
 some_there before x (y ∷ ys) zero e h apart same = ap (λ b. if b then one_at before x ys else Some y) (same y)
 some_there before x (y ∷ ys) (suc at) e h apart same =
     ap (λ b. if b then one_at before x ys else Some y) (apart 0 y (omega arith)) ∙ some_there before x ys at e (omega (arith, h)) (λ k d lt. apart (suc k) d (omega (arith, lt))) same
@@ -120,18 +115,14 @@ ascends_without before x xs h = ascends_filter before (λ y. before y x || befor
 
 -- 3. What a search finds
 
-two_ways : (b : Bool) → (b ≡ true) ⊎ (b ≡ false)
-two_ways true = inl refl
-two_ways false = inr refl
-
 pub all_at : {A : Type 0} (P : A → Type 0) (xs : List A) → AllByRecursion P xs → (k : ℕ) (d : A) → k < length xs → P (get_or xs k d)
-all_at P [] h k d lt = absurd (none k lt)
+all_at P [] h k d lt = absurd (none_below k lt)
 all_at P (x ∷ xs) h zero d lt = h.0
 all_at P (x ∷ xs) h (suc k) d lt = all_at P xs h.1 k d (omega (arith, lt))
 
 pub ascends_at : {A : Type 0} (before : A → A → Bool) (xs : List A) → Ascends before xs → (i j : ℕ) (d e : A) → i < j → j < length xs → before (get_or xs i d) (get_or xs j e) ≡ true
-ascends_at before [] h i j d e lt there = absurd (none j there)
-ascends_at before (x ∷ xs) h i zero d e lt there = absurd (none i lt)
+ascends_at before [] h i j d e lt there = absurd (none_below j there)
+ascends_at before (x ∷ xs) h i zero d e lt there = absurd (none_below i lt)
 ascends_at before (x ∷ xs) h zero (suc j) d e lt there = all_at (λ y. before x y ≡ true) xs h.0 j e (omega (arith, there))
 ascends_at before (x ∷ xs) h (suc i) (suc j) d e lt there = ascends_at before xs h.1 i j d e (omega (arith, lt)) (omega (arith, there))
 

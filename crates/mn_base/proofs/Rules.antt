@@ -4,10 +4,10 @@ use Rattle.std.specs.Prelude.{Option, Some, None, if◌then◌else◌}
 use Rattle.std.specs.List.{AllByRecursion}
 use Rattle.mn_base.specs.Rules.{when, first_broken, first_refusal, IsFirstBroken}
 
-some_is : {R : Type 0} (a b : R) → Some a ≡ Some b → a ≡ b
+pub some_is : {R : Type 0} (a b : R) → Some a ≡ Some b → a ≡ b
 some_is a b h = cc
 
-none_is : {R : Type 0} (a : R) → None ≡ Some a → ⊥
+pub none_is : {R : Type 0} (a : R) → None ≡ Some a → ⊥
 none_is a h = cc
 
 -- the row is broken, or none of it is

@@ -1,8 +1,8 @@
 -- After every lawful journal all that was told can be written.
-use Rattle.std.proofs.Common.{ℕ, zero, suc, ◌≡◌, ◌+◌, ◌<◌, ◌≤◌, ◌^◌, inl, inr, Bool, true, false, cond, List, [], ◌∷◌, ◌++◌, map, filter, length, refl, arith, sym, ◌∙◌, ap, subst, lit<}
-use Rattle.std.specs.Prelude.{◌==◌, ◌&&◌, not, nat_lt, nat_le, fold, slice_index_or, ⊤}
+use Rattle.std.proofs.Common.{ℕ, zero, suc, ◌≡◌, ◌+◌, ◌<◌, ◌≤◌, inl, inr, Bool, true, false, cond, List, [], ◌∷◌, ◌++◌, map, filter, length, refl, arith, ap, subst, lit<}
+use Rattle.std.specs.Prelude.{◌==◌, not, nat_lt, nat_le, fold, slice_index_or, ⊤}
 use Rattle.std.specs.List.{flat_map, list_any, list_all, AllByRecursion, Contains}
-use Rattle.std.proofs.lemmas.Bool.Decides.{eqb_tells, nat_tests}
+use Rattle.std.proofs.lemmas.Bool.Decides.{nat_tests}
 use Rattle.mn_base.specs.Numbers.{has_rd_form, has_rt_form}
 use Rattle.mn_base.specs.declared.numbers.Rt.{Rt}
 use Rattle.mn_base.specs.declared.states.BgpState.{BgpState}
@@ -10,7 +10,7 @@ use Rattle.mn_base.specs.declared.states.BgpState.TheVariants.{OpenSent, OpenCon
 use Rattle.mn_base.proofs.Bools.{and_left, and_right, none_below}
 use Rattle.mn_base.proofs.Members.{In, in_append, in_map, in_filter, in_flat_map, in_contained}
 use Rattle.mn_base.proofs.Places.{all_filter}
-use Rattle.mn_prefix.specs.Prefix.{AddressBlock, IsPrefix}
+use Rattle.mn_prefix.specs.Prefix.{IsPrefix}
 use Rattle.mn_topo.specs.Network.{Network}
 use Rattle.mn_topo.specs.Lawful.{IsLawful, AreTargets, is_vrf_of}
 use Rattle.mn_topo.specs.Steps.{fits, has_vrf}
@@ -20,17 +20,16 @@ use Rattle.mn_topo.specs.declared.steps.Step.TheVariants as step
 use Rattle.mn_topo.specs.declared.steps.JournalEntry.{JournalEntry}
 use Rattle.mn_ledger.specs.Tables.{put, put_pair}
 use Rattle.mn_ledger.specs.Places.{vrf_at, edges}
-use Rattle.mn_ledger.specs.World.{SiteRoute, Config, Export, Telling, Open, Alive, Announce, Unreach, Peerings, World}
-use Rattle.mn_ledger.specs.Vpn.{Told, export_of, exports_of, is_between, tellings_of, told_to, reply, replies, is_for, same_export, withdrawn, announced, changed, steady_peers, news, told_in, counted, peerings_after}
+use Rattle.mn_ledger.specs.World.{Config, Export, Telling, Open, Alive, Announce, Unreach, Peerings, World}
+use Rattle.mn_ledger.specs.Vpn.{Told, exports_of, tellings_of, told_to, reply, replies, is_for, same_export, withdrawn, announced, changed, steady_peers, news, told_in, counted, peerings_after}
 use Rattle.mn_ledger.specs.Ledger.{with_target, ascending, config_after, after, start, no_packets, next_of, left_by, world_from, world_of}
 use Rattle.mn_ledger.specs.Packets.{Packets, packets_after}
 use Rattle.mn_ledger.specs.Refusal.{is_targets_full}
 use Rattle.mn_ledger.specs.Lawful.{IsLawfulFrom, IsLawfulJournal}
-use Rattle.mn_ledger.proofs.GoingBy.{pair_here, pair_off}
 use Rattle.mn_ledger.proofs.Refusals.{free}
 use Rattle.mn_ledger.proofs.Statics.{HasForms, first_forms, forms_go}
-use Rattle.mn_ledger.proofs.Tellings.{Behind, exported_by}
-use Rattle.mn_bgp_spelling.specs.Spelling.{Labels, as_targets, route_of, IsWritable}
+use Rattle.mn_ledger.proofs.Tellings.{Behind, exported_by, in_tellings, in_cleared}
+use Rattle.mn_bgp_spelling.specs.Spelling.{Labels, as_targets, IsWritable}
 use Rattle.mn_bgp_spelling.specs.Laws.{AreLabels}
 
 -- 1. Sets of targets
@@ -184,20 +183,6 @@ good_told t c p new k s g h =
 
 abbrev pub AllGood : Network → Peerings → Type 0
 AllGood t p = (edge peer : ℕ) (m : Telling) → In (p.told edge peer) m → IsGood t m
-
-in_tellings : (a b : ℕ) (xs : List Told) (m : Telling) → In (tellings_of a b xs) m → (x : Told) × In xs x × (x.telling ≡ m)
-in_tellings a b xs m i =
-    let f = in_map (λ (told : Told). told.telling) (filter (is_between a b) xs) m i in
-    (f.0, (in_filter (is_between a b) xs f.0 f.1).0, f.2)
-
-in_cleared : (f : ℕ → ℕ → List Telling) (a b edge peer : ℕ) (m : Telling) → In (put_pair f a b [] edge peer) m → In (f edge peer) m
-in_cleared f a b edge peer m i = elim (eqb_tells edge a) [
-  | inr p ↦ subst (λ xs. In xs m) (pair_off f a b [] edge peer (inl p.1)) i
-  | inl p ↦ elim (eqb_tells peer b) [
-    | inr q ↦ subst (λ xs. In xs m) (pair_off f a b [] edge peer (inr q.1)) i
-    | inl q ↦ absurd (subst (λ xs. In xs m) (ap (λ j. put_pair f a b [] j peer) p.1 ∙ ap (put_pair f a b [] a) q.1 ∙ pair_here f a b []) i)
-  ]
-]
 
 still_good : (t : Network) (p : Peerings) (s : Step) → AllGood t p → AllGood t (counted p s)
 still_good t p (step.BgpUp a b) h = λ edge peer m i. h edge peer m (in_cleared p.told a.0 b.0 edge peer m (in_cleared (put_pair p.told a.0 b.0 []) b.0 a.0 edge peer m i))

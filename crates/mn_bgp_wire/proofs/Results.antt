@@ -1,9 +1,11 @@
 -- What is behind a result that is Ok.
-use Rattle.std.proofs.Common.{◌≡◌, ◌&&◌, ◌||◌, not, Bool, true, false, cond, Option, Some, None, Result, Ok, Err, refl, ap}
+use Rattle.std.proofs.Common.{◌≡◌, ◌||◌, not, Bool, true, false, cond, Option, Some, None, Result, Ok, Err, refl, ap}
 use Rattle.std.specs.Option.{option_map}
 use Rattle.mn_vpn_nlri.specs.declared.refusal.NlriBad.{NlriBad}
 use Rattle.mn_bgp_wire.specs.declared.refusal.BgpWireBad.{BgpWireBad}
 use Rattle.mn_bgp_wire.specs.Reading.{or_else, after, in_attribute}
+pub use Rattle.mn_base.proofs.Bools.{not_false, or_off as or_no}
+pub use Rattle.mn_base.proofs.Bools.{and_parts as and_true}
 
 abbrev pub done : {X : Type 0} → X → Result X BgpWireBad
 done x = Ok x
@@ -38,16 +40,3 @@ pub both_true : (p q : Bool) → (not p || not q) ≡ false → (p ≡ true) × 
 both_true true true e = (refl, refl)
 both_true true false e = absurd cc
 both_true false q e = absurd cc
-
-pub not_false : (p : Bool) → not p ≡ false → p ≡ true
-not_false true e = refl
-not_false false e = absurd cc
-
-pub and_true : (p q : Bool) → (p && q) ≡ true → (p ≡ true) × (q ≡ true)
-and_true true true e = (refl, refl)
-and_true true false e = absurd cc
-and_true false q e = absurd cc
-
-pub or_no : (p q : Bool) → (p || q) ≡ false → (p ≡ false) × (q ≡ false)
-or_no true q e = absurd cc
-or_no false q e = (refl, e)

@@ -3,12 +3,11 @@ use Rattle.std.proofs.Common.{◌≡◌, ◌≤◌, ◌<◌, ◌*◌, ◌^◌, �
 use Rattle.std.specs.Prelude.{IfOk}
 use Rattle.std.specs.Global.{Vec}
 use Rattle.std.specs.List.{list_all}
-use Rattle.std.proofs.lemmas.List.{append-nil}
 use Rattle.mn_base.specs.declared.numbers.Rd.{Rd}
 use Rattle.mn_base.specs.declared.numbers.Rt.{Rt}
 use Rattle.mn_prefix.specs.Prefix.{AddressBlock}
 use Rattle.mn_vpn_nlri.specs.declared.message.VpnRoute.{VpnRoute}
-use Rattle.mn_vpn_nlri.specs.Grammar.{IsVpnRoute, IsNlri, AreNlri, AreTargets, written, written_targets, written_field, community_bytes}
+use Rattle.mn_vpn_nlri.specs.Grammar.{IsVpnRoute, IsNlri, AreTargets, written, written_targets, written_field, community_bytes}
 use Rattle.mn_vpn_nlri.proofs.Routes.{length-nlri_of}
 use Rattle.mn_bgp_wire.specs.Grammar.{Parameter, IsBgp, message_bytes, update_kind, update_body, attributes_bytes, PathAttribute}
 use Rattle.mn_bgp_wire.specs.Reading.{is_lawful, is_missing}
@@ -17,6 +16,7 @@ use Rattle.mn_bgp_wire.specs.declared.message.BgpMessage.{BgpMessage}
 use Rattle.mn_bgp_wire.specs.declared.message.BgpMessage.TheVariants as messages
 use Rattle.mn_bgp_wire.proofs.Messages.{size_of}
 use Rattle.mn_bgp_wire.proofs.Listed.{once_takes, all_lawful_take, wanted_take}
+use Rattle.mn_vpn_nlri.proofs.InTurn.{one_route}
 
 abbrev offer : Parameter
 offer = record { field = vpn_parameter; capabilities = vpn_capability ∷ [] }
@@ -57,9 +57,6 @@ announced_size hop route targets short few =
 
 pub withdrawn_size : (rd : Rd) (prefix : AddressBlock) → length (written (withdrawn_route rd prefix) true) ≤ 16 → length (attributes_bytes (withdrawn rd prefix)) ≤ 4073
 withdrawn_size rd prefix short = let whole = length-append (written (withdrawn_route rd prefix) true) [] in omega arith
-
-one_route : (bytes : List ℕ) (route : VpnRoute) → IsNlri bytes route → AreNlri bytes (route ∷ [])
-one_route bytes route is = (bytes, [], sym (append-nil bytes), is, refl)
 
 each_lawful : (hop : ℕ) (route : VpnRoute) (targets : List Rt) → list_all is_lawful (announced hop route targets) ≡ true
 unfolding is_lawful

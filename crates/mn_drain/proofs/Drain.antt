@@ -1,14 +1,15 @@
 -- A drain takes no more steps than its bound.
-use Rattle.std.proofs.Common.{ℕ, zero, suc, ◌≡◌, ◌≢◌, ◌+◌, ◌*◌, ◌<◌, ◌≤◌, inl, inr, Bool, true, false, List, [], ◌∷◌, ◌++◌, map, length, drop, refl, arith, sym}
+use Rattle.std.proofs.Common.{ℕ, zero, suc, ◌≡◌, ◌≢◌, ◌+◌, ◌*◌, ◌<◌, ◌≤◌, inl, inr, Bool, true, false, List, [], ◌∷◌, ◌++◌, map, length, drop, arith, sym}
 use Rattle.std.proofs.Common.{◌∙◌, ap, subst}
 use Rattle.std.specs.Prelude.{◌==◌, ◌&&◌, ◌||◌, ◌%◌, not, nat_lt, nat_le, slice_index_or}
 use Rattle.std.specs.List.{flat_map, list_all}
-use Rattle.std.proofs.lemmas.Bool.Decides.{eqb_tells, leb_tells, nat_tests}
+use Rattle.std.proofs.lemmas.Bool.Decides.{eqb_tells, leb_tells}
 use Rattle.mn_base.specs.Wiring.{View, links_of, nodes_of, across, receiver}
 use Rattle.mn_topo.specs.VrfTable.{is_edge}
 use Rattle.mn_topo.specs.Network.{Network, wiring_of}
 use Rattle.mn_topo.specs.Lawful.{IsLawful, is_vrf_of}
 use Rattle.mn_base.specs.Numbers.{has_rd_form}
+use Rattle.mn_base.proofs.Bools.{clash}
 use Rattle.mn_topo.specs.declared.vrfs.VrfDef.{VrfDef}
 use Rattle.mn_topo.specs.declared.steps.Step.{Step}
 use Rattle.mn_topo.specs.declared.steps.Step.TheVariants as step
@@ -38,16 +39,10 @@ use Rattle.mn_drain.proofs.Flying.{notices-are, ldp-most, bgp-most-told}
 use Rattle.mn_drain.proofs.AheadMost.{ahead-most}
 use Rattle.mn_drain.proofs.Scale.{times-up, total-scale}
 use Rattle.mn_drain.proofs.Sums.{total-below, total-add, total-one}
-
-clash : true ≡ false → ⊥
-clash e = cc
-
-pub less-is : (a b : ℕ) → nat_lt a b ≡ true → a < b
-less-is a b h = grind (arith, nat_tests, h)
-
-pub and-both : (x y : Bool) → (x && y) ≡ true → (x ≡ true) × (y ≡ true)
-and-both true y e = (refl, e)
-and-both false y e = absurd (clash (sym e))
+pub use Rattle.mn_base.proofs.Bools.{other_test as differs}
+pub use Rattle.mn_base.proofs.Bools.{and_parts as and-both}
+pub use Rattle.mn_base.proofs.Bools.{unlike_numbers as unequal}
+pub use Rattle.mn_base.proofs.Bools.{less_tells as less-is}
 
 -- the links that all nodes take for up, once all have learned of all changes
 abbrev known_view : Network → Views → View
@@ -93,12 +88,6 @@ at-node k (x ∷ vs) e all h = elim (eqb_tells e x.node.0) [
 
 edge-below : (t : Network) → IsLawful t → (e : ℕ) → is_edge t.vrfs e ≡ true → e < length t.loopbacks
 edge-below t lawful e h = at-node (length t.loopbacks) t.vrfs e lawful.vrfs.formed h
-
-pub unequal : (a b : ℕ) → not (a == b) ≡ true → a ≢ b
-unequal a b h e = clash (sym h ∙ ap not (elim (eqb_tells a b) [ inl q ↦ q.0 | inr q ↦ absurd (q.1 e) ]))
-
-pub differs : (a b : ℕ) → a ≢ b → (a == b) ≡ false
-differs a b d = elim (eqb_tells a b) [ inl q ↦ absurd (d q.1) | inr q ↦ q.0 ]
 
 direction-on : (t : Network) (c : Config) (a b : ℕ) → is_edge t.vrfs a ≡ true → is_edge t.vrfs b ≡ true → a ≢ b → peers_live c a b ≡ true
     → is_direction t c a b ≡ true

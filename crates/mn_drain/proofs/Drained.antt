@@ -5,6 +5,7 @@ use Rattle.std.proofs.lemmas.Bool.Decides.{leb_tells, nat_tests}
 use Rattle.mn_base.specs.Wiring.{is_end, across, sender, receiver}
 use Rattle.mn_base.specs.declared.links.Dir.{Dir}
 use Rattle.mn_base.specs.declared.links.Dir.TheVariants.{Forth, Back}
+use Rattle.mn_base.proofs.Bools.{less_is}
 use Rattle.mn_topo.specs.VrfTable.{is_edge}
 use Rattle.mn_topo.specs.Network.{Network, wiring_of}
 use Rattle.mn_topo.specs.Lawful.{IsLawful}
@@ -27,9 +28,6 @@ use Rattle.mn_ledger.proofs.InTurn.{in_turn}
 use Rattle.mn_settled.proofs.Arrival.{world_from-append}
 use Rattle.mn_drain.specs.Drain.{AllLearned, IsDrainStep, IsDrain, after_steps, IsDrained, IsSwitchedOn}
 use Rattle.mn_drain.proofs.Drain.{goes-on, differs, unequal, less-is, and-both}
-
-less-test : (a b : ℕ) → a < b → nat_lt a b ≡ true
-less-test a b h = grind (arith, nat_tests, h)
 
 not-reached : (a b : ℕ) → a < b → nat_le b a ≡ false
 not-reached a b h = grind (arith, nat_tests, h)
@@ -78,7 +76,7 @@ drain-config t (s ∷ ss) w d = drain-config t ss (after t w s) d.1 ∙ same-con
 all-learned : (t : Network) (w : World) → IsInTurn t w → IsDrained t w → AllLearned t w.views
 all-learned t w g done node l hn hl =
     both-ends (w.views.learned node l) (w.views.changes l) (g.learned node l) (λ less. done (step.Learn (record { 0 = node }) (record { 0 = l })) (record {
-      fitting = ap (λ b. b && nat_lt l (length t.links)) (less-test node (length t.loopbacks) hn) ∙ less-test l (length t.links) hl;
+      fitting = ap (λ b. b && nat_lt l (length t.links)) (less_is node (length t.loopbacks) hn) ∙ less_is l (length t.links) hl;
       there = not-reached (w.views.learned node l) (w.views.changes l) less;
       in_turn = tt;
     }))
@@ -86,7 +84,7 @@ all-learned t w g done node l hn hl =
 hears-end : (t : Network) (w : World) → IsLawful t → IsDrained t w → AllLearned t w.views → (l : ℕ) (dir : Dir) → l < length t.links → lives w.config l ≡ true
     → w.sessions.heard l (receiver (wiring_of t) l dir) < length (w.sessions.said l (sender (wiring_of t) l dir)) → ⊥
 hears-end t w lawful done all l dir h alive less = done (step.HearLdp (record { 0 = l }) dir) (record {
-  fitting = less-test l (length t.links) h;
+  fitting = less_is l (length t.links) h;
   there =
       ap (λ b. not b || nat_le (length (w.sessions.said l (sender (wiring_of t) l dir))) (w.sessions.heard l (receiver (wiring_of t) l dir))) alive
       ∙ not-reached (w.sessions.heard l (receiver (wiring_of t) l dir)) (length (w.sessions.said l (sender (wiring_of t) l dir))) less;

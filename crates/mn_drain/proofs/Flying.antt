@@ -70,7 +70,7 @@ either-end false true true x = omega arith
 either-end false true false x = omega arith
 either-end false false d x = omega arith
 
-where-most : (b : Bool) (x : ℕ) → where_so b x ≤ x
+pub where-most : (b : Bool) (x : ℕ) → where_so b x ≤ x
 where-most true x = omega arith
 where-most false x = omega arith
 

@@ -6,7 +6,7 @@ use Rattle.std.specs.List.{flat_map}
 use Rattle.std.proofs.lemmas.Bool.Decides.{eqb_tells, leb_tells}
 use Rattle.std.proofs.lemmas.List.{drop-append-le}
 use Rattle.std.proofs.Math.Seq.{take-suc, drop-cons}
-use Rattle.mn_base.proofs.Bools.{two_ways}
+use Rattle.mn_base.proofs.Bools.{two_ways, and_off_left, and_off_right, clash}
 use Rattle.mn_base.specs.Wiring.{Wiring, View, nodes_of, is_end, across}
 use Rattle.mn_base.specs.Paths.{IsNext, next}
 use Rattle.mn_base.proofs.Next.{next_is}
@@ -29,10 +29,7 @@ use Rattle.mn_drain.proofs.Sums.{total-below, total-add, total-none, total-only,
 use Rattle.mn_drain.proofs.Weights.{weighs}
 use Rattle.mn_drain.proofs.NewsWeight.{weight-append, weight-said, differ, one_fec, news-weighs, speaks-once}
 use Rattle.mn_settled.proofs.Mapped.{mapped-append}
-use Rattle.mn_settled.proofs.Offering.{hearing-is, ends_below, counts-heard}
-
-clash : true ≡ false → ⊥
-clash e = cc
+use Rattle.mn_settled.proofs.Offering.{hearing-is, ends_below, counts-heard, on_and}
 
 -- 1. A node whose next hop tells it nothing new offers what it did
 
@@ -75,16 +72,6 @@ talk-front false zero xs talk h = absurd (short (ap length talk) h)
     short e g = omega (arith, e, g)
 talk-front active (suc zero) xs talk h = ([], talk)
 talk-front active (suc (suc k)) xs talk h = (Address ∷ talk.0, talk.1)
-
-and_both : (a b : Bool) → a ≡ true → (a && b) ≡ b
-and_both a b e = ap (λ x. x && b) e
-
-and_off : (a b : Bool) → a ≡ false → (a && b) ≡ false
-and_off a b e = ap (λ x. x && b) e
-
-and_off_right : (a b : Bool) → b ≡ false → (a && b) ≡ false
-and_off_right true b e = e
-and_off_right false b e = refl
 
 -- nothing is said where nothing changed
 pub same-says : (on b : Bool) → (on && differ (on && b) b) ≡ false
@@ -187,11 +174,11 @@ module _ (t : Network) (lawful : IsLawful t) (c : Config) (vs : Views) (s : Sess
 
   -- on this link it hears nothing new of the FEC
   test-few : (q : ℕ) → s.heard l n < 2 → hears_of (before n) q l ≡ hears_of (after n) q l
-  test-few q few = and_off (is_operational (before n) l) (is_mapped false q (hearing (before n) l).messages) (few-before few) ∙ sym (none (s.heard l n) refl)
+  test-few q few = and_off_left (is_operational (before n) l) (is_mapped false q (hearing (before n) l).messages) (few-before few) ∙ sym (none (s.heard l n) refl)
     where
       none : (i : ℕ) → s.heard l n ≡ i → hears_of (after n) q l ≡ false
       none zero e =
-          and_off (is_operational (after n) l) (is_mapped false q (hearing (after n) l).messages) (few-after (subst (λ x. x < 1) (sym e) (omega arith)))
+          and_off_left (is_operational (after n) l) (is_mapped false q (hearing (after n) l).messages) (few-after (subst (λ x. x < 1) (sym e) (omega arith)))
       none (suc zero) e =
           let front = talk-front (is_active t l (across (wiring_of t) l n)) (s.heard l (across (wiring_of t) l n)) (s.said l (across (wiring_of t) l n))
           ((go l (across (wiring_of t) l n) below far.0).talk alive) (omega (arith, more, e)) in
@@ -204,12 +191,12 @@ module _ (t : Network) (lawful : IsLawful t) (c : Config) (vs : Views) (s : Sess
 
   test-unnamed : (q : ℕ) → 2 ≤ s.heard l n → names q message ≡ false → hears_of (before n) q l ≡ hears_of (after n) q l
   test-unnamed q many new =
-      and_both (is_operational (before n) l) (is_mapped false q (hearing (before n) l).messages) (many-before many)
+      on_and (is_operational (before n) l) (is_mapped false q (hearing (before n) l).messages) (many-before many)
       ∙ ap (is_mapped false q) messages-before
       ∙ sym (unnamed (is_mapped false q (take (s.heard l n) (s.said l (across (wiring_of t) l n)))) q message new)
       ∙ sym (mapped-append false q (take (s.heard l n) (s.said l (across (wiring_of t) l n))) (message ∷ []))
       ∙ sym (ap (is_mapped false q) (messages-after ∙ one-more))
-      ∙ sym (and_both (is_operational (after n) l) (is_mapped false q (hearing (after n) l).messages) (many-after (omega (arith, many))))
+      ∙ sym (on_and (is_operational (after n) l) (is_mapped false q (hearing (after n) l).messages) (many-after (omega (arith, many))))
 
   abbrev TellsNothing : ℕ → Type 0
   TellsNothing q = (s.heard l n < 2) ⊎ ((names q message ≡ false) ⊎ (is_over (next (wiring_of t) v n q) l ≡ false))

@@ -20,6 +20,7 @@ use Rattle.mn_drain.proofs.Sums.{total-below, total-add, total-none, total-most,
 use Rattle.mn_drain.proofs.NewsWeight.{differ, one_fec, news-weighs, speaks-once}
 use Rattle.mn_settled.proofs.Ways.{same-map}
 use Rattle.mn_drain.proofs.Hearing.{same-says}
+use Rattle.mn_drain.proofs.Flying.{where-most}
 
 abbrev one : Message → ℕ
 one message = 1
@@ -30,10 +31,6 @@ one-each (m ∷ ms) = omega (arith, one-each ms)
 
 where-none : (b : Bool) (i : ℕ) → b ≡ false → where_so b i ≡ 0
 where-none b i e = ap (λ x. where_so x i) e
-
-where-most : (b : Bool) (i : ℕ) → where_so b i ≤ i
-where-most true i = omega arith
-where-most false i = omega arith
 
 where-plus : (a b : Bool) (x y z : ℕ) → (a ≡ true → x ≤ y + z) → where_so (a && b) x ≤ where_so (a && b) y + z
 where-plus true true x y z h = h refl

@@ -1,54 +1,23 @@
 -- What a node says of its offers in one step weighs no more than one mention of each FEC that changed.
 use Rattle.std.proofs.Common.{ℕ, zero, suc, ◌≡◌, ◌≢◌, ◌+◌, ◌<◌, ◌≤◌, inl, inr, Bool, true, false, List, [], ◌∷◌, ◌++◌, map, length, refl, arith}
 use Rattle.std.proofs.Common.{sym, ◌∙◌, ap, subst}
-use Rattle.std.specs.Prelude.{◌==◌, ◌&&◌, not, if◌then◌else◌}
+use Rattle.std.specs.Prelude.{◌&&◌, not, if◌then◌else◌}
 use Rattle.std.specs.List.{flat_map, range_with_len}
 use Rattle.std.proofs.lemmas.Bool.Decides.{eqb_tells}
-use Rattle.mn_base.specs.Wiring.{Wiring, across, joining, links_at}
+use Rattle.mn_base.specs.Wiring.{Wiring}
 use Rattle.mn_ledger.specs.World.{Message, Mapping, Withdraw}
 use Rattle.mn_ledger.specs.Transport.{Said, Knowledge, is_operational, messages_of, said_on, mention, mentioned_on, mentioned_from, offers, by_neighbour, news}
-use Rattle.mn_ledger.proofs.Members.{In, in_append, in_filter, in_flat_map, in_range}
+use Rattle.mn_ledger.proofs.Members.{In}
 use Rattle.mn_ledger.proofs.Mentions.{messages-append}
 use Rattle.mn_ledger.proofs.Turning.{said-own, said-other}
 use Rattle.mn_drain.specs.Sums.{total, where_so}
 use Rattle.mn_drain.specs.Ahead.{measured}
 use Rattle.mn_drain.proofs.Sums.{total-below}
-use Rattle.mn_settled.proofs.Once.{IsOnce, once-range, once-filter}
+use Rattle.mn_ledger.proofs.Saying.{IsOnce, once-neighbours}
 use Rattle.mn_drain.proofs.Weights.{total-shift}
 use Rattle.mn_settled.proofs.Mapped.{news-else}
 
--- 1. A link leads to one neighbour
-
-once-append : (x : ℕ) (ys zs : List ℕ) → IsOnce x ys → IsOnce x zs → (In ys x → In zs x → ⊥) → IsOnce x (ys ++ zs)
-once-append x [] zs h g apart = g
-once-append x (y ∷ ys) zs h g apart = (
-  λ e i. elim (in_append ys zs x i) [ inl j ↦ h.0 e j | inr j ↦ apart (inl e) j ],
-  once-append x ys zs h.1 g (λ i j. apart (inr i) j),
-)
-
-same-numbers : (a b : ℕ) → (a == b) ≡ true → a ≡ b
-same-numbers a b h = elim (eqb_tells a b) [ inl q ↦ q.1 | inr q ↦ absurd (clash (sym h ∙ q.0)) ]
-  where
-    clash : true ≡ false → ⊥
-    clash e = cc
-
-once-neighbours : (w : Wiring) (n l a k : ℕ) → IsOnce l (flat_map (joining w n) (range_with_len a k))
-once-neighbours w n l a zero = tt
-once-neighbours w n l a (suc k) =
-    once-append l (joining w n a) (flat_map (joining w n) (range_with_len (a + 1) k)) (once-filter _ l _ (once-filter _ l _ (once-range l 0 (length w.ends))))
-    (once-neighbours w n l (a + 1) k)
-    (λ i j. beyond (leads i) (later j))
-  where
-    leads : {b : ℕ} → In (joining w n b) l → across w l n ≡ b
-    leads {b = b} i = same-numbers (across w l n) b (in_filter (λ m. across w m n == b) (links_at w n) l i).1
-
-    later : In (flat_map (joining w n) (range_with_len (a + 1) k)) l → a + 1 ≤ across w l n
-    later j = let m = in_flat_map (joining w n) (range_with_len (a + 1) k) l j in subst (λ x. a + 1 ≤ x) (sym (leads m.2)) (in_range (a + 1) k m.0 m.1).0
-
-    beyond : across w l n ≡ a → a + 1 ≤ across w l n → ⊥
-    beyond e h = omega (arith, e, h)
-
--- 2. Weights of messages
+-- 1. Weights of messages
 
 pub weight-append : (size : Message → ℕ) (xs ys : List Message) → measured size (xs ++ ys) ≡ measured size xs + measured size ys
 weight-append size [] ys = omega arith
@@ -161,7 +130,7 @@ module _ (w : Wiring) (size : Message → ℕ) (g : ℕ → ℕ) (maps : (q : �
       same : {x y : ℕ} → x ≡ y → x ≤ y
       same e = omega (arith, e)
 
--- 3. Each node speaks once
+-- 2. Each node speaks once
 
 nobody : (w : Wiring) (before after : ℕ → Knowledge) (l n a k : ℕ) → n < a
     → messages_of l n (flat_map (λ x. news w (before x) (after x) x) (range_with_len a k)) ≡ []

@@ -1,11 +1,11 @@
 -- Each hearing of a BGP message lowers what lies ahead.
 use Rattle.std.proofs.Common.{ℕ, zero, suc, ◌≡◌, ◌≢◌, ◌+◌, ◌<◌, ◌≤◌, ◌⊎◌, inl, inr, Bool, true, false, cond, List, [], ◌∷◌, ◌++◌, map, filter, length, drop}
 use Rattle.std.proofs.Common.{refl, arith, sym, ◌∙◌, ap, subst, append-nil, add-one}
-use Rattle.std.specs.Prelude.{◌&&◌, ◌||◌, not}
+use Rattle.std.specs.Prelude.{◌||◌, not}
 use Rattle.std.specs.List.{flat_map, list_any}
 use Rattle.std.proofs.lemmas.Bool.Decides.{eqb_tells}
 use Rattle.std.proofs.lemmas.List.{drop-append-le, length-append, length-map, length-drop}
-use Rattle.mn_base.proofs.Bools.{and_left}
+use Rattle.mn_base.proofs.Bools.{no, and_left, and_right}
 use Rattle.mn_base.specs.declared.states.BgpState.TheVariants.{OpenSent, OpenConfirm, Established}
 use Rattle.mn_topo.specs.Network.{Network}
 use Rattle.mn_ledger.specs.Turns.{PeersAreInTurn}
@@ -85,13 +85,6 @@ answer-length (suc (suc n)) m es =
 where-if : (a : Bool) (x y : ℕ) → (a ≡ true → x ≤ y) → where_so a x ≤ where_so a y
 where-if true x y h = h refl
 where-if false x y h = omega arith
-
-and_right : (a b : Bool) → (a && b) ≡ true → b ≡ true
-and_right true b h = h
-and_right false b h = absurd (no h)
-  where
-    no : false ≡ true → ⊥
-    no e = cc
 
 -- 3. The edge y hears the next message of its peer x
 
@@ -181,9 +174,6 @@ module _ (t : Network) (c : Config) (p : Peerings) (x y : ℕ) (message : Tellin
 
   differ : (a b : ℕ) → is_direction t c a b ≡ true → a ≢ b
   differ a b on e = no (sym (ap not (elim (eqb_tells a b) [ inl q ↦ q.0 | inr q ↦ absurd (q.1 e) ])) ∙ and_left _ _ (and_right _ _ on))
-    where
-      no : false ≡ true → ⊥
-      no e = cc
 
   row-any : (a : ℕ) → a ≢ x → total (length t.loopbacks) (row afterwards a) ≤ total (length t.loopbacks) (row p a)
   row-any a d = total-below (length t.loopbacks) (row afterwards a) (row p a) (λ b h. where-if (is_direction t c a b) _ _ (λ on. each b on))

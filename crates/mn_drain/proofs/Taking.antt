@@ -6,6 +6,7 @@ use Rattle.std.proofs.lemmas.Bool.Decides.{leb_tells}
 use Rattle.std.proofs.lemmas.List.{length-drop}
 use Rattle.mn_base.specs.Wiring.{is_end, across, sender, receiver}
 use Rattle.mn_base.specs.declared.links.Dir.{Dir}
+use Rattle.mn_base.proofs.Bools.{clash}
 use Rattle.mn_topo.specs.VrfTable.{is_edge}
 use Rattle.mn_topo.specs.Network.{Network, wiring_of}
 use Rattle.mn_topo.specs.Lawful.{IsLawful}
@@ -121,9 +122,6 @@ takes_what_flies t es ps s on lawful journal fit e =
     (in_flight t es ps lawful journal) s on fit e
 
 -- 2. Where no notice and no message flies, nothing is left to a drain
-
-clash : true ≡ false → ⊥
-clash e = cc
 
 leaves-none : (t : Network) (es : List JournalEntry) (ps : List (List ℕ)) → IsLawful t → IsLawfulJournal t es ps
     → ((on : Channel) → is_in_order on ≡ true → loads_on on (flight_of t es ps).items ≡ [])

@@ -5,9 +5,10 @@ use Rattle.std.specs.Prelude.{◌==◌, ◌||◌, eqb}
 use Rattle.std.specs.List.{IsDistinct, list_any}
 use Rattle.std.proofs.lemmas.Bool.Decides.{eqb_tells}
 use Rattle.std.proofs.lemmas.Map.Steps.{length-le_from_distinct_below}
-use Rattle.mn_base.proofs.Bools.{two_ways}
+use Rattle.mn_base.proofs.Bools.{two_ways, clash}
 use Rattle.mn_base.specs.Wiring.{View, link, is_end, across}
 use Rattle.mn_base.specs.Paths.{IsLeast, next}
+use Rattle.mn_base.proofs.Rules.{none_is, some_is}
 use Rattle.mn_topo.specs.Network.{Network, wiring_of}
 use Rattle.mn_topo.specs.Lawful.{IsLawful}
 use Rattle.mn_ledger.proofs.Nearer.{nearer}
@@ -17,15 +18,6 @@ use Rattle.mn_drain.specs.Weights.{degree, to_node, one_on, passed, is_node, is_
 use Rattle.mn_drain.proofs.Sums.{total-below, total-same, total-add, total-none, total-turn, total-one, total-only, total-most}
 use Rattle.mn_settled.proofs.Hops.{some-next, hop-below}
 use Rattle.mn_settled.proofs.Route.{any-none, or-tells}
-
-clash : true ≡ false → ⊥
-clash e = cc
-
-none-some : {A : Type 0} (x : A) → None ≡ Some x → ⊥
-none-some x e = cc
-
-some-same : {A : Type 0} (x y : A) → Some x ≡ Some y → x ≡ y
-some-same {A = A} x y e = ap (λ o. elim o as (λ _. A) [ None ↦ x | Some z ↦ z ]) e
 
 -- 1. Sums of numbers that count only where a test holds
 
@@ -108,16 +100,16 @@ module _ (t : Network) (v : View) (lawful : IsLawful t) (p : ℕ) where
 
   trails : (j x y : ℕ) → x < length t.loopbacks → passed (wiring_of t) v p j x ≡ Some y → Trail j y
   unfolding IsDistinct
-  trails zero x y below is = ([], refl, tt, subst (λ n. n < length t.loopbacks) (some-same x y is) below, λ d least q h. absurd (clash (sym h)))
+  trails zero x y below is = ([], refl, tt, subst (λ n. n < length t.loopbacks) (some_is x y is) below, λ d least q h. absurd (clash (sym h)))
   trails (suc j) x y below is = by_last (λ z e. trails j x z below e) (passed (wiring_of t) v p j x) refl is
     where
       by_hop : (z : ℕ) (o : Option (ℕ × ℕ)) → Trail j z → next (wiring_of t) v z p ≡ o → to_node o ≡ Some y → Trail (suc j) y
-      by_hop z None trail e f = absurd (none-some y f)
-      by_hop z (Some hop) trail e f = subst (Trail (suc j)) (some-same hop.0 y f) (trail-on j z hop trail e).0
+      by_hop z None trail e f = absurd (none_is y f)
+      by_hop z (Some hop) trail e f = subst (Trail (suc j)) (some_is hop.0 y f) (trail-on j z hop trail e).0
 
       by_last : ((z : ℕ) → passed (wiring_of t) v p j x ≡ Some z → Trail j z) → (o : Option ℕ) → passed (wiring_of t) v p j x ≡ o
           → one_on (wiring_of t) v p o ≡ Some y → Trail (suc j) y
-      by_last before None e f = absurd (none-some y f)
+      by_last before None e f = absurd (none_is y f)
       by_last before (Some z) e f = by_hop z (next (wiring_of t) v z p) (before z e) refl f
 
   -- no trail has as many hops as there are nodes
@@ -126,7 +118,7 @@ module _ (t : Network) (v : View) (lawful : IsLawful t) (p : ℕ) where
   no-trail j x y below is = by_last (passed (wiring_of t) v p j x) refl is
     where
       by_hop : (z : ℕ) (o : Option (ℕ × ℕ)) → Trail j z → next (wiring_of t) v z p ≡ o → to_node o ≡ Some y → suc (suc j) ≤ length t.loopbacks
-      by_hop z None trail e f = absurd (none-some y f)
+      by_hop z None trail e f = absurd (none_is y f)
       by_hop z (Some hop) trail e f =
           let on = trail-on j z hop trail e in
           let next_trail : Trail (suc j) hop.0 = on.0 in
@@ -139,7 +131,7 @@ module _ (t : Network) (v : View) (lawful : IsLawful t) (p : ℕ) where
           ]))
 
       by_last : (o : Option ℕ) → passed (wiring_of t) v p j x ≡ o → one_on (wiring_of t) v p o ≡ Some y → suc (suc j) ≤ length t.loopbacks
-      by_last None e f = absurd (none-some y f)
+      by_last None e f = absurd (none_is y f)
       by_last (Some z) e f = by_hop z (next (wiring_of t) v z p) (trails j x z below e) refl f
 
   none-after : (n x : ℕ) → x < length t.loopbacks → is_node (passed (wiring_of t) v p (length t.loopbacks) x) n ≡ false

@@ -2,6 +2,7 @@
 use Rattle.std.proofs.Common.{◌≡◌, ◌<◌, ◌+◌, ◌-◌, ℕ, Bool, true, false, cond, List, [], ◌∷◌, ◌++◌, length, Some, refl, sym, ap, ◌∙◌, subst, arith, length-append, get_or, get_or-set_same, get_or-set_other, eq-eqb, length-set}
 use Rattle.std.specs.Prelude.{◌==◌, slice_get, slice_set}
 use Rattle.std.proofs.lemmas.Bool.{eqb-true}
+use Rattle.mn_base.proofs.Bools.{other_numbers}
 use denote.RawPtr.{Ptr}
 use Rattle.mn_flight.specs.declared.Item.{Item}
 use Rattle.mn_flight_pool.specs.Rings.{item_at}
@@ -11,13 +12,6 @@ use Rattle.mn_flight_pool.specs.declared.node.Node.{Node}
 use Rattle.mn_flight_pool.proofs.Entered as enters
 use Rattle.mn_flight_pool.proofs.Left as leaves
 use Rattle.mn_flight_pool.proofs.PastDue.{Alike, nodes_alike}
-
-not_same : (a b : ℕ) → (a == b) ≡ false → a ≡ b → ⊥
-not_same a b f e = clash (a == b) (eq-eqb a b e) f
-  where
-    clash : (v : Bool) → v ≡ true → v ≡ false → ⊥
-    clash true p q = cc
-    clash false p q = cc
 
 module _ {T : Type 0} where
   -- one count is another number, and so is that of the nodes
@@ -33,7 +27,7 @@ module _ {T : Type 0} where
           let same : k ≡ c = eqb-true k c e in
           let there : k < length counts = omega (arith, below, counted.many) in
           subst (λ n. get_or (slice_set counts k v) n 0 ≡ length (nodes_on after n new)) same (get_or-set_same counts k v 0 there ∙ here)
-      by c false e h = get_or-set_other counts k c v 0 (λ s. not_same k c e (sym s)) ∙ counted.each c h ∙ sym (others c e)
+      by c false e h = get_or-set_other counts k c v 0 (λ s. other_numbers k c e (sym s)) ∙ counted.each c h ∙ sym (others c e)
 
   pub counted_alike : (counts : List ℕ) (channels : ℕ) (order : List Ptr) (old new : List (Ptr × Node T)) → Alike old new → IsCounted counts channels order old → IsCounted counts channels order new
   counted_alike counts channels order old new alike counted = record {

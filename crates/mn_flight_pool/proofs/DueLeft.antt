@@ -3,6 +3,7 @@ use Rattle.std.proofs.Common.{◌≡◌, ◌<◌, ◌≤◌, ◌⊎◌, inl, inr
 use Rattle.std.specs.List.{AllByRecursion, IsDistinct}
 use Rattle.std.proofs.lemmas.Bool.{eqb-true}
 use Rattle.std.proofs.lemmas.Option.{same_Some}
+use Rattle.mn_base.proofs.Bools.{not_both_ways}
 use denote.RawPtr.{Ptr}
 use Rattle.mn_flight.specs.declared.Item.{Item}
 use Rattle.mn_flight_pool.specs.Cells.{same_ptr}
@@ -22,10 +23,6 @@ use Rattle.mn_flight_pool.proofs.DueEntered.{IsEnd, number_due, channel_due}
 
 abbrev IsStart : Ptr → List Ptr → Ptr → Type 0
 IsStart s vs b = ((vs ≡ []) × (b ≡ s)) ⊎ ((ws : List Ptr) × (vs ≡ b ∷ ws))
-
-clash : (b : Bool) → b ≡ true → b ≡ false → ⊥
-clash true p q = cc
-clash false p q = cc
 
 tail_apart : (s : Ptr) (ps : List Ptr) → IsDistinct same_ptr (s ∷ ps) → IsDistinct same_ptr ps
 unfolding IsDistinct
@@ -101,10 +98,10 @@ module _ {T : Type 0} where
 
     -- 1. The node is none of the others
     other_rest : (q : Ptr) → IsIn q rest → q ≡ p → ⊥
-    other_rest q i e = clash (same_ptr p q) (subst (λ r. same_ptr p r ≡ true) (sym e) (same_ptr_refl p)) (free_at p rest q (others_free us₀ p vs₀ (tail_apart head order linked.number.apart)) i)
+    other_rest q i e = not_both_ways (same_ptr p q) (subst (λ r. same_ptr p r ≡ true) (sym e) (same_ptr_refl p)) (free_at p rest q (others_free us₀ p vs₀ (tail_apart head order linked.number.apart)) i)
 
     other_then : (q : Ptr) → IsIn q then → q ≡ p → ⊥
-    other_then q i e = clash (same_ptr p q) (subst (λ r. same_ptr p r ≡ true) (sym e) (same_ptr_refl p)) (free_at p then q (others_free us p vs (tail_apart head (us ++ p ∷ vs) ring.apart)) i)
+    other_then q i e = not_both_ways (same_ptr p q) (subst (λ r. same_ptr p r ≡ true) (sym e) (same_ptr_refl p)) (free_at p then q (others_free us p vs (tail_apart head (us ++ p ∷ vs) ring.apart)) i)
 
     flies : (q : Ptr) → IsIn q then → IsIn q order
     flies q i = due.flies q (subst (λ l. IsIn q l) (sym cut.2) (in_with q us p vs i))
@@ -210,7 +207,7 @@ module _ {T : Type 0} where
         later : (w : Ptr) (z : Item T) → w ≡ after → IsIn w vs → item_at cells w ≡ Some z → x.due < z.due
         later w z s j f = elim (after_x w z j f) [
           | inl k ↦ k
-          | inr k ↦ absurd (clash (is_due x.due (item_at cells after)) (item_due x.due (item_at cells after) z (ap (item_at cells) (sym s) ∙ f) (sym k.0)) h)
+          | inr k ↦ absurd (not_both_ways (is_due x.due (item_at cells after)) (item_due x.due (item_at cells after) z (ap (item_at cells) (sym s) ∙ f) (sym k.0)) h)
         ]
 
         started : (ws : List Ptr) → vs ≡ after ∷ ws → x.due < y.due
@@ -269,7 +266,7 @@ module _ {T : Type 0} where
         earlier : (w : Ptr) (z : Item T) → w ≡ before → IsIn w us → item_at cells w ≡ Some z → z.due < x.due
         earlier w z s j f = elim (before_x w z j f) [
           | inl k ↦ k
-          | inr k ↦ absurd (clash (is_due x.due (item_at cells before)) (item_due x.due (item_at cells before) z (ap (item_at cells) (sym s) ∙ f) k.0) h)
+          | inr k ↦ absurd (not_both_ways (is_due x.due (item_at cells before)) (item_due x.due (item_at cells before) z (ap (item_at cells) (sym s) ∙ f) k.0) h)
         ]
 
         ended : (ws : List Ptr) → us ≡ ws ++ before ∷ [] → y.due < x.due

@@ -1,10 +1,10 @@
 -- What a ring says of the nodes that linking and unlinking reach.
-use Rattle.std.proofs.Common.{◌≡◌, List, [], ◌∷◌, ◌++◌, Some, IsSome, inl, inr, sym, ap, ◌∙◌, subst}
+use Rattle.std.proofs.Common.{◌≡◌, List, [], ◌∷◌, ◌++◌, Some, IsSome, sym, ap, ◌∙◌, subst}
 use Rattle.std.specs.List.{AllByRecursion}
 use denote.RawPtr.{Ptr}
 use Rattle.mn_flight.specs.declared.Item.{Item}
 use Rattle.mn_flight_pool.specs.Cells.{value_at}
-use Rattle.mn_flight_pool.specs.Rings.{IsRing, item_at, with_item, next_of, prev_of, link_behind, unlink, IsIn}
+use Rattle.mn_flight_pool.specs.Rings.{IsRing, item_at, with_item, next_of, prev_of, link_behind, unlink}
 use Rattle.mn_flight_pool.specs.Pool.{entered}
 use Rattle.mn_flight_pool.specs.declared.node.Pair.{Pair}
 use Rattle.mn_flight_pool.specs.declared.node.Pair.TheVariants.{Number, Channel}
@@ -12,10 +12,7 @@ use Rattle.mn_flight_pool.specs.declared.node.Node.{Node}
 use Rattle.mn_flight_pool.proofs.Changed.{stays}
 use Rattle.mn_flight_pool.proofs.Rings.{ring_last, ring_sides, ring_past_item, ring_past_link, ring_past_unlink, link_stays, unlink_stays, item_past_unlink}
 use Rattle.mn_flight_pool.proofs.Entered.{unlike}
-
-all_in : (P : Ptr → Type 0) (xs : List Ptr) (q : Ptr) → AllByRecursion P xs → IsIn q xs → P q
-all_in P [] q h i = absurd i
-all_in P (y ∷ ys) q h i = elim i [ inl e ↦ subst P (sym e) h.0 | inr j ↦ all_in P ys q h.1 j ]
+use Rattle.mn_flight_pool.proofs.Sooner.{all_in}
 
 module _ {T : Type 0} where
   -- a ring's first node, what leads to it, and where that leads

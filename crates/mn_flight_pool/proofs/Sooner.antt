@@ -2,7 +2,7 @@
 use Rattle.std.proofs.Common.{◌≡◌, ◌<◌, ◌≤◌, ◌⊎◌, inl, inr, ℕ, Bool, true, false, cond, nat_lt, nat_le, List, [], ◌∷◌, ◌++◌, length, Option, Some, None, refl, sym, ap, ◌∙◌, subst, arith, length-append}
 use Rattle.std.specs.Prelude.{◌==◌}
 use Rattle.std.specs.List.{AllByRecursion}
-use Rattle.std.proofs.lemmas.Bool.Decides.{nat_tests}
+use Rattle.mn_base.proofs.Bools.{at_most_tells, less_tells, not_at_most_tells, not_less_tells, other_numbers, same_numbers}
 use denote.RawPtr.{Ptr}
 use Rattle.mn_flight.specs.declared.Item.{Item}
 use Rattle.mn_flight_pool.specs.Rings.{IsIn, item_at}
@@ -122,23 +122,6 @@ module _ {T : Type 0} where
   item_tick cells order due o last e f h = subst (λ r. IsLastAt cells order due r) (sym e) (f, h)
 
 -- 4. Changes of ticks
-at_most : (a b : ℕ) → nat_le a b ≡ true → a ≤ b
-at_most a b t = grind (arith, nat_tests, t)
-
-above : (a b : ℕ) → nat_le a b ≡ false → b < a
-above a b f = grind (arith, nat_tests, f)
-
-is_less : (a b : ℕ) → nat_lt a b ≡ true → a < b
-is_less a b t = grind (arith, nat_tests, t)
-
-not_less : (a b : ℕ) → nat_lt a b ≡ false → b ≤ a
-not_less a b f = grind (arith, nat_tests, f)
-
-is_same : (a b : ℕ) → (a == b) ≡ true → a ≡ b
-is_same a b t = grind (arith, nat_tests, t)
-
-not_same : (a b : ℕ) → (a == b) ≡ false → a ≡ b → ⊥
-not_same a b f e = grind (arith, nat_tests, f, e)
 
 all_ticks : (P Q : Tick → Type 0) (ts : List Tick) → ((t : Tick) → P t → Q t) → AllByRecursion P ts → AllByRecursion Q ts
 all_ticks P Q [] f h = tt
@@ -162,9 +145,9 @@ last_by_is P due s (t ∷ ts) up h = by (nat_le t.due due) refl (last_by_is P du
     by : (b : Bool) → nat_le t.due due ≡ b
         → ((last_by due t.last.ptr ts ≡ t.last.ptr) × ((e : ℕ) → HasTick e ts → due < e)) ⊎ ((u : Tick) × (P u) × (u.due ≤ due) × (last_by due t.last.ptr ts ≡ u.last.ptr) × ((e : ℕ) → HasTick e ts → e ≤ due → e ≤ u.due) × HasTick u.due ts)
         → ((cond b (last_by due t.last.ptr ts) s ≡ s) × ((e : ℕ) → HasTick e (t ∷ ts) → due < e)) ⊎ ((u : Tick) × (P u) × (u.due ≤ due) × (cond b (last_by due t.last.ptr ts) s ≡ u.last.ptr) × ((e : ℕ) → HasTick e (t ∷ ts) → e ≤ due → e ≤ u.due) × HasTick u.due (t ∷ ts))
-    by true le (inl rest) = inr (t, h.0, at_most t.due due le, rest.0, λ e i k. elim i [ inl f ↦ omega (arith, f) | inr j ↦ absurd (omega (arith, rest.1 e j, k)) ], inl refl)
+    by true le (inl rest) = inr (t, h.0, at_most_tells t.due due le, rest.0, λ e i k. elim i [ inl f ↦ omega (arith, f) | inr j ↦ absurd (omega (arith, rest.1 e j, k)) ], inl refl)
     by true le (inr rest) = inr (rest.0, rest.1, rest.2, rest.3, λ e i k. elim i [ inl f ↦ omega (arith, f, later_has t.due ts up.0 rest.0.due rest.5) | inr j ↦ rest.4 e j k ], inr rest.5)
-    by false gt rest = inl (refl, λ e i. elim i [ inl f ↦ omega (arith, above t.due due gt, f) | inr j ↦ omega (arith, above t.due due gt, later_has t.due ts up.0 e j) ])
+    by false gt rest = inl (refl, λ e i. elim i [ inl f ↦ omega (arith, not_at_most_tells t.due due gt, f) | inr j ↦ omega (arith, not_at_most_tells t.due due gt, later_has t.due ts up.0 e j) ])
 
 -- a tick that is put, and those that are kept
 pub asc_put : (due : ℕ) (p : Ptr) (ts : List Tick) → AreAscending ts → AreAscending (put_tick due p ts)
@@ -184,18 +167,18 @@ asc_put due p (t ∷ ts) up = by (nat_lt t.due due) refl (asc_put due p ts up.1)
             kept false = all
 
     by : (b : Bool) → nat_lt t.due due ≡ b → AreAscending (put_tick due p ts) → (c : Bool) → (t.due == due) ≡ c → AreAscending (cond b (t ∷ put_tick due p ts) (tick_at due p ∷ cond c ts (t ∷ ts)))
-    by true l rest c e = (after_put (is_less t.due due l) ts up.0, rest)
-    by false l rest true e = (subst (λ n. AllByRecursion (λ (later : Tick). n < later.due) ts) (is_same t.due due e) up.0, up.1)
+    by true l rest c e = (after_put (less_tells t.due due l) ts up.0, rest)
+    by false l rest true e = (subst (λ n. AllByRecursion (λ (later : Tick). n < later.due) ts) (same_numbers t.due due e) up.0, up.1)
     by false l rest false e =
-        let later : due < t.due = strictly (not_less t.due due l) (not_same t.due due e) in
+        let later : due < t.due = strictly (not_less_tells t.due due l) (other_numbers t.due due e) in
         ((later, all_ticks (λ u. t.due < u.due) (λ u. due < u.due) ts (λ u k. omega (arith, later, k)) up.0), up)
       where
         strictly : due ≤ t.due → (t.due ≡ due → ⊥) → due < t.due
         strictly h n = further (nat_lt due t.due) refl
           where
             further : (b : Bool) → nat_lt due t.due ≡ b → due < t.due
-            further true k = is_less due t.due k
-            further false k = absurd (n (omega (arith, h, not_less due t.due k)))
+            further true k = less_tells due t.due k
+            further false k = absurd (n (omega (arith, h, not_less_tells due t.due k)))
 
 pub all_put : (P Q : Tick → Type 0) (due : ℕ) (p : Ptr) (ts : List Tick) → ((t : Tick) → (t.due ≡ due → ⊥) → P t → Q t) → Q (tick_at due p) → AreAscending ts → AllByRecursion P ts → AllByRecursion Q (put_tick due p ts)
 all_put P Q due p [] f q up h = (q, tt)
@@ -205,9 +188,9 @@ all_put P Q due p (t ∷ ts) f q up h = by (nat_lt t.due due) refl (all_put P Q 
     after k = all_ticks (λ u. P u × (t.due < u.due)) Q ts (λ u g. f u (λ e. omega (arith, e, k, g.1)) g.0) (both_ticks P (λ u. t.due < u.due) ts h.1 up.0)
 
     by : (b : Bool) → nat_lt t.due due ≡ b → AllByRecursion Q (put_tick due p ts) → (c : Bool) → (t.due == due) ≡ c → AllByRecursion Q (cond b (t ∷ put_tick due p ts) (tick_at due p ∷ cond c ts (t ∷ ts)))
-    by true l rest c e = let less : t.due < due = is_less t.due due l in (f t (λ k. omega (arith, k, less)) h.0, rest)
-    by false l rest true e = (q, after (not_less t.due due l))
-    by false l rest false e = (q, (f t (not_same t.due due e) h.0, after (not_less t.due due l)))
+    by true l rest c e = let less : t.due < due = less_tells t.due due l in (f t (λ k. omega (arith, k, less)) h.0, rest)
+    by false l rest true e = (q, after (not_less_tells t.due due l))
+    by false l rest false e = (q, (f t (other_numbers t.due due e) h.0, after (not_less_tells t.due due l)))
 
 pub has_new : (due : ℕ) (p : Ptr) (ts : List Tick) → HasTick due (put_tick due p ts)
 has_new due p [] = inl refl
@@ -223,7 +206,7 @@ has_put e due p (t ∷ ts) i = by (nat_lt t.due due) (has_put e due p ts) (t.due
   where
     by : (b : Bool) → (HasTick e ts → HasTick e (put_tick due p ts)) → (c : Bool) → (t.due == due) ≡ c → HasTick e (cond b (t ∷ put_tick due p ts) (tick_at due p ∷ cond c ts (t ∷ ts)))
     by true rest c k = elim i [ inl f ↦ inl f | inr j ↦ inr (rest j) ]
-    by false rest true k = elim i [ inl f ↦ inl (sym (is_same t.due due k) ∙ f) | inr j ↦ inr j ]
+    by false rest true k = elim i [ inl f ↦ inl (sym (same_numbers t.due due k) ∙ f) | inr j ↦ inr j ]
     by false rest false k = inr i
 
 -- a tick that has another last node, or is gone
@@ -236,11 +219,11 @@ asc_set due p (t ∷ ts) up = by (t.due == due) refl (asc_set due p ts up.1)
     after_set n (u ∷ us) all = split (u.due == due) refl (after_set n us all.1)
       where
         split : (b : Bool) → (u.due == due) ≡ b → AllByRecursion (λ later. n < later.due) (set_tick due p us) → AllByRecursion (λ later. n < later.due) (cond b (tick_at due p ∷ us) (u ∷ set_tick due p us))
-        split true e rest = (subst (λ m. n < m) (is_same u.due due e) all.0, all.1)
+        split true e rest = (subst (λ m. n < m) (same_numbers u.due due e) all.0, all.1)
         split false e rest = (all.0, rest)
 
     by : (b : Bool) → (t.due == due) ≡ b → AreAscending (set_tick due p ts) → AreAscending (cond b (tick_at due p ∷ ts) (t ∷ set_tick due p ts))
-    by true e rest = (subst (λ n. AllByRecursion (λ (later : Tick). n < later.due) ts) (is_same t.due due e) up.0, up.1)
+    by true e rest = (subst (λ n. AllByRecursion (λ (later : Tick). n < later.due) ts) (same_numbers t.due due e) up.0, up.1)
     by false e rest = (after_set t.due ts up.0, rest)
 
 pub asc_drop : (due : ℕ) (ts : List Tick) → AreAscending ts → AreAscending (drop_tick due ts)
@@ -268,16 +251,16 @@ all_set P Q due p [] f q up h = tt
 all_set P Q due p (t ∷ ts) f q up h = by (t.due == due) refl (all_set P Q due p ts f q up.1 h.1)
   where
     by : (b : Bool) → (t.due == due) ≡ b → AllByRecursion Q (set_tick due p ts) → AllByRecursion Q (cond b (tick_at due p ∷ ts) (t ∷ set_tick due p ts))
-    by true e rest = (q, others P Q due t ts (is_same t.due due e) f up.0 h.1)
-    by false e rest = (f t (not_same t.due due e) h.0, rest)
+    by true e rest = (q, others P Q due t ts (same_numbers t.due due e) f up.0 h.1)
+    by false e rest = (f t (other_numbers t.due due e) h.0, rest)
 
 pub all_drop : (P Q : Tick → Type 0) (due : ℕ) (ts : List Tick) → ((t : Tick) → (t.due ≡ due → ⊥) → P t → Q t) → AreAscending ts → AllByRecursion P ts → AllByRecursion Q (drop_tick due ts)
 all_drop P Q due [] f up h = tt
 all_drop P Q due (t ∷ ts) f up h = by (t.due == due) refl (all_drop P Q due ts f up.1 h.1)
   where
     by : (b : Bool) → (t.due == due) ≡ b → AllByRecursion Q (drop_tick due ts) → AllByRecursion Q (cond b ts (t ∷ drop_tick due ts))
-    by true e rest = others P Q due t ts (is_same t.due due e) f up.0 h.1
-    by false e rest = (f t (not_same t.due due e) h.0, rest)
+    by true e rest = others P Q due t ts (same_numbers t.due due e) f up.0 h.1
+    by false e rest = (f t (other_numbers t.due due e) h.0, rest)
 
 pub all_kept : (P Q : Tick → Type 0) (ts : List Tick) → ((t : Tick) → P t → Q t) → AllByRecursion P ts → AllByRecursion Q ts
 all_kept P Q ts f h = all_ticks P Q ts f h
@@ -287,7 +270,7 @@ has_set e due p [] i = absurd i
 has_set e due p (t ∷ ts) i = by (t.due == due) refl (has_set e due p ts)
   where
     by : (b : Bool) → (t.due == due) ≡ b → (HasTick e ts → HasTick e (set_tick due p ts)) → HasTick e (cond b (tick_at due p ∷ ts) (t ∷ set_tick due p ts))
-    by true k rest = elim i [ inl f ↦ inl (sym (is_same t.due due k) ∙ f) | inr j ↦ inr j ]
+    by true k rest = elim i [ inl f ↦ inl (sym (same_numbers t.due due k) ∙ f) | inr j ↦ inr j ]
     by false k rest = elim i [ inl f ↦ inl f | inr j ↦ inr (rest j) ]
 
 pub has_drop : (e due : ℕ) (ts : List Tick) → (e ≡ due → ⊥) → HasTick e ts → HasTick e (drop_tick due ts)
@@ -295,7 +278,7 @@ has_drop e due [] n i = absurd i
 has_drop e due (t ∷ ts) n i = by (t.due == due) refl (has_drop e due ts n)
   where
     by : (b : Bool) → (t.due == due) ≡ b → (HasTick e ts → HasTick e (drop_tick due ts)) → HasTick e (cond b ts (t ∷ drop_tick due ts))
-    by true k rest = elim i [ inl f ↦ absurd (n (sym f ∙ is_same t.due due k)) | inr j ↦ j ]
+    by true k rest = elim i [ inl f ↦ absurd (n (sym f ∙ same_numbers t.due due k)) | inr j ↦ j ]
     by false k rest = elim i [ inl f ↦ inl f | inr j ↦ inr (rest j) ]
 
 -- ticks that ascend, with the due ticks of their nodes, are no more than the nodes

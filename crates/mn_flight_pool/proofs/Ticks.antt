@@ -2,38 +2,10 @@
 use Rattle.std.proofs.Common.{◌≡◌, ◌<◌, ◌≤◌, ◌-◌, ℕ, zero, suc, Bool, true, false, cond, nat_lt, nat_le, List, [], ◌∷◌, length, refl, sym, ap, ◌∙◌, subst, arith}
 use Rattle.std.specs.Prelude.{◌==◌, slice_index_or, slice_set, insert, remove}
 use Rattle.std.specs.List.{AllByRecursion}
-use Rattle.std.proofs.lemmas.Bool.Decides.{nat_tests}
+use Rattle.mn_base.proofs.Bools.{at_most_is, less_is, less_tells, not_at_most, not_less, not_less_tells, other_test, test_same}
 use denote.RawPtr.{Ptr}
 use Rattle.mn_flight_pool.specs.Ticks.{tick_at, AreAscending, earlier, last_by, put_tick, set_tick, drop_tick, IsFound, IsMissing}
 use Rattle.mn_flight_pool.specs.declared.tick.Tick.{Tick}
-
-is_less : (a b : ℕ) → nat_lt a b ≡ true → a < b
-is_less a b t = grind (arith, nat_tests, t)
-
-not_less : (a b : ℕ) → nat_lt a b ≡ false → b ≤ a
-not_less a b f = grind (arith, nat_tests, f)
-
-less : (a b : ℕ) → a < b → nat_lt a b ≡ true
-less a b h = grind (arith, nat_tests, h)
-
-no_less : (a b : ℕ) → b ≤ a → nat_lt a b ≡ false
-no_less a b h = grind (arith, nat_tests, h)
-
-at_most : (a b : ℕ) → a ≤ b → nat_le a b ≡ true
-at_most a b h = grind (arith, nat_tests, h)
-
-above : (a b : ℕ) → b < a → nat_le a b ≡ false
-above a b h = grind (arith, nat_tests, h)
-
-same : (a b : ℕ) → a ≡ b → (a == b) ≡ true
-same a b h = grind (arith, nat_tests, h)
-
-unlike : (a b : ℕ) → (a ≡ b → ⊥) → (a == b) ≡ false
-unlike a b h = by (a == b) refl
-  where
-    by : (v : Bool) → (a == b) ≡ v → (a == b) ≡ false
-    by true t = absurd (h (grind (arith, nat_tests, t)))
-    by false t = t
 
 -- what holds of the tick at a place among those that all meet it
 all_place : (P : Tick → Type 0) (ts : List Tick) (k : ℕ) (d : Tick) → AllByRecursion P ts → k < length ts → P (slice_index_or ts k d)
@@ -57,15 +29,15 @@ earlier_within due (t ∷ ts) = by (nat_lt t.due due) (earlier_within due ts)
 
 pub earlier_past : (due : ℕ) (ts : List Tick) (m : ℕ) (d : Tick) → AreAscending ts → m < length ts → (slice_index_or ts m d).due < due → m < earlier due ts
 earlier_past due [] m d up below h = absurd (omega (arith, below))
-earlier_past due (t ∷ ts) zero d up below h = rw (less t.due due h) (omega arith)
+earlier_past due (t ∷ ts) zero d up below h = rw (less_is t.due due h) (omega arith)
 earlier_past due (t ∷ ts) (suc m) d up below h =
     let there : m < length ts = omega (arith, below) in
     let next : t.due < (slice_index_or ts m d).due = all_place (λ later. t.due < later.due) ts m d up.0 there in
-    rw (less t.due due (omega (arith, next, h))) (omega (arith, earlier_past due ts m d up.1 there h))
+    rw (less_is t.due due (omega (arith, next, h))) (omega (arith, earlier_past due ts m d up.1 there h))
 
 pub earlier_upto : (due : ℕ) (ts : List Tick) (m : ℕ) (d : Tick) → m < length ts → due ≤ (slice_index_or ts m d).due → earlier due ts ≤ m
 earlier_upto due [] m d below h = absurd (omega (arith, below))
-earlier_upto due (t ∷ ts) zero d below h = rw (no_less t.due due h) (omega arith)
+earlier_upto due (t ∷ ts) zero d below h = rw (not_less t.due due h) (omega arith)
 earlier_upto due (t ∷ ts) (suc m) d below h = by (nat_lt t.due due) (earlier_upto due ts m d (omega (arith, below)) h)
   where
     by : (b : Bool) → earlier due ts ≤ m → cond b (suc (earlier due ts)) 0 ≤ suc m
@@ -79,12 +51,12 @@ not_earlier due (t ∷ ts) d h = by (nat_lt t.due due) refl h (not_earlier due t
   where
     by : (b : Bool) → nat_lt t.due due ≡ b → cond b (suc (earlier due ts)) 0 < suc (length ts) → (earlier due ts < length ts → due ≤ (slice_index_or ts (earlier due ts) d).due) → due ≤ (slice_index_or (t ∷ ts) (cond b (suc (earlier due ts)) 0) d).due
     by true e k rest = rest (omega (arith, k))
-    by false e k rest = not_less t.due due e
+    by false e k rest = not_less_tells t.due due e
 
 -- 2. The last node by a tick
 none_by : (due : ℕ) (s : Ptr) (ts : List Tick) → AllByRecursion (λ later. due < later.due) ts → last_by due s ts ≡ s
 none_by due s [] h = refl
-none_by due s (t ∷ ts) h = rw (above t.due due h.0) refl
+none_by due s (t ∷ ts) h = rw (not_at_most t.due due h.0) refl
 
 found_last : (due : ℕ) (s : Ptr) (ts : List Tick) (d : Tick) → AreAscending ts → earlier due ts < length ts → (slice_index_or ts (earlier due ts) d).due ≡ due → (slice_index_or ts (earlier due ts) d).last.ptr ≡ last_by due s ts
 found_last due s [] d up h e = absurd (omega (arith, h))
@@ -93,12 +65,12 @@ found_last due s (t ∷ ts) d up h e = by (nat_lt t.due due) refl h e (found_las
     by : (b : Bool) → nat_lt t.due due ≡ b → cond b (suc (earlier due ts)) 0 < suc (length ts) → (slice_index_or (t ∷ ts) (cond b (suc (earlier due ts)) 0) d).due ≡ due
         → (earlier due ts < length ts → (slice_index_or ts (earlier due ts) d).due ≡ due → (slice_index_or ts (earlier due ts) d).last.ptr ≡ last_by due t.last.ptr ts)
         → (slice_index_or (t ∷ ts) (cond b (suc (earlier due ts)) 0) d).last.ptr ≡ cond (nat_le t.due due) (last_by due t.last.ptr ts) s
-    by true l k q rest = rw (at_most t.due due (omega (arith, is_less t.due due l))) (rest (omega (arith, k)) q)
-    by false l k q rest = rw (at_most t.due due (omega (arith, q))) (sym (none_by due t.last.ptr ts (subst (λ n. AllByRecursion (λ (later : Tick). n < later.due) ts) q up.0)))
+    by true l k q rest = rw (at_most_is t.due due (omega (arith, less_tells t.due due l))) (rest (omega (arith, k)) q)
+    by false l k q rest = rw (at_most_is t.due due (omega (arith, q))) (sym (none_by due t.last.ptr ts (subst (λ n. AllByRecursion (λ (later : Tick). n < later.due) ts) q up.0)))
 
 first_last : (due : ℕ) (s : Ptr) (ts : List Tick) (d : Tick) → earlier due ts ≡ 0 → (0 < length ts → due < (slice_index_or ts 0 d).due) → s ≡ last_by due s ts
 first_last due s [] d e h = refl
-first_last due s (t ∷ ts) d e h = rw (above t.due due (h (omega arith))) refl
+first_last due s (t ∷ ts) d e h = rw (not_at_most t.due due (h (omega arith))) refl
 
 missing_last : (due : ℕ) (s : Ptr) (ts : List Tick) (d : Tick) → (earlier due ts < length ts → due < (slice_index_or ts (earlier due ts) d).due) → 0 < earlier due ts → (slice_index_or ts (earlier due ts - 1) d).last.ptr ≡ last_by due s ts
 missing_last due s [] d h pos = absurd (omega (arith, pos))
@@ -107,7 +79,7 @@ missing_last due s (t ∷ ts) d h pos = by (nat_lt t.due due) refl h pos (missin
     by : (b : Bool) → nat_lt t.due due ≡ b → (cond b (suc (earlier due ts)) 0 < suc (length ts) → due < (slice_index_or (t ∷ ts) (cond b (suc (earlier due ts)) 0) d).due) → 0 < cond b (suc (earlier due ts)) 0
         → ((earlier due ts < length ts → due < (slice_index_or ts (earlier due ts) d).due) → 0 < earlier due ts → (slice_index_or ts (earlier due ts - 1) d).last.ptr ≡ last_by due t.last.ptr ts)
         → (slice_index_or (t ∷ ts) (cond b (suc (earlier due ts)) 0 - 1) d).last.ptr ≡ cond (nat_le t.due due) (last_by due t.last.ptr ts) s
-    by true l k q rest = rw (at_most t.due due (omega (arith, is_less t.due due l))) (at_place (earlier due ts) refl)
+    by true l k q rest = rw (at_most_is t.due due (omega (arith, less_tells t.due due l))) (at_place (earlier due ts) refl)
       where
         at_place : (n : ℕ) → earlier due ts ≡ n → (slice_index_or (t ∷ ts) (suc (earlier due ts) - 1) d).last.ptr ≡ last_by due t.last.ptr ts
         at_place zero e =
@@ -127,7 +99,7 @@ found_put due p (t ∷ ts) d h e = by (nat_lt t.due due) refl h e (found_put due
         → (earlier due ts < length ts → (slice_index_or ts (earlier due ts) d).due ≡ due → slice_set ts (earlier due ts) (tick_at due p) ≡ put_tick due p ts)
         → slice_set (t ∷ ts) (cond b (suc (earlier due ts)) 0) (tick_at due p) ≡ cond b (t ∷ put_tick due p ts) (tick_at due p ∷ cond (t.due == due) ts (t ∷ ts))
     by true l k q rest = ap (λ r. t ∷ r) (rest (omega (arith, k)) q)
-    by false l k q rest = rw (same t.due due q) refl
+    by false l k q rest = rw (test_same t.due due q) refl
 
 missing_put : (due : ℕ) (p : Ptr) (ts : List Tick) (d : Tick) → (earlier due ts < length ts → due < (slice_index_or ts (earlier due ts) d).due) → insert ts (earlier due ts) (tick_at due p) ≡ put_tick due p ts
 missing_put due p [] d h = refl
@@ -137,7 +109,7 @@ missing_put due p (t ∷ ts) d h = by (nat_lt t.due due) refl h (missing_put due
         → ((earlier due ts < length ts → due < (slice_index_or ts (earlier due ts) d).due) → insert ts (earlier due ts) (tick_at due p) ≡ put_tick due p ts)
         → insert (t ∷ ts) (cond b (suc (earlier due ts)) 0) (tick_at due p) ≡ cond b (t ∷ put_tick due p ts) (tick_at due p ∷ cond (t.due == due) ts (t ∷ ts))
     by true l k rest = ap (λ r. t ∷ r) (rest (λ b. k (omega (arith, b))))
-    by false l k rest = let later : due < t.due = k (omega arith) in rw (unlike t.due due (λ e. omega (arith, later, e))) refl
+    by false l k rest = let later : due < t.due = k (omega arith) in rw (other_test t.due due (λ e. omega (arith, later, e))) refl
 
 found_set : (due : ℕ) (p : Ptr) (ts : List Tick) (d : Tick) → earlier due ts < length ts → (slice_index_or ts (earlier due ts) d).due ≡ due → slice_set ts (earlier due ts) (tick_at due p) ≡ set_tick due p ts
 found_set due p [] d h e = absurd (omega (arith, h))
@@ -146,8 +118,8 @@ found_set due p (t ∷ ts) d h e = by (nat_lt t.due due) refl h e (found_set due
     by : (b : Bool) → nat_lt t.due due ≡ b → cond b (suc (earlier due ts)) 0 < suc (length ts) → (slice_index_or (t ∷ ts) (cond b (suc (earlier due ts)) 0) d).due ≡ due
         → (earlier due ts < length ts → (slice_index_or ts (earlier due ts) d).due ≡ due → slice_set ts (earlier due ts) (tick_at due p) ≡ set_tick due p ts)
         → slice_set (t ∷ ts) (cond b (suc (earlier due ts)) 0) (tick_at due p) ≡ cond (t.due == due) (tick_at due p ∷ ts) (t ∷ set_tick due p ts)
-    by true l k q rest = let before : t.due < due = is_less t.due due l in rw (unlike t.due due (λ e. omega (arith, before, e))) (ap (λ r. t ∷ r) (rest (omega (arith, k)) q))
-    by false l k q rest = rw (same t.due due q) refl
+    by true l k q rest = let before : t.due < due = less_tells t.due due l in rw (other_test t.due due (λ e. omega (arith, before, e))) (ap (λ r. t ∷ r) (rest (omega (arith, k)) q))
+    by false l k q rest = rw (test_same t.due due q) refl
 
 found_drop : (due : ℕ) (ts : List Tick) (d : Tick) → earlier due ts < length ts → (slice_index_or ts (earlier due ts) d).due ≡ due → remove ts (earlier due ts) ≡ drop_tick due ts
 found_drop due [] d h e = absurd (omega (arith, h))
@@ -156,17 +128,17 @@ found_drop due (t ∷ ts) d h e = by (nat_lt t.due due) refl h e (found_drop due
     by : (b : Bool) → nat_lt t.due due ≡ b → cond b (suc (earlier due ts)) 0 < suc (length ts) → (slice_index_or (t ∷ ts) (cond b (suc (earlier due ts)) 0) d).due ≡ due
         → (earlier due ts < length ts → (slice_index_or ts (earlier due ts) d).due ≡ due → remove ts (earlier due ts) ≡ drop_tick due ts)
         → remove (t ∷ ts) (cond b (suc (earlier due ts)) 0) ≡ cond (t.due == due) ts (t ∷ drop_tick due ts)
-    by true l k q rest = let before : t.due < due = is_less t.due due l in rw (unlike t.due due (λ e. omega (arith, before, e))) (ap (λ r. t ∷ r) (rest (omega (arith, k)) q))
-    by false l k q rest = rw (same t.due due q) refl
+    by true l k q rest = let before : t.due < due = less_tells t.due due l in rw (other_test t.due due (λ e. omega (arith, before, e))) (ap (λ r. t ∷ r) (rest (omega (arith, k)) q))
+    by false l k q rest = rw (test_same t.due due q) refl
 
 -- where it isn't there, nothing is changed
 later_set : (due : ℕ) (p : Ptr) (ts : List Tick) → AllByRecursion (λ later. due < later.due) ts → set_tick due p ts ≡ ts
 later_set due p [] h = refl
-later_set due p (t ∷ ts) h = let after : due < t.due = h.0 in rw (unlike t.due due (λ e. omega (arith, after, e))) (ap (λ r. t ∷ r) (later_set due p ts h.1))
+later_set due p (t ∷ ts) h = let after : due < t.due = h.0 in rw (other_test t.due due (λ e. omega (arith, after, e))) (ap (λ r. t ∷ r) (later_set due p ts h.1))
 
 later_drop : (due : ℕ) (ts : List Tick) → AllByRecursion (λ later. due < later.due) ts → drop_tick due ts ≡ ts
 later_drop due [] h = refl
-later_drop due (t ∷ ts) h = let after : due < t.due = h.0 in rw (unlike t.due due (λ e. omega (arith, after, e))) (ap (λ r. t ∷ r) (later_drop due ts h.1))
+later_drop due (t ∷ ts) h = let after : due < t.due = h.0 in rw (other_test t.due due (λ e. omega (arith, after, e))) (ap (λ r. t ∷ r) (later_drop due ts h.1))
 
 further : (m n : ℕ) (ts : List Tick) → m < n → AllByRecursion (λ later. n < later.due) ts → AllByRecursion (λ later. m < later.due) ts
 further m n [] l h = tt
@@ -179,8 +151,8 @@ missing_set due p (t ∷ ts) d up h = by (nat_lt t.due due) refl h (missing_set 
     by : (b : Bool) → nat_lt t.due due ≡ b → (cond b (suc (earlier due ts)) 0 < suc (length ts) → due < (slice_index_or (t ∷ ts) (cond b (suc (earlier due ts)) 0) d).due)
         → ((earlier due ts < length ts → due < (slice_index_or ts (earlier due ts) d).due) → ts ≡ set_tick due p ts)
         → t ∷ ts ≡ cond (t.due == due) (tick_at due p ∷ ts) (t ∷ set_tick due p ts)
-    by true l k rest = let before : t.due < due = is_less t.due due l in rw (unlike t.due due (λ e. omega (arith, before, e))) (ap (λ r. t ∷ r) (rest (λ b. k (omega (arith, b)))))
-    by false l k rest = let after : due < t.due = k (omega arith) in rw (unlike t.due due (λ e. omega (arith, after, e))) (ap (λ r. t ∷ r) (sym (later_set due p ts (further due t.due ts after up.0))))
+    by true l k rest = let before : t.due < due = less_tells t.due due l in rw (other_test t.due due (λ e. omega (arith, before, e))) (ap (λ r. t ∷ r) (rest (λ b. k (omega (arith, b)))))
+    by false l k rest = let after : due < t.due = k (omega arith) in rw (other_test t.due due (λ e. omega (arith, after, e))) (ap (λ r. t ∷ r) (sym (later_set due p ts (further due t.due ts after up.0))))
 
 missing_drop : (due : ℕ) (ts : List Tick) (d : Tick) → AreAscending ts → (earlier due ts < length ts → due < (slice_index_or ts (earlier due ts) d).due) → ts ≡ drop_tick due ts
 missing_drop due [] d up h = refl
@@ -189,8 +161,8 @@ missing_drop due (t ∷ ts) d up h = by (nat_lt t.due due) refl h (missing_drop 
     by : (b : Bool) → nat_lt t.due due ≡ b → (cond b (suc (earlier due ts)) 0 < suc (length ts) → due < (slice_index_or (t ∷ ts) (cond b (suc (earlier due ts)) 0) d).due)
         → ((earlier due ts < length ts → due < (slice_index_or ts (earlier due ts) d).due) → ts ≡ drop_tick due ts)
         → t ∷ ts ≡ cond (t.due == due) ts (t ∷ drop_tick due ts)
-    by true l k rest = let before : t.due < due = is_less t.due due l in rw (unlike t.due due (λ e. omega (arith, before, e))) (ap (λ r. t ∷ r) (rest (λ b. k (omega (arith, b)))))
-    by false l k rest = let after : due < t.due = k (omega arith) in rw (unlike t.due due (λ e. omega (arith, after, e))) (ap (λ r. t ∷ r) (sym (later_drop due ts (further due t.due ts after up.0))))
+    by true l k rest = let before : t.due < due = less_tells t.due due l in rw (other_test t.due due (λ e. omega (arith, before, e))) (ap (λ r. t ∷ r) (rest (λ b. k (omega (arith, b)))))
+    by false l k rest = let after : due < t.due = k (omega arith) in rw (other_test t.due due (λ e. omega (arith, after, e))) (ap (λ r. t ∷ r) (sym (later_drop due ts (further due t.due ts after up.0))))
 
 -- 4. As the calls come upon them
 module _ (due : ℕ) (ts : List Tick) (i : ℕ) (d : Tick) where
@@ -253,5 +225,5 @@ module _ (due : ℕ) (ts : List Tick) (i : ℕ) (d : Tick) where
       strictly h = by (nat_lt due (slice_index_or ts i d).due) refl
         where
           by : (b : Bool) → nat_lt due (slice_index_or ts i d).due ≡ b → due < (slice_index_or ts i d).due
-          by true t = is_less due (slice_index_or ts i d).due t
-          by false f = absurd (other (omega (arith, h, not_less due (slice_index_or ts i d).due f)))
+          by true t = less_tells due (slice_index_or ts i d).due t
+          by false f = absurd (other (omega (arith, h, not_less_tells due (slice_index_or ts i d).due f)))

@@ -30,19 +30,13 @@ use Rattle.mn_frames.proofs.Labels.{place_stays, map_in, range_in}
 use Rattle.mn_frames.proofs.Numbers.{place_behind, site_place}
 use Rattle.mn_frames.proofs.Attaching.{place_last, site_of, number_of}
 use Rattle.mn_frames.proofs.Spent.{total, total_is, step_gives, none_attached, others_within}
+use Rattle.mn_laws.proofs.Announced.{attaches_grow}
 
 -- 1. Attachments are counted up
 
-step_grows : (c : Config) (step : Step) (site : ℕ) → c.attaches site ≤ (config_after c step).attaches site
-step_grows c (Attach s) site = elim (eqb_tells site s.0) [
-  | inl q ↦ rw q.0 (omega (arith, ap c.attaches q.1))
-  | inr q ↦ rw q.0 (omega arith)
-]
-step_grows c _ site = omega arith
-
 grows : (t : Network) (entries : List JournalEntry) (w : World) (site : ℕ) → w.config.attaches site ≤ (world_from t w entries).config.attaches site
 grows t [] w site = omega arith
-grows t (e ∷ es) w site = omega (arith, step_grows w.config e.step site, grows t es (after t w e.step) site)
+grows t (e ∷ es) w site = omega (arith, attaches_grow w.config e.step site, grows t es (after t w e.step) site)
 
 -- 2. Each has a label
 
@@ -124,7 +118,7 @@ from_only t node tick w packets count (e ∷ es) inputs site k lawful i = elim (
       (here.0, here.1, here.2, omega (arith, here.3, grows t es (after t w e.step) site)))
   | inr j ↦ (let later = from_only t node e.tick (after t w e.step) (packets_after t (after t w e.step) packets e.step (next_of inputs)) (count + 1) es
       (left_by e.step inputs) site k lawful.3 j in
-      (later.0, later.1, omega (arith, later.2, step_grows w.config e.step site), later.3))
+      (later.0, later.1, omega (arith, later.2, attaches_grow w.config e.step site), later.3))
 ]
 
 first_only : (t : Network) (node site k : ℕ) → In (given_first t node) (attachment_of site k) → (home_of t site ≡ node) × (site < length t.sites) × (k ≡ 1)
@@ -212,7 +206,7 @@ one_more t node c l binds step fit h = record {
   same = λ site k home i. same step site k home i;
   count = let gives = step_gives t node c step fit in omega (arith, length-append binds (given_in t node c step), h.count, gives);
   past = λ site k i. elim (in_append binds (given_in t node c step) (attachment_of site k) i) [
-    | inl j ↦ omega (arith, h.past site k j, step_grows c step site)
+    | inl j ↦ omega (arith, h.past site k j, attaches_grow c step site)
     | inr j ↦ (step_only t node c step site k fit j).3
   ];
 }

@@ -35,7 +35,7 @@ use Rattle.mn_ledger.specs.Verdicts.{injections}
 use Rattle.mn_laws.specs.Named.{AreBytes}
 use Rattle.mn_ledger.proofs.Members.{In, in_contained, contained_in}
 use Rattle.mn_ledger.proofs.Parts.{knowledge_kept}
-use Rattle.mn_ledger.proofs.TwoLinks.{node_no, site_no, two_links, at_start, settling, packet}
+use Rattle.mn_ledger.proofs.TwoLinks.{node_no, site_no, two_links, at_start, settling, packet, too_high}
 use Rattle.mn_frames.specs.Given.{Labelling, given, given_in, fec_of, attachment_of, label_in}
 use Rattle.mn_frames.specs.Frames.{entry, IsFrameOf, IsSound}
 use Rattle.mn_frames.specs.Tables.{TableStands, next_entry, site_entry}
@@ -103,9 +103,6 @@ other_key label key apart = by (nat_lt label key) (label == key) (other_test lab
 
 no_use : (label : ℕ) (x y z : Use) → label ≢ 16 → label ≢ 17 → label ≢ 18 → use_of ((16, x) ∷ (17, y) ∷ (18, z) ∷ []) label ≡ None
 no_use label x y z a b c = rw (other_key label 16 a, other_key label 17 b, other_key label 18 c) refl
-
-too_high : (n : ℕ) → suc (suc (suc n)) < 3 → ⊥
-too_high n h = omega (arith, h)
 
 fecs_of_pe1 : (edge : ℕ) → edge < 3 → edge ≢ 0 → use_of uses_of_pe1 (label_in (labels 0) (fec_of edge)) ≡ fec_use (next_entry two_links labels world 0 edge)
 unfolding next knowledge_of news sessions_after peerings_after held packets_after is_not_ipv4 is_malformed is_truncated has_bad_checksum good checksum_for with_ttl aged in_flight bytes_flying given

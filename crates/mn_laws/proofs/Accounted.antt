@@ -4,6 +4,7 @@ use Rattle.std.specs.Prelude.{◌==◌, ◌||◌, IsTrue, slice_get, slice_index
 use Rattle.std.proofs.lemmas.Bool.Decides.{eqb_tells}
 use Rattle.std.proofs.lemmas.List.{length-append, take-append-le, take_all}
 use Rattle.std.proofs.lemmas.Option.{slice_get_within}
+use Rattle.mn_base.proofs.Bools.{none_below}
 use Rattle.mn_base.specs.declared.numbers.LinkNo.{LinkNo}
 use Rattle.mn_ipv4.specs.Header.{good, ttl_of}
 use Rattle.mn_ipv4.proofs.Laws.{IsGood-from_good, length-aged, ttl_of-aged, total_length-aged, good-aged}
@@ -36,9 +37,6 @@ use Rattle.mn_laws.proofs.Holding.{sites_held}
 use Rattle.mn_laws.proofs.Sent.{site_there, known}
 use Rattle.mn_laws.proofs.There.{vrf_there}
 use Rattle.mn_laws.proofs.Travelling.{HoldsSites}
-
-none_below : (n : ℕ) → n < 0 → ⊥
-none_below n h = omega (arith, h)
 
 -- 1. Each injection sends a packet
 

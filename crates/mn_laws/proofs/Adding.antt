@@ -9,7 +9,7 @@ use Rattle.mn_ledger.specs.OneMore.{added, with_packet, made_then}
 use Rattle.mn_ledger.specs.Packets.{Packets, packets_after}
 use Rattle.mn_ledger.specs.Verdicts.{one_if, injections}
 use Rattle.mn_ledger.specs.World.{World}
-use Rattle.mn_ledger.proofs.More.{unlooked, goes_on}
+use Rattle.mn_ledger.proofs.More.{unlooked, goes_on, none_more}
 use Rattle.mn_laws.specs.Deliveries.{Delivery, delivery_at, deliveries_from, deliveries_of}
 use Rattle.mn_laws.specs.OneMore.{AddsToItsLists}
 
@@ -30,9 +30,6 @@ deliveries_end t (x ∷ es) e w k ps =
 abbrev Unlooked : Network → List JournalEntry → List (List ℕ) → Type 0
 Unlooked t es qs = (w : World) (k : Packets) (ps : List (List ℕ)) → length ps ≡ injections es
     → deliveries_from t w k es (ps ++ qs) ≡ deliveries_from t w k es ps
-
-none_more : (n : ℕ) → 0 ≡ 1 + n → ⊥
-none_more n h = omega (arith, h)
 
 -- the deliveries from a step on, by the packets that it makes
 abbrev onward : Network → World → JournalEntry → List JournalEntry → Packets → List (List ℕ) → List Delivery
@@ -61,7 +58,7 @@ one_unlooked false t x es qs ih e w k ps h =
     kept : (ps : List (List ℕ)) → left_by x.step ps ≡ ps
     kept ps = rw e refl
 
-more_unlooked : (t : Network) (es : List JournalEntry) (qs : List (List ℕ)) → Unlooked t es qs
+pub more_unlooked : (t : Network) (es : List JournalEntry) (qs : List (List ℕ)) → Unlooked t es qs
 more_unlooked t [] qs w k ps h = refl
 more_unlooked t (x ∷ es) qs w k ps h = one_unlooked (injects x.step) t x es qs (more_unlooked t es qs) refl w k ps h
 

@@ -3,7 +3,8 @@ use Rattle.std.proofs.Common.{ℕ, zero, suc, ◌≡◌, ◌+◌, ◌<◌, ◌�
 use Rattle.std.specs.Prelude.{◌==◌, not, nat_le, nat_lt, fold, slice_get, slice_index_or, unwrap_or, is_some}
 use Rattle.std.specs.List.{flat_map, list_any, range_with_len, AllByRecursion}
 use Rattle.std.proofs.lemmas.Bool.{and_parts, ltb-true}
-use Rattle.std.proofs.lemmas.Bool.Decides.{eqb_tells, leb_tells}
+use Rattle.std.proofs.lemmas.Bool.Decides.{leb_tells}
+use Rattle.mn_base.proofs.Bools.{clash, none_below}
 use Rattle.mn_base.specs.declared.numbers.Rt.{Rt}
 use Rattle.mn_base.specs.declared.states.BgpState.{BgpState}
 use Rattle.mn_base.specs.declared.states.BgpState.TheVariants.{OpenSent, OpenConfirm}
@@ -27,19 +28,15 @@ use Rattle.mn_ledger.specs.Packets.{Packets}
 use Rattle.mn_ledger.specs.Ledger.{with_target, statics_from, is_static, config_after, after, start}
 use Rattle.mn_ledger.specs.Refusal.{is_unchanged, is_empty, static_refusal, is_targets_full, is_spent, is_full, where_holds, first_cause, limits, refusal_at}
 use Rattle.mn_ledger.specs.Lawful.{IsLawfulJournal}
-use Rattle.mn_ledger.proofs.GoingBy.{pair_here, pair_off}
 use Rattle.mn_ledger.proofs.Members.{In, in_append, in_map, in_filter, in_flat_map, in_range}
 use Rattle.mn_ledger.proofs.Peers.{same_numbers}
-use Rattle.mn_ledger.proofs.Tellings.{Behind, exported}
+use Rattle.mn_ledger.proofs.Tellings.{Behind, exported, in_cleared}
 use Rattle.mn_ledger.proofs.Choice.{keeps}
 use Rattle.mn_ledger.proofs.Statics.{HasForms}
 use Rattle.mn_ledger.proofs.Tidy.{Rise, RiseAll, sets_rise}
 use Rattle.mn_laws.specs.Accounts.{world_at, packets_at}
 use Rattle.mn_laws.specs.Named.{AreRising, NamesAnAttachment, NamesItsVrf}
 use Rattle.mn_laws.proofs.At.{bytes_of, world_step, lawful_step, lawful_at, IsDone}
-
-none_below : (n : ℕ) → n < 0 → ⊥
-none_below n h = omega (arith, h)
 
 -- 1. The configuration: sites of statics, attachments, and how many targets a set has
 
@@ -126,9 +123,6 @@ put_few f k xs h g v = split (v == k)
 
 less_16 : (n : ℕ) → nat_le 16 n ≡ false → n + 1 ≤ 16
 less_16 n h = elim (leb_tells 16 n) [ inl q ↦ absurd (clash (sym q.0 ∙ h)) | inr q ↦ omega (arith, q.1) ]
-  where
-    clash : true ≡ false → ⊥
-    clash e = cc
 
 set_few : (x : ℕ) (on : Bool) (xs : List ℕ) → length xs ≤ 16 → (on ≡ true → nat_le 16 (length xs) ≡ false) → length (with_target x on xs) ≤ 16
 set_few x true xs h g = omega (arith, with_one_length x xs, less_16 (length xs) (g refl))
@@ -360,15 +354,6 @@ in_tellings a b xs m i =
     let f = in_map (λ (told : Told). told.telling) (filter (is_between a b) xs) m i in
     let g = in_filter (is_between a b) xs f.0 f.1 in
     (f.0, g.0, same_numbers f.0.teller a (and_parts (f.0.teller == a) (f.0.peer == b) g.1).0, f.2)
-
-in_cleared : (f : ℕ → ℕ → List Telling) (a b edge peer : ℕ) (m : Telling) → In (put_pair f a b [] edge peer) m → In (f edge peer) m
-in_cleared f a b edge peer m i = elim (eqb_tells edge a) [
-  | inr p ↦ subst (λ xs. In xs m) (pair_off f a b [] edge peer (inl p.1)) i
-  | inl p ↦ elim (eqb_tells peer b) [
-    | inr q ↦ subst (λ xs. In xs m) (pair_off f a b [] edge peer (inr q.1)) i
-    | inl q ↦ absurd (subst (λ xs. In xs m) (ap (λ j. put_pair f a b [] j peer) p.1 ∙ ap (put_pair f a b [] a) q.1 ∙ pair_here f a b []) i)
-  ]
-]
 
 still_named : (t : Network) (c : Config) (p : Peerings) (s : Step) → TellingsNamed t c p → TellingsNamed t c (counted p s)
 still_named t c p (step.BgpUp a b) h = λ edge peer m i. h edge peer m

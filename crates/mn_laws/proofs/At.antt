@@ -12,7 +12,7 @@ use Rattle.mn_ledger.specs.Ledger.{after, start, no_packets, world_from, world_o
 use Rattle.mn_ledger.specs.Verdicts.{one_if, injections}
 use Rattle.mn_ledger.specs.Refusal.{refusal_at}
 use Rattle.mn_ledger.specs.Lawful.{IsLawfulFrom, IsLawfulJournal}
-use Rattle.mn_ledger.proofs.More.{unlooked}
+use Rattle.mn_ledger.proofs.More.{unlooked, none_more}
 use Rattle.mn_laws.specs.Accounts.{world_at, packets_at}
 
 -- 1. The bytes of an injection
@@ -44,7 +44,7 @@ left_is s ps j = by_kind (injects s) refl
 
 -- 2. One step more
 
-no_entry : (e : JournalEntry) → None ≡ Some e → ⊥
+pub no_entry : (e : JournalEntry) → None ≡ Some e → ⊥
 no_entry e h = cc
 
 same_entry : (x e : JournalEntry) → Some x ≡ Some e → x ≡ e
@@ -149,9 +149,6 @@ packets_whole t es ps n h = ap (λ xs. packets_of t xs ps) (take_all n es h)
 -- packets past those that the entries inject aren't looked at
 abbrev Unlooked : Network → List JournalEntry → List (List ℕ) → Type 0
 Unlooked t es qs = (w : World) (k : Packets) (ps : List (List ℕ)) → length ps ≡ injections es → packets_from t w k es (ps ++ qs) ≡ packets_from t w k es ps
-
-none_more : (n : ℕ) → 0 ≡ 1 + n → ⊥
-none_more n h = omega (arith, h)
 
 one_unlooked : (f : Bool) (t : Network) (x : JournalEntry) (es : List JournalEntry) (qs : List (List ℕ)) → Unlooked t es qs → injects x.step ≡ f
     → (w : World) (k : Packets) (ps : List (List ℕ)) → length ps ≡ one_if (injects x.step) + injections es

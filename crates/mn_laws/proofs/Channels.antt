@@ -2,9 +2,10 @@
 use Rattle.std.proofs.Common.{ℕ, suc, ◌≡◌, ◌≢◌, ◌+◌, ◌<◌, inl, inr, Bool, true, false, cond, List, [], ◌∷◌, ◌++◌, map, filter, length, refl, arith, sym, ◌∙◌, ap, subst, Option, None, Some}
 use Rattle.std.specs.Prelude.{◌==◌, ◌&&◌, not, nat_lt, slice_get, if◌then◌else◌}
 use Rattle.std.specs.List.{flat_map, Contains}
-use Rattle.std.proofs.lemmas.Bool.{and_parts, ltb-true}
+use Rattle.std.proofs.lemmas.Bool.{and_parts}
 use Rattle.std.proofs.lemmas.Bool.Decides.{eqb_tells, leb_tells}
 use Rattle.mn_base.specs.Wiring.{Wiring, nodes_of, links_of, links_at, joining, link, is_end, across, receiver, EndsDiffer}
+use Rattle.mn_base.proofs.Bools.{and_parts, clash, less_tells, unlike_numbers}
 use Rattle.mn_topo.specs.VrfTable.{is_edge}
 use Rattle.mn_topo.specs.Network.{Network, wiring_of}
 use Rattle.mn_topo.specs.Lawful.{IsLawful}
@@ -18,7 +19,7 @@ use Rattle.mn_ledger.specs.Tables.{put_pair}
 use Rattle.mn_ledger.specs.Places.{edges}
 use Rattle.mn_node.specs.Ldp.{Message, Initialization, Said, Knowledge, is_operational, said_on, mention, mentioned_on, mentioned_from, offered, by_neighbour, news}
 use Rattle.mn_ledger.specs.World.{World, Config, Views, Sessions, Peerings, Telling, Open}
-use Rattle.mn_ledger.specs.Transport.{lives, is_active, opening, replies, knowledge_of, speakers, said_in, counted, is_transport}
+use Rattle.mn_ledger.specs.Transport.{lives, opening, replies, knowledge_of, speakers, said_in, counted, is_transport}
 use Rattle.mn_ledger.specs.Vpn as vpn
 use Rattle.mn_ledger.specs.Vpn.{peerings_after, Told, told_to, peers_live, is_established, steady_peers, is_routing, exports_of, changed}
 use Rattle.mn_ledger.specs.Packets.{Token, Packets, flying_on, packets_after}
@@ -26,24 +27,13 @@ use Rattle.mn_ledger.specs.Ledger.{config_after, after, start, no_packets, next_
 use Rattle.mn_ledger.specs.Lawful.{IsLawfulFrom, IsLawfulJournal}
 use Rattle.mn_ledger.specs.Items.{Channel, Notices, Messages, Frames, Load, Notice, Says, Carries, Item, Flight, notices_in, message_of, messages_in, route_of, routes_in, frame_by, frame_after, frames_in, last_of, made_in, numbered, left_in_flight, with_made, flight_from, flight_of}
 use Rattle.mn_ledger.proofs.Members.{In, in_append, in_map, in_filter, in_flat_map, in_range, in_contained}
-use Rattle.mn_ledger.proofs.Turning.{opener, is_end-a, is_end-b, dir_ends}
+use Rattle.mn_ledger.proofs.Turning.{opener, dir_ends}
 use Rattle.mn_ledger.proofs.GoingBy.{pair_here, pair_off}
 use Rattle.mn_ledger.proofs.Peers.{same_numbers}
 use Rattle.mn_ledger.proofs.Flows.{in_left}
 use Rattle.mn_laws.specs.Flight.{IsOfChannel}
 use Rattle.mn_laws.proofs.Linked.{IsLinked, AreLinked, linked_step, none_linked}
-
-clash : true ≡ false → ⊥
-clash e = cc
-
-less-is : (a b : ℕ) → nat_lt a b ≡ true → a < b
-less-is a b h = ltb-true a b h
-
-and-both : (x y : Bool) → (x && y) ≡ true → (x ≡ true) × (y ≡ true)
-and-both x y h = and_parts x y h
-
-unequal : (a b : ℕ) → not (a == b) ≡ true → a ≢ b
-unequal a b h q = elim (eqb_tells a b) [ inl p ↦ clash (sym (sym (ap not p.0) ∙ h)) | inr p ↦ p.1 q ]
+use Rattle.mn_ledger.proofs.Quiet.{opener_end}
 
 -- 1. What is said is said on a link, by one of its ends
 
@@ -57,25 +47,18 @@ on-link : (t : Network) (l n : ℕ) (ms : List Message) → l < length t.links �
 on-link t l n ms h e x i = let m = in_map (λ message. record { link = l; end = n; message = message }) ms x i in subst
     (λ (y : Said). IsOfChannel t (Messages y.link y.end) (Says y.message)) m.2 (h, e)
 
-opener-end : (t : Network) (l : ℕ) → is_end (wiring_of t) l (opener t l) ≡ true
-opener-end t l = either (is_active t l (link (wiring_of t) l).a.0)
-  where
-    either : (b : Bool) → is_end (wiring_of t) l (if b then (link (wiring_of t) l).a.0 else (link (wiring_of t) l).b.0) ≡ true
-    either true = is_end-a (wiring_of t) l
-    either false = is_end-b (wiring_of t) l
-
 opening-said : (t : Network) (c : Config) (l : ℕ) → l < length t.links → AllSaid t (opening t c l)
 opening-said t c l h = either (lives c l)
   where
     either : (alive : Bool) → AllSaid t (elim alive [ true ↦ said_on l (opener t l) (Initialization ∷ []) | false ↦ [] ])
-    either true = on-link t l (opener t l) (Initialization ∷ []) h (opener-end t l)
+    either true = on-link t l (opener t l) (Initialization ∷ []) h (opener_end t l)
     either false = λ x i. absurd i
 
 replies-said : (t : Network) (c : Config) (s : Sessions) (st : Step) → EndsDiffer (wiring_of t) → fits t st ≡ true → AllSaid t (replies t c s st)
-replies-said t c s (step.LinkUp l) differ fit = opening-said t c l.0 (less-is l.0 (length t.links) fit)
-replies-said t c s (step.LdpAdmin l on) differ fit = opening-said t c l.0 (less-is l.0 (length t.links) fit)
+replies-said t c s (step.LinkUp l) differ fit = opening-said t c l.0 (less_tells l.0 (length t.links) fit)
+replies-said t c s (step.LdpAdmin l on) differ fit = opening-said t c l.0 (less_tells l.0 (length t.links) fit)
 replies-said t c s (step.HearLdp l dir) differ fit =
-    let h : l.0 < length t.links = less-is l.0 (length t.links) fit in
+    let h : l.0 < length t.links = less_tells l.0 (length t.links) fit in
     on-link t l.0 (receiver (wiring_of t) l.0 dir) _ h (dir_ends (wiring_of t) l.0 dir (differ l.0 h)).0
 replies-said t c s _ differ fit = λ x i. absurd i
 
@@ -142,15 +125,15 @@ told-between t a b ms h x i = let m = in_map (λ telling. record { teller = a; p
 
 edges-fit : (t : Network) (a b : ℕ) → ((is_edge t.vrfs a && is_edge t.vrfs b) && not (a == b)) ≡ true → AreEdges t a b
 edges-fit t a b fit =
-    let f = and-both (is_edge t.vrfs a && is_edge t.vrfs b) (not (a == b)) fit in
-    let g = and-both (is_edge t.vrfs a) (is_edge t.vrfs b) f.0 in
-    (g.0, g.1, unequal a b f.1)
+    let f = and_parts (is_edge t.vrfs a && is_edge t.vrfs b) (not (a == b)) fit in
+    let g = and_parts (is_edge t.vrfs a) (is_edge t.vrfs b) f.0 in
+    (g.0, g.1, unlike_numbers a b f.1)
 
 edges-in-order : (t : Network) (a b : ℕ) → ((is_edge t.vrfs a && is_edge t.vrfs b) && nat_lt a b) ≡ true → AreEdges t a b
 edges-in-order t a b fit =
-    let f = and-both (is_edge t.vrfs a && is_edge t.vrfs b) (nat_lt a b) fit in
-    let g = and-both (is_edge t.vrfs a) (is_edge t.vrfs b) f.0 in
-    (g.0, g.1, apart (less-is a b f.1))
+    let f = and_parts (is_edge t.vrfs a && is_edge t.vrfs b) (nat_lt a b) fit in
+    let g = and_parts (is_edge t.vrfs a) (is_edge t.vrfs b) f.0 in
+    (g.0, g.1, apart (less_tells a b f.1))
   where
     apart : a < b → a ≢ b
     apart l e = omega (arith, l, e)
@@ -169,7 +152,7 @@ told-news t c p new k e h x i =
     (changed (exports_of t c e) (exports_of t new e)) x i in
     let n = in_map (λ peer. record { teller = e; peer = peer; telling = m.0 }) (steady_peers t c p new k e) x m.2 in
     let f = in_filter (λ peer. is_established c p e peer && is_established new k e peer) (nodes_of (wiring_of t)) n.0 n.1 in
-    let live : peers_live c e n.0 ≡ true = (and-both _ _ (and-both _ _ f.1).0).0 in
+    let live : peers_live c e n.0 ≡ true = (and_parts _ _ (and_parts _ _ f.1).0).0 in
     subst (λ (y : Told). AreEdges t y.teller y.peer) n.2 (live-edges t c e n.0 h live)
 
 all-told : (t : Network) (c : Config) (p : Peerings) (new : Config) (k : Peerings) (st : Step) → fits t st ≡ true → JoinEdges t c
@@ -201,10 +184,10 @@ AllMade t xs = (x : Channel × Load) → In xs x → IsOfChannel t x.0 x.1
 notices-made : (t : Network) (st : Step) → fits t st ≡ true → AllMade t (notices_in t st)
 notices-made t (step.LinkUp l) fit x i =
     let m = in_map (λ node. (Notices l.0 node, Notice)) (nodes_of (wiring_of t)) x i in
-    subst (λ (y : Channel × Load). IsOfChannel t y.0 y.1) m.2 (less-is l.0 (length t.links) fit, omega (arith, (in_range 0 (length t.loopbacks) m.0 m.1).1))
+    subst (λ (y : Channel × Load). IsOfChannel t y.0 y.1) m.2 (less_tells l.0 (length t.links) fit, omega (arith, (in_range 0 (length t.loopbacks) m.0 m.1).1))
 notices-made t (step.LinkDown l) fit x i =
     let m = in_map (λ node. (Notices l.0 node, Notice)) (nodes_of (wiring_of t)) x i in
-    subst (λ (y : Channel × Load). IsOfChannel t y.0 y.1) m.2 (less-is l.0 (length t.links) fit, omega (arith, (in_range 0 (length t.loopbacks) m.0 m.1).1))
+    subst (λ (y : Channel × Load). IsOfChannel t y.0 y.1) m.2 (less_tells l.0 (length t.links) fit, omega (arith, (in_range 0 (length t.loopbacks) m.0 m.1).1))
 notices-made t _ fit x i = absurd i
 
 if-made : (t : Network) (b : Bool) (xs : List (Channel × Load)) → AllMade t xs → AllMade t (if b then xs else [])
@@ -292,7 +275,7 @@ none_between t edge (x ∷ xs) h = by_test (vpn.is_between edge edge x) refl (no
     by_test : (b : Bool) → vpn.is_between edge edge x ≡ b → vpn.tellings_of edge edge xs ≡ []
         → map (λ (told : Told). told.telling) (cond b (x ∷ filter (vpn.is_between edge edge) xs) (filter (vpn.is_between edge edge) xs)) ≡ []
     by_test true e rest =
-        let parts = and-both (x.teller == edge) (x.peer == edge) e in
+        let parts = and_parts (x.teller == edge) (x.peer == edge) e in
         absurd ((h x (inl refl)).2 (same_numbers x.teller edge parts.0 ∙ sym (same_numbers x.peer edge parts.1)))
     by_test false e rest = rest
 

@@ -4,6 +4,7 @@ use Rattle.std.specs.Prelude.{◌==◌, slice_get}
 use Rattle.std.proofs.lemmas.Bool.Decides.{eqb_tells}
 use Rattle.std.proofs.lemmas.List.{length-append, length-set, length_push}
 use Rattle.std.proofs.lemmas.Option.{same_Some}
+use Rattle.mn_base.proofs.Bools.{none_below, no}
 use Rattle.mn_base.specs.declared.drops.Rule.{Rule}
 use Rattle.mn_base.specs.declared.drops.Rule.TheVariants as rule
 use Rattle.mn_base.specs.declared.links.Dir.{Dir}
@@ -31,12 +32,7 @@ use Rattle.mn_laws.proofs.Elsewhere.{judged_off, judged_here, push_other, cut_co
 use Rattle.mn_laws.proofs.Entering.{enters}
 use Rattle.mn_laws.proofs.Moving.{after_step, injected_is, carried_is, lost_is, cut_is, arrives}
 use Rattle.mn_laws.proofs.Fates.{where_it_flies, flying_inside, in_get}
-
-no : false ≡ true → ⊥
-no e = cc
-
-none_below : (n : ℕ) → n < 0 → ⊥
-none_below n h = omega (arith, h)
+use Rattle.mn_laws.proofs.At.{no_entry}
 
 -- 1. A step that delivers nothing, and one that delivers a packet
 
@@ -397,9 +393,6 @@ get_past (x ∷ xs) ys i = ap (slice_get (x ∷ (xs ++ ys))) (one (length xs) i)
   where
     one : (n i : ℕ) → suc n + i ≡ suc (n + i)
     one n i = omega arith
-
-no_entry : (e : JournalEntry) → None ≡ Some e → ⊥
-no_entry e h = cc
 
 listed_from : (t : Network) (es : List JournalEntry) (n : ℕ) (e : JournalEntry) (b : List ℕ) (w : World) (k : Packets) (ps : List (List ℕ))
     → slice_get es n ≡ Some e → (packets_from t w k (take (suc n) es) ps).delivered ≡ Some b

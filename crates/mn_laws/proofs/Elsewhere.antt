@@ -17,6 +17,7 @@ use Rattle.mn_ledger.specs.Verdicts.{verdict_on}
 use Rattle.mn_ledger.proofs.GoingBy.{put_here, put_off}
 use Rattle.mn_ledger.proofs.Members.{In, in_append}
 use Rattle.mn_laws.specs.Accounts.{path_of}
+pub use Rattle.mn_ledger.proofs.Frames.{judged_is as judged_here}
 
 -- 1. One packet
 
@@ -47,9 +48,6 @@ push_here xs v d = grind (arith, common_steps)
 
 pub judged_off : (w : Packets) (p : ℕ) (v : Verdict) (j : ℕ) → j ≢ p → Same j w (judged w p v)
 judged_off w p v j h = record { verdict = set_other w.verdicts p j v (Delivered (record { 0 = 0 }) 0 0) h; path = refl; frames = λ c k i e. i }
-
-pub judged_here : (w : Packets) (p : ℕ) (v : Verdict) → p < length w.verdicts → verdict_on (judged w p v) p ≡ v
-judged_here w p v h = set_here w.verdicts p v (Delivered (record { 0 = 0 }) 0 0) h
 
 -- a verdict that is set, or as it was
 pub set_verdict : (w : Packets) (p : ℕ) (v : Verdict) (j : ℕ) → (verdict_on (judged w p v) j ≡ v) ⊎ (verdict_on (judged w p v) j ≡ verdict_on w j)

@@ -6,6 +6,7 @@ use Rattle.std.proofs.lemmas.Bool.Decides.{nat_tests}
 use Rattle.std.proofs.lemmas.Option.{same_Some}
 use Rattle.mn_base.specs.declared.drops.Rule.{Rule}
 use Rattle.mn_base.specs.declared.drops.Rule.TheVariants as rule
+use Rattle.mn_base.proofs.Bools.{clash}
 use Rattle.mn_ipv4.specs.Header.{is_not_ipv4, is_malformed, is_truncated, has_bad_checksum, good, ttl_of, destination_of}
 use Rattle.mn_prefix.specs.Prefix.{contains}
 use Rattle.mn_topo.specs.Network.{Network}
@@ -17,14 +18,12 @@ use Rattle.mn_ledger.specs.Vpn.{HeldRoute, best}
 use Rattle.mn_ledger.specs.Best.{IsBest, NamesTheBest}
 use Rattle.mn_ledger.specs.Packets as packets
 use Rattle.mn_ledger.specs.Packets.{Packets, bound, hop_over, drop_at, deliver, route_by, enter_by}
-use Rattle.mn_ledger.proofs.Members.{In, in_contained, filter_in, passes_none, none_passes}
+use Rattle.mn_ledger.proofs.Members.{in_contained, filter_in, passes_none}
 use Rattle.mn_ledger.proofs.Peers.{two_ways}
 use Rattle.mn_ledger.proofs.Choice.{in_first, from_unbeaten, none_matches}
 use Rattle.mn_laws.specs.Accounts.{routes_at, MayEnter, FallsTo, entry_rules, has_no_path, is_out_of_reach, applies_at_entry}
 use Rattle.mn_laws.proofs.Elsewhere.{arms_by}
-
-no : true ≡ false → ⊥
-no e = cc
+use Rattle.mn_ledger.proofs.OneKind.{one_passes}
 
 -- 1. The seven rules before those on routes
 
@@ -129,7 +128,7 @@ two_left : (n : ℕ) → nat_lt n 2 ≡ false → 2 ≤ n
 two_left n h = grind (arith, nat_tests, h)
 
 some_is : {A : Type 0} (o : Option A) → is_none o ≡ false → is_some o ≡ true
-some_is None h = absurd (no h)
+some_is None h = absurd (clash h)
 some_is (Some x) h = refl
 
 pub best_is : (routes : List HeldRoute) (address : ℕ) (x : HeldRoute) → best routes address ≡ Some x → IsBest routes address x
@@ -153,15 +152,12 @@ may_enter t w site b x p h names = record {
 abbrev covers : ℕ → HeldRoute → Bool
 covers address route = contains route.prefix address
 
-any_passes : {A : Type 0} (p : A → Bool) (xs : List A) (x : A) → In xs x → p x ≡ true → list_any p xs ≡ true
-any_passes p xs x i h = elim (two_ways (list_any p xs)) [ inl q ↦ q | inr q ↦ absurd (no (sym h ∙ none_passes p xs x q i)) ]
-
 none_covers : (routes : List HeldRoute) (address : ℕ) → best routes address ≡ None → list_any (covers address) routes ≡ false
 none_covers routes address h = passes_none (covers address) routes
     (λ x i. elim (two_ways (covers address x)) [ inl q ↦ absurd (none_matches routes address h x (filter_in (covers address) routes x i q)) | inr q ↦ q ])
 
 some_covers : (routes : List HeldRoute) (address : ℕ) (x : HeldRoute) → best routes address ≡ Some x → list_any (covers address) routes ≡ true
-some_covers routes address x h = let b = best_is routes address x h in any_passes (covers address) routes x (in_contained routes x b.held) b.matches
+some_covers routes address x h = let b = best_is routes address x h in one_passes (covers address) routes x (in_contained routes x b.held) b.matches
 
 no_route : (t : Network) (w : World) (site : ℕ) (b : List ℕ) → Passes t w site b → best (routes_at t w site) (destination_of b) ≡ None
     → Falls t w site b rule.NoRoute

@@ -4,6 +4,7 @@ use Rattle.std.specs.Prelude.{◌==◌, slice_get, slice_index_or}
 use Rattle.std.proofs.lemmas.Bool.Decides.{eqb_tells, leb_tells}
 use Rattle.std.proofs.lemmas.List.{take_all}
 use Rattle.std.proofs.lemmas.Option.{same_Some}
+use Rattle.mn_base.proofs.Bools.{none_below, clash}
 use Rattle.mn_base.specs.declared.drops.Rule.{Rule}
 use Rattle.mn_base.specs.declared.links.Dir.{Dir}
 use Rattle.mn_base.specs.declared.links.Dir.TheVariants.{Forth, Back}
@@ -23,12 +24,12 @@ use Rattle.mn_ledger.specs.Packets.{Token, Packets, channel}
 use Rattle.mn_ledger.specs.Ledger.{injects, packets_of}
 use Rattle.mn_ledger.specs.Verdicts.{one_if, injections, times_in, times_by, verdict_on, AreInOnePlace}
 use Rattle.mn_ledger.proofs.Members.{In}
-use Rattle.mn_ledger.proofs.OnePlace.{in_one_place}
-use Rattle.mn_ledger.proofs.Peers.{same_test}
+use Rattle.mn_ledger.proofs.OnePlace.{in_one_place, not_one}
 use Rattle.mn_laws.specs.Accounts.{world_at, packets_at, Sending, IsSent, IsBoundFor, path_of, IsItsPath, is_flying, IsPassedOn, FellAtEntry, FellInFlight}
 use Rattle.mn_laws.proofs.At.{bytes_of, packets_step, injections_step}
 use Rattle.mn_laws.proofs.Elsewhere.{Same}
 use Rattle.mn_laws.proofs.Moving.{Leaves, same_step}
+use Rattle.mn_ledger.proofs.Ended.{one_same}
 
 -- 1. What is known
 
@@ -98,12 +99,6 @@ pub record IsKnown (t : Network) (es : List JournalEntry) (ps : List (List ℕ))
 
 -- 2. A packet that was sent has a verdict
 
-no : true ≡ false → ⊥
-no e = cc
-
-none_below : (n : ℕ) → n < 0 → ⊥
-none_below n h = omega (arith, h)
-
 injections_grow : (es : List JournalEntry) (m n : ℕ) → m ≤ n → injections (take m es) ≤ injections (take n es)
 injections_grow es zero n h = omega arith
 injections_grow es (suc m) zero h = absurd (none_below m h)
@@ -126,9 +121,6 @@ pub in_paths : (t : Network) (es : List JournalEntry) (ps : List (List ℕ)) (s 
 in_paths t es ps s n h below = omega (arith, sent_before es ps s n h below, (placed t es ps n).paths)
 
 -- 3. Its frames
-
-one_same : (n : ℕ) → one_if (n == n) ≡ 1
-one_same n = ap one_if (same_test n)
 
 pub in_counts : (j : ℕ) (ks : List Token) (k : Token) → In ks k → k.packet ≡ j → 1 ≤ times_in j ks
 in_counts j [] k i e = absurd i
@@ -156,9 +148,6 @@ flies_on (Flying l d) c h = elim (eqb_tells (channel l.0 d) c) [ inl q ↦ (l, d
 flies_on (Delivered site ttl copy) c h = absurd (none_below 0 h)
 flies_on (Dropped r n) c h = absurd (none_below 0 h)
 
-not_one : 1 ≤ 0 → ⊥
-not_one h = omega (arith, h)
-
 -- a frame on a channel says where its packet flies
 pub where_it_flies : (w : Packets) (count : ℕ) (l : LinkNo) (d : Dir) (k : Token) → AreInOnePlace w count → In (w.flying (channel l.0 d)) k
     → verdict_on w k.packet ≡ Flying l d
@@ -180,9 +169,9 @@ not_delivered l d h = cc
 pub flying_inside : (w : Packets) (j : ℕ) (l : LinkNo) (d : Dir) → verdict_on w j ≡ Flying l d → j < length w.verdicts
 flying_inside w j l d h = elim (leb_tells (length w.verdicts) j) [ inl q ↦ absurd (not_delivered l d (sym (past_none w.verdicts j q.1) ∙ h)) | inr q ↦ q.1 ]
 
--- one that doesn't fly has no frame
+-- one that doesn't fly has clash frame
 no_flying : (v : Verdict) (c : ℕ) → is_flying v ≡ false → times_by v c ≡ 0
-no_flying (Flying l d) c h = absurd (no h)
+no_flying (Flying l d) c h = absurd (clash h)
 no_flying (Delivered site ttl copy) c h = refl
 no_flying (Dropped r n) c h = refl
 
@@ -224,7 +213,7 @@ same_at t es ps s n e sent below there leaves =
 later_fate : (t : Network) (es : List JournalEntry) (ps : List (List ℕ)) (s : Sending) (n : ℕ) (v : Verdict) → is_flying v ≡ false
     → path_of (packets_at t es ps (suc n)) s.packet ≡ path_of (packets_at t es ps n) s.packet
     → FateIs t es ps s n v → FateIs t es ps s (suc n) v
-later_fate t es ps s n (Flying l d) ended path f = absurd (no ended)
+later_fate t es ps s n (Flying l d) ended path f = absurd (clash ended)
 later_fate t es ps s n (Delivered site ttl copy) ended path f = record {
   route = f.route;
   bound = f.bound;
@@ -306,7 +295,7 @@ left_known t es ps s n e sent below there leaves h = stays_known t es ps s n (sa
 
 -- 5. What has ended stays
 
--- no step takes a frame of a packet that doesn't fly
+-- clash step takes a frame of a packet that doesn't fly
 pub leaves_ended : (t : Network) (es : List JournalEntry) (ps : List (List ℕ)) (j n : ℕ) (e : JournalEntry)
     → is_flying (verdict_on (packets_at t es ps n) j) ≡ false → Leaves j (packets_at t es ps n) e.step
 leaves_ended t es ps j n e ended = by_step e.step

@@ -2,10 +2,10 @@
 use Rattle.std.proofs.Common.{ℕ, zero, suc, ◌≡◌, ◌≢◌, ◌+◌, ◌<◌, ◌≤◌, inl, inr, Bool, true, false, cond, List, [], ◌∷◌, ◌++◌, map, filter, length, refl, arith, sym, ◌∙◌, ap, subst, Some}
 use Rattle.std.specs.Prelude.{◌==◌, ◌&&◌, not, if◌then◌else◌, slice_index_or}
 use Rattle.std.specs.List.{flat_map, range_with_len}
-use Rattle.std.proofs.lemmas.Bool.Decides.{eqb_tells}
 use Rattle.mn_base.specs.declared.states.LdpState.{LdpState}
 use Rattle.mn_base.specs.declared.states.LdpState.TheVariants.{Initialized, OpenSent, OpenRec, Operational}
 use Rattle.mn_base.specs.Wiring.{sender, receiver}
+use Rattle.mn_base.proofs.Bools.{unlike_numbers}
 use Rattle.mn_prefix.specs.Prefix.{AddressBlock, IsPrefix}
 use Rattle.mn_topo.specs.Lawful.{IsLawful}
 use Rattle.mn_topo.specs.Network.{Network, wiring_of}
@@ -63,18 +63,12 @@ near_named t c edge v a h forms i =
     here_named t c edge m.0.vrf m.0 a h x.behind x.at_edge (ap (λ (r : HeldRoute). r.site) (sym m.2)) (ap (λ (r : HeldRoute). r.attachment) (sym m.2))
     (ap (λ (r : HeldRoute). r.edge) (sym m.2)) (ap (λ (r : HeldRoute). r.prefix) (sym m.2))
 
-not_same : (a b : ℕ) → not (a == b) ≡ true → a ≢ b
-not_same a b h q = elim (eqb_tells a b) [ inl p ↦ clash (sym (ap not p.0) ∙ h) | inr p ↦ p.1 q ]
-  where
-    clash : false ≡ true → ⊥
-    clash e = cc
-
 far_named : (t : Network) (c : Config) (p : Peerings) (edge v : ℕ) (a : HeldRoute) → TellingsNamed t c p
     → In (flat_map (far_routes t c p edge v) (filter (λ peer. not (peer == edge)) (edges t))) a → NamesItsSite t c edge a
 far_named t c p edge v a named i =
     let m = in_flat_map (far_routes t c p edge v) (filter (λ peer. not (peer == edge)) (edges t)) a i in
     let peer : ℕ = m.0 in
-    let other : peer ≢ edge = not_same peer edge (in_filter (λ peer. not (peer == edge)) (edges t) peer m.1).1 in
+    let other : peer ≢ edge = unlike_numbers peer edge (in_filter (λ peer. not (peer == edge)) (edges t) peer m.1).1 in
     let n = in_map (λ (export : Export). held_by peer (Far (loopback t peer) (vrf_at t export.vrf).rd.0) export)
     (imported c v (believed c p edge peer)) a m.2 in
     let b = (in_filter (λ (export : Export). meet export.targets (c.imports v)) (believed c p edge peer) n.0 n.1).0 in
@@ -159,7 +153,7 @@ from_nodes t before later node ls fec (was ∷ weres) (is ∷ ares) h =
     (links_nodes t before later node fec was is ls (omega (arith, h)))
     (from_nodes t before later node ls (fec + 1) weres ares (omega (arith, h)))
 
-length_range : {A : Type 0} (f : ℕ → A) (a n : ℕ) → length (map f (range_with_len a n)) ≡ n
+pub length_range : {A : Type 0} (f : ℕ → A) (a n : ℕ) → length (map f (range_with_len a n)) ≡ n
 length_range f a zero = refl
 length_range f a (suc n) = ap suc (length_range f (a + 1) n)
 

@@ -1,8 +1,8 @@
 -- Each packet that flies does so over a link of the network.
-use Rattle.std.proofs.Common.{ℕ, zero, suc, ◌≡◌, ◌≢◌, ◌-◌, ◌<◌, inl, inr, true, false, List, [], ◌∷◌, ◌++◌, length, refl, sym, ◌∙◌, ap, subst, Option, Some, None}
+use Rattle.std.proofs.Common.{ℕ, zero, suc, ◌≡◌, ◌≢◌, ◌-◌, ◌<◌, inl, inr, true, false, List, [], ◌∷◌, ◌++◌, length, refl, sym, ap, subst, Option, Some, None}
 use Rattle.std.specs.Prelude.{◌==◌, nat_le, nat_lt, slice_get}
 use Rattle.std.proofs.lemmas.Bool.{and_parts, ltb-true}
-use Rattle.std.proofs.lemmas.Bool.Decides.{eqb_tells}
+use Rattle.mn_base.proofs.Bools.{other_numbers}
 use Rattle.mn_base.specs.declared.drops.Rule.{Rule}
 use Rattle.mn_base.specs.declared.drops.Rule.TheVariants as rule
 use Rattle.mn_base.specs.declared.links.Dir.{Dir}
@@ -26,9 +26,6 @@ use Rattle.mn_laws.proofs.Elsewhere.{set_verdict}
 use Rattle.mn_laws.proofs.Entering.{enters}
 use Rattle.mn_laws.proofs.Moving.{after_step, injected_is, carried_is, lost_is, cut_is, arrives}
 use Rattle.mn_laws.proofs.There.{home_there, receiver_there, hop_is}
-
-no : false ≡ true → ⊥
-no e = cc
 
 abbrev pub IsLinked : Network → Verdict → Type 0
 IsLinked t (Flying l d) = l.0 < length t.links
@@ -68,11 +65,8 @@ hop_linked : (t : Network) (w : World) (u : Packets) (k : Token) (node : ℕ) (c
 hop_linked t w u k node cause hop h there = judged_linked t u k.packet (Flying (record { 0 = hop.1 }) (away_from t hop.1 node)) h there
     (hop_over t u k node cause (Some hop)) refl
 
-apart : (a b : ℕ) → (a == b) ≡ false → a ≢ b
-apart a b h q = elim (eqb_tells a b) [ inl p ↦ no (sym h ∙ p.0) | inr p ↦ p.1 q ]
-
 apart_back : (a b : ℕ) → (a == b) ≡ false → b ≢ a
-apart_back a b h q = apart a b h (sym q)
+apart_back a b h q = other_numbers a b h (sym q)
 
 entered : (t : Network) (w : World) (k : Packets) (site : ℕ) (b : List ℕ) (n : ℕ) → IsLawful t → site < length t.sites → AreLinked t k
     → AreLinked t (enter_by t w (one_more (before_step k) (home_of t site)) n b (home_of t site) (vrf_of t site)
@@ -99,7 +93,7 @@ carried t w k l d place (Some f) lawful there h =
       gone = λ a b c. judged_linked t u f.packet _ h tt (drop_at u f.packet rule.SiteGone y) refl;
       stuck = λ a b c. judged_linked t u f.packet _ h tt (drop_at u f.packet rule.NoEntry y) refl;
       flies = λ a b hop can. hop_linked t w u (record f { ttl = f.ttl - 1 }) y rule.NoEntry hop h
-          (hop_is t w y f.edge hop lawful (receiver_there t l d lawful there) (apart y f.edge b) can).there;
+          (hop_is t w y f.edge hop lawful (receiver_there t l d lawful there) (other_numbers y f.edge b) can).there;
     })
 
 lost : (t : Network) (k : Packets) (l : ℕ) (d : Dir) (place n : ℕ) (o : Option Token) → AreLinked t k → AreLinked t (lose (taken (before_step k) l d place) n o)

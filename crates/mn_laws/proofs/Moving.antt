@@ -1,5 +1,5 @@
 -- A step by what it does to packets: which it leaves as they were, and what becomes of a frame that arrives.
-use Rattle.std.proofs.Common.{ℕ, ◌≡◌, ◌≢◌, ◌-◌, ◌<◌, true, false, List, length, refl, arith, sym, subst, Option, Some, None}
+use Rattle.std.proofs.Common.{ℕ, ◌≡◌, ◌≢◌, ◌-◌, ◌<◌, true, false, List, length, refl, sym, subst, Option, Some, None}
 use Rattle.std.specs.Prelude.{◌==◌, nat_le, slice_get, ⊤}
 use Rattle.mn_base.specs.declared.drops.Rule.TheVariants as rule
 use Rattle.mn_base.specs.declared.links.Dir.{Dir}
@@ -21,6 +21,7 @@ use Rattle.mn_ledger.specs.Ledger.{after}
 use Rattle.mn_ledger.proofs.Members.{In}
 use Rattle.mn_laws.proofs.Elsewhere.{Same, same_on, judged_off, deliver_off, visited_off, taken_same, hop_off, one_more_off, arms_by, arrived_off, cut_off}
 use Rattle.mn_laws.proofs.Entering.{enters}
+use Rattle.mn_ledger.proofs.Ended.{other_than}
 
 -- 1. The steps that move packets change no world
 
@@ -61,9 +62,6 @@ Leaves j w _ = ⊤
 
 begun : (j : ℕ) (w : Packets) → Same j w (before_step w)
 begun j w = record { verdict = refl; path = refl; frames = λ c k i e. i }
-
-other_than : (n m : ℕ) → n < m → n ≢ m
-other_than n m h e = omega (arith, h, e)
 
 entered_off : (t : Network) (v : World) (w : Packets) (site : ℕ) (b : List ℕ) (j : ℕ) → j < length w.verdicts → j < length w.paths
     → Same j w (enter_by t v (one_more w (home_of t site)) (length w.verdicts) b (home_of t site) (vrf_of t site)

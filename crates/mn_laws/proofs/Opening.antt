@@ -1,9 +1,8 @@
 -- What is in flight can be delivered: the step that delivers it fits, and only a full journal refuses it.
-use Rattle.std.proofs.Common.{ℕ, ◌≡◌, ◌≢◌, ◌-◌, ◌<◌, ◌≤◌, inl, inr, Bool, true, false, List, [], ◌∷◌, length, drop, refl, arith, sym, ap, ◌∙◌, subst, None}
+use Rattle.std.proofs.Common.{ℕ, ◌≡◌, ◌≢◌, ◌-◌, ◌<◌, inl, Bool, true, false, List, [], ◌∷◌, length, drop, refl, arith, sym, ap, ◌∙◌, subst, None}
 use Rattle.std.specs.Prelude.{◌==◌, ◌&&◌, ◌||◌, not, nat_le, nat_lt}
-use Rattle.std.proofs.lemmas.Bool.Decides.{leb_tells}
 use Rattle.std.proofs.lemmas.List.{length-map, length-drop}
-use Rattle.mn_base.proofs.Bools.{no, and_on, not_on, less_is, other_test}
+use Rattle.mn_base.proofs.Bools.{no, and_on, not_on, less_is, other_test, not_at_most}
 use Rattle.mn_base.specs.declared.links.Dir.{Dir}
 use Rattle.mn_base.specs.declared.numbers.LinkNo.{LinkNo}
 use Rattle.mn_base.specs.Wiring.{is_end, across, sender, receiver}
@@ -69,12 +68,6 @@ some_item on xs place h = first (items_on on xs) refl
     first [] e = absurd (nothing place (items_on on xs) e h)
     first (y ∷ ys) e = let f = in_filter (λ item. same_channel on item.on) xs y (subst (λ zs. In zs y) (sym e) (inl refl)) in (y, f.0, f.1)
 
-not_le : (m n : ℕ) → n < m → nat_le m n ≡ false
-not_le m n h = elim (leb_tells m n) [ inl q ↦ absurd (clash h q.1) | inr q ↦ q.0 ]
-  where
-    clash : n < m → m ≤ n → ⊥
-    clash a b = omega (arith, a, b)
-
 module _ (t : Network) (lawful : IsLawful t) (es : List JournalEntry) (ps : List (List ℕ)) (journal : IsLawfulJournal t es ps) where
   abbrev items : List Item
   items = (flight_of t es ps).items
@@ -105,7 +98,7 @@ module _ (t : Network) (lawful : IsLawful t) (es : List JournalEntry) (ps : List
       open_by (Learn (record { 0 = node }) (record { 0 = l }))
       (and_on (nat_lt node (length t.loopbacks)) (nat_lt l (length t.links)) (less_is node (length t.loopbacks) there)
       (less_is l (length t.links) below)) refl
-      (not_le (world.views.changes l) (world.views.learned node l) (omega (arith, flight.notices l node there, as_many (Notices l node), some)))
+      (not_at_most (world.views.changes l) (world.views.learned node l) (omega (arith, flight.notices l node there, as_many (Notices l node), some)))
 
   live_or : (alive b : Bool) → (alive ≡ false → ⊥) → b ≡ false → (not alive || b) ≡ false
   live_or true b h e = e
@@ -129,7 +122,7 @@ module _ (t : Network) (lawful : IsLawful t) (es : List JournalEntry) (ps : List
       open_by (HearLdp (record { 0 = l }) dir) (less_is l (length t.links) below) refl
       (live_or (lives world.config l) _
       (λ dead. silent (world.sessions.heard l (across (wiring_of t) l node)) (ap length ((turn.ldp l node below at_end).silent dead).0) more)
-      (not_le (length (world.sessions.said l (sender (wiring_of t) l dir))) (world.sessions.heard l (receiver (wiring_of t) l dir))
+      (not_at_most (length (world.sessions.said l (sender (wiring_of t) l dir))) (world.sessions.heard l (receiver (wiring_of t) l dir))
       (omega (arith, more, ap (λ n. length (world.sessions.said l n)) from, ap (world.sessions.heard l) to))))
     where
       silent : (h : ℕ) → length (world.sessions.said l node) ≡ 0 → h < length (world.sessions.said l node) → ⊥
@@ -148,7 +141,7 @@ module _ (t : Network) (lawful : IsLawful t) (es : List JournalEntry) (ps : List
       (not_on (edge == peer) (other_test edge peer apart))) refl
       (live_or (peers_live world.config edge peer) _
       (λ dead. untold (world.peerings.heard peer edge) (ap length ((turn.bgp edge peer apart).silent dead).0) more)
-      (not_le (length (world.peerings.told edge peer)) (world.peerings.heard peer edge) more))
+      (not_at_most (length (world.peerings.told edge peer)) (world.peerings.heard peer edge) more))
     where
       untold : (h : ℕ) → length (world.peerings.told edge peer) ≡ 0 → h < length (world.peerings.told edge peer) → ⊥
       untold h e m = omega (arith, e, m)
@@ -170,7 +163,7 @@ module _ (t : Network) (lawful : IsLawful t) (es : List JournalEntry) (ps : List
   frames_there l d place h =
       let x = some_item (Frames l d) items place h in (
         frame_there l d x.0 x.1 x.2,
-        not_le (length (flying_on (packets_of t es ps) l d)) place
+        not_at_most (length (flying_on (packets_of t es ps) l d)) place
             (omega (arith, h, as_many (Frames l d), ap length (flight.frames l d), length-map (flying_on (packets_of t es ps) l d) (λ token. Carries token))),
       )
 

@@ -1,11 +1,11 @@
 -- The ids of LDP messages are their places among what was said in a life.
 use Rattle.std.proofs.Common.{ℕ, zero, suc, ◌≡◌, ◌+◌, ◌<◌, ◌⊎◌, inl, inr, Bool, true, false, List, [], ◌∷◌, ◌++◌, map, length, refl, sym, ◌∙◌, ap, append-nil, append_assoc}
-use Rattle.std.specs.Prelude.{if◌then◌else◌, slice_get, Option, Some, None}
+use Rattle.std.specs.Prelude.{slice_get, Option, Some, None}
 use Rattle.std.specs.List.{range_with_len}
 use Rattle.std.proofs.lemmas.Bool.Decides.{eqb_tells}
 use Rattle.std.proofs.lemmas.List.{map-append}
 use Rattle.mn_base.proofs.Bools.{two_ways}
-use Rattle.mn_base.specs.Wiring.{nodes_of, is_end}
+use Rattle.mn_base.specs.Wiring.{is_end}
 use Rattle.mn_topo.specs.Lawful.{IsLawful}
 use Rattle.mn_topo.specs.Network.{Network, wiring_of}
 use Rattle.mn_topo.specs.declared.steps.Step.{Step}
@@ -20,11 +20,12 @@ use Rattle.mn_ledger.specs.Vpn as vpn
 use Rattle.mn_ledger.specs.Ledger.{after, start, no_packets, next_of, left_by, world_from, world_of}
 use Rattle.mn_ledger.specs.Lawful.{IsLawfulJournal}
 use Rattle.mn_ledger.specs.Turns.{AreLabelMessages, IsTalk}
-use Rattle.mn_ledger.specs.Items.{Channel, Notices, Messages, Load, Notice, Says, loads_on, notices_in, messages_in, route_of, routes_in, frame_after, frames_in, made_in, numbered, made_from}
+use Rattle.mn_ledger.specs.Items.{Channel, Messages, Load, Says, loads_on, notices_in, messages_in, route_of, routes_in, frame_after, frames_in, made_in, numbered, made_from}
 use Rattle.mn_ledger.proofs.Channels.{loads_in, loads_append, loads_in_append, on_numbered, none_of, no_frames, in_messages}
 use Rattle.mn_ledger.proofs.GoingBy.{put_here, put_off}
 use Rattle.mn_ledger.proofs.InTurn.{in_turn}
 use Rattle.mn_laws.specs.Ids.{ids_after, ids_of, SaysWithIds}
+use Rattle.mn_ledger.proofs.Flows.{if_none, no_notices}
 
 -- 1. What a step makes for an end of a link
 
@@ -37,19 +38,10 @@ frames_none l node p q (Inject site number) = no_frames (Messages l node) refl q
 frames_none l node p q (Carry k dir place) = option_none l node q (slice_get (flying_on p k.0 dir) place)
 frames_none l node p q _ = refl
 
-if_none : (on : Channel) (b : Bool) (xs : List (Channel × Load)) → loads_in on xs ≡ [] → loads_in on (if b then xs else []) ≡ []
-if_none on true xs h = h
-if_none on false xs h = refl
-
 routes_none : (l node : ℕ) (t : Network) (w v : World) (s : Step) → loads_in (Messages l node) (routes_in t w v s) ≡ []
 routes_none l node t w v s =
     if_none (Messages l node) (vpn.is_routing s) (map route_of (vpn.told_in t w.config w.peerings v.config (vpn.counted w.peerings s) s))
     (none_of (Messages l node) route_of (λ x. refl) (vpn.told_in t w.config w.peerings v.config (vpn.counted w.peerings s) s))
-
-notices_none : (t : Network) (s : Step) (l node : ℕ) → loads_in (Messages l node) (notices_in t s) ≡ []
-notices_none t (LinkUp at) l node = none_of (Messages l node) (λ n. (Notices at.0 n, Notice)) (λ n. refl) (nodes_of (wiring_of t))
-notices_none t (LinkDown at) l node = none_of (Messages l node) (λ n. (Notices at.0 n, Notice)) (λ n. refl) (nodes_of (wiring_of t))
-notices_none t _ l node = refl
 
 -- what an end says in a step
 abbrev said_now : Network → World → Step → ℕ → ℕ → List Message
@@ -63,7 +55,7 @@ made_messages t w p q s l node =
     let messages : List (Channel × Load) = messages_in t w (after t w s) s in
     let routes : List (Channel × Load) = routes_in t w (after t w s) s in
     let frames : List (Channel × Load) = frames_in p q s in
-    loads_in_append on notices (messages ++ (routes ++ frames)) ∙ ap (λ r. r ++ loads_in on (messages ++ (routes ++ frames))) (notices_none t s l node)
+    loads_in_append on notices (messages ++ (routes ++ frames)) ∙ ap (λ r. r ++ loads_in on (messages ++ (routes ++ frames))) (no_notices t s l node)
     ∙ loads_in_append on messages (routes ++ frames) ∙ ap (λ r. loads_in on messages ++ r) (loads_in_append on routes frames)
     ∙ ap (λ r. loads_in on messages ++ (r ++ loads_in on frames)) (routes_none l node t w (after t w s) s)
     ∙ ap (λ r. loads_in on messages ++ r) (frames_none l node p q s) ∙ append-nil (loads_in on messages)

@@ -1,38 +1,16 @@
 -- What a node says as its knowledge changes is what has become of its offers.
-use Rattle.std.proofs.Common.{ℕ, zero, suc, ◌≡◌, ◌+◌, ◌<◌, ◌≤◌, inl, inr, Bool, true, false, List, [], ◌∷◌, map, length, refl, arith, sym, ◌∙◌, ap, subst}
+use Rattle.std.proofs.Common.{ℕ, zero, suc, ◌≡◌, ◌+◌, ◌<◌, inl, inr, Bool, true, false, List, [], ◌∷◌, map, length, refl, arith, sym, ◌∙◌, ap, subst}
 use Rattle.std.specs.Prelude.{◌==◌, ◌&&◌, if◌then◌else◌, slice_index_or}
 use Rattle.std.specs.List.{flat_map, range_with_len}
-use Rattle.mn_base.proofs.Bools.{no, two_ways, none_below, same_numbers, same_test}
+use Rattle.mn_base.proofs.Bools.{no, none_below, same_numbers, same_test}
 use Rattle.mn_base.specs.Wiring.{Wiring, nodes_of, links_of, links_at, joining, is_end, across}
+use Rattle.mn_base.proofs.Members.{flat_map_in, map_in, range_in}
 use Rattle.mn_node.specs.Ldp.{Message, Initialization, KeepAlive, Address, Mapping, Withdraw, Release, Said, said_on, Knowledge, is_operational, offers, offered, mention, by_neighbour, mentioned_on, mentioned_from, news}
 use Rattle.mn_ledger.proofs.Members.{In, in_append, in_front, in_rest, in_map, in_filter, filter_in, in_flat_map, in_range, in_contained, contained_in}
 use Rattle.mn_laws.specs.Mentions.{had_offered, IsNewsOf, IsLinkOf, SaysItsNews}
+use Rattle.mn_laws.proofs.Holding.{length_range}
 
 -- 1. Lists
-
-map_in : {A B : Type 0} (f : A → B) (xs : List A) (x : A) → In xs x → In (map f xs) (f x)
-map_in f [] x i = absurd i
-map_in f (y ∷ ys) x i = elim i [ inl e ↦ inl (ap f e) | inr j ↦ inr (map_in f ys x j) ]
-
-flat_in : {A B : Type 0} (f : A → List B) (xs : List A) (x : A) (y : B) → In xs x → In (f x) y → In (flat_map f xs) y
-flat_in f [] x y i j = absurd i
-flat_in f (z ∷ zs) x y i j = elim i [
-  | inl e ↦ in_front (f z) (flat_map f zs) y (subst (λ w. In (f w) y) (sym e) j)
-  | inr k ↦ in_rest (f z) (flat_map f zs) y (flat_in f zs x y k j)
-]
-
-range_in : (a n k : ℕ) → a ≤ k → k < a + n → In (range_with_len a n) k
-range_in a zero k h g = absurd (past h g)
-  where
-    past : a ≤ k → k < a + 0 → ⊥
-    past h g = omega (arith, h, g)
-range_in a (suc n) k h g = elim (two_ways (a == k)) [
-  | inl q ↦ inl (same_numbers a k q)
-  | inr q ↦ inr (range_in (a + 1) n k (next h (λ e. no (sym q ∙ ap (λ m. a == m) (sym e) ∙ same_test a))) (omega (arith, g)))
-]
-  where
-    next : a ≤ k → (a ≡ k → ⊥) → a + 1 ≤ k
-    next h d = grind (arith, h, d)
 
 at_range : {A : Type 0} (f : ℕ → A) (a n i : ℕ) (d : A) → i < n → slice_index_or (map f (range_with_len a n)) i d ≡ f (a + i)
 at_range f a zero i d h = absurd (none_below i h)
@@ -44,10 +22,6 @@ at_range f a (suc n) (suc i) d h = at_range f (a + 1) n i d (omega (arith, h)) �
   where
     next : (a i : ℕ) → a + 1 + i ≡ a + suc i
     next a i = omega arith
-
-length_range : {A : Type 0} (f : ℕ → A) (a n : ℕ) → length (map f (range_with_len a n)) ≡ n
-length_range f a zero = refl
-length_range f a (suc n) = ap suc (length_range f (a + 1) n)
 
 -- 2. A node's links
 
@@ -64,7 +38,7 @@ links_in w node l i =
 
 in_links : (w : Wiring) (node l : ℕ) → IsLinkOf w node l → In (by_neighbour w node) l
 in_links w node l h =
-    flat_in (joining w node) (nodes_of w) (across w l node) l (range_in 0 (length w.loopbacks) (across w l node) (omega arith) (omega (arith, h.other)))
+    flat_map_in (joining w node) (nodes_of w) (across w l node) l (range_in 0 (length w.loopbacks) (across w l node) (omega arith) (omega (arith, h.other)))
     (filter_in (λ k. across w k node == across w l node) (links_at w node) l
     (filter_in (λ k. is_end w k node) (links_of w) l (range_in 0 (length w.ends) l (omega arith) (omega (arith, h.there))) h.at_node)
     (same_test (across w l node)))
@@ -184,7 +158,7 @@ list_from before later node ls fec (was ∷ weres) [] place l m h g i o k = absu
 list_from before later node ls fec (was ∷ weres) (is ∷ ares) zero l m h g i o k =
     in_front (flat_map (mentioned_on before later node fec was is) ls) (mentioned_from before later node ls (fec + 1) weres ares)
     (record { link = l; end = node; message = m })
-    (flat_in (mentioned_on before later node fec was is) ls l (record { link = l; end = node; message = m }) i
+    (flat_map_in (mentioned_on before later node fec was is) ls l (record { link = l; end = node; message = m }) i
     (link_on before later node fec was is l m o (subst (λ n. IsMention (is_operational before l && was) is n m) (none fec) k)))
   where
     none : (n : ℕ) → n + 0 ≡ n

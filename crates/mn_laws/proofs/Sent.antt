@@ -9,6 +9,7 @@ use Rattle.mn_base.specs.declared.drops.Rule.{Rule}
 use Rattle.mn_base.specs.declared.drops.Rule.TheVariants as rule
 use Rattle.mn_base.specs.declared.links.Dir.{Dir}
 use Rattle.mn_base.specs.declared.numbers.LinkNo.{LinkNo}
+use Rattle.mn_base.proofs.Bools.{clash}
 use Rattle.mn_ipv4.specs.Header.{ttl_of, destination_of, aged}
 use Rattle.mn_topo.specs.Lawful.{IsLawful}
 use Rattle.mn_topo.specs.Network.{Network}
@@ -39,9 +40,6 @@ use Rattle.mn_laws.proofs.Moving.{after_step, injected_is, Leaves}
 use Rattle.mn_laws.proofs.There.{home_there, IsHop, hop_is}
 use Rattle.mn_laws.proofs.Fates.{frame_of, HasFlown, IsKnown, placed, none_yet, left_known, leaves_ended, where_it_flies, in_get}
 use Rattle.mn_laws.proofs.Travelling.{HoldsSites, known_by, passed, takes, carried_known, lost_known, cut_known}
-
-no : true ≡ false → ⊥
-no e = cc
 
 -- 1. The step in which it is sent
 
@@ -177,7 +175,7 @@ module _ (t : Network) (lawful : IsLawful t) (es : List JournalEntry) (ps : List
       })
     where
       apart : (a b : ℕ) → (a == b) ≡ false → b ≢ a
-      apart a b h q = elim (eqb_tells a b) [ inl p ↦ no (sym p.0 ∙ h) | inr p ↦ p.1 (sym q) ]
+      apart a b h q = elim (eqb_tells a b) [ inl p ↦ clash (sym p.0 ∙ h) | inr p ↦ p.1 (sym q) ]
 
       one_more_is : (m n : ℕ) → n < m → m ≤ suc n → m ≡ suc n
       one_more_is m n h g = omega (arith, h, g)

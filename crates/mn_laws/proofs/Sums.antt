@@ -4,6 +4,7 @@ use Rattle.std.specs.Prelude.{◌==◌, ◌&&◌, sum}
 use Rattle.std.specs.List.{flat_map, range_with_len}
 use Rattle.std.proofs.lemmas.Bool.Decides.{eqb_tells}
 use Rattle.std.proofs.lemmas.List.Sums.{sum_by-append}
+use Rattle.mn_base.proofs.Bools.{clash}
 use Rattle.mn_ledger.specs.Verdicts.{one_if}
 use Rattle.mn_ledger.proofs.Members.{In}
 
@@ -93,9 +94,6 @@ pub times-filter : (p : ℕ → Bool) (k : ℕ) (xs : List ℕ) → p k ≡ true
 times-filter p k [] h = refl
 times-filter p k (x ∷ xs) h = by_test (p x) refl (times-filter p k xs h)
   where
-    clash : true ≡ false → ⊥
-    clash e = cc
-
     by_test : (b : Bool) → p x ≡ b → times k (filter p xs) ≡ times k xs → times k (cond b (x ∷ filter p xs) (filter p xs)) ≡ one_if (k == x) + times k xs
     by_test true e rest = omega (arith, rest)
     by_test false e rest = elim (eqb_tells k x) [ inl q ↦ absurd (clash (sym h ∙ ap p q.1 ∙ e)) | inr q ↦ omega (arith, rest, ap one_if q.0) ]

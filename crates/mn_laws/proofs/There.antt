@@ -1,7 +1,6 @@
 -- What a lawful topology says by number exists; and a node that can send towards another has a link to its next hop.
-use Rattle.std.proofs.Common.{ℕ, zero, suc, ◌≡◌, ◌≢◌, ◌<◌, inl, inr, Bool, true, false, List, [], ◌∷◌, ◌++◌, length, refl, arith, sym, ◌∙◌, ap, subst, Option, Some, None}
-use Rattle.std.specs.Prelude.{◌==◌, ◌&&◌, ◌||◌, nat_lt, slice_index_or}
-use Rattle.std.specs.List.{list_all}
+use Rattle.std.proofs.Common.{ℕ, ◌≡◌, ◌≢◌, ◌<◌, inl, inr, Bool, true, false, List, [], ◌∷◌, ◌++◌, length, refl, sym, ◌∙◌, ap, subst, Option, Some, None}
+use Rattle.std.specs.Prelude.{◌==◌, ◌&&◌, ◌||◌, nat_lt}
 use Rattle.std.proofs.lemmas.Bool.{and_parts, ltb-true}
 use Rattle.std.proofs.lemmas.Bool.Decides.{eqb_tells}
 use Rattle.mn_base.specs.declared.links.Dir.{Dir}
@@ -10,6 +9,7 @@ use Rattle.mn_base.specs.Numbers.{has_rd_form}
 use Rattle.mn_base.specs.Wiring.{link, is_end, across, sender, receiver}
 use Rattle.mn_base.specs.Paths.{IsNext, next}
 use Rattle.mn_base.proofs.Next.{next_is}
+use Rattle.mn_base.proofs.Rules.{none_is}
 use Rattle.mn_topo.specs.declared.sites.SiteDef.{SiteDef}
 use Rattle.mn_topo.specs.Lawful.{IsLawful, is_vrf_of}
 use Rattle.mn_topo.specs.Network.{Network, wiring_of}
@@ -21,16 +21,9 @@ use Rattle.mn_ledger.specs.Packets.{away_from}
 use Rattle.mn_ledger.proofs.Peers.{same_numbers}
 use Rattle.mn_ledger.proofs.Turning.{dir_ends, across-end}
 use Rattle.mn_laws.specs.Accounts.{AreJoined, GoesOver}
+pub use Rattle.mn_topo.proofs.Wirings.{passes_at as at_all}
 
 -- 1. Sites, VRFs and edges
-
-pub at_all : {A : Type 0} (p : A → Bool) (xs : List A) (i : ℕ) (d : A) → list_all p xs ≡ true → i < length xs → p (slice_index_or xs i d) ≡ true
-at_all p [] i d h g = absurd (none i g)
-  where
-    none : (i : ℕ) → i < 0 → ⊥
-    none i g = omega (arith, g)
-at_all p (x ∷ xs) zero d h g = (and_parts (p x) (list_all p xs) h).0
-at_all p (x ∷ xs) (suc i) d h g = at_all p xs i d (and_parts (p x) (list_all p xs) h).1 (omega (arith, g))
 
 pub vrf_there : (t : Network) (site : ℕ) → IsLawful t → site < length t.sites → vrf_of t site < length t.vrfs
 vrf_there t site lawful h = ltb-true _ _ (at_all (λ (s : SiteDef). nat_lt s.vrf.0 (length t.vrfs)) t.sites site _ lawful.sites.placed h)
@@ -62,16 +55,13 @@ joined_over t l d lawful h =
 
 -- 3. Where a node can send
 
-no_hop : {A : Type 0} (x : A) → None ≡ Some x → ⊥
-no_hop x e = cc
-
-by_next : (k : Knowledge) (fec : ℕ) (o : Option (ℕ × ℕ)) (hop : ℕ × ℕ) → usable_over k fec o ≡ Some hop → o ≡ Some hop
+pub by_next : (k : Knowledge) (fec : ℕ) (o : Option (ℕ × ℕ)) (hop : ℕ × ℕ) → usable_over k fec o ≡ Some hop → o ≡ Some hop
 by_next k fec None hop h = h
 by_next k fec (Some other) hop h = by_test (is_operational k other.1 && is_mapped false fec (hearing k other.1).messages) h
   where
     by_test : (b : Bool) → elim b as (λ _. Option (ℕ × ℕ)) [ true ↦ Some other | false ↦ None ] ≡ Some hop → Some other ≡ Some hop
     by_test true e = e
-    by_test false e = absurd (no_hop hop e)
+    by_test false e = absurd (none_is hop e)
 
 -- over a link that is there, and away from the node
 pub record IsHop (t : Network) (node : ℕ) (hop : ℕ × ℕ) : Type 0 where

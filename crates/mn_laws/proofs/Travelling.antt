@@ -10,6 +10,7 @@ use Rattle.mn_base.specs.declared.links.Dir.TheVariants.{Forth, Back}
 use Rattle.mn_base.specs.declared.numbers.LinkNo.{LinkNo}
 use Rattle.mn_base.specs.declared.numbers.NodeNo.{NodeNo}
 use Rattle.mn_base.specs.Wiring.{sender, receiver}
+use Rattle.mn_base.proofs.Bools.{clash}
 use Rattle.mn_ipv4.specs.Header.{good, ttl_of, aged}
 use Rattle.mn_ipv4.proofs.Laws.{IsGood-from_good, length-aged, ttl_of-aged, get_or-aged, good-aged, aged-aged}
 use Rattle.mn_topo.specs.Lawful.{IsLawful}
@@ -34,13 +35,7 @@ use Rattle.mn_laws.proofs.Elsewhere.{judged_here, visited_here, cut_here, cut_ot
 use Rattle.mn_laws.proofs.Moving.{after_step, carried_is, lost_is, cut_is, arrives}
 use Rattle.mn_laws.proofs.There.{receiver_there, joined_over, IsHop, hop_is, goes_further}
 use Rattle.mn_laws.proofs.Fates as fates
-use Rattle.mn_laws.proofs.Fates.{frame_of, HasFlown, Flies, Ends, Arrives, FateIs, IsKnown, placed, in_verdicts, in_paths, in_counts, where_it_flies, some_frame, none_yet, stays_known, left_known, flown_on, in_get, one_link}
-
-no : true ≡ false → ⊥
-no e = cc
-
-none_below : (n : ℕ) → n < 0 → ⊥
-none_below n h = omega (arith, h)
+use Rattle.mn_laws.proofs.Fates.{frame_of, HasFlown, Flies, FateIs, IsKnown, placed, in_verdicts, in_paths, in_counts, where_it_flies, some_frame, flown_on}
 
 -- 1. The packet that arrives
 
@@ -65,10 +60,10 @@ aged_on b len fine h =
     count all len h = omega (arith, h)
 
 two_left : (n : ℕ) → nat_le n 1 ≡ false → 2 ≤ n
-two_left n h = elim (leb_tells n 1) [ inl q ↦ absurd (no (sym q.0 ∙ h)) | inr q ↦ omega (arith, q.1) ]
+two_left n h = elim (leb_tells n 1) [ inl q ↦ absurd (clash (sym q.0 ∙ h)) | inr q ↦ omega (arith, q.1) ]
 
 is_it : (o : Option ℕ) (a : ℕ) → is_attachment o a ≡ true → o ≡ Some a
-is_it None a h = absurd (no (sym h))
+is_it None a h = absurd (clash (sym h))
 is_it (Some b) a h = ap Some (same_numbers b a h)
 
 -- 2. Rules at a node
@@ -272,7 +267,7 @@ module _ (t : Network) (lawful : IsLawful t) (es : List JournalEntry) (ps : List
       })
     where
       apart : (a b : ℕ) → (a == b) ≡ false → a ≢ b
-      apart a b h q = elim (eqb_tells a b) [ inl p ↦ no (sym p.0 ∙ h) | inr p ↦ p.1 q ]
+      apart a b h q = elim (eqb_tells a b) [ inl p ↦ clash (sym p.0 ∙ h) | inr p ↦ p.1 q ]
 
       flown_now : verdict_on (packets_at t es ps (suc n)) s.packet ≡ Flying (record { 0 = hop.1 }) (away_from t hop.1 node) → HasFlown t es ps s (suc n)
       flown_now h = flown_on t es ps s n k.flies.flown (ap is_flying h)

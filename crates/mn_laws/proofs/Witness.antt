@@ -18,7 +18,6 @@ use Rattle.mn_ledger.specs.Lawful.{IsLawfulJournal}
 use Rattle.mn_ledger.specs.Packets.{packets_after}
 use Rattle.mn_ledger.specs.Refusal.{in_flight, bytes_flying}
 use Rattle.mn_ledger.specs.Transport.{knowledge_of, sessions_after}
-use Rattle.mn_ledger.specs.Verdicts.{injections}
 use Rattle.mn_ledger.specs.Vpn.{peerings_after, held}
 use Rattle.mn_ledger.proofs.TwoLinks.{link_no, site_no, two_links, at_start, settling, packet, across_both, the_run_is_lawful, the_topology_is_lawful}
 use Rattle.mn_laws.specs.Accounts.{Sending, IsSent}
@@ -26,6 +25,7 @@ use Rattle.mn_laws.specs.Deliveries.{deliveries_of}
 use Rattle.mn_laws.specs.Ids.{ids_of, frames_sent, frame_number}
 use Rattle.mn_laws.specs.Named.{AreBytes}
 use Rattle.mn_laws.proofs.There.{at_all}
+pub use Rattle.mn_ledger.proofs.Premises.{as_many_packets as a_packet_each}
 
 -- 1. The premises: a lawful topology, a lawful journal, a packet for each injection, of bytes, and an end of a link
 
@@ -34,9 +34,6 @@ a_lawful_topology = the_topology_is_lawful
 
 pub a_lawful_journal : IsLawfulJournal two_links across_both (packet ∷ [])
 a_lawful_journal = the_run_is_lawful
-
-pub a_packet_each : length (packet ∷ []) ≡ injections across_both
-a_packet_each = refl
 
 -- numbers that pass the test are bytes, and so is the 0 past the last
 are_bytes : (xs : List ℕ) → list_all (λ x. nat_lt x 256) xs ≡ true → (i : ℕ) → slice_index xs i < 256

@@ -9,9 +9,6 @@ use Rattle.mn_ldp_wire.specs.Reading.{Front, size_at, front_of, passed_over_from
 
 -- ---- what stands at the front
 
-some_is : {A : Type 0} (x y : A) → Some x ≡ Some y → x ≡ y
-some_is x y e = cc
-
 -- a front that is whole, by the two tests
 pub record IsFront (bytes : List ℕ) (front : Front) : Type 0 where
   pub header : 4 ≤ length bytes

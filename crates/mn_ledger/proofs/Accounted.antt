@@ -1,6 +1,7 @@
 -- Each packet is accounted for.
 use Rattle.std.proofs.Common.{◌≡◌, ℕ, ◌+◌, ◌-◌, ◌≤◌, Bool, true, false, not, cond, nat_lt, is_none, is_ok, if◌then◌else◌, IsTrue, List, [], ◌∷◌, map, filter, Option, Some, None, Result, Ok, Err, refl, ap, sym, subst, arith}
 use Rattle.std.proofs.lemmas.Bool.Decides.{nat_tests}
+use Rattle.mn_base.proofs.Bools.{not_on}
 use Rattle.mn_base.specs.declared.drops.Rule.{Rule}
 use Rattle.mn_base.specs.declared.drops.Rule.TheVariants as rule
 use Rattle.mn_base.specs.declared.numbers.NodeNo.{NodeNo}
@@ -33,9 +34,6 @@ all_good : (packet : List ℕ) → is_not_ipv4 packet ≡ false → is_malformed
 unfolding good
 all_good packet a b c d = rw (a, b, c, d) refl
 
-no_route : (b : Bool) → b ≡ false → not b ≡ true
-no_route b h = ap not h
-
 -- by the tests' answers: the first rule that applies, or the best route
 told_by : (routes : List Route) (packet : List ℕ) (p q r s t u : Bool) (best : Option Route) →
     is_not_ipv4 packet ≡ p → is_malformed packet ≡ q → is_truncated packet ≡ r → has_bad_checksum packet ≡ s → nat_lt (ttl_of packet) 2 ≡ t → is_unicast (destination_of packet) ≡ u → best_route routes (destination_of packet) ≡ best →
@@ -47,7 +45,7 @@ told_by routes packet false false true s t u best a b c d e f g = record { earli
 told_by routes packet false false false true t u best a b c d e f g = record { earlier = rule.NotIpv4 ∷ rule.Malformed ∷ rule.Truncated ∷ []; later = rule.TtlExpired ∷ rule.NotUnicast ∷ rule.NoRoute ∷ []; order = refl; here = d; not_before = rw (a, b, c) refl }
 told_by routes packet false false false false true u best a b c d e f g = record { earlier = rule.NotIpv4 ∷ rule.Malformed ∷ rule.Truncated ∷ rule.BadChecksum ∷ []; later = rule.NotUnicast ∷ rule.NoRoute ∷ []; order = refl; here = e; not_before = rw (a, b, c, d) refl }
 told_by routes packet false false false false false false best a b c d e f g = record { earlier = rule.NotIpv4 ∷ rule.Malformed ∷ rule.Truncated ∷ rule.BadChecksum ∷ rule.TtlExpired ∷ []; later = rule.NoRoute ∷ []; order = refl; here = ap not f; not_before = rw (a, b, c, d, e) refl }
-told_by routes packet false false false false false true None a b c d e f g = record { earlier = rule.NotIpv4 ∷ rule.Malformed ∷ rule.Truncated ∷ rule.BadChecksum ∷ rule.TtlExpired ∷ rule.NotUnicast ∷ []; later = []; order = refl; here = no_route _ (best_none routes (destination_of packet) g); not_before = rw (a, b, c, d, e, f) refl }
+told_by routes packet false false false false false true None a b c d e f g = record { earlier = rule.NotIpv4 ∷ rule.Malformed ∷ rule.Truncated ∷ rule.BadChecksum ∷ rule.TtlExpired ∷ rule.NotUnicast ∷ []; later = []; order = refl; here = not_on _ (best_none routes (destination_of packet) g); not_before = rw (a, b, c, d, e, f) refl }
 told_by routes packet false false false false false true (Some route) a b c d e f g =
     let best = best_some routes (destination_of packet) route g in
     record { is_good = all_good packet a b c d; lives = grind (arith, nat_tests); unicast = f; route = route; held = best.held; covers = best.covers; longest = best.longest; to_site = refl }

@@ -1,11 +1,10 @@
 -- `best` names the best route, which is one: RFC 1812, section 5.2.4.3.
-use Rattle.std.proofs.Common.{ℕ, suc, ◌≡◌, ◌+◌, ◌-◌, ◌*◌, ◌/◌, ◌%◌, ◌^◌, ◌<◌, ◌⊎◌, inl, inr, Bool, true, false, List, [], ◌∷◌, refl, arith, sym, ◌∙◌, ap, subst, Some, None}
+use Rattle.std.proofs.Common.{ℕ, suc, ◌≡◌, ◌+◌, ◌<◌, ◌⊎◌, inl, inr, Bool, true, false, List, [], ◌∷◌, refl, arith, sym, ◌∙◌, ap, Some, None}
 use Rattle.std.specs.Prelude.{◌==◌, ◌&&◌, ◌||◌, not, nat_lt}
 use Rattle.std.specs.List.{list_any}
 use Rattle.std.proofs.lemmas.Bool.Decides.{eqb_tells, leb_tells, nat_tests}
-use Rattle.std.proofs.lemmas.Nat.{pow_pos}
 use Rattle.mn_base.proofs.Bools.{less_is, less_tells, no, not_true}
-use Rattle.mn_prefix.specs.Prefix.{AddressBlock, IsPrefix, contains}
+use Rattle.mn_prefix.specs.Prefix.{IsPrefix, contains}
 use Rattle.mn_topo.specs.Network.{Network}
 use Rattle.mn_topo.specs.Lawful.{IsLawful}
 use Rattle.mn_topo.specs.declared.steps.JournalEntry.{JournalEntry}
@@ -15,12 +14,13 @@ use Rattle.mn_ledger.specs.Packets.{Packets, packets_after}
 use Rattle.mn_ledger.specs.Ledger.{after, start, no_packets, next_of, left_by, world_from, world_of}
 use Rattle.mn_ledger.specs.Lawful.{IsLawfulFrom, IsLawfulJournal}
 use Rattle.mn_ledger.specs.Best.{IsBest, NamesTheBest}
-use Rattle.mn_ledger.proofs.Peers.{two_ways, same_numbers}
+use Rattle.mn_ledger.proofs.Peers.{two_ways}
 use Rattle.mn_ledger.proofs.Turning.{loopbacks_apart}
 use Rattle.mn_ledger.proofs.Members.{In, in_contained, contained_in, in_filter, filter_in, none_passes, passes_none}
 use Rattle.mn_ledger.proofs.Statics.{HasStatics, HasForms, first_statics, first_forms, statics_go, forms_go}
 use Rattle.mn_ledger.proofs.Tellings.{AllGood, tellings_go}
 use Rattle.mn_ledger.proofs.Held.{one_held, held_formed}
+pub use Rattle.mn_prefix.proofs.Matches.{one_of_length as one_prefix}
 
 -- 1. A number first, and then something else
 
@@ -179,18 +179,6 @@ neither_better x y h g =
         | inr q ↦ omega (arith, p.1, q.1)
       ]
     ]
-
--- two prefixes of one length that contain an address are one
-pub one_prefix : (p q : AddressBlock) (address : ℕ) → IsPrefix p.address p.length → IsPrefix q.address q.length → p.length ≡ q.length → contains p address ≡ true → contains q address ≡ true → p ≡ q
-one_prefix p q address fp fq same cp cq =
-    let size : ℕ = 2 ^ (32 - p.length) in
-    let sizes : 2 ^ (32 - q.length) ≡ size = ap (λ n. 2 ^ (32 - n)) (sym same) in
-    let at_p : address / size ≡ p.address / size = same_numbers _ _ cp in
-    let at_q : address / size ≡ q.address / size = subst (λ n. address / n ≡ q.address / n) sizes (same_numbers _ _ cq) in
-    let clear : q.address % size ≡ 0 = subst (λ n. q.address % n ≡ 0) sizes fq.clear in
-    let parts : size * (p.address / size) ≡ size * (q.address / size) = ap (λ n. size * n) (sym at_p ∙ at_q) in
-    let addresses : p.address ≡ q.address = omega (arith, parts, pow_pos (32 - p.length), fp.clear, clear) in
-    ap (λ a. record { address = a; length = p.length }) addresses ∙ ap (λ l. record { address = q.address; length = l }) same
 
 -- 4. Some route is unbeaten
 

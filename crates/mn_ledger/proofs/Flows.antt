@@ -7,7 +7,7 @@ use Rattle.std.proofs.lemmas.List.{map-append, append_assoc, drop-map, drop-drop
 use Rattle.std.proofs.lemmas.List.Elements.{filter-append}
 use Rattle.mn_base.specs.Wiring.{Wiring, nodes_of, link, is_end, across, sender, receiver, JoinsNodes, EndsDiffer}
 use Rattle.mn_base.specs.declared.links.Dir.{Dir}
-use Rattle.mn_base.proofs.Bools.{no}
+use Rattle.mn_base.proofs.Bools.{clash, no, or_true, swap}
 use Rattle.mn_topo.specs.Network.{Network, wiring_of}
 use Rattle.mn_topo.specs.Lawful.{IsLawful}
 use Rattle.mn_topo.specs.Steps.{fits}
@@ -35,6 +35,7 @@ use Rattle.mn_ledger.proofs.Members.{In, in_append, in_front, in_rest, in_filter
 use Rattle.mn_ledger.proofs.OnePlace.{stepped}
 use Rattle.mn_ledger.proofs.Frames.{frames_go}
 use Rattle.mn_ledger.proofs.Channels.{same_chan, no_frame, kept, gone, taken, off, loads_in, loads_append, loads_in_append, on_numbered, none_of, no_frames, in_messages, in_routes, noticed, not_noticed, kept_last, gone_last, taken_last}
+use Rattle.mn_ledger.proofs.Ended.{other_than}
 
 -- 1. Which channels a step takes from
 
@@ -113,7 +114,7 @@ frames_none on i p q (Inject site number) = no_frames on i q _
 frames_none on i p q (Carry l dir place) = option_none on i q _
 frames_none on i p q _ = refl
 
-if_none : (on : Channel) (b : Bool) (xs : List (Channel × Load)) → loads_in on xs ≡ [] → loads_in on (if b then xs else []) ≡ []
+pub if_none : (on : Channel) (b : Bool) (xs : List (Channel × Load)) → loads_in on xs ≡ [] → loads_in on (if b then xs else []) ≡ []
 if_none on true xs h = h
 if_none on false xs h = refl
 
@@ -135,7 +136,7 @@ made_notices t w v p q s l node =
     ∙ ap (λ r. loads_in (Notices l node) (notices_in t s) ++ r) (frames_none (Notices l node) refl p q s)
     ∙ append-nil (loads_in (Notices l node) (notices_in t s))
 
-no_notices : (t : Network) (s : Step) (l node : ℕ) → loads_in (Messages l node) (notices_in t s) ≡ []
+pub no_notices : (t : Network) (s : Step) (l node : ℕ) → loads_in (Messages l node) (notices_in t s) ≡ []
 no_notices t (LinkUp at) l node = none_of (Messages l node) (λ n. (Notices at.0 n, Notice)) (λ n. refl) (nodes_of (wiring_of t))
 no_notices t (LinkDown at) l node = none_of (Messages l node) (λ n. (Notices at.0 n, Notice)) (λ n. refl) (nodes_of (wiring_of t))
 no_notices t _ l node = refl
@@ -198,9 +199,6 @@ first_loads on items = ap (map (λ (item : Item). item.load)) (taken on items) �
 
 both : (a b : Bool) → (a ≡ false) ⊎ (b ≡ false) → (a && b) ≡ false
 both true b d = elim d [ inl p ↦ absurd (clash p) | inr q ↦ q ]
-  where
-    clash : true ≡ false → ⊥
-    clash e = cc
 both false b d = refl
 
 -- the node learns of the link's next change
@@ -403,13 +401,6 @@ all_left k new edge peer left items same told heard u = (
   omega (arith, u.1, heard, ap length told),
 )
 
-or_true : (a : Bool) → (a || true) ≡ true
-or_true true = refl
-or_true false = refl
-
-swap : {P Q : Type 0} → P ⊎ Q → Q ⊎ P
-swap d = elim d [ inl p ↦ inr p | inr q ↦ inl q ]
-
 -- a session begins or ends
 begun : (k : Peerings) (a b edge peer : ℕ) (left items : List Item) → a ≢ b → (is_between a b (Routes edge peer) ≡ true → loads_on (Routes edge peer) left ≡ [])
     → (is_between a b (Routes edge peer) ≡ false → loads_on (Routes edge peer) left ≡ loads_on (Routes edge peer) items) → Unheard k edge peer items → Unheard (vpn.anew k a b) edge peer left
@@ -462,19 +453,16 @@ heeds k a b edge peer left items less is off u =
           omega (arith, now, ap (λ j. k.heard j edge) d, ap (λ j. k.heard b j) e, ap (λ j. length (k.told j peer)) e, ap (λ j. length (k.told a j)) d, less),
         )
 
-less_differ : (a b : ℕ) → a < b → a ≢ b
-less_differ a b h e = omega (arith, h, e)
-
 abbrev told_by : Network → World → Step → List Told
 told_by t w s = vpn.told_in t w.config w.peerings (after t w s).config (vpn.counted w.peerings s) s
 
 routes_go : (t : Network) (w : World) (p q : Packets) (s : Step) (tick n : ℕ) (items : List Item) (edge peer : ℕ) → AreInOrder s → is_empty t w p s ≡ false → Unheard w.peerings edge peer items → RoutesGo t w p q s tick n items edge peer
 unfolding touches peerings_after
 routes_go t w p q (BgpUp a b) tick n items edge peer order full u =
-    let new = begun w.peerings a.0 b.0 edge peer (left_in_flight t (BgpUp a b) items) items (less_differ a.0 b.0 order) (λ e. emptied (Routes edge peer) (is_between a.0 b.0) refl e items) (λ e. loads_kept t (BgpUp a b) (Routes edge peer) refl e items) u in
+    let new = begun w.peerings a.0 b.0 edge peer (left_in_flight t (BgpUp a b) items) items (other_than a.0 b.0 order) (λ e. emptied (Routes edge peer) (is_between a.0 b.0) refl e items) (λ e. loads_kept t (BgpUp a b) (Routes edge peer) refl e items) u in
     tells t w p q (BgpUp a b) tick n items edge peer _ _ (told_by t w (BgpUp a b)) new.0 new.1 (in_routes edge peer (told_by t w (BgpUp a b)))
 routes_go t w p q (BgpDown a b) tick n items edge peer order full u =
-    let new = begun w.peerings a.0 b.0 edge peer (left_in_flight t (BgpDown a b) items) items (less_differ a.0 b.0 order) (λ e. emptied (Routes edge peer) (is_between a.0 b.0) refl e items) (λ e. loads_kept t (BgpDown a b) (Routes edge peer) refl e items) u in
+    let new = begun w.peerings a.0 b.0 edge peer (left_in_flight t (BgpDown a b) items) items (other_than a.0 b.0 order) (λ e. emptied (Routes edge peer) (is_between a.0 b.0) refl e items) (λ e. loads_kept t (BgpDown a b) (Routes edge peer) refl e items) u in
     tells t w p q (BgpDown a b) tick n items edge peer _ _ (told_by t w (BgpDown a b)) new.0 new.1 (in_routes edge peer (told_by t w (BgpDown a b)))
 routes_go t w p q (HearBgp a b) tick n items edge peer order full u =
     let new = heeds w.peerings a.0 b.0 edge peer (left_in_flight t (HearBgp a b) items) items (above _ _ (or_both _ _ full).1) refl (λ e. loads_kept t (HearBgp a b) (Routes edge peer) refl e items) u in

@@ -43,7 +43,7 @@ last_pushed (y ∷ z ∷ zs) x = last_pushed (z ∷ zs) x
 Adds : Packets → Packets → ℕ → Type 0
 Adds w later p = (l : ℕ) (d : Dir) → carried_on later (channel l d) ≡ carried_on w (channel l d) ++ loads_in (Frames l d) (frame_by later (verdict_on later p))
 
-judged_is : (w : Packets) (p : ℕ) (v : Verdict) → p < length w.verdicts → verdict_on (judged w p v) p ≡ v
+pub judged_is : (w : Packets) (p : ℕ) (v : Verdict) → p < length w.verdicts → verdict_on (judged w p v) p ≡ v
 judged_is w p v h = judged_on w p v p h ∙ ap (λ b. cond b v (verdict_on w p)) (same_test p)
 
 adds_none : (w later : Packets) (p : ℕ) (v : Verdict) → verdict_on later p ≡ v → (l : ℕ) (d : Dir) → loads_in (Frames l d) (frame_by later v) ≡ [] → carried_on later (channel l d) ≡ carried_on w (channel l d)

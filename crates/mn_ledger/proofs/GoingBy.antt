@@ -1,9 +1,10 @@
 -- Each step of a lawful journal keeps LDP sessions in turn.
 use Rattle.std.proofs.Common.{ℕ, suc, ◌≡◌, ◌≢◌, ◌+◌, ◌<◌, ◌≤◌, ◌⊎◌, inl, inr, Bool, true, false, cond, List, [], ◌∷◌, ◌++◌, length, refl, arith, sym, ◌∙◌, ap, subst, append-nil, add-one}
-use Rattle.std.specs.Prelude.{◌&&◌, ◌||◌, nat_le, slice_index_or, ⊤}
+use Rattle.std.specs.Prelude.{◌&&◌, slice_index_or, ⊤}
 use Rattle.std.specs.List.{flat_map}
-use Rattle.std.proofs.lemmas.Bool.Decides.{eqb_tells, leb_tells}
+use Rattle.std.proofs.lemmas.Bool.Decides.{eqb_tells}
 use Rattle.std.proofs.lemmas.List.{length-append}
+use Rattle.mn_base.proofs.Bools.{clash, and_off_left}
 use Rattle.mn_base.specs.Wiring.{is_end, across, sender, receiver, JoinsNodes, EndsDiffer}
 pub use Rattle.mn_base.proofs.Bools.{not_false}
 use Rattle.mn_topo.specs.Network.{Network, wiring_of}
@@ -19,6 +20,7 @@ use Rattle.mn_ledger.specs.Turns.{IsTalk, IsEndInTurn, EndsAreInTurn}
 use Rattle.mn_ledger.proofs.Talk.{IsNth, talk-nth, talk-heard, talk-said}
 use Rattle.mn_ledger.proofs.Mentions.{EachNews, each-speaker, messages-append, messages-mentions, messages-none, few-off, dead-off}
 use Rattle.mn_ledger.proofs.Turning.{Apart, said-own, said-other, opening_talk, opener, across-end, dir_ends}
+pub use Rattle.mn_base.proofs.Bools.{or_off as or_both, not_at_most_tells as above}
 
 pub put_here : {A : Type 0} (f : ℕ → A) (k : ℕ) (v : A) → put f k v k ≡ v
 put_here f k v = elim (eqb_tells k k) [ inl p ↦ ap (λ b. cond b v (f k)) p.0 | inr p ↦ absurd (p.1 refl) ]
@@ -89,9 +91,6 @@ hears t c v s k ns l node other below far each said far_said heard alive more g 
           (messages-mentions (λ n. knowledge_of (wiring_of t) c v k n) l node ns each))));
     }
   where
-    clash : true ≡ false → ⊥
-    clash e = cc
-
     few : s.heard l node ≡ 0 → k.heard l node < 2
     few e = omega (arith, e, heard)
 
@@ -120,9 +119,6 @@ life_step t c new v nv s step at apart joins differ is xs which others h l node 
       silent = λ _. (ap (λ ms. ms ++ messages_of at node (xs ++ ns)) said ∙ ap (λ ys. messages_of at node (ys ++ ns)) none ∙ messages-none (λ n. knowledge_of (wiring_of t) new nv k n) at node ns each (dead-off (wiring_of t) new nv k node at b dead), heard);
       talk = λ on. absurd (clash (sym on ∙ dead));
     }
-      where
-        clash : true ≡ false → ⊥
-        clash e = cc
 
     here : at < length t.links → is_end (wiring_of t) at node ≡ true → IsEndInTurn t new (with_said (anew s at) (xs ++ all_news t c v s new nv (anew s at) step)) at node
     here b e =
@@ -142,13 +138,6 @@ life_step t c new v nv s step at apart joins differ is xs which others h l node 
         off : (alive : Bool) → lives new at ≡ alive → messages_of l node (opening t new at) ≡ []
         off true a = ap (messages_of l node) (open_if t new at true a) ∙ said-other l node at (opener t at) (Initialization ∷ []) (inl (λ e. d (sym e)))
         off false a = ap (messages_of l node) (open_if t new at false a)
-
-no_life : (b d : Bool) → b ≡ false → (b && d) ≡ false
-no_life b d h = ap (λ x. x && d) h
-
-no_life_right : (b d : Bool) → d ≡ false → (b && d) ≡ false
-no_life_right true d h = h
-no_life_right false d h = refl
 
 learn_step : (t : Network) (c : Config) (v nv : Views) (s : Sessions) (step : Step) → EndsAreInTurn t c s → EndsAreInTurn t c (with_said s ([] ++ all_news t c v s c nv s step))
 learn_step t c v nv s step h l node below at_end =
@@ -191,19 +180,6 @@ hear_step t c v s step at m other differ m_end far other_end alive more inside k
       ]
     ]
 
-pub or_both : (a b : Bool) → (a || b) ≡ false → (a ≡ false) × (b ≡ false)
-or_both true b h = absurd (clash h)
-  where
-    clash : true ≡ false → ⊥
-    clash e = cc
-or_both false b h = (refl, h)
-
-pub above : (a b : ℕ) → nat_le a b ≡ false → b < a
-above a b h = elim (leb_tells a b) [ inl p ↦ absurd (clash (sym p.0 ∙ h)) | inr p ↦ p.1 ]
-  where
-    clash : true ≡ false → ⊥
-    clash e = cc
-
 -- the link of the step is one of the network
 abbrev pub LinkIsThere : Network → Step → Type 0
 LinkIsThere t (HearLdp l dir) = l.0 < length t.links
@@ -217,7 +193,7 @@ sessions_go t w k (LinkUp l) apart joins differ there full h =
     (opening t (config_after w.config (LinkUp l)) l.0) (inl refl) (λ j d. ap (λ b. b && w.config.ldp_on j) (put_off w.config.is_up l.0 true j d)) h
 sessions_go t w k (LinkDown l) apart joins differ there full h =
     life_step t w.config (config_after w.config (LinkDown l)) w.views (views_after w.views (LinkDown l)) w.sessions (LinkDown l) l.0 apart joins differ refl
-    [] (inr (refl, no_life (put w.config.is_up l.0 false l.0) (w.config.ldp_on l.0) (put_here w.config.is_up l.0 false))) (λ j d. ap (λ b. b && w.config.ldp_on j) (put_off w.config.is_up l.0 false j d)) h
+    [] (inr (refl, and_off_left (put w.config.is_up l.0 false l.0) (w.config.ldp_on l.0) (put_here w.config.is_up l.0 false))) (λ j d. ap (λ b. b && w.config.ldp_on j) (put_off w.config.is_up l.0 false j d)) h
 sessions_go t w k (LdpAdmin l on) apart joins differ there full h =
     life_step t w.config (config_after w.config (LdpAdmin l on)) w.views (views_after w.views (LdpAdmin l on)) w.sessions (LdpAdmin l on) l.0 apart joins differ refl
     (opening t (config_after w.config (LdpAdmin l on)) l.0) (inl refl) (λ j d. ap (λ b. w.config.is_up j && b) (put_off w.config.ldp_on l.0 on j d)) h

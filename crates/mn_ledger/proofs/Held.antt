@@ -4,7 +4,7 @@ use Rattle.std.specs.Prelude.{◌==◌, ◌&&◌, not, if◌then◌else◌}
 use Rattle.std.specs.List.{flat_map, range_with_len}
 use Rattle.std.proofs.lemmas.Bool.Decides.{eqb_tells, leb_tells}
 use Rattle.std.proofs.lemmas.Map.Keys.{apart_from_distinct}
-use Rattle.mn_base.proofs.Bools.{no}
+use Rattle.mn_base.proofs.Bools.{clash, no}
 use Rattle.mn_prefix.specs.Prefix.{IsPrefix, same_prefix}
 use Rattle.mn_topo.specs.VrfTable.{is_edge}
 use Rattle.mn_topo.specs.Network.{Network}
@@ -168,9 +168,6 @@ one_vrf t lawful u w h g e = elim (eqb_tells u w) [
   ]
 ]
   where
-    clash : true ≡ false → ⊥
-    clash q = cc
-
     less : (m n : ℕ) → m ≤ n → m ≢ n → m < n
     less m n q d = grind (arith, q, d)
 

@@ -1,9 +1,9 @@
 -- After every lawful journal each session is in turn.
 use Rattle.std.proofs.Common.{ℕ, suc, ◌≡◌, ◌≢◌, ◌+◌, ◌<◌, ◌≤◌, inl, inr, true, false, cond, List, [], ◌∷◌, length, refl, arith, sym, ◌∙◌, ap, subst, None}
 use Rattle.std.specs.Prelude.{◌==◌, ◌&&◌, not, nat_lt, slice_index_or}
-use Rattle.std.proofs.lemmas.Bool.Decides.{eqb_tells, leb_tells, nat_tests}
+use Rattle.std.proofs.lemmas.Bool.Decides.{eqb_tells, leb_tells}
 use Rattle.mn_base.specs.Wiring.{across, JoinsNodes, EndsDiffer}
-use Rattle.mn_base.proofs.Bools.{and_right, less_tells}
+use Rattle.mn_base.proofs.Bools.{no, and_right, less_tells, unlike_numbers}
 use Rattle.mn_topo.specs.Network.{Network, wiring_of}
 use Rattle.mn_topo.specs.Lawful.{IsLawful}
 use Rattle.mn_topo.specs.VrfTable.{is_edge}
@@ -31,15 +31,6 @@ use Rattle.mn_ledger.proofs.Peers.{AreInOrder, peers_go, peer-nth, peer-row, sta
 pub not_empty : (t : Network) (w : World) (k : Packets) (i : ℕ) (s : Step) (b : List ℕ) → refusal_at t w k i s b ≡ None → is_empty t w k s ≡ false
 not_empty t w k i s b h = (free t w k i s b h).there
 
-differ_is : (a b : ℕ) → not (a == b) ≡ true → a ≢ b
-differ_is a b h e = clash (sym (ap (λ x. not (x == b)) e ∙ ap not (same b)) ∙ h)
-  where
-    same : (n : ℕ) → (n == n) ≡ true
-    same n = grind (arith, nat_tests)
-
-    clash : false ≡ true → ⊥
-    clash e = cc
-
 pub link_there : (t : Network) (s : Step) → fits t s ≡ true → LinkIsThere t s
 link_there t (step.HearLdp l dir) h = less_tells l.0 (length t.links) h
 link_there t (step.LinkUp l) h = tt
@@ -62,7 +53,7 @@ link_there t (step.Lose l d n) h = tt
 pub in_order : (t : Network) (s : Step) → fits t s ≡ true → AreInOrder s
 in_order t (step.BgpUp a b) h = less_tells a.0 b.0 (and_right (is_edge t.vrfs a.0 && is_edge t.vrfs b.0) (nat_lt a.0 b.0) h)
 in_order t (step.BgpDown a b) h = less_tells a.0 b.0 (and_right (is_edge t.vrfs a.0 && is_edge t.vrfs b.0) (nat_lt a.0 b.0) h)
-in_order t (step.HearBgp a b) h = differ_is a.0 b.0 (and_right (is_edge t.vrfs a.0 && is_edge t.vrfs b.0) (not (a.0 == b.0)) h)
+in_order t (step.HearBgp a b) h = unlike_numbers a.0 b.0 (and_right (is_edge t.vrfs a.0 && is_edge t.vrfs b.0) (not (a.0 == b.0)) h)
 in_order t (step.HearLdp l dir) h = tt
 in_order t (step.LinkUp l) h = tt
 in_order t (step.LinkDown l) h = tt
@@ -127,16 +118,13 @@ goes_on t apart joins differ (e ∷ es) tick w k i ps lawful g =
 
 pub begins : (t : Network) → IsInTurn t (start t)
 begins t = record {
-  ldp = λ l node below at_end. record { heard = omega arith; silent = λ dead. (refl, refl); talk = λ on. absurd (clash on) };
+  ldp = λ l node below at_end. record { heard = omega arith; silent = λ dead. (refl, refl); talk = λ on. absurd (no on) };
   bgp = λ edge peer d. record { heard = omega arith; silent = λ dead. (refl, refl); talk = λ on. absurd (never edge peer on) };
   learned = λ node l. omega arith;
 }
   where
-    clash : false ≡ true → ⊥
-    clash e = cc
-
     never : (edge peer : ℕ) → peers_live (start t).config edge peer ≡ true → ⊥
-    never edge peer on = elim (leb_tells (suc edge) peer) [ inl p ↦ clash (sym (ap (λ b. cond b false false) p.0) ∙ on) | inr p ↦ clash (sym (ap (λ b. cond b false false) p.0) ∙ on) ]
+    never edge peer on = elim (leb_tells (suc edge) peer) [ inl p ↦ no (sym (ap (λ b. cond b false false) p.0) ∙ on) | inr p ↦ no (sym (ap (λ b. cond b false false) p.0) ∙ on) ]
 
 pub in_turn : (t : Network) (es : List JournalEntry) (ps : List (List ℕ)) → IsLawful t → IsLawfulJournal t es ps → IsInTurn t (world_of t es)
 in_turn t es ps lawful journal = goes_on t (loopbacks_apart t lawful) lawful.joins_nodes lawful.ends_differ es 0 (start t) no_packets 0 ps journal (begins t)

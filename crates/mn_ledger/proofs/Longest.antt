@@ -5,20 +5,13 @@ use Rattle.std.specs.List.{list_all, list_any}
 use Rattle.std.proofs.lemmas.Bool.Decides.{nat_tests}
 use Rattle.std.proofs.lemmas.List.{append-nil}
 use Rattle.std.proofs.lemmas.List.Elements.{filter-append, filter_agree}
+use Rattle.mn_base.proofs.Bools.{and_left, and_right}
 use Rattle.mn_prefix.specs.Prefix.{contains}
 use Rattle.mn_prefix.specs.Longest.{matching}
 use Rattle.mn_prefix.specs.Table.{first_of}
 use Rattle.mn_ledger.specs.declared.route.Route.{Route}
 use Rattle.mn_ledger.specs.Routes.{best_route}
 use Rattle.mn_ledger.specs.Routes.{longer}
-
-first_true : (a b : Bool) → (a && b) ≡ true → a ≡ true
-first_true true b h = refl
-first_true false b h = absurd cc
-
-second_true : (a b : Bool) → (a && b) ≡ true → b ≡ true
-second_true true b h = h
-second_true false b h = absurd cc
 
 abbrev size : Route → ℕ
 size route = route.prefix.length
@@ -195,8 +188,8 @@ kept_if p (x ∷ xs) r (suc n, k, is) h = step p x xs r (p x) (kept_if p xs r (n
 
 each_passes : (p : Route → Bool) (rs : List Route) (r : Route) → list_all p rs ≡ true → Contains rs r → p r ≡ true
 each_passes p [] r h c = absurd (omega (arith, c.1))
-each_passes p (x ∷ xs) r h (zero, k, is) = ap p (sym is) ∙ first_true (p x) (list_all p xs) h
-each_passes p (x ∷ xs) r h (suc n, k, is) = each_passes p xs r (second_true (p x) (list_all p xs) h) (n, omega (arith, k), is)
+each_passes p (x ∷ xs) r h (zero, k, is) = ap p (sym is) ∙ and_left (p x) (list_all p xs) h
+each_passes p (x ∷ xs) r h (suc n, k, is) = each_passes p xs r (and_right (p x) (list_all p xs) h) (n, omega (arith, k), is)
 
 -- the best route contains the address, and no route that does is longer
 pub record IsBest (routes : List Route) (address : ℕ) (route : Route) : Type 0 where

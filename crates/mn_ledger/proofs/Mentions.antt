@@ -7,7 +7,7 @@ use Rattle.std.proofs.lemmas.List.{map-append}
 use Rattle.std.proofs.lemmas.List.Elements.{filter-append}
 use Rattle.std.proofs.lemmas.List.FromFn.{get_or-map-range_with_len}
 use Rattle.mn_base.specs.Wiring.{Wiring, is_end}
-use Rattle.mn_base.proofs.Bools.{and_left, and_right, same_numbers, two_ways}
+use Rattle.mn_base.proofs.Bools.{clash, and_left, and_right, same_numbers, two_ways}
 use Rattle.mn_ledger.specs.World.{Config, Views, Sessions}
 use Rattle.mn_ledger.specs.Transport.{Said, Knowledge, lives, knowledge_of, hearing_at, is_operational, is_by, messages_of, said_on, mention, mentioned_on, mentioned_from, offered, by_neighbour, news}
 use Rattle.mn_ledger.specs.Turns.{IsLabelMessage, AreLabelMessages}
@@ -81,9 +81,6 @@ messages-none k l node (x ∷ xs) h off =
       | inl p ↦ absurd (clash (sym h.0.1 ∙ ap (λ j. is_operational (k x.end) j) (by_both l node x p).0 ∙ ap (λ n. is_operational (k n) l) (by_both l node x p).1 ∙ off))
       | inr p ↦ (pick l node x xs).1 p ∙ messages-none k l node xs h.1 off
     ]
-  where
-    clash : true ≡ false → ⊥
-    clash e = cc
 
 -- on a link of the network, OPERATIONAL is by the session's life and by how many messages were heard
 pub operational-is : (w : Wiring) (c : Config) (v : Views) (s : Sessions) (node l : ℕ) → l < length w.ends → is_operational (knowledge_of w c v s node) l ≡ ((lives c l && is_end w l node) && nat_le 2 (s.heard l node))
@@ -91,7 +88,7 @@ unfolding knowledge_of
 operational-is w c v s node l h =
     ap (λ x. x.alive && nat_le 2 x.count) (get_or-map-range_with_len (hearing_at w c s node) 0 (length w.ends) l l (record { alive = false; count = 0; messages = [] }) h (omega arith))
 
-few_off : (b : Bool) (k : ℕ) → k < 2 → (b && nat_le 2 k) ≡ false
+pub few_off : (b : Bool) (k : ℕ) → k < 2 → (b && nat_le 2 k) ≡ false
 few_off true k h = elim (leb_tells 2 k) [ inl r ↦ absurd (not_both h r.1) | inr r ↦ r.0 ]
   where
     not_both : k < 2 → 2 ≤ k → ⊥

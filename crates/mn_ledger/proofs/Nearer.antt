@@ -1,8 +1,8 @@
 -- Along the next hops the distance falls.
-use Rattle.std.proofs.Common.{ℕ, zero, suc, ◌≡◌, ◌≢◌, ◌+◌, ◌<◌, ◌≤◌, Bool, true, false, List, [], ◌∷◌, length, refl, arith, sym, subst, Some}
-use Rattle.std.specs.Prelude.{◌&&◌, nat_le, slice_index_or}
+use Rattle.std.proofs.Common.{ℕ, zero, suc, ◌≡◌, ◌≢◌, ◌+◌, ◌<◌, ◌≤◌, true, List, [], ◌∷◌, length, arith, sym, subst, Some}
+use Rattle.std.specs.Prelude.{slice_index_or}
 use Rattle.std.specs.List.{list_all}
-use Rattle.std.proofs.lemmas.Bool.Decides.{nat_tests}
+use Rattle.mn_base.proofs.Bools.{and_left, and_right, at_most_tells}
 use Rattle.mn_base.specs.Wiring.{Wiring, View, link}
 use Rattle.mn_base.specs.Paths.{IsLeast, IsNext, next}
 use Rattle.mn_base.proofs.Next.{next_is}
@@ -11,30 +11,13 @@ use Rattle.mn_topo.specs.Network.{Network, wiring_of}
 use Rattle.mn_topo.specs.Lawful.{IsLawful, has_figures}
 use Rattle.mn_ledger.specs.Nearer.{IsNearer}
 
-both_left : (a b : Bool) → (a && b) ≡ true → a ≡ true
-both_left true b h = refl
-both_left false b h = absurd (clash h)
-  where
-    clash : false ≡ true → ⊥
-    clash e = cc
-
-both_right : (a b : Bool) → (a && b) ≡ true → b ≡ true
-both_right true b h = h
-both_right false b h = absurd (clash h)
-  where
-    clash : false ≡ true → ⊥
-    clash e = cc
-
-at_least : (a b : ℕ) → nat_le a b ≡ true → a ≤ b
-at_least a b h = grind (arith, nat_tests, h)
-
 positive : (links : List LinkEnds) (l : ℕ) (d : LinkEnds) → list_all has_figures links ≡ true → l < length links → 1 ≤ (slice_index_or links l d).cost
 positive [] l d all h = absurd (none l h)
   where
     none : (l : ℕ) → l < 0 → ⊥
     none l h = omega (arith, h)
-positive (x ∷ xs) zero d all h = at_least 1 x.cost (both_left _ _ (both_left _ _ (both_left _ _ (both_left _ _ all))))
-positive (x ∷ xs) (suc l) d all h = positive xs l d (both_right _ _ all) (omega (arith, h))
+positive (x ∷ xs) zero d all h = at_most_tells 1 x.cost (and_left _ _ (and_left _ _ (and_left _ _ (and_left _ _ all))))
+positive (x ∷ xs) (suc l) d all h = positive xs l d (and_right _ _ all) (omega (arith, h))
 
 -- two least costs between the same nodes are one
 one_least : (w : Wiring) (view : View) (from to a b : ℕ) → IsLeast w view from to a → IsLeast w view from to b → a ≤ b

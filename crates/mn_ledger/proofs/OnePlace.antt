@@ -44,7 +44,7 @@ one_same n = grind (arith, common_steps)
 one_other : (m n : ℕ) → m ≢ n → one_if (m == n) ≡ 0
 one_other m n h = grind (arith, common_steps)
 
-not_one : 1 ≤ 0 → ⊥
+pub not_one : 1 ≤ 0 → ⊥
 not_one p = omega arith
 
 -- a verdict flies once at most

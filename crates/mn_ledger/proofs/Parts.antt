@@ -2,7 +2,7 @@
 use Rattle.std.proofs.Common.{◌≡◌, ◌≢◌, ◌⊎◌, ℕ, ◌+◌, ◌==◌, ◌++◌, filter, Bool, true, false, cond, List, [], ◌∷◌, Option, Some, None, refl, sym, ◌∙◌, ap, arith, inl, inr}
 use Rattle.std.specs.Prelude.{unwrap_or, if◌then◌else◌, is_some, not, ◌&&◌, ◌||◌, nat_lt}
 use Rattle.std.proofs.lemmas.Bool.Decides.{eqb_tells}
-use Rattle.mn_base.proofs.Bools.{and_left, and_right, other_test, same_numbers, same_test, two_ways}
+use Rattle.mn_base.proofs.Bools.{clash, and_left, and_right, other_test, same_numbers, same_test, two_ways}
 use Rattle.mn_topo.specs.Network.{Network, wiring_of}
 use Rattle.mn_topo.specs.declared.steps.Step.{Step}
 use Rattle.mn_topo.specs.declared.steps.Step.TheVariants.{LinkUp, LinkDown, Learn, LdpAdmin, HearLdp, BgpUp, BgpDown, HearBgp, AddRoute, DelRoute, Import, Export, Attach, Detach, Inject, Carry, Lose}
@@ -326,9 +326,6 @@ removed_says s prefix r other (x ∷ xs) = elim (two_ways (is_static r other x))
       | inl q ↦ absurd (clash (sym (turned q here) ∙ p))
     ]
       where
-        clash : true ≡ false → ⊥
-        clash e = cc
-
         turned : is_static s prefix x ≡ true → is_static s prefix (record { site = r; prefix = other }) ≡ true → is_static r other x ≡ true
         turned q here =
             let e = same_as s prefix x q in

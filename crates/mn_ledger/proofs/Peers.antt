@@ -5,6 +5,8 @@ use Rattle.std.specs.List.{flat_map, list_any}
 use Rattle.std.proofs.lemmas.Bool.Decides.{eqb_tells, leb_tells, nat_tests}
 use Rattle.std.proofs.lemmas.List.{length-append, map-append}
 use Rattle.std.proofs.lemmas.List.Elements.{filter-append}
+use Rattle.mn_base.proofs.Bools.{no, clash, none_below, less_is, not_less, swap}
+use Rattle.mn_base.proofs.Places.{all_at, all_append}
 use Rattle.mn_base.specs.Wiring.{nodes_of}
 use Rattle.mn_base.specs.declared.states.BgpState.TheVariants.{Idle}
 pub use Rattle.mn_base.proofs.Bools.{and_left, and_right, other_test, same_numbers, same_test, two_ways}
@@ -20,6 +22,8 @@ use Rattle.mn_ledger.specs.Ledger.{config_after, after}
 use Rattle.mn_ledger.specs.Refusal.{is_empty}
 use Rattle.mn_ledger.specs.Turns.{IsUpdate, AreUpdates, IsPeerTalk, has_bgp_row, IsPeerInTurn, PeersAreInTurn}
 use Rattle.mn_ledger.proofs.GoingBy.{pair_here, pair_off, or_both, not_false, above}
+use Rattle.mn_ledger.proofs.Mentions.{few_off}
+pub use Rattle.mn_base.proofs.Bools.{and_false as and_off}
 
 -- 1. What is told in turn
 
@@ -28,25 +32,14 @@ IsPeerNth zero x = x ≡ Open
 IsPeerNth (suc zero) x = x ≡ Alive
 IsPeerNth (suc (suc n)) x = IsUpdate x
 
-no_less : (n : ℕ) → n < 0 → ⊥
-no_less n h = omega (arith, h)
-
-updates-nth : (xs : List Telling) (k : ℕ) → AreUpdates xs → k < length xs → IsUpdate (get_or xs k Open)
-updates-nth [] k m h = absurd (no_less k h)
-updates-nth (x ∷ xs) zero m h = m.0
-updates-nth (x ∷ xs) (suc k) m h = updates-nth xs k m.1 (omega (arith, h))
-
 full-nth : (rest : List Telling) (k : ℕ) → AreUpdates rest → k < length (Open ∷ Alive ∷ rest) → IsPeerNth k (get_or (Open ∷ Alive ∷ rest) k Open)
 full-nth rest zero m h = refl
 full-nth rest (suc zero) m h = refl
-full-nth rest (suc (suc k)) m h = updates-nth rest k m (omega (arith, h))
+full-nth rest (suc (suc k)) m h = all_at IsUpdate rest m k Open (omega (arith, h))
 
 one-nth : (k : ℕ) → k < 1 → IsPeerNth k (get_or (Open ∷ []) k Open)
 one-nth zero h = refl
-one-nth (suc k) h = absurd (no k h)
-  where
-    no : (k : ℕ) → suc k < 1 → ⊥
-    no k h = omega (arith, h)
+one-nth (suc k) h = absurd (none_below k (omega (arith, h)))
 
 pub peer-nth : (j : ℕ) (xs : List Telling) (k : ℕ) → IsPeerTalk j xs → k < length xs → IsPeerNth k (get_or xs k Open)
 peer-nth zero xs k t h = subst (λ ys. IsPeerNth k (get_or ys k Open)) (sym t) (one-nth k (subst (λ ys. k < length ys) t h))
@@ -60,10 +53,6 @@ peer-row (suc (suc n)) Open e = absurd e
 peer-row (suc (suc n)) Alive e = absurd e
 peer-row (suc (suc n)) (Announce export) e = refl
 peer-row (suc (suc n)) (Unreach v prefix) e = refl
-
-updates-append : (xs ys : List Telling) → AreUpdates xs → AreUpdates ys → AreUpdates (xs ++ ys)
-updates-append [] ys m n = n
-updates-append (x ∷ xs) ys m n = (m.0, updates-append xs ys m.1 n)
 
 updates-announce : (es : List Export) → AreUpdates (map (λ export. Announce export) es)
 updates-announce [] = tt
@@ -81,13 +70,13 @@ reply-none n (Unreach v p) es = refl
 
 peer-heard : (k : ℕ) (xs : List Telling) (x : Telling) (es : List Export) (ms : List Telling) → IsPeerTalk k xs → IsPeerNth k x → (k ≡ 0 → ms ≡ []) → AreUpdates ms → IsPeerTalk (suc k) (xs ++ (reply (state_heard k) x es ++ ms))
 peer-heard zero xs x es ms t e q m = rw (t, e, q refl) refl
-peer-heard (suc zero) xs x es ms t e q m = (map (λ export. Announce export) es ++ ms, rw (t, e) refl, updates-append (map (λ export. Announce export) es) ms (updates-announce es) m)
-peer-heard (suc (suc n)) xs x es ms t e q m = (t.0 ++ ms, ap (λ ys. ys ++ (reply (state_heard (suc (suc n))) x es ++ ms)) t.1 ∙ ap (λ r. Open ∷ Alive ∷ (t.0 ++ (r ++ ms))) (reply-none n x es), updates-append t.0 ms t.2 m)
+peer-heard (suc zero) xs x es ms t e q m = (map (λ export. Announce export) es ++ ms, rw (t, e) refl, all_append IsUpdate (map (λ export. Announce export) es) ms (updates-announce es) m)
+peer-heard (suc (suc n)) xs x es ms t e q m = (t.0 ++ ms, ap (λ ys. ys ++ (reply (state_heard (suc (suc n))) x es ++ ms)) t.1 ∙ ap (λ r. Open ∷ Alive ∷ (t.0 ++ (r ++ ms))) (reply-none n x es), all_append IsUpdate t.0 ms t.2 m)
 
 peer-told : (k : ℕ) (xs ms : List Telling) → IsPeerTalk k xs → (k < 2 → ms ≡ []) → AreUpdates ms → IsPeerTalk k (xs ++ ms)
 peer-told zero xs ms t q m = rw (q (omega arith)) (append-nil xs ∙ t)
 peer-told (suc zero) xs ms t q m = rw (q (omega arith)) (append-nil xs ∙ t)
-peer-told (suc (suc n)) xs ms t q m = (t.0 ++ ms, ap (λ ys. ys ++ ms) t.1, updates-append t.0 ms t.2 m)
+peer-told (suc (suc n)) xs ms t q m = (t.0 ++ ms, ap (λ ys. ys ++ ms) t.1, all_append IsUpdate t.0 ms t.2 m)
 
 -- 2. What edges tell of their exports
 
@@ -119,7 +108,7 @@ each-telling t c p new k edge (x ∷ xs) u =
     (each-peer c p new k edge x u.0 (nodes_of (wiring_of t))) (each-telling t c p new k edge xs u.1)
 
 updates-changed : (before now : List Export) → AreUpdates (changed before now)
-updates-changed before now = updates-append (withdrawn before now) (announced before now) (updates-gone (filter (λ export. not (list_any (is_for export.vrf export.prefix) now)) before)) (updates-announce (filter (λ export. not (list_any (same_export export) before)) now))
+updates-changed before now = all_append IsUpdate (withdrawn before now) (announced before now) (updates-gone (filter (λ export. not (list_any (is_for export.vrf export.prefix) now)) before)) (updates-announce (filter (λ export. not (list_any (same_export export) before)) now))
 
 abbrev all_news : Network → Config → Peerings → Config → Peerings → List ℕ → List Told
 all_news t c p new k es = flat_map (news t c p new k) es
@@ -150,26 +139,12 @@ tellings-none c k a b (x ∷ xs) h off =
       | inl q ↦ absurd (clash (sym h.0.1 ∙ ap (λ j. is_established c k j x.peer) (same_numbers x.teller a (and_left _ _ q)) ∙ ap (is_established c k a) (same_numbers x.peer b (and_right _ _ q)) ∙ off))
       | inr q ↦ pick a b x xs false q ∙ tellings-none c k a b xs h.1 off
     ]
-  where
-    clash : true ≡ false → ⊥
-    clash e = cc
 
-few_off : (b : Bool) (k : ℕ) → k < 2 → (b && nat_le 2 k) ≡ false
-few_off true k h = elim (leb_tells 2 k) [ inl r ↦ absurd (not_both h r.1) | inr r ↦ r.0 ]
-  where
-    not_both : k < 2 → 2 ≤ k → ⊥
-    not_both a b = omega (arith, a, b)
-few_off false k h = refl
-
-told-own : (a b : ℕ) (xs : List Telling) → tellings_of a b (told_to a b xs) ≡ xs
+pub told-own : (a b : ℕ) (xs : List Telling) → tellings_of a b (told_to a b xs) ≡ xs
 told-own a b [] = refl
 told-own a b (x ∷ xs) = pick a b (record { teller = a; peer = b; telling = x }) (told_to a b xs) true (ap (λ o. o && (b == b)) (same_test a) ∙ same_test b) ∙ ap (λ ys. x ∷ ys) (told-own a b xs)
 
-pub and_off : (b : Bool) → (b && false) ≡ false
-and_off true = refl
-and_off false = refl
-
-told-other : (a b j k : ℕ) (xs : List Telling) → (j ≢ a) ⊎ (k ≢ b) → tellings_of a b (told_to j k xs) ≡ []
+pub told-other : (a b j k : ℕ) (xs : List Telling) → (j ≢ a) ⊎ (k ≢ b) → tellings_of a b (told_to j k xs) ≡ []
 told-other a b j k [] d = refl
 told-other a b j k (x ∷ xs) d = pick a b (record { teller = j; peer = k; telling = x }) (told_to j k xs) false off ∙ told-other a b j k xs d
   where
@@ -230,9 +205,6 @@ hears c p k ns edge peer es each told far heard alive more g far_talk =
           (tellings-updates c k edge peer ns each))));
     }
   where
-    clash : true ≡ false → ⊥
-    clash e = cc
-
     few : p.heard edge peer ≡ 0 → k.heard edge peer < 2
     few e = omega (arith, e, heard)
 
@@ -264,9 +236,6 @@ which a b edge peer = elim (eqb_tells edge a) [
   ]
 ]
 
-swap : {P Q : Type 0} → P ⊎ Q → Q ⊎ P
-swap d = elim d [ inl p ↦ inr p | inr q ↦ inl q ]
-
 with_session : Config → ℕ → ℕ → Bool → Config
 with_session c a b on = record c { bgp_on = put_pair c.bgp_on a b on }
 
@@ -280,15 +249,9 @@ live_off c a b edge peer on d e = elim (lt_tells edge peer) [
 live_here : (c : Config) (a b : ℕ) (on : Bool) → a < b → (peers_live (with_session c a b on) a b ≡ on) × (peers_live (with_session c a b on) b a ≡ on)
 unfolding with_session
 live_here c a b on h = (
-  ap (λ x. if x then put_pair c.bgp_on a b on a b else put_pair c.bgp_on a b on b a) (less a b h) ∙ pair_here c.bgp_on a b on,
-  ap (λ x. if x then put_pair c.bgp_on a b on b a else put_pair c.bgp_on a b on a b) (not_less b a h) ∙ pair_here c.bgp_on a b on,
+  ap (λ x. if x then put_pair c.bgp_on a b on a b else put_pair c.bgp_on a b on b a) (less_is a b h) ∙ pair_here c.bgp_on a b on,
+  ap (λ x. if x then put_pair c.bgp_on a b on b a else put_pair c.bgp_on a b on a b) (not_less b a (omega (arith, h))) ∙ pair_here c.bgp_on a b on,
 )
-  where
-    less : (x y : ℕ) → x < y → nat_lt x y ≡ true
-    less x y h = grind (arith, nat_tests)
-
-    not_less : (x y : ℕ) → y < x → nat_lt x y ≡ false
-    not_less x y h = grind (arith, nat_tests)
 
 session_step : (t : Network) (c : Config) (p : Peerings) (a b : ℕ) (on : Bool) (xs ns : List Told) → a < b → EachNews (with_session c a b on) (anew p a b) ns
     → (on ≡ true → (tellings_of a b xs ≡ Open ∷ []) × (tellings_of b a xs ≡ Open ∷ [])) → (on ≡ false → xs ≡ []) → ((edge peer : ℕ) → (edge ≢ a) ⊎ (peer ≢ b) → (edge ≢ b) ⊎ (peer ≢ a) → tellings_of edge peer xs ≡ [])
@@ -392,18 +355,12 @@ peers_go t w k (step.BgpUp a b) order full h =
     (each-edge t w.config w.peerings (config_after w.config (step.BgpUp a b)) (anew w.peerings a.0 b.0) (edges t))
     (λ _. opened a.0 b.0 (λ e. no (subst (λ x. x < b.0) e order))) (λ e. absurd (clash e)) (unopened a.0 b.0) h
   where
-    clash : true ≡ false → ⊥
-    clash e = cc
-
     no : b.0 < b.0 → ⊥
     no h = omega (arith, h)
 peers_go t w k (step.BgpDown a b) order full h =
     session_step t w.config w.peerings a.0 b.0 false [] (all_news t w.config w.peerings (config_after w.config (step.BgpDown a b)) (anew w.peerings a.0 b.0) (edges t)) order
     (each-edge t w.config w.peerings (config_after w.config (step.BgpDown a b)) (anew w.peerings a.0 b.0) (edges t))
-    (λ e. absurd (clash e)) (λ _. refl) (λ edge peer d e. refl) h
-  where
-    clash : false ≡ true → ⊥
-    clash e = cc
+    (λ e. absurd (no e)) (λ _. refl) (λ edge peer d e. refl) h
 peers_go t w k (step.HearBgp a b) order full h =
     let parts = or_both _ _ full in
     let alive : peers_live w.config a.0 b.0 ≡ true = not_false _ parts.0 in

@@ -7,7 +7,7 @@ use Rattle.std.proofs.lemmas.List.Elements.{filter-append}
 use Rattle.std.proofs.lemmas.List.FromFn.{get_or-map-range_with_len}
 use Rattle.mn_base.specs.Wiring.{Wiring, link, is_end, receiver, sender}
 use Rattle.mn_node.proofs.News.{by-said, by-news, part_none, no_news}
-use Rattle.mn_base.proofs.Bools.{and_on, less_tells}
+use Rattle.mn_base.proofs.Bools.{and_on, less_tells, and_off_left, clash}
 use Rattle.mn_topo.specs.Network.{Network, wiring_of}
 use Rattle.mn_topo.specs.Steps.{fits}
 use Rattle.mn_topo.specs.declared.steps.Step.{Step}
@@ -41,13 +41,7 @@ pub hearing-is : (w : Wiring) (c : Config) (v : Views) (s : Sessions) (node l : 
 unfolding knowledge_of
 hearing-is w c v s node l h = get_or-map-range_with_len (hearing_at w c s node) 0 (length w.ends) l l (record { alive = false; count = 0; messages = [] }) h (omega arith)
 
-clash : true ≡ false → ⊥
-clash e = cc
-
-no_life : (b d : Bool) → b ≡ false → (b && d) ≡ false
-no_life b d h = ap (λ x. x && d) h
-
-opener_end : (t : Network) (l : ℕ) → is_end (wiring_of t) l (opener t l) ≡ true
+pub opener_end : (t : Network) (l : ℕ) → is_end (wiring_of t) l (opener t l) ≡ true
 opener_end t l = either (is_active t l (link (wiring_of t) l).a.0)
   where
     either : (b : Bool) → is_end (wiring_of t) l (if b then (link (wiring_of t) l).a.0 else (link (wiring_of t) l).b.0) ≡ true
@@ -65,7 +59,7 @@ no_opening t c new v nv s k l node h dead e = by_life (lives new l) refl
         ap (λ b. filter (λ (said : Said). said.end == node) (elim b as (λ _. List Said) [ true ↦ said_on l (opener t l) (Initialization ∷ []) | false ↦ [] ])) a
         ∙ (elim (eqb_tells (opener t l) node) [
           | inr p ↦ part_none (opener t l) node (said_on l (opener t l) (Initialization ∷ [])) p.1 (by-said l (opener t l) (Initialization ∷ []))
-          | inl p ↦ absurd (clash (sym (and_on (lives new l) (is_end (wiring_of t) l node) a (ap (is_end (wiring_of t) l) (sym p.1) ∙ opener_end t l)) ∙ sym (ap (λ x. x.alive) (hearing-is (wiring_of t) new nv k node l h)) ∙ sym (ap (λ x. (hearing x l).alive) e) ∙ ap (λ x. x.alive) (hearing-is (wiring_of t) c v s node l h) ∙ no_life (lives c l) (is_end (wiring_of t) l node) dead))
+          | inl p ↦ absurd (clash (sym (and_on (lives new l) (is_end (wiring_of t) l node) a (ap (is_end (wiring_of t) l) (sym p.1) ∙ opener_end t l)) ∙ sym (ap (λ x. x.alive) (hearing-is (wiring_of t) new nv k node l h)) ∙ sym (ap (λ x. (hearing x l).alive) e) ∙ ap (λ x. x.alive) (hearing-is (wiring_of t) c v s node l h) ∙ and_off_left (lives c l) (is_end (wiring_of t) l node) dead))
         ])
 
 -- who hears a message has heard one more
@@ -79,10 +73,6 @@ no_answer t c new v nv s k l m other node h more e = elim (eqb_tells m node) [
     one_more : (n : ℕ) → n ≡ n + 1 → ⊥
     one_more n e = omega (arith, e)
 
-and_right_false : (a b : Bool) → b ≡ false → (a && b) ≡ false
-and_right_false true b h = h
-and_right_false false b h = refl
-
 -- a switch that changes and leaves the session alive was off before
 was_off : (up was on : Bool) → agree on was ≡ false → (up && on) ≡ true → (up && was) ≡ false
 was_off true false true a h = refl
@@ -93,7 +83,7 @@ was_off false was on a h = refl
 
 no_replies : (t : Network) (w : World) (s : Step) (node : ℕ) → fits t s ≡ true → is_unchanged w.config s ≡ false → known t w node ≡ known_after t w s node → filter (λ said. said.end == node) (replies t (config_after w.config s) w.sessions s) ≡ []
 no_replies t w (step.LinkUp l) node fit new e =
-    no_opening t w.config (config_after w.config (step.LinkUp l)) w.views (views_after w.views (step.LinkUp l)) w.sessions (counted t w.sessions (step.LinkUp l)) l.0 node (less_tells l.0 (length t.links) fit) (no_life (w.config.is_up l.0) (w.config.ldp_on l.0) new) e
+    no_opening t w.config (config_after w.config (step.LinkUp l)) w.views (views_after w.views (step.LinkUp l)) w.sessions (counted t w.sessions (step.LinkUp l)) l.0 node (less_tells l.0 (length t.links) fit) (and_off_left (w.config.is_up l.0) (w.config.ldp_on l.0) new) e
 no_replies t w (step.LdpAdmin l on) node fit new e = by_life (lives (config_after w.config (step.LdpAdmin l on)) l.0) refl
   where
     by_life : (alive : Bool) → lives (config_after w.config (step.LdpAdmin l on)) l.0 ≡ alive → filter (λ said. said.end == node) (opening t (config_after w.config (step.LdpAdmin l on)) l.0) ≡ []

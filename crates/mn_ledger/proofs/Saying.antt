@@ -9,7 +9,7 @@ use Rattle.std.proofs.lemmas.List.FromFn.{length-map-range_with_len}
 use Rattle.mn_base.specs.declared.states.LdpState.{LdpState}
 use Rattle.mn_base.specs.declared.states.LdpState.TheVariants as ldp
 use Rattle.mn_base.specs.Wiring.{Wiring, EndsDiffer, nodes_of, links_at, link, is_end, across, joining, sender, receiver}
-use Rattle.mn_base.proofs.Bools.{less_tells, same_numbers}
+use Rattle.mn_base.proofs.Bools.{clash, less_tells, same_numbers}
 use Rattle.mn_topo.specs.Network.{Network, wiring_of}
 use Rattle.mn_topo.specs.Lawful.{IsLawful}
 use Rattle.mn_topo.specs.Steps.{fits}
@@ -205,9 +205,6 @@ once-first w l n d = (
   (λ f j. clash (sym (ends_too f) ∙ no_end (in_filter (λ node. not (is_end w l node)) (nodes_of w) n j).1), once-filter (λ node. not (is_end w l node)) n (nodes_of w) (once-range n 0 (length w.loopbacks))),
 )
   where
-    clash : true ≡ false → ⊥
-    clash q = cc
-
     no_end : not (is_end w l n) ≡ true → is_end w l n ≡ false
     no_end h = turned (is_end w l n) h
       where

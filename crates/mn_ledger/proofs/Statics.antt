@@ -3,6 +3,7 @@ use Rattle.std.proofs.Common.{ℕ, zero, suc, ◌≡◌, ◌+◌, ◌<◌, inl, 
 use Rattle.std.proofs.lemmas.List.{map-append}
 use Rattle.std.specs.Prelude.{◌==◌, ◌&&◌, not, slice_index_or}
 use Rattle.std.specs.List.{IsDistinct, AllByRecursion, list_all}
+use Rattle.mn_base.proofs.Bools.{clash, and_parts}
 use Rattle.mn_prefix.specs.Prefix.{AddressBlock, IsPrefix, same_prefix}
 use Rattle.mn_topo.specs.declared.sites.SiteDef.{SiteDef}
 use Rattle.mn_topo.specs.declared.steps.Step.{Step}
@@ -59,9 +60,6 @@ distinct_apart t (x ∷ xs) h = (
   λ y i a. clash (sym (alike_same t x y a) ∙ every_in (λ z. same_static (keyed t x) z ≡ false) (keyed t) xs y h.0 i),
   distinct_apart t xs h.1,
 )
-  where
-    clash : true ≡ false → ⊥
-    clash e = cc
 
 -- the sites from this number on are those of the topology
 AreFrom : Network → ℕ → List SiteDef → Type 0
@@ -104,15 +102,11 @@ all_keyed t = keyed_statics t 0 t.sites (λ i d below. get_same t.sites i d _ be
 pub first_statics : (t : Network) → IsLawful t → HasStatics t (start t).config.statics
 first_statics t lawful = record { apart = distinct_apart t (statics_from 0 t.sites) (subst (IsDistinct same_static) (sym (all_keyed t)) lawful.sites.distinct) }
 
-both : (a b : Bool) → (a && b) ≡ true → (a ≡ true) × (b ≡ true)
-both true b h = (refl, h)
-both false b h = cc
-
 passes : (t : Network) (xs : List SiteRoute) → list_all (λ (static : Static). is_lawful_prefix static.1) (map (keyed t) xs) ≡ true → (x : SiteRoute) → In xs x → is_lawful_prefix x.prefix ≡ true
 unfolding keyed
 passes t [] h x i = absurd i
 passes t (y ∷ ys) h x i =
-    let q = both (is_lawful_prefix y.prefix) (list_all (λ (static : Static). is_lawful_prefix static.1) (map (keyed t) ys)) h in
+    let q = and_parts (is_lawful_prefix y.prefix) (list_all (λ (static : Static). is_lawful_prefix static.1) (map (keyed t) ys)) h in
     elim i [ inl e ↦ subst (λ (z : SiteRoute). is_lawful_prefix z.prefix ≡ true) e q.0 | inr j ↦ passes t ys q.1 x j ]
 
 pub first_forms : (t : Network) → IsLawful t → HasForms (start t).config.statics
@@ -130,9 +124,6 @@ none_taken : (t : Network) (v : ℕ) (p : AddressBlock) (xs : List SiteRoute) �
 none_taken t v p [] h x i e f = absurd i
 none_taken t v p (y ∷ ys) h x i e f = split ((vrf_of t y.site == v) && same_prefix y.prefix p) refl (λ g j. none_taken t v p ys g x j e f) h
   where
-    clash : true ≡ false → ⊥
-    clash q = cc
-
     some : Some y.site ≡ None → ⊥
     some q = cc
 
@@ -158,7 +149,7 @@ pub forms_go : (t : Network) (w : World) (s : Step) → fits t s ≡ true → Ha
 forms_go t w (AddRoute s p) fit h = record {
   formed = λ x j. elim (in_append w.config.statics (record { site = s.0; prefix = p } ∷ []) x j) [
     | inl l ↦ h.formed x l
-    | inr l ↦ elim l [ inl e ↦ subst (λ (z : SiteRoute). IsPrefix z.prefix.address z.prefix.length) e (prefix_is p (both (has_site t s) (is_lawful_prefix p) fit).1) | inr n ↦ absurd n ]
+    | inr l ↦ elim l [ inl e ↦ subst (λ (z : SiteRoute). IsPrefix z.prefix.address z.prefix.length) e (prefix_is p (and_parts (has_site t s) (is_lawful_prefix p) fit).1) | inr n ↦ absurd n ]
   ];
 }
 forms_go t w (DelRoute s p) fit h = record {

@@ -1,5 +1,7 @@
 -- What the two ends of a living LDP session have said goes by the table, so no message comes out of turn.
 use Rattle.std.proofs.Common.{ℕ, zero, suc, ◌≡◌, ◌<◌, Bool, true, false, List, [], ◌∷◌, ◌++◌, length, get_or, refl, arith, sym, ◌∙◌, ap, subst, append-nil}
+use Rattle.mn_base.proofs.Bools.{none_below}
+use Rattle.mn_base.proofs.Places.{all_at, all_append}
 use Rattle.mn_base.specs.declared.states.LdpState.TheVariants.{Operational}
 use Rattle.mn_ledger.specs.World.{Message, Initialization, KeepAlive, Address, Mapping, Withdraw, Release}
 use Rattle.mn_ledger.specs.Transport.{state_by, answer}
@@ -12,39 +14,25 @@ IsNth (suc zero) x = x ≡ KeepAlive
 IsNth (suc (suc zero)) x = x ≡ Address
 IsNth (suc (suc (suc n))) x = IsLabelMessage x
 
-no_less : (n : ℕ) → n < 0 → ⊥
-no_less n h = omega (arith, h)
-
-mentions-nth : (xs : List Message) (k : ℕ) → AreLabelMessages xs → k < length xs → IsLabelMessage (get_or xs k Address)
-mentions-nth [] k m h = absurd (no_less k h)
-mentions-nth (x ∷ xs) zero m h = m.0
-mentions-nth (x ∷ xs) (suc k) m h = mentions-nth xs k m.1 (omega (arith, h))
-
 full-nth : (rest : List Message) (k : ℕ) → AreLabelMessages rest → k < length (Initialization ∷ KeepAlive ∷ Address ∷ rest) → IsNth k (get_or (Initialization ∷ KeepAlive ∷ Address ∷ rest) k Address)
 full-nth rest zero m h = refl
 full-nth rest (suc zero) m h = refl
 full-nth rest (suc (suc zero)) m h = refl
-full-nth rest (suc (suc (suc k))) m h = mentions-nth rest k m (omega (arith, h))
+full-nth rest (suc (suc (suc k))) m h = all_at IsLabelMessage rest m k Address (omega (arith, h))
 
 one-nth : (k : ℕ) → k < 1 → IsNth k (get_or (Initialization ∷ []) k Address)
 one-nth zero h = refl
-one-nth (suc k) h = absurd (no k h)
-  where
-    no : (k : ℕ) → suc k < 1 → ⊥
-    no k h = omega (arith, h)
+one-nth (suc k) h = absurd (none_below k (omega (arith, h)))
 
 two-nth : (k : ℕ) → k < 2 → IsNth k (get_or (Initialization ∷ KeepAlive ∷ []) k Address)
 two-nth zero h = refl
 two-nth (suc zero) h = refl
-two-nth (suc (suc k)) h = absurd (no k h)
-  where
-    no : (k : ℕ) → suc (suc k) < 2 → ⊥
-    no k h = omega (arith, h)
+two-nth (suc (suc k)) h = absurd (none_below k (omega (arith, h)))
 
 -- whatever an end has said, each message stands in its turn
 pub talk-nth : (a : Bool) (j : ℕ) (xs : List Message) (k : ℕ) → IsTalk a j xs → k < length xs → IsNth k (get_or xs k Address)
 talk-nth true zero xs k t h = subst (λ ys. IsNth k (get_or ys k Address)) (sym t) (one-nth k (subst (λ ys. k < length ys) t h))
-talk-nth false zero xs k t h = absurd (no_less k (subst (λ ys. k < length ys) t h))
+talk-nth false zero xs k t h = absurd (none_below k (subst (λ ys. k < length ys) t h))
 talk-nth a (suc zero) xs k t h = subst (λ ys. IsNth k (get_or ys k Address)) (sym t) (two-nth k (subst (λ ys. k < length ys) t h))
 talk-nth a (suc (suc n)) xs k t h = subst (λ ys. IsNth k (get_or ys k Address)) (sym t.1) (full-nth t.0 k t.2 (subst (λ ys. k < length ys) t.1 h))
 
@@ -61,10 +49,6 @@ nth-row a (suc (suc (suc n))) (Mapping p) e = refl
 nth-row a (suc (suc (suc n))) (Withdraw p) e = refl
 nth-row a (suc (suc (suc n))) (Release p) e = refl
 
-pub mentions-append : (xs ys : List Message) → AreLabelMessages xs → AreLabelMessages ys → AreLabelMessages (xs ++ ys)
-mentions-append [] ys m n = n
-mentions-append (x ∷ xs) ys m n = (m.0, mentions-append xs ys m.1 n)
-
 -- an OPERATIONAL end answers with a mention or nothing
 answer-mentions : (n : ℕ) (x : Message) → IsNth (suc (suc n)) x → AreLabelMessages (answer Operational x)
 answer-mentions n Initialization e = tt
@@ -80,11 +64,11 @@ talk-heard true zero xs x ms t e q m = rw (t, e, q refl) refl
 talk-heard false zero xs x ms t e q m = rw (t, e, q refl) refl
 talk-heard a (suc zero) xs x ms t e q m = (ms, rw (t, e) refl, m)
 talk-heard a (suc (suc n)) xs x ms t e q m =
-    (t.0 ++ (answer Operational x ++ ms), ap (λ ys. ys ++ (answer Operational x ++ ms)) t.1, mentions-append t.0 (answer Operational x ++ ms) t.2 (mentions-append (answer Operational x) ms (answer-mentions n x e) m))
+    (t.0 ++ (answer Operational x ++ ms), ap (λ ys. ys ++ (answer Operational x ++ ms)) t.1, all_append IsLabelMessage t.0 (answer Operational x ++ ms) t.2 (all_append IsLabelMessage (answer Operational x) ms (answer-mentions n x e) m))
 
 -- an end that hears nothing says only mentions, and those only where it is OPERATIONAL
 pub talk-said : (a : Bool) (k : ℕ) (xs ms : List Message) → IsTalk a k xs → (k < 2 → ms ≡ []) → AreLabelMessages ms → IsTalk a k (xs ++ ms)
 talk-said true zero xs ms t q m = rw (q (omega arith)) (append-nil xs ∙ t)
 talk-said false zero xs ms t q m = rw (q (omega arith)) (append-nil xs ∙ t)
 talk-said a (suc zero) xs ms t q m = rw (q (omega arith)) (append-nil xs ∙ t)
-talk-said a (suc (suc n)) xs ms t q m = (t.0 ++ ms, ap (λ ys. ys ++ ms) t.1, mentions-append t.0 ms t.2 m)
+talk-said a (suc (suc n)) xs ms t q m = (t.0 ++ ms, ap (λ ys. ys ++ ms) t.1, all_append IsLabelMessage t.0 ms t.2 m)

@@ -79,21 +79,21 @@ AreGood t ms = (m : Telling) → In ms m → IsGood t m
 abbrev AllTold : Network → List Told → Type 0
 AllTold t xs = (x : Told) → In xs x → IsGood t x.telling
 
-good_announced : (t : Network) (es : List Export) → ((e : Export) → In es e → IsGoodExport t e) → AreGood t (map (λ export. Announce export) es)
+pub good_announced : (t : Network) (es : List Export) → ((e : Export) → In es e → IsGoodExport t e) → AreGood t (map (λ export. Announce export) es)
 good_announced t es h m i = let f = in_map (λ export. Announce export) es m i in subst (IsGood t) f.2 (h f.0 f.1)
 
-one_good : (t : Network) (m : Telling) → IsGood t m → AreGood t (m ∷ [])
+pub one_good : (t : Network) (m : Telling) → IsGood t m → AreGood t (m ∷ [])
 one_good t m g x i = elim i [ inl e ↦ subst (IsGood t) e g | inr j ↦ absurd j ]
 
-good_reply : (t : Network) (state : BgpState) (m : Telling) (es : List Export) → ((e : Export) → In es e → IsGoodExport t e) → AreGood t (reply state m es)
+pub good_reply : (t : Network) (state : BgpState) (m : Telling) (es : List Export) → ((e : Export) → In es e → IsGoodExport t e) → AreGood t (reply state m es)
 good_reply t OpenSent Open es h = one_good t Alive tt
 good_reply t OpenConfirm Alive es h = good_announced t es h
 good_reply t _ _ es h = λ x i. absurd i
 
-good_told_to : (t : Network) (a b : ℕ) (ms : List Telling) → AreGood t ms → AllTold t (told_to a b ms)
+pub good_told_to : (t : Network) (a b : ℕ) (ms : List Telling) → AreGood t ms → AllTold t (told_to a b ms)
 good_told_to t a b ms h x i = let f = in_map (λ telling. record { teller = a; peer = b; telling = telling }) ms x i in subst (λ (y : Told). IsGood t y.telling) f.2 (h f.0 f.1)
 
-join_told : (t : Network) (xs ys : List Told) → AllTold t xs → AllTold t ys → AllTold t (xs ++ ys)
+pub join_told : (t : Network) (xs ys : List Told) → AllTold t xs → AllTold t ys → AllTold t (xs ++ ys)
 join_told t xs ys h g x i = elim (in_append xs ys x i) [ inl j ↦ h x j | inr j ↦ g x j ]
 
 good_replies : (t : Network) (c : Config) (k : Peerings) (s : Step) → HasForms c.statics → AllTold t (replies t c k s)
@@ -123,12 +123,12 @@ good_told t c p new k s h =
 abbrev pub AllGood : Network → Peerings → Type 0
 AllGood t p = (edge peer : ℕ) (m : Telling) → In (p.told edge peer) m → IsGood t m
 
-in_tellings : (a b : ℕ) (xs : List Told) (m : Telling) → In (tellings_of a b xs) m → (x : Told) × In xs x × (x.telling ≡ m)
+pub in_tellings : (a b : ℕ) (xs : List Told) (m : Telling) → In (tellings_of a b xs) m → (x : Told) × In xs x × (x.telling ≡ m)
 in_tellings a b xs m i =
     let f = in_map (λ (told : Told). told.telling) (filter (is_between a b) xs) m i in
     (f.0, (in_filter (is_between a b) xs f.0 f.1).0, f.2)
 
-in_cleared : (f : ℕ → ℕ → List Telling) (a b edge peer : ℕ) (m : Telling) → In (put_pair f a b [] edge peer) m → In (f edge peer) m
+pub in_cleared : (f : ℕ → ℕ → List Telling) (a b edge peer : ℕ) (m : Telling) → In (put_pair f a b [] edge peer) m → In (f edge peer) m
 in_cleared f a b edge peer m i = elim (eqb_tells edge a) [
   | inr p ↦ subst (λ xs. In xs m) (pair_off f a b [] edge peer (inl p.1)) i
   | inl p ↦ elim (eqb_tells peer b) [
@@ -137,7 +137,7 @@ in_cleared f a b edge peer m i = elim (eqb_tells edge a) [
   ]
 ]
 
-still_good : (t : Network) (p : Peerings) (s : Step) → AllGood t p → AllGood t (counted p s)
+pub still_good : (t : Network) (p : Peerings) (s : Step) → AllGood t p → AllGood t (counted p s)
 still_good t p (step.BgpUp a b) h = λ edge peer m i. h edge peer m (in_cleared p.told a.0 b.0 edge peer m (in_cleared (put_pair p.told a.0 b.0 []) b.0 a.0 edge peer m i))
 still_good t p (step.BgpDown a b) h = λ edge peer m i. h edge peer m (in_cleared p.told a.0 b.0 edge peer m (in_cleared (put_pair p.told a.0 b.0 []) b.0 a.0 edge peer m i))
 still_good t p _ h = h

@@ -6,7 +6,7 @@ use Rattle.std.proofs.lemmas.Map.Keys.{apart_from_distinct}
 use Rattle.mn_base.specs.Wiring.{Wiring, link, is_end, across, sender, receiver, JoinsNodes, EndsDiffer}
 use Rattle.mn_base.specs.declared.links.Dir.{Dir}
 use Rattle.mn_base.specs.declared.links.Dir.TheVariants.{Forth, Back}
-use Rattle.mn_base.proofs.Bools.{other_test, same_test}
+use Rattle.mn_base.proofs.Bools.{clash, no, other_test, same_test, or_true}
 use Rattle.mn_topo.specs.Network.{Network, wiring_of}
 use Rattle.mn_topo.specs.Lawful.{IsLawful}
 use Rattle.mn_ledger.specs.Places.{loopback}
@@ -17,10 +17,7 @@ use Rattle.mn_ledger.specs.Turns.{IsTalk}
 -- 1. The two ends of a link
 
 ends_tell : (a b n : ℕ) → ((a == n) || (b == n)) ≡ true → (a ≡ n) ⊎ (b ≡ n)
-ends_tell a b n h = elim (eqb_tells a n) [ inl p ↦ inl p.1 | inr p ↦ elim (eqb_tells b n) [ inl q ↦ inr q.1 | inr q ↦ absurd (neither (rw (p.0, q.0) at h)) ] ]
-  where
-    neither : false ≡ true → ⊥
-    neither e = cc
+ends_tell a b n h = elim (eqb_tells a n) [ inl p ↦ inl p.1 | inr p ↦ elim (eqb_tells b n) [ inl q ↦ inr q.1 | inr q ↦ absurd (no (rw (p.0, q.0) at h)) ] ]
 
 pub end_is : (w : Wiring) (l n : ℕ) → is_end w l n ≡ true → ((link w l).a.0 ≡ n) ⊎ ((link w l).b.0 ≡ n)
 end_is w l n h = ends_tell (link w l).a.0 (link w l).b.0 n h
@@ -34,12 +31,8 @@ across-b w l d = ap (λ b. if b then (link w l).b.0 else (link w l).a.0) (other_
 pub is_end-a : (w : Wiring) (l : ℕ) → is_end w l (link w l).a.0 ≡ true
 is_end-a w l = ap (λ b. b || ((link w l).b.0 == (link w l).a.0)) (same_test (link w l).a.0)
 
-or_right : (b : Bool) → (b || true) ≡ true
-or_right true = refl
-or_right false = refl
-
 pub is_end-b : (w : Wiring) (l : ℕ) → is_end w l (link w l).b.0 ≡ true
-is_end-b w l = ap (λ b. ((link w l).a.0 == (link w l).b.0) || b) (same_test (link w l).b.0) ∙ or_right ((link w l).a.0 == (link w l).b.0)
+is_end-b w l = ap (λ b. ((link w l).a.0 == (link w l).b.0) || b) (same_test (link w l).b.0) ∙ or_true ((link w l).a.0 == (link w l).b.0)
 
 -- the other end is an end, and its other end is the first
 pub across-end : (w : Wiring) (l n : ℕ) → (link w l).a.0 ≢ (link w l).b.0 → is_end w l n ≡ true → (is_end w l (across w l n) ≡ true) × (across w l (across w l n) ≡ n) × (across w l n ≢ n)
@@ -65,13 +58,10 @@ Apart t = (m n : ℕ) → m < length t.loopbacks → n < length t.loopbacks → 
 pub loopbacks_apart : (t : Network) → IsLawful t → Apart t
 loopbacks_apart t lawful m n h g d same =
     elim (leb_tells n m) [
-      | inl p ↦ clash (sym (apart_from_distinct (λ one other. one == other) t.loopbacks n m 0 lawful.nodes.distinct (less n m p.1 (λ e. d (sym e))) h) ∙ ap (λ x. x == loopback t m) (sym same) ∙ same_test (loopback t m))
-      | inr p ↦ clash (sym (apart_from_distinct (λ one other. one == other) t.loopbacks m n 0 lawful.nodes.distinct p.1 g) ∙ ap (λ x. x == loopback t n) same ∙ same_test (loopback t n))
+      | inl p ↦ no (sym (apart_from_distinct (λ one other. one == other) t.loopbacks n m 0 lawful.nodes.distinct (less n m p.1 (λ e. d (sym e))) h) ∙ ap (λ x. x == loopback t m) (sym same) ∙ same_test (loopback t m))
+      | inr p ↦ no (sym (apart_from_distinct (λ one other. one == other) t.loopbacks m n 0 lawful.nodes.distinct p.1 g) ∙ ap (λ x. x == loopback t n) same ∙ same_test (loopback t n))
     ]
   where
-    clash : false ≡ true → ⊥
-    clash e = cc
-
     less : (a b : ℕ) → a ≤ b → a ≢ b → a < b
     less a b p q = grind (arith, p, q)
 
@@ -128,14 +118,14 @@ opening_talk t l node apart joins differ h e =
                 (λ _. ap (λ n. messages_of l node (said_on l n (Initialization ∷ []))) (who ∙ q) ∙ said-own l node (Initialization ∷ []))
                 (λ off. absurd (clash (sym (ap (is_active t l) (sym q) ∙ active_a ∙ p.0) ∙ off)))
             | inr q ↦ first_talk (is_active t l node) (messages_of l node (said_on l (opener t l) (Initialization ∷ [])))
-                (λ on. absurd (clash_on (sym (ap (is_active t l) (sym q) ∙ active_b ∙ not_less (loopback t a) (loopback t b) (weak p.1)) ∙ on)))
+                (λ on. absurd (no (sym (ap (is_active t l) (sym q) ∙ active_b ∙ not_less (loopback t a) (loopback t b) (weak p.1)) ∙ on)))
                 (λ _. said-other l node l (opener t l) (Initialization ∷ []) (inr (λ r. differ l h (sym who ∙ r ∙ sym q))))
           ]
       | inr p ↦
           let who : opener t l ≡ b = ap (λ x. if x then a else b) (active_a ∙ p.0) in
           elim (end_is w l node e) [
             | inl q ↦ first_talk (is_active t l node) (messages_of l node (said_on l (opener t l) (Initialization ∷ [])))
-                (λ on. absurd (clash_on (sym (ap (is_active t l) (sym q) ∙ active_a ∙ p.0) ∙ on)))
+                (λ on. absurd (no (sym (ap (is_active t l) (sym q) ∙ active_a ∙ p.0) ∙ on)))
                 (λ _. said-other l node l (opener t l) (Initialization ∷ []) (inr (λ r. differ l h (q ∙ sym r ∙ who))))
             | inr q ↦ first_talk (is_active t l node) (messages_of l node (said_on l (opener t l) (Initialization ∷ [])))
                 (λ _. ap (λ n. messages_of l node (said_on l n (Initialization ∷ []))) (who ∙ q) ∙ said-own l node (Initialization ∷ []))
@@ -143,12 +133,6 @@ opening_talk t l node apart joins differ h e =
           ]
     ]
   where
-    clash : true ≡ false → ⊥
-    clash e = cc
-
-    clash_on : false ≡ true → ⊥
-    clash_on e = cc
-
     weak : {x y : ℕ} → x < y → x ≤ y
     weak h = omega (arith, h)
 

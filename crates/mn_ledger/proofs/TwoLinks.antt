@@ -2,7 +2,6 @@
 --
 --     site a --- pe1 --- p --- pe2 --- site b
 use Rattle.std.proofs.Common.{rules, arith, zero, suc, ◌<◌, ◌≢◌, ◌==◌, ◌||◌, Bool, ap, sym, ◌∙◌}
-use Rattle.std.proofs.lemmas.Bool.Decides.{nat_tests}
 use Rattle.std.specs.Prelude.{◌≡◌, refl, ℕ, List, [], ◌∷◌, ◌++◌, length, Some, None, true, false}
 use Rattle.mn_base.specs.declared.numbers.NodeNo.{NodeNo}
 use Rattle.mn_base.specs.declared.numbers.LinkNo.{LinkNo}
@@ -17,6 +16,7 @@ use Rattle.mn_topo.specs.Network.{Network, wiring_of}
 use Rattle.mn_base.specs.Wiring.{JoinsNodes, EndsDiffer, JoinsOnce}
 use Rattle.mn_topo.specs.Lawful.{IsLawful}
 use Rattle.std.specs.List.{IsDistinct}
+use Rattle.mn_base.proofs.Bools.{other_test}
 use Rattle.mn_topo.specs.declared.steps.Step.{Step}
 use Rattle.mn_topo.specs.declared.steps.Step.TheVariants.{LinkUp, LinkDown, Learn, LdpAdmin, HearLdp, BgpUp, HearBgp, Import, Attach, Detach, Inject, Carry, Lose}
 use Rattle.mn_topo.specs.declared.steps.JournalEntry.{JournalEntry}
@@ -265,7 +265,7 @@ differ zero h e = cc
 differ (suc zero) h e = cc
 differ (suc (suc l)) h e = absurd (too_far l h)
 
-too_high : (n : ℕ) → suc (suc (suc n)) < 3 → ⊥
+pub too_high : (n : ℕ) → suc (suc (suc n)) < 3 → ⊥
 too_high n h = omega (arith, h)
 
 once : JoinsOnce (wiring_of two_links)
@@ -319,9 +319,6 @@ all_learned node (suc (suc l)) h g = absurd (too_far l g)
 no_end : false ≡ true → ⊥
 no_end e = cc
 
-no_such : (n m : ℕ) → n ≢ m → (n == m) ≡ false
-no_such n m d = grind (arith, nat_tests, d)
-
 neither : (a b : Bool) → a ≡ false → b ≡ false → (a || b) ≡ true → ⊥
 neither a b x y h = no_end (sym (ap (λ p. p || b) x ∙ y) ∙ h)
 
@@ -332,16 +329,16 @@ above_two : (n k : ℕ) → k < 3 → suc (suc (suc n)) ≢ k
 above_two n k h e = omega (arith, h, e)
 
 no_far_end : (n : ℕ) → ((0 == suc (suc n)) || (1 == suc (suc n))) ≡ true → ⊥
-no_far_end n h = neither _ _ (no_such 0 (suc (suc n)) (above_one n 0 (omega arith))) (no_such 1 (suc (suc n)) (above_one n 1 (omega arith))) h
+no_far_end n h = neither _ _ (other_test 0 (suc (suc n)) (above_one n 0 (omega arith))) (other_test 1 (suc (suc n)) (above_one n 1 (omega arith))) h
 
 no_third : (n : ℕ) → (1 == suc (suc (suc n))) ≡ false
-no_third n = no_such 1 (suc (suc (suc n))) (above_one (suc n) 1 (omega arith))
+no_third n = other_test 1 (suc (suc (suc n))) (above_one (suc n) 1 (omega arith))
 
 no_far_end_there : (n : ℕ) → ((1 == suc (suc (suc n))) || (2 == suc (suc (suc n)))) ≡ true → ⊥
-no_far_end_there n h = neither _ _ (no_third n) (no_such 2 (suc (suc (suc n))) (λ e. above_two n 2 (omega arith) (sym e))) h
+no_far_end_there n h = neither _ _ (no_third n) (other_test 2 (suc (suc (suc n))) (λ e. above_two n 2 (omega arith) (sym e))) h
 
 no_far_edge : (n : ℕ) → ((suc (suc (suc n)) == 0) || ((suc (suc (suc n)) == 2) || false)) ≡ true → ⊥
-no_far_edge n h = neither _ _ (no_such (suc (suc (suc n))) 0 (above_two n 0 (omega arith))) (ap (λ b. b || false) (no_such (suc (suc (suc n))) 2 (above_two n 2 (omega arith)))) h
+no_far_edge n h = neither _ _ (other_test (suc (suc (suc n))) 0 (above_two n 0 (omega arith))) (ap (λ b. b || false) (other_test (suc (suc (suc n))) 2 (above_two n 2 (omega arith)))) h
 
 all_heard : (l node : ℕ) → l < 2 → is_end (wiring_of two_links) l node ≡ true → settled_world.sessions.heard l node ≡ length (settled_world.sessions.said l (across (wiring_of two_links) l node))
 unfolding next knowledge_of news sessions_after peerings_after held packets_after is_not_ipv4 is_malformed is_truncated has_bad_checksum good checksum_for with_ttl aged in_flight bytes_flying

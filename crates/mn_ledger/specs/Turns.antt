@@ -3,6 +3,7 @@
 -- session; here none ever comes, since what is said goes by the tables and no channel loses or changes it: so no step ends a session
 -- for it.
 use Rattle.std.specs.Prelude.{◌≡◌, ◌≤◌, ◌<◌, ◌≢◌, ℕ, zero, suc, Bool, true, false, List, [], ◌∷◌, length, slice_index_or, ⊤}
+use Rattle.std.specs.List.{AllByRecursion}
 use Rattle.mn_base.specs.Wiring.{is_end, across}
 use Rattle.mn_base.specs.declared.states.BgpState.{BgpState}
 use Rattle.mn_base.specs.declared.states.BgpState.TheVariants as bgp
@@ -36,8 +37,7 @@ IsLabelMessage (Withdraw fec) = ⊤
 IsLabelMessage (Release fec) = ⊤
 
 abbrev pub AreLabelMessages : List Message → Type 0
-AreLabelMessages [] = ⊤
-AreLabelMessages (message ∷ messages) = IsLabelMessage message × AreLabelMessages messages
+AreLabelMessages messages = AllByRecursion IsLabelMessage messages
 
 abbrev pub IsTalk : Bool → ℕ → List Message → Type 0
 IsTalk true zero said = said ≡ Initialization ∷ []
@@ -52,8 +52,7 @@ IsUpdate (Announce export) = ⊤
 IsUpdate (Unreach v prefix) = ⊤
 
 abbrev pub AreUpdates : List Telling → Type 0
-AreUpdates [] = ⊤
-AreUpdates (telling ∷ tellings) = IsUpdate telling × AreUpdates tellings
+AreUpdates tellings = AllByRecursion IsUpdate tellings
 
 abbrev pub IsPeerTalk : ℕ → List Telling → Type 0
 IsPeerTalk zero told = told ≡ Open ∷ []

@@ -4,6 +4,7 @@ use Rattle.std.specs.Prelude.{is_some, ◌==◌, ◌&&◌, ⊤}
 use Rattle.std.proofs.lemmas.List.{length-set, length-replicate, get_or-set_same, get_or-set_other, get_or-replicate}
 use Rattle.std.proofs.lemmas.Bool.Decides.{eqb_tells}
 use Rattle.std.proofs.lemmas.Grind.{reverse_onto}
+use Rattle.mn_base.proofs.Bools.{same_numbers}
 use Rattle.mn_base.specs.declared.numbers.NodeNo.{NodeNo}
 use Rattle.mn_lib.specs.declared.event.LibEvent.{LibEvent}
 use Rattle.mn_lib.specs.declared.event.LibEvent.TheVariants.{Opened, Closed, Map, Withdraw, Next}
@@ -88,12 +89,6 @@ and_cond : {A : Type 0} (b c : Bool) (x y z : A) → (b ≡ true → z ≡ y) �
 and_cond true c x y z h = ap (cond c x) (h refl)
 and_cond false c x y z h = refl
 
-is_same : (a b : ℕ) → (a == b) ≡ true → a ≡ b
-is_same a b h = elim (eqb_tells a b) [ inl r ↦ r.1 | inr r ↦ absurd (true_false (sym h ∙ r.0)) ]
-  where
-    true_false : true ≡ false → ⊥
-    true_false h = cc
-
 cell-open : (n p : ℕ) → p < n → cell (Some (replicate n None)) p ≡ Some None
 cell-open n p h = ap (λ x. let o : Option (Option ℕ) = Some x in o) (get_or-replicate n p None None h)
 
@@ -108,7 +103,7 @@ label-event : (n : ℕ) (b : Bindings) (k q h p : ℕ) (l : Option ℕ) → HasS
     cell (get_or (set b.heard k (with_label (row_of b k) q l)) h None) p ≡ cond ((k == h) && (q == p)) (Some l) (cell (row_of b h) p)
 label-event n b k q h p l s a c o =
     row-event n b k h p (with_label (row_of b k) q l) (cond (q == p) (Some l) (cell (row_of b k) p)) s a (cell-label n (row_of b k) q p l (s.rows k) o c)
-    ∙ and_cond (k == h) (q == p) (Some l) (cell (row_of b h) p) (cell (row_of b k) p) (λ e. ap (λ y. cell (row_of b y) p) (is_same k h e))
+    ∙ and_cond (k == h) (q == p) (Some l) (cell (row_of b h) p) (cell (row_of b k) p) (λ e. ap (λ y. cell (row_of b y) p) (same_numbers k h e))
 
 said : (me : NodeNo) (n : ℕ) (es : List LibEvent) → AllFit (nothing_heard me n) es → (h p : ℕ) → h < n → p < n → cell (row_of (after_all (nothing_heard me n) es) h) p ≡ said_last h p es
 said me n [] f h p i j = ap (λ r. cell r p) (none-row n h)

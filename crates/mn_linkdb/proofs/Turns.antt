@@ -1,6 +1,7 @@
 -- The count of changes tells what the last of them made of the link.
 use Rattle.std.proofs.Common.{ℕ, zero, suc, ◌≡◌, ◌≢◌, ◌≤◌, ◌%◌, ◌==◌, Bool, true, false, List, [], ◌∷◌, length, take, refl, sym, ◌∙◌, ap, arith}
 use Rattle.std.specs.Prelude.{not}
+use Rattle.mn_base.proofs.Bools.{none_below}
 use Rattle.mn_linkdb.specs.Changes.{is_odd, AllTurn, after_changes}
 
 -- what the link is after so many turns
@@ -13,9 +14,6 @@ other true true h = absurd (h refl)
 other true false h = refl
 other false true h = refl
 other false false h = absurd (h refl)
-
-none_below : (n : ℕ) → suc n ≤ 0 → ⊥
-none_below n h = omega (arith, h)
 
 turned_is : (ups : List Bool) (was_up : Bool) (count : ℕ) → AllTurn was_up ups → count ≤ length ups → turned was_up count ≡ after_changes was_up (take count ups)
 turned_is [] was_up zero h p = refl

@@ -4,3 +4,8 @@ pub mod ByteNumbers
 pub mod Spelled
 pub mod Headers
 pub mod Captures
+pub mod Pieces
+pub mod Moves
+pub mod Steps
+pub mod Found
+pub mod Fed

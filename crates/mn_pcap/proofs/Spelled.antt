@@ -10,6 +10,7 @@ use Rattle.mn_pcap.specs.declared.refusal.PcapBad.{PcapBad}
 use Rattle.mn_pcap.specs.Format.{snaplen}
 use Rattle.mn_pcap.specs.Grammar.{number, IsRecord, AreRecords}
 use Rattle.mn_pcap.specs.Reading.{captured_length, record_at, place_of, end_of, records_from, bytes_at}
+use Rattle.mn_pcap.specs.Pieces.{Stand}
 use Rattle.mn_pcap.proofs.ByteNumbers.{number-front, number-field}
 use Rattle.mn_pcap.proofs.InOrder.{IsRead, is_read, next, ended, refused_there}
 
@@ -27,10 +28,6 @@ pub length-range : (xs : List ℕ) (a b : ℕ) → a ≤ b → b ≤ length xs �
 length-range xs a b low high = length-take-le (b - a) (drop a xs) (simp length-drop (omega arith))
 
 -- Records one after another, each read.
-
-abbrev pub Stand : Bool → List ℕ → ℕ → List Place → ℕ → Type 0
-Stand big bytes at [] end = at ≡ end
-Stand big bytes at (place ∷ places) end = (record_at big bytes at ≡ Ok place) × Stand big bytes (end_of place) places end
 
 -- the end of the file, or a refusal
 abbrev pub Stops : Bool → List ℕ → ℕ → Option PcapBad → Type 0

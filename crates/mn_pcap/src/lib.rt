@@ -20,21 +20,30 @@
 //! - `refusal`: why a file isn't read
 //! - `read`: any such file of version 2.4 and link type 1, 101 or 228; of its fields the magic, the
 //!   version, the link type and the captured lengths count, and no other
+//! - `scan`: a file that comes in pieces, of which only the places of its records are kept: `cursor` follows
+//!   it from header to header, by its `stage`, and holds in `head` what has come of a header
 //! - `write`: little-endian, times in microseconds
 //! - `laws`: what is read is a capture, and the other way round
 #![tactic(auto)]
 
+mod cursor;
+mod head;
 mod laws;
 mod message;
 mod read;
 mod refusal;
+mod scan;
+mod stage;
 mod write;
 
 pub use laws::{capture_is_read, read_is_capture, refused_behind_capture, written_again};
 pub use message::{Form, LinkKind, Place};
 pub use read::{count_records, packet_of, read_header, records};
 pub use refusal::{PcapBad, PcapRule};
+pub use scan::Scan;
 pub use write::{put_header, put_record};
 
+#[cfg(test)]
+mod piece_tests;
 #[cfg(test)]
 mod tests;

@@ -153,7 +153,7 @@ fn read_u16(big: bool, bytes: &[u8]) -> u16
 }
 
 #[tactic(auto, unfolding(crate::specs::Grammar::number))]
-fn read_u32(big: bool, bytes: &[u8]) -> u32
+pub(crate) fn read_u32(big: bool, bytes: &[u8]) -> u32
     requires { 4 ≤ length bytes.now }
     ensures { result ≡ number big 4 bytes.now }
 {

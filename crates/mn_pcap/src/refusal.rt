@@ -1,3 +1,7 @@
+// Why a capture isn't read.
+ghost use Rattle.std.specs.Prelude.{◌≡◌};
+ghost use Rattle.mn_pcap.specs.Lasting.{lasts};
+
 use thiserror::Error;
 
 /// Why a capture isn't read, in the order in which the rules are tried.
@@ -33,4 +37,14 @@ pub enum PcapBad {
     /// There was no memory for the answer.
     #[error("no memory")]
     NoMemory,
+}
+
+/// Whether more bytes don't mend it.
+pub(crate) fn lasts(bad: PcapBad) -> bool
+    ensures { result ≡ lasts bad }
+{
+    match bad {
+        PcapBad::Refused { rule, .. } => rule != PcapRule::CutShort,
+        PcapBad::NoMemory => false,
+    }
 }

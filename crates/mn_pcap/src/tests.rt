@@ -16,7 +16,7 @@ const LITTLE_NANOSECONDS: &[u8] = b"\x4D\x3C\xB2\xA1\x02\0\x04\0\0\0\0\0\0\0\0\0
 const BIG_NANOSECONDS: &[u8] = b"\xA1\xB2\x3C\x4D\0\x02\0\x04\0\0\0\0\0\0\0\0\0\x04\0\0";
 
 /// From 10.1.0.1 to 10.2.0.1 with TTL 64: eight bytes of UDP.
-const PACKET: [u8; 28] = [
+pub(crate) const PACKET: [u8; 28] = [
     0x45, 0x00, 0x00, 0x1c, 0x00, 0x00, 0x00, 0x00, 0x40, 0x11, 0x66, 0xcd, 0x0a, 0x01, 0x00, 0x01,
     0x0a, 0x02, 0x00, 0x01, 0x00, 0x35, 0x00, 0x35, 0x00, 0x08, 0x00, 0x00,
 ];
@@ -28,7 +28,8 @@ const ADDRESSES: &[u8] = b"\x02\0\0\0\0\x01\x02\0\0\0\0\x02";
 const TRAILER: [u8; 18] = [0; 18];
 
 /// Two records, of "abc" and of "wxyz".
-const TWO_RECORDS: [u8; 63] = *b"\xD4\xC3\xB2\xA1\x02\0\x04\0\0\0\0\0\0\0\0\0\0\0\x04\0\xE4\0\0\0\
+pub(crate) const TWO_RECORDS: [u8; 63] =
+    *b"\xD4\xC3\xB2\xA1\x02\0\x04\0\0\0\0\0\0\0\0\0\0\0\x04\0\xE4\0\0\0\
     \x01\0\0\0\x02\0\0\0\x03\0\0\0\x09\0\0\0abc\
     \x02\0\0\0\x03\0\0\0\x04\0\0\0\x04\0\0\0wxyz";
 
@@ -47,7 +48,70 @@ const BY_TCPDUMP: [u8; 147] = [
     0x6f, 0x72, 0x65,
 ];
 
-fn joined(alloc: Global, parts: &[&[u8]]) -> Result<Vec<u8>, Fail> {
+/// Files that are refused for their header, each with the rule and the byte.
+pub(crate) const REFUSED: [(&[u8], PcapRule, u64); 16] = [
+    (b"", PcapRule::CutShort, 0),
+    (b"\x0A\x0D\x0D", PcapRule::CutShort, 0),
+    (b"\x0A\x0D\x0D\x0A", PcapRule::IsPcapng, 0),
+    (
+        b"\x0A\x0D\x0D\x0A\x1C\0\0\0\x4D\x3C\x2B\x1A",
+        PcapRule::IsPcapng,
+        0,
+    ),
+    (b"\0\0\0\0", PcapRule::BadMagic, 0),
+    (b"\xD4\xC3\xB2\xA0", PcapRule::BadMagic, 0),
+    (
+        b"\xA1\xB2\xCD\x34 and more than a header has",
+        PcapRule::BadMagic,
+        0,
+    ),
+    (b"\xD4\xC3\xB2\xA1", PcapRule::CutShort, 0),
+    (b"\xA1\xB2\xC3\xD4\0\x09\0\x09", PcapRule::CutShort, 0),
+    (
+        b"\xD4\xC3\xB2\xA1\x03\0\x04\0............\xE4\0\0\0",
+        PcapRule::BadVersion,
+        4,
+    ),
+    (
+        b"\xD4\xC3\xB2\xA1\x02\0\x03\0............\xE4\0\0\0",
+        PcapRule::BadVersion,
+        4,
+    ),
+    (
+        b"\xD4\xC3\xB2\xA1\0\x02\0\x04............\0\0\0\0",
+        PcapRule::BadVersion,
+        4,
+    ),
+    (
+        b"\xA1\xB2\xC3\xD4\x02\0\x04\0............\0\0\0\xE4",
+        PcapRule::BadVersion,
+        4,
+    ),
+    (
+        b"\xD4\xC3\xB2\xA1\x02\0\x04\0............\0\0\0\0",
+        PcapRule::BadLinkType,
+        20,
+    ),
+    (
+        b"\xD4\xC3\xB2\xA1\x02\0\x04\0............\0\0\0\xE4",
+        PcapRule::BadLinkType,
+        20,
+    ),
+    (
+        b"\xA1\xB2\xC3\xD4\0\x02\0\x04............\0\0\x01\x01",
+        PcapRule::BadLinkType,
+        20,
+    ),
+];
+
+/// The headers of records behind `TWO_RECORDS` for which the file is refused.
+pub(crate) const REFUSED_BEHIND: [(&[u8], PcapRule); 3] = [
+    (b"........\0\0\x04\0....", PcapRule::CutShort),
+    (b"........\x01\0\x04\0....", PcapRule::BadRecord),
+    (b"........\xFF\xFF\xFF\xFF....", PcapRule::BadRecord),
+];
+
+pub(crate) fn joined(alloc: Global, parts: &[&[u8]]) -> Result<Vec<u8>, Fail> {
     let mut bytes = Vec::new(alloc);
     for part in parts {
         bytes.extend_from_slice(part)?;
@@ -55,7 +119,7 @@ fn joined(alloc: Global, parts: &[&[u8]]) -> Result<Vec<u8>, Fail> {
     Ok(bytes)
 }
 
-fn refused(rule: PcapRule, place: u64) -> PcapBad {
+pub(crate) fn refused(rule: PcapRule, place: u64) -> PcapBad {
     PcapBad::Refused { rule, place }
 }
 
@@ -110,61 +174,7 @@ fn each_byte_order_unit_and_link_type_is_read(rt: HostRuntime) -> Result<(), Fai
 
 #[test]
 fn each_refusal_of_a_header_has_its_rule_and_place(rt: HostRuntime) -> Result<(), Fail> {
-    let rows: [(&[u8], PcapRule, u64); 16] = [
-        (b"", PcapRule::CutShort, 0),
-        (b"\x0A\x0D\x0D", PcapRule::CutShort, 0),
-        (b"\x0A\x0D\x0D\x0A", PcapRule::IsPcapng, 0),
-        (
-            b"\x0A\x0D\x0D\x0A\x1C\0\0\0\x4D\x3C\x2B\x1A",
-            PcapRule::IsPcapng,
-            0,
-        ),
-        (b"\0\0\0\0", PcapRule::BadMagic, 0),
-        (b"\xD4\xC3\xB2\xA0", PcapRule::BadMagic, 0),
-        (
-            b"\xA1\xB2\xCD\x34 and more than a header has",
-            PcapRule::BadMagic,
-            0,
-        ),
-        (b"\xD4\xC3\xB2\xA1", PcapRule::CutShort, 0),
-        (b"\xA1\xB2\xC3\xD4\0\x09\0\x09", PcapRule::CutShort, 0),
-        (
-            b"\xD4\xC3\xB2\xA1\x03\0\x04\0............\xE4\0\0\0",
-            PcapRule::BadVersion,
-            4,
-        ),
-        (
-            b"\xD4\xC3\xB2\xA1\x02\0\x03\0............\xE4\0\0\0",
-            PcapRule::BadVersion,
-            4,
-        ),
-        (
-            b"\xD4\xC3\xB2\xA1\0\x02\0\x04............\0\0\0\0",
-            PcapRule::BadVersion,
-            4,
-        ),
-        (
-            b"\xA1\xB2\xC3\xD4\x02\0\x04\0............\0\0\0\xE4",
-            PcapRule::BadVersion,
-            4,
-        ),
-        (
-            b"\xD4\xC3\xB2\xA1\x02\0\x04\0............\0\0\0\0",
-            PcapRule::BadLinkType,
-            20,
-        ),
-        (
-            b"\xD4\xC3\xB2\xA1\x02\0\x04\0............\0\0\0\xE4",
-            PcapRule::BadLinkType,
-            20,
-        ),
-        (
-            b"\xA1\xB2\xC3\xD4\0\x02\0\x04............\0\0\x01\x01",
-            PcapRule::BadLinkType,
-            20,
-        ),
-    ];
-    for (bytes, rule, place) in rows {
+    for (bytes, rule, place) in REFUSED {
         assert_eq!(rt; read_header(bytes), Err(refused(rule, place)));
         assert_eq!(rt;
             records(rt.alloc(), bytes).err(),
@@ -238,12 +248,7 @@ fn a_length_has_the_byte_order_of_the_file(rt: HostRuntime) -> Result<(), Fail> 
 
 #[test]
 fn a_record_has_at_most_262144_bytes(rt: HostRuntime) -> Result<(), Fail> {
-    let rows: [(&[u8], PcapRule); 3] = [
-        (b"........\0\0\x04\0....", PcapRule::CutShort),
-        (b"........\x01\0\x04\0....", PcapRule::BadRecord),
-        (b"........\xFF\xFF\xFF\xFF....", PcapRule::BadRecord),
-    ];
-    for (header, rule) in rows {
+    for (header, rule) in REFUSED_BEHIND {
         let bytes = joined(
             rt.alloc(),
             &[TWO_RECORDS.as_slice(), header, b"a few bytes"],

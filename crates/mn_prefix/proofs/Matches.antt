@@ -1,6 +1,6 @@
 -- The longest match of a table, in terms of what the table has at each prefix.
 use Rattle.std.proofs.Common.{◌≡◌, ◌≤◌, ◌<◌, ◌+◌, ◌-◌, ◌*◌, ◌/◌, ◌%◌, ◌^◌, ◌↔◌, ◌⊎◌, inl, inr, ℕ, zero, suc, length, take, Bool, true, false, not, cond, nat_le, List, [], ◌∷◌, Option, Some, None, refl, ap, sym, ◌∙◌, subst, arith, eq-eqb}
-use Rattle.std.specs.Prelude.{◌==◌, ◌&&◌, ◌||◌, filter, slice_index_or}
+use Rattle.std.specs.Prelude.{◌==◌, ◌||◌, filter, slice_index_or}
 use Rattle.std.specs.List.{IsDistinct, AllByRecursion, list_all}
 use Rattle.std.specs.Map.{keys_of}
 use Rattle.std.proofs.lemmas.Bool.{eqb-true, and_parts}
@@ -10,6 +10,7 @@ use Rattle.std.proofs.Math.Seq.{take-length}
 use Rattle.std.proofs.lemmas.Bool.Decides.{nat_tests}
 use Rattle.std.proofs.lemmas.Option.{same_Some}
 use Rattle.std.proofs.lemmas.Nat.{pow_pos}
+use Rattle.mn_base.proofs.Bools.{and_on, not_both_ways, not_true, at_most_is, at_most_tells}
 use Rattle.mn_prefix.specs.Prefix.{AddressBlock, IsPrefix, contains, same_prefix}
 use Rattle.mn_prefix.specs.Longest.{matching, is_longest, longest_matches}
 use Rattle.mn_prefix.specs.Table.{HasDistinctPrefixes, IsTable, IsLongestMatch, value_at, first_of, longest_match}
@@ -45,12 +46,9 @@ from_filter test x (y ∷ ys) i = split (test y) refl (from_filter test x ys) i
     split true t f k = elim k [ inl e ↦ (ap test e ∙ t, inl e) | inr j ↦ ((f j).0, inr (f j).1) ]
     split false t f k = ((f k).0, inr (f k).1)
 
-and_true : (a b : Bool) → a ≡ true → b ≡ true → (a && b) ≡ true
-and_true a b p q = rw (p, q) refl
-
 all_from : {A : Type 0} (test : A → Bool) (xs : List A) → ((x : A) → IsIn x xs → test x ≡ true) → list_all test xs ≡ true
 all_from test [] h = refl
-all_from test (x ∷ xs) h = and_true (test x) (list_all test xs) (h x (inl refl)) (all_from test xs (λ y i. h y (inr i)))
+all_from test (x ∷ xs) h = and_on (test x) (list_all test xs) (h x (inl refl)) (all_from test xs (λ y i. h y (inr i)))
 
 all_at : {A : Type 0} (test : A → Bool) (x : A) (xs : List A) → list_all test xs ≡ true → IsIn x xs → test x ≡ true
 all_at test x [] h i = absurd i
@@ -66,23 +64,9 @@ some_first : {A : Type 0} (x : A) (xs : List A) → IsIn x xs → (y : A) × (fi
 some_first x [] i = absurd i
 some_first x (y ∷ ys) i = (y, refl)
 
-le-true : (a b : ℕ) → a ≤ b → nat_le a b ≡ true
-le-true a b h = grind (arith, nat_tests, h)
-
-true-le : (a b : ℕ) → nat_le a b ≡ true → a ≤ b
-true-le a b h = grind (arith, nat_tests, h)
-
-clash : (b : Bool) → b ≡ true → b ≡ false → ⊥
-clash true p q = cc
-clash false p q = cc
-
 or_false : (a b : Bool) → (not a || b) ≡ true → a ≡ true → b ≡ true
 or_false true b h k = h
 or_false false b h k = cc
-
-not_true : (b : Bool) → not b ≡ true → b ≡ false
-not_true true h = cc
-not_true false h = refl
 
 within : (c b : Bool) → b ≡ true → (not c || b) ≡ true
 within true b h = h
@@ -93,14 +77,14 @@ first true c h = cc
 first false c h = refl
 
 raised : (b : Bool) (n m k : ℕ) → m ≤ k → (not b || nat_le n m) ≡ true → (not b || nat_le n k) ≡ true
-raised true n m k l h = le-true n k (omega (arith, l, true-le n m h))
+raised true n m k l h = at_most_is n k (omega (arith, l, at_most_tells n m h))
 raised false n m k l h = refl
 
 le_or_lt : (a b : ℕ) → (a ≤ b) ⊎ (b < a)
-le_or_lt a b = elim (nat_le a b) as (λ v. nat_le a b ≡ v → (a ≤ b) ⊎ (b < a)) [ true ↦ λ h. inl (true-le a b h) | false ↦ λ h. inr (grind (arith, nat_tests, h)) ] refl
+le_or_lt a b = elim (nat_le a b) as (λ v. nat_le a b ≡ v → (a ≤ b) ⊎ (b < a)) [ true ↦ λ h. inl (at_most_tells a b h) | false ↦ λ h. inr (grind (arith, nat_tests, h)) ] refl
 
 -- two prefixes of one length that contain an address are one
-one_of_length : (p q : AddressBlock) (address : ℕ) → IsPrefix p.address p.length → IsPrefix q.address q.length → p.length ≡ q.length → contains p address ≡ true → contains q address ≡ true → p ≡ q
+pub one_of_length : (p q : AddressBlock) (address : ℕ) → IsPrefix p.address p.length → IsPrefix q.address q.length → p.length ≡ q.length → contains p address ≡ true → contains q address ≡ true → p ≡ q
 one_of_length p q address fp fq same cp cq =
     let size : ℕ = 2 ^ (32 - p.length) in
     let some : 0 < size = pow_pos (32 - p.length) in
@@ -110,7 +94,7 @@ one_of_length p q address fp fq same cp cq =
     let clear_q : q.address % size ≡ 0 = subst (λ n. q.address % n ≡ 0) sizes fq.clear in
     let parts : size * (p.address / size) ≡ size * (q.address / size) = ap (λ n. size * n) (sym ap_p ∙ ap_q) in
     let addresses : p.address ≡ q.address = omega (arith, parts, some, fp.clear, clear_q) in
-    same_exact p q (and_true (p.address == q.address) (p.length == q.length) (eq-eqb _ _ addresses) (eq-eqb _ _ same))
+    same_exact p q (and_on (p.address == q.address) (p.length == q.length) (eq-eqb _ _ addresses) (eq-eqb _ _ same))
 
 module _ {T : Type 0} where
   -- 2. Pairs of a table
@@ -146,7 +130,7 @@ module _ {T : Type 0} where
   among address es e i c most =
       let found : List (AddressBlock × T) = matching key address es in
       in_filter (is_longest key found) e found (in_filter (λ x. contains x.0 address) e es i c)
-      (all_from (λ x. nat_le x.0.length e.0.length) found (λ x j. let k = from_filter (λ x. contains x.0 address) x es j in le-true _ _ (most x k.1 k.0)))
+      (all_from (λ x. nat_le x.0.length e.0.length) found (λ x j. let k = from_filter (λ x. contains x.0 address) x es j in at_most_is _ _ (most x k.1 k.0)))
 
   record IsTop (address : ℕ) (es : List (AddressBlock × T)) (e : AddressBlock × T) : Type 0 where
     inside : IsIn e es
@@ -161,7 +145,7 @@ module _ {T : Type 0} where
       record {
         inside = here.1;
         covers = here.0;
-        most = λ x j c. true-le _ _ (all_at (λ x. nat_le x.0.length e.0.length) x found top.0 (in_filter (λ x. contains x.0 address) x es j c));
+        most = λ x j c. at_most_tells _ _ (all_at (λ x. nat_le x.0.length e.0.length) x found top.0 (in_filter (λ x. contains x.0 address) x es j c));
       }
 
   -- a table has one at most
@@ -203,7 +187,7 @@ module _ {T : Type 0} where
       alone c none = record {
         inside = inl refl;
         covers = c;
-        most = λ y i k. elim i [ inl q ↦ omega (arith, ap (λ e. e.0.length) q) | inr j ↦ absurd (clash (contains y.0 address) k (none y j)) ];
+        most = λ y i k. elim i [ inl q ↦ omega (arith, ap (λ e. e.0.length) q) | inr j ↦ absurd (not_both_ways (contains y.0 address) k (none y j)) ];
       }
 
       longer : contains x.0 address ≡ true → (e : AddressBlock × T) → IsTop address xs e → (x.0.length ≤ e.0.length) ⊎ (e.0.length < x.0.length) → (f : AddressBlock × T) × IsTop address (x ∷ xs) f
@@ -233,7 +217,7 @@ module _ {T : Type 0} where
         record {
           inside = inr top.1.inside;
           covers = top.1.covers;
-          most = λ y i k. elim i [ inl q ↦ absurd (clash (contains y.0 address) k (ap (λ e. contains e.0 address) q ∙ c)) | inr j ↦ top.1.most y j k ];
+          most = λ y i k. elim i [ inl q ↦ absurd (not_both_ways (contains y.0 address) k (ap (λ e. contains e.0 address) q ∙ c)) | inr j ↦ top.1.most y j k ];
         },
       )
 
@@ -243,7 +227,7 @@ module _ {T : Type 0} where
       | inl top ↦ absurd (apart top.0 (longest_match address es) h (top_match address es top.0 t top.1))
       | inr none ↦ λ p v i. none (p, v) (value_in p v es i)
     ],
-    λ none. nothing (longest_match address es) (λ e h. let k = match_top address es e h in clash (contains e.0 address) k.covers (none e.0 e.1 (in_value e es t.distinct k.inside))),
+    λ none. nothing (longest_match address es) (λ e h. let k = match_top address es e h in not_both_ways (contains e.0 address) k.covers (none e.0 e.1 (in_value e es t.distinct k.inside))),
   )
     where
       apart : (e : AddressBlock × T) (o : Option (AddressBlock × T)) → o ≡ None → o ≡ Some e → ⊥
@@ -267,7 +251,7 @@ module _ {T : Type 0} where
       top_match address es e t (record {
         inside = at_in es i d h.there;
         covers = h.covers d;
-        most = λ x j c. true-le _ _ (or_false (contains x.0 address) _ (all_at (λ x. not (contains x.0 address) || nat_le x.0.length e.0.length) x es all j) c);
+        most = λ x j c. at_most_tells _ _ (or_false (contains x.0 address) _ (all_at (λ x. not (contains x.0 address) || nat_le x.0.length e.0.length) x es all j) c);
       })
 
   pub place_none : (address : ℕ) (es : List (AddressBlock × T)) → IsTable es → list_all (λ x. not (contains x.0 address)) (take (length es) es) ≡ true → longest_match address es ≡ None
@@ -277,7 +261,7 @@ module _ {T : Type 0} where
 
   -- 5. One pair more
   one_more : (test : AddressBlock × T → Bool) (es : List (AddressBlock × T)) (i : ℕ) (d : AddressBlock × T) → i < length es → list_all test (take i es) ≡ true → test (slice_index_or es i d) ≡ true → list_all test (take (i + 1) es) ≡ true
-  one_more test es i d h a b = list_all_more test es i d h ∙ and_true (list_all test (take i es)) (test (slice_index_or es i d)) a b
+  one_more test es i d h a b = list_all_more test es i d h ∙ and_on (list_all test (take i es)) (test (slice_index_or es i d)) a b
 
   all_more : (p q : AddressBlock × T → Bool) (xs : List (AddressBlock × T)) → ((x : AddressBlock × T) → p x ≡ true → q x ≡ true) → list_all p xs ≡ true → list_all q xs ≡ true
   all_more p q xs f h = all_from q xs (λ x i. f x (all_at p x xs h i))
@@ -289,7 +273,7 @@ module _ {T : Type 0} where
     covers = λ d. subst (λ (x : AddressBlock × T). contains x.0 address ≡ true) (q ∙ get_or_default es i e d h) c;
     longest = λ d. one_more (λ x. not (contains x.0 address) || nat_le x.0.length (slice_index_or es i d).0.length) es i d h
         (all_more (λ x. not (contains x.0 address)) (λ x. not (contains x.0 address) || nat_le x.0.length (slice_index_or es i d).0.length) (take i es) (λ x k. first (contains x.0 address) _ k) b)
-        (within _ _ (le-true (slice_index_or es i d).0.length (slice_index_or es i d).0.length (omega arith)));
+        (within _ _ (at_most_is (slice_index_or es i d).0.length (slice_index_or es i d).0.length (omega arith)));
   }
 
   -- and so is a longer one
@@ -302,7 +286,7 @@ module _ {T : Type 0} where
         let new : e.0.length ≡ (slice_index_or es i d).0.length = ap (λ (x : AddressBlock × T). x.0.length) (q ∙ get_or_default es i e d h) in
         one_more (λ x. not (contains x.0 address) || nat_le x.0.length (slice_index_or es i d).0.length) es i d h
         (all_more (λ x. not (contains x.0 address) || nat_le x.0.length (slice_index_or es at d).0.length) (λ x. not (contains x.0 address) || nat_le x.0.length (slice_index_or es i d).0.length) (take i es) (λ x k. raised (contains x.0 address) x.0.length (slice_index_or es at d).0.length (slice_index_or es i d).0.length (omega (arith, old, new, l)) k) (b.longest d))
-        (within _ _ (le-true (slice_index_or es i d).0.length (slice_index_or es i d).0.length (omega arith)));
+        (within _ _ (at_most_is (slice_index_or es i d).0.length (slice_index_or es i d).0.length (omega arith)));
   }
 
   pub place_pair : (address : ℕ) (es : List (AddressBlock × T)) (i : ℕ) (e f : AddressBlock × T) → IsTable es → IsLongestPlace address es (length es) i → e ≡ slice_index_or es i e → f ≡ slice_index_or es i f → ◌≡◌ {A = Option (AddressBlock × T)} (Some (e.0, f.1)) (longest_match address es)

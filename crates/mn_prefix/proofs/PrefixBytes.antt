@@ -14,7 +14,7 @@ one {a} {p} first = cc
 two : {a b p q : ℕ} → p ≡ a → q ≡ b → p ∷ q ∷ [] ≡ a ∷ b ∷ []
 two {a} {b} {p} {q} first second = cc
 
-three : {a b c p q r : ℕ} → p ≡ a → q ≡ b → r ≡ c → p ∷ q ∷ r ∷ [] ≡ a ∷ b ∷ c ∷ []
+pub three : {a b c p q r : ℕ} → p ≡ a → q ≡ b → r ≡ c → p ∷ q ∷ r ∷ [] ≡ a ∷ b ∷ c ∷ []
 three {a} {b} {c} {p} {q} {r} first second third = cc
 
 four : {a b c d p q r s : ℕ} → p ≡ a → q ≡ b → r ≡ c → s ≡ d → p ∷ q ∷ r ∷ s ∷ [] ≡ a ∷ b ∷ c ∷ d ∷ []

@@ -1,7 +1,8 @@
 -- RFC 4632, sections 3.1 and 5.1: a prefix, and the addresses that it covers.
-use Rattle.std.specs.Prelude.{◌≡◌, ◌≤◌, ◌<◌, ◌==◌, ◌&&◌, ◌-◌, ◌/◌, ◌%◌, ◌^◌, ℕ, Bool}
+use Rattle.std.specs.Prelude.{◌≡◌, ◌≤◌, ◌<◌, ◌==◌, ◌&&◌, ◌-◌, ◌/◌, ◌%◌, ◌^◌, ℕ, Bool, nat_lt}
 use Rattle.std.specs.declared.cmp.Ordering.{Ordering}
 use Rattle.std.specs.Ordering.{nat_cmp, ordering_then}
+use Rattle.mn_base.specs.Ordered.{first_by}
 
 -- a prefix, as contracts see it: an address, and how many of its first bits are the network's
 pub record AddressBlock : Type 0 where
@@ -29,3 +30,7 @@ same_prefix p q = (p.address == q.address) && (p.length == q.length)
 -- by address, and of one address by length
 abbrev pub by_address_then_length : AddressBlock → AddressBlock → Ordering
 by_address_then_length p q = ordering_then (nat_cmp p.address q.address) (nat_cmp p.length q.length)
+
+-- the same order, as a test
+abbrev pub prefix_before : AddressBlock → AddressBlock → Bool
+prefix_before p q = first_by p.address q.address (nat_lt p.length q.length)

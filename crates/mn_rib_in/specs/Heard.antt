@@ -1,8 +1,8 @@
 -- RFC 4271, section 3.2, and RFC 4364, section 4.3.2: the routes that were heard of one peer, each by its last mention.
-use Rattle.std.specs.Prelude.{ℕ, Bool, nat_lt, List, []}
+use Rattle.std.specs.Prelude.{ℕ, Bool, List, []}
 use Rattle.mn_base.specs.declared.numbers.Rd.{Rd}
 use Rattle.mn_base.specs.declared.numbers.Rt.{Rt}
-use Rattle.mn_prefix.specs.Prefix.{AddressBlock}
+use Rattle.mn_prefix.specs.Prefix.{AddressBlock, prefix_before}
 use Rattle.mn_base.specs.Ordered.{first_by, with_one, without_one, has_one}
 
 -- a route as its last mention announced it
@@ -12,13 +12,9 @@ pub record Heard : Type 0 where
   pub label : ℕ
   pub targets : List Rt
 
--- by address, and of one address by length
-abbrev pub prefix_before : AddressBlock → AddressBlock → Bool
-prefix_before p q = first_by p.address q.address (nat_lt p.length q.length)
-
 -- by distinguisher, and of one distinguisher by prefix
 abbrev pub heard_before : Heard → Heard → Bool
-heard_before route other = first_by route.rd.0 other.rd.0 (first_by route.prefix.address other.prefix.address (nat_lt route.prefix.length other.prefix.length))
+heard_before route other = first_by route.rd.0 other.rd.0 (prefix_before route.prefix other.prefix)
 
 -- the place of a distinguisher and prefix
 abbrev pub place_of : Rd → AddressBlock → Heard

@@ -22,6 +22,8 @@ use Rattle.mn_topo.specs.Topology.{topology_of}
 use Rattle.mn_run.specs.Network.{view_of, is_one_node}
 use Rattle.mn_run.specs.Sending.{all_sent}
 use Rattle.std.specs.Str.Lines.{lines}
+use Rattle.mn_base.proofs.Bools.{and_left}
+use Rattle.mn_base.proofs.Rules.{some_is}
 use Rattle.mn_script.specs.declared.refusal.ScriptRule.{ScriptRule}
 use Rattle.mn_script.specs.declared.command.Line.{Line}
 use Rattle.mn_script.specs.Script.{script_of}
@@ -109,9 +111,6 @@ one_node_passed : (words : List (List ℕ)) (files : Files) (topology : Network)
 one_node_passed words files topology answer true e done = (refl, e)
 one_node_passed words files topology answer false e done = absurd (not_refused Topology answer e done)
 
-same_some : {A : Type 0} (x y : A) → Some x ≡ Some y → x ≡ y
-same_some x y h = cc
-
 run_done : (words : List (List ℕ)) (files : Files) (answer : Answer) → run_answer words files ≡ Some answer → answer.outcome ≡ Done → IsDone words files answer
 run_done words files answer e done =
     let t = topology_passed (file files (word words 1)) (from_topology words files) answer e done in
@@ -119,7 +118,7 @@ run_done words files answer e done =
     let l = script_passed t.0 (file files (word words 2)) (from_lines words files t.0) answer o.1 done in
     let s = built (all_sent l.0) Script (from_capture words files (view_of t.0)) answer l.2 done in
     let c = capture_passed (file files (word words 3)) (λ packets. Some (done_answer (word words 4) (view_of t.0) s.0 packets)) answer s.2 done in
-    record { topology = t.0; commands = l.0; script = s.0; packets = c.0; topology_read = t.1; one_node = o.0; script_read = l.1; each_sends = s.1; capture_read = c.1; is = sym (same_some _ _ c.2) }
+    record { topology = t.0; commands = l.0; script = s.0; packets = c.0; topology_read = t.1; one_node = o.0; script_read = l.1; each_sends = s.1; capture_read = c.1; is = sym (some_is _ _ c.2) }
 
 -- a run that is done, by its words
 is_done : (words : List (List ℕ)) (files : Files) (answer : Answer) → is_run words ≡ true → answer_of words files ≡ Some answer → answer.outcome ≡ Done → IsDone words files answer
@@ -158,11 +157,7 @@ given : (a : Option Answer) (P : Answer → Type 0) (Q : Answer → Type 0) (R :
 given None P Q R p q r = absurd p
 given (Some x) P Q R p q r = (x, refl, p, q, r)
 
-first_true : (a b : Bool) → (a && b) ≡ true → a ≡ true
-first_true true b h = refl
-first_true false b h = cc
-
-is_two : (n : ℕ) → (n == 2) ≡ true → n ≡ 2
+pub is_two : (n : ℕ) → (n == 2) ≡ true → n ≡ 2
 is_two n h = grind (arith, nat_tests)
 
 other : (n : ℕ) (b : Bool) → n ≡ 2 → ((n == 5) && b) ≡ false
@@ -173,14 +168,14 @@ no_run : (words : List (List ℕ)) → is_check words ≡ true → is_run words 
 no_run words check = not_both (length words) _ _ check
   where
     not_both : (n : ℕ) (a b : Bool) → ((n == 2) && a) ≡ true → ((n == 5) && b) ≡ false
-    not_both n a b h = other n b (is_two n (first_true (n == 2) a h))
+    not_both n a b h = other n b (is_two n (and_left (n == 2) a h))
 
 told : (words : List (List ℕ)) (files : Files) (before : List ℕ) (after : Option Files) (written_now : Option (List ℕ)) (answer : Answer) → is_check words ≡ true → answer_of words files ≡ Some answer → answer.outcome ≡ Done →
     after ≡ Some (laid answer.files files) → written_now ≡ Some (before ++ answer.text) → TellsTopology words files before after written_now
 told words files before after written_now answer check e done f t =
     let here : check_answer words files ≡ Some answer = sym (ap (λ b. if b then run_answer words files else if is_check words then check_answer words files else Some (refusal Usage)) (no_run words check) ∙ ap (λ b. if b then check_answer words files else Some (refusal Usage)) check) ∙ e in
     let x = topology_passed (file files (word words 1)) (λ topology. Some (checked topology)) answer here done in
-    let is : checked x.0 ≡ answer = same_some _ _ x.2 in
+    let is : checked x.0 ≡ answer = some_is _ _ x.2 in
     record {
       topology = x.0;
       topology_read = x.1;

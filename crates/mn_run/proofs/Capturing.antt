@@ -1,7 +1,7 @@
 -- From the records of a capture to its packets, and from the packets to the answer.
-use Rattle.std.proofs.Common.{◌≡◌, ℕ, true, false, ◌<◌, ◌≤◌, ◌^◌, nat_lt, List, length, map, Option, Some, Result, Ok, Err, Vec, Global, IfOk, sym, ◌∙◌, ap, arith, if◌then◌else◌}
-use Rattle.std.proofs.lemmas.Bool.Decides.{nat_tests}
+use Rattle.std.proofs.Common.{◌≡◌, ℕ, ◌≤◌, ◌^◌, List, length, map, Option, Some, Result, Ok, Err, Vec, Global, IfOk, sym, ◌∙◌, ap, if◌then◌else◌}
 use Rattle.std.proofs.lemmas.Simd.{map-map}
+use Rattle.mn_base.proofs.Bools.{not_less}
 use Rattle.mn_pcap.specs.declared.message.Form.{Form}
 use Rattle.mn_pcap.specs.declared.message.Place.{Place}
 use Rattle.mn_pcap.specs.declared.refusal.PcapRule.{PcapRule}
@@ -29,18 +29,12 @@ reads bytes (Ok v) packets h is only = h ∙ ap Ok (sym is)
 reads bytes (Err (Refused rule place)) packets h is only = elim only [ ]
 reads bytes (Err NoMemory) packets h is only = _
 
-not_over : (a b : ℕ) → b ≤ a → nat_lt a b ≡ false
-not_over a b h = grind (arith, nat_tests)
-
-over : (a b : ℕ) → a < b → nat_lt a b ≡ true
-over a b h = grind (arith, nat_tests)
-
 -- within both limits a capture goes on as it is read
 pub capture_read : (o : Option (List ℕ)) (bytes : List ℕ) (next : List (List ℕ) → Option Answer) → o ≡ Some bytes → length bytes ≤ 2 ^ 26 → count_of bytes ≤ 100000 → with_capture o next ≡ if_captured (packets_of bytes) next
 capture_read o bytes next is short few =
     ap (λ o. with_capture o next) is
-    ∙ ap (λ t. if t then Some (refusal (TooLarge CaptureBytes (2 ^ 26))) else with_records bytes next) (not_over (2 ^ 26) (length bytes) short)
-    ∙ ap (λ t. if t then Some (refusal (TooLarge CaptureRecords 100000)) else if_captured (packets_of bytes) next) (not_over 100000 (count_of bytes) few)
+    ∙ ap (λ t. if t then Some (refusal (TooLarge CaptureBytes (2 ^ 26))) else with_records bytes next) (not_less (2 ^ 26) (length bytes) short)
+    ∙ ap (λ t. if t then Some (refusal (TooLarge CaptureRecords 100000)) else if_captured (packets_of bytes) next) (not_less 100000 (count_of bytes) few)
 
 -- a refusal by this rule and place, under other names for them
 pub same_refusal : (result : Loaded) (rule other : PcapRule) (place there : ℕ) → result ≡ loaded.Refused (BadCapture rule place) → rule ≡ other → place ≡ there → result ≡ loaded.Refused (BadCapture other there)

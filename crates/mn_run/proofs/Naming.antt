@@ -1,38 +1,31 @@
 -- The names of a topology as texts.
-use Rattle.std.proofs.Common.{◌≡◌, ◌+◌, ◌<◌, ℕ, zero, suc, Bool, true, false, ◌&&◌, List, [], ◌∷◌, ◌++◌, take, Some, String, Global, string_bytes, refl, ap, sym, ◌∙◌, arith}
+use Rattle.std.proofs.Common.{◌≡◌, ◌+◌, ◌<◌, ℕ, zero, suc, true, List, [], ◌∷◌, ◌++◌, take, Some, String, Global, string_bytes, ap, sym, ◌∙◌, arith}
 use Rattle.std.specs.List.{list_all, slice_get}
 use Rattle.std.specs.Str.{IsAscii, IsUtf8}
 use Rattle.std.proofs.lemmas.Bool.Decides.{nat_tests}
 use Rattle.std.proofs.lemmas.List.{take_more, map-append}
 use Rattle.std.proofs.lemmas.Option.{slice_get_within, get_or_from_slice_get}
 use Rattle.std.proofs.lemmas.Str.{IsUtf8-from_ascii}
+use Rattle.mn_base.proofs.Bools.{and_left, and_right}
 use Rattle.mn_edge.specs.Written.{texts}
 use Rattle.mn_topo.specs.Tables.{is_name, is_name_byte}
-
-both_left : (a b : Bool) → (a && b) ≡ true → a ≡ true
-both_left true b h = refl
-both_left false b h = cc
-
-both_right : (a b : Bool) → (a && b) ≡ true → b ≡ true
-both_right true b h = h
-both_right false b h = cc
 
 small : (byte : ℕ) → is_name_byte byte ≡ true → byte < 128
 small byte h = grind (arith, nat_tests)
 
 ascii : (bytes : List ℕ) → list_all is_name_byte bytes ≡ true → IsAscii bytes
 ascii [] h i = omega arith
-ascii (b ∷ bs) h zero = small b (both_left _ _ h)
-ascii (b ∷ bs) h (suc i) = ascii bs (both_right _ _ h) i
+ascii (b ∷ bs) h zero = small b (and_left _ _ h)
+ascii (b ∷ bs) h (suc i) = ascii bs (and_right _ _ h) i
 
 -- a name is a text
 name_utf8 : (name : List ℕ) → is_name name ≡ true → IsUtf8 name
-name_utf8 name h = IsUtf8-from_ascii name (ascii name (both_right _ _ h))
+name_utf8 name h = IsUtf8-from_ascii name (ascii name (and_right _ _ h))
 
 name_at : (names : List (List ℕ)) (i : ℕ) (name : List ℕ) → list_all is_name names ≡ true → slice_get names i ≡ Some name → is_name name ≡ true
 name_at [] i name all at = absurd cc
-name_at (n ∷ ns) zero name all at = let same : n ≡ name = cc in ap is_name (sym same) ∙ both_left _ _ all
-name_at (n ∷ ns) (suc i) name all at = name_at ns i name (both_right _ _ all) at
+name_at (n ∷ ns) zero name all at = let same : n ≡ name = cc in ap is_name (sym same) ∙ and_left _ _ all
+name_at (n ∷ ns) (suc i) name all at = name_at ns i name (and_right _ _ all) at
 
 pub is_text : (names : List (List ℕ)) (i : ℕ) (name : List ℕ) → list_all is_name names ≡ true → slice_get names i ≡ Some name → IsUtf8 name
 is_text names i name all at = name_utf8 name (name_at names i name all at)

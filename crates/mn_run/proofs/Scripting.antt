@@ -1,7 +1,7 @@
 -- From a script to the answer.
-use Rattle.std.proofs.Common.{◌≡◌, ℕ, false, ◌≤◌, ◌^◌, nat_lt, List, length, Option, Some, ◌∙◌, ap, arith, if◌then◌else◌}
-use Rattle.std.proofs.lemmas.Bool.Decides.{nat_tests}
+use Rattle.std.proofs.Common.{◌≡◌, ℕ, ◌≤◌, ◌^◌, List, length, Option, Some, ◌∙◌, ap, if◌then◌else◌}
 use Rattle.std.specs.Str.Lines.{lines}
+use Rattle.mn_base.proofs.Bools.{not_less}
 use Rattle.mn_topo.specs.Network.{Network}
 use Rattle.mn_script.specs.declared.refusal.ScriptRule.{ScriptRule}
 use Rattle.mn_script.specs.declared.command.Line.{Line}
@@ -12,15 +12,12 @@ use Rattle.mn_run.specs.declared.job.Loaded.{Loaded}
 use Rattle.mn_run.specs.declared.job.Loaded.TheVariants as loaded
 use Rattle.mn_run.specs.Answer.{Answer, refusal, with_script, with_lines, if_accepted}
 
-not_over : (a b : ℕ) → b ≤ a → nat_lt a b ≡ false
-not_over a b h = grind (arith, nat_tests)
-
 -- within both limits a script goes on as it is read
 pub script_read : (t : Network) (o : Option (List ℕ)) (bytes : List ℕ) (next : List Line → Option Answer) → o ≡ Some bytes → length bytes ≤ 2 ^ 26 → length (lines bytes) ≤ 3000000 → with_script t o next ≡ if_accepted (script_of t bytes) next
 script_read t o bytes next is short few =
     ap (λ o. with_script t o next) is
-    ∙ ap (λ b. if b then Some (refusal (TooLarge ScriptBytes (2 ^ 26))) else with_lines t bytes next) (not_over (2 ^ 26) (length bytes) short)
-    ∙ ap (λ b. if b then Some (refusal (TooLarge ScriptLines 3000000)) else if_accepted (script_of t bytes) next) (not_over 3000000 (length (lines bytes)) few)
+    ∙ ap (λ b. if b then Some (refusal (TooLarge ScriptBytes (2 ^ 26))) else with_lines t bytes next) (not_less (2 ^ 26) (length bytes) short)
+    ∙ ap (λ b. if b then Some (refusal (TooLarge ScriptLines 3000000)) else if_accepted (script_of t bytes) next) (not_less 3000000 (length (lines bytes)) few)
 
 -- a refusal by this rule and line, under other names for them
 pub same_script_refusal : (result : Loaded) (rule other : ScriptRule) (line there : ℕ) → result ≡ loaded.Refused (BadScript rule line) → rule ≡ other → line ≡ there → result ≡ loaded.Refused (BadScript other there)

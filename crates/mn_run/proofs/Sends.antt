@@ -1,7 +1,8 @@
 -- What a script sends: a packet a line, of a record from 1.
-use Rattle.std.proofs.Common.{◌≡◌, ◌≤◌, ◌&&◌, ℕ, suc, Bool, true, false, List, [], ◌∷◌, length, Option, Some, None, option_map, Vec, Global, refl, sym, ◌∙◌, ap, subst, arith}
+use Rattle.std.proofs.Common.{◌≡◌, ◌≤◌, ◌&&◌, ℕ, suc, true, List, [], ◌∷◌, length, Option, Some, None, option_map, Vec, Global, refl, sym, ◌∙◌, ap, subst, arith}
 use Rattle.std.specs.Prelude.{nat_le, IfSome}
 use Rattle.std.specs.List.{list_all}
+use Rattle.mn_base.proofs.Bools.{and_right}
 use Rattle.mn_topo.specs.Network.{Network}
 use Rattle.mn_topo.specs.Steps.{has_site}
 use Rattle.mn_topo.specs.declared.steps.Step.TheVariants.{Inject}
@@ -13,10 +14,6 @@ use Rattle.mn_script.specs.Script.{AllFit}
 use Rattle.mn_report.specs.declared.lines.Sent.{Sent}
 use Rattle.mn_run.specs.Service.{AllNumbered}
 use Rattle.mn_run.specs.Sending.{sent_by, with_first, all_sent}
-
-and_right : (a b : Bool) → (a && b) ≡ true → b ≡ true
-and_right true b h = h
-and_right false b h = cc
 
 one : (t : Network) (n : ℕ) (c : Command) (s : Sent) → command_fits t c ≡ true → sent_by n c ≡ Some s → nat_le 1 s.record ≡ true
 one t n (Do (Inject site place)) s f e = let same : record { line = n; site = site; «record» = place } ≡ s = cc in ap (λ (x : Sent). nat_le 1 x.record) (sym same) ∙ and_right (has_site t site) (nat_le 1 place) f

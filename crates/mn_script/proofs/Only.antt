@@ -1,6 +1,6 @@
 -- Only the words of a command are read as the command.
 use Rattle.std.proofs.Common.{◌≡◌, ◌<◌, ◌≤◌, ◌-◌, ◌%◌, ◌^◌, ◌⊎◌, inl, inr, ℕ, Bool, true, false, List, [], ◌∷◌, length, refl, ap, sym, ◌∙◌, subst, lit<, arith}
-use Rattle.std.specs.Prelude.{min, max, nat_le, ◌&&◌, ◌==◌, Option, Some, None, option_map, option_and_then, position, Result, Ok, Err, codes, slice_index_or, if◌then◌else◌}
+use Rattle.std.specs.Prelude.{min, max, nat_le, ◌==◌, Option, Some, None, option_map, option_and_then, position, Result, Ok, Err, codes, slice_index_or, if◌then◌else◌}
 use Rattle.std.specs.Option.{option_map_or}
 use Rattle.std.specs.Result.{result_ok}
 use Rattle.std.specs.Str.{bytes_eq}
@@ -23,14 +23,14 @@ use Rattle.mn_text.specs.declared.refusal.TextBad.TheVariants.{BadPrefix, HostBi
 use Rattle.mn_text.specs.Numbers.{number_text, is_number}
 use Rattle.mn_text.specs.Addresses.{prefix_text, slashed_of, without_host_bits}
 use Rattle.mn_text.specs.Pairs.{rt_text}
-use Rattle.mn_text.proofs.Only.{number_only, slashed_only, pair_text_only}
+use Rattle.mn_text.proofs.Only.{number_only, slashed_only, pair_text_only, up_to_parts}
 use Rattle.mn_topo.specs.Names.{number_of}
 use Rattle.mn_topo.specs.Links.{joins}
 use Rattle.mn_topo.specs.Network.{Network, link_numbered, direction_from, Leads}
 use Rattle.mn_topo.specs.Steps.{are_edges}
 use Rattle.mn_topo.proofs.Ends.{leads}
 use Rattle.mn_topo.specs.declared.steps.Step.{Step}
-use Rattle.mn_topo.specs.declared.steps.Step.TheVariants.{LinkUp, LinkDown, Learn, LdpAdmin, HearLdp, BgpUp, BgpDown, HearBgp, AddRoute, DelRoute, Import, Export, Attach, Detach, Inject, Carry, Lose}
+use Rattle.mn_topo.specs.declared.steps.Step.TheVariants.{LinkUp, LinkDown, Learn, LdpAdmin, HearLdp, BgpUp, BgpDown, HearBgp, AddRoute, DelRoute, Import, Export, Attach, Detach, Inject}
 use Rattle.mn_script.specs.declared.refusal.ScriptRule.{ScriptRule}
 use Rattle.mn_script.specs.declared.refusal.ScriptRule.TheVariants.{UnknownWord, WrongCount, BadNumber, NoSuchName, NotLinked, NotEdge}
 use Rattle.mn_script.specs.Rules.{◌>>=◌, or_rule}
@@ -153,11 +153,6 @@ edges_only network a b pair h =
     let n = bind_ok (node_in network b) _ pair m.2 in
     let same : ◌≡◌ {A = NodeNo × NodeNo} (m.0, n.0) pair = (if_ok (are_edges network m.0 n.0) (m.0, n.0) pair NotEdge n.2).1 in
     (node_only network a m.0 m.1 ∙ ap (λ p. node_text network p.0) same, node_only network b n.0 n.1 ∙ ap (λ p. node_text network p.1) same)
-
-up_to_parts : (a b : Bool) (v n : ℕ) → ◌≡◌ {A = Option ℕ} (if a && b then Some v else None) (Some n) → (a ≡ true) × (b ≡ true) × (v ≡ n)
-up_to_parts true true v n h = (refl, refl, cc)
-up_to_parts true false v n h = cc
-up_to_parts false b v n h = cc
 
 from_parts : (least n : ℕ) (o : Option ℕ) → option_and_then (λ m. if nat_le least m then Some m else None) o ≡ Some n → o ≡ Some n
 from_parts least n None h = cc

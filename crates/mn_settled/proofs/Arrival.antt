@@ -3,7 +3,7 @@ use Rattle.std.proofs.Common.{ℕ, zero, suc, ◌≡◌, ◌≢◌, ◌+◌, ◌
 use Rattle.std.proofs.Common.{arith, sym, ◌∙◌, ap, subst, Option, None, Some}
 use Rattle.std.specs.Prelude.{◌==◌, ◌&&◌, ◌||◌, nat_lt, nat_le, slice_get, slice_index_or, slice_set, if◌then◌else◌}
 use Rattle.std.specs.List.{list_all, range_with_len}
-use Rattle.std.proofs.lemmas.Bool.Decides.{eqb_tells, leb_tells, nat_tests}
+use Rattle.std.proofs.lemmas.Bool.Decides.{eqb_tells, leb_tells}
 use Rattle.std.proofs.lemmas.List.{length_push, length-append, get_or-set_same, get_or-set_other, append_assoc}
 use Rattle.std.proofs.lemmas.Grind.{common_steps}
 use Rattle.mn_base.specs.declared.drops.Rule.{Rule}
@@ -37,6 +37,7 @@ use Rattle.mn_ledger.proofs.InTurn.{in_turn}
 use Rattle.mn_settled.proofs.Mapped.{range_in}
 use Rattle.mn_settled.proofs.Holding.{all-tell, best-attached}
 use Rattle.mn_base.specs.declared.numbers.SiteNo.{SiteNo}
+use Rattle.mn_base.proofs.Bools.{and_parts, clash, less_tells}
 use Rattle.mn_ledger.specs.Ledger.{after, start, no_packets, next_of, left_by, injects, world_from, world_of, packets_from, packets_of}
 use Rattle.mn_ledger.proofs.Members.{In, in_append, in_filter, filter_in, in_range}
 use Rattle.mn_ledger.proofs.GoingBy.{put_here, put_off}
@@ -45,9 +46,6 @@ use Rattle.mn_settled.specs.Ways.{Reaches}
 use Rattle.mn_settled.specs.Arrival.{GoesBy, IsAddressed, HasArrived, left_after, route_to}
 use Rattle.mn_settled.proofs.Ways.{know_the_ways}
 use Rattle.mn_settled.proofs.Route.{route_is}
-
-clash : true ≡ false → ⊥
-clash e = cc
 
 abbrev pub path_of : Packets → ℕ → List ℕ
 path_of k j = slice_index_or k.paths j []
@@ -458,21 +456,17 @@ lawful-front t (e ∷ es) fs tick w k i ps lawful = (
 pub lawful_begins : (t : Network) (es fs : List JournalEntry) (ps : List (List ℕ)) → IsLawfulJournal t (es ++ fs) ps → IsLawfulJournal t es ps
 lawful_begins t es fs ps lawful = lawful-front t es fs 0 (start t) no_packets 0 ps lawful
 
-and-both : (x y : Bool) → (x && y) ≡ true → (x ≡ true) × (y ≡ true)
-and-both true y e = (refl, e)
-and-both false y e = absurd (clash (sym e))
-
 still-on : (t : Network) (w : World) (es : List JournalEntry) → list_all (λ entry. moves_packets entry.step) es ≡ true → world_from t w es ≡ w
 still-on t w [] m = refl
 still-on t w (e ∷ es) m =
-    let parts = and-both (moves_packets e.step) (list_all (λ entry. moves_packets entry.step) es) m in
+    let parts = and_parts (moves_packets e.step) (list_all (λ entry. moves_packets entry.step) es) m in
     ap (λ v. world_from t v es) (still t w e.step parts.0) ∙ still-on t w es parts.1
 
 moves-append : (es fs : List JournalEntry) → list_all (λ entry. moves_packets entry.step) (es ++ fs) ≡ true
     → (list_all (λ entry. moves_packets entry.step) es ≡ true) × (list_all (λ entry. moves_packets entry.step) fs ≡ true)
 moves-append [] fs m = (refl, m)
 moves-append (e ∷ es) fs m =
-    let parts = and-both (moves_packets e.step) (list_all (λ entry. moves_packets entry.step) (es ++ fs)) m in
+    let parts = and_parts (moves_packets e.step) (list_all (λ entry. moves_packets entry.step) (es ++ fs)) m in
     let rest = moves-append es fs parts.1 in
     (ap (λ b. b && list_all (λ entry. moves_packets entry.step) es) parts.0 ∙ rest.0, rest.1)
 
@@ -582,24 +576,21 @@ edge-below : (t : Network) (e : ℕ) → In (edges t) e → e < length t.loopbac
 edge-below t e i =
     let r = in_range 0 (length t.loopbacks) e (in_filter (λ node. is_edge t.vrfs node) (range_with_len 0 (length t.loopbacks)) e i).0 in omega (arith, r.1)
 
-less-is : (a b : ℕ) → nat_lt a b ≡ true → a < b
-less-is a b h = grind (arith, nat_tests, h)
-
 each-passes : {A : Type 0} (test : A → Bool) (xs : List A) (d : A) (i : ℕ) → list_all test xs ≡ true → i < length xs → test (slice_index_or xs i d) ≡ true
 each-passes test [] d i h below = absurd (none below)
   where
     none : i < 0 → ⊥
     none h = omega (arith, h)
-each-passes test (x ∷ xs) d zero h below = (and-both (test x) (list_all test xs) h).0
-each-passes test (x ∷ xs) d (suc i) h below = each-passes test xs d i (and-both (test x) (list_all test xs) h).1 (omega (arith, below))
+each-passes test (x ∷ xs) d zero h below = (and_parts (test x) (list_all test xs) h).0
+each-passes test (x ∷ xs) d (suc i) h below = each-passes test xs d i (and_parts (test x) (list_all test xs) h).1 (omega (arith, below))
 
 home-is-edge : (t : Network) → IsLawful t → (s : ℕ) → s < length t.sites → In (edges t) (home_of t s)
 home-is-edge t lawful s below =
     let v : ℕ = vrf_of t s in
-    let v_below : v < length t.vrfs = less-is v (length t.vrfs)
+    let v_below : v < length t.vrfs = less_tells v (length t.vrfs)
     (each-passes (λ (site : SiteDef). nat_lt site.vrf.0 (length t.vrfs)) t.sites _ s lawful.sites.placed below) in
-    let node_below : home_of t s < length t.loopbacks = less-is (home_of t s) (length t.loopbacks)
-    (and-both _ _ (each-passes (is_vrf_of (length t.loopbacks)) t.vrfs _ v lawful.vrfs.formed v_below)).0 in
+    let node_below : home_of t s < length t.loopbacks = less_tells (home_of t s) (length t.loopbacks)
+    (and_parts _ _ (each-passes (is_vrf_of (length t.loopbacks)) t.vrfs _ v lawful.vrfs.formed v_below)).0 in
     filter_in (λ node. is_edge t.vrfs node) (range_with_len 0 (length t.loopbacks)) (home_of t s)
     (range_in 0 (length t.loopbacks) (home_of t s) (omega arith) (omega (arith, node_below))) (at-vrf t.vrfs v (home_of t s) v_below refl)
   where

@@ -4,6 +4,7 @@ use Rattle.std.proofs.Common.{arith, sym, ◌∙◌, ap, subst, append-nil}
 use Rattle.std.specs.Prelude.{◌==◌, ◌&&◌, nat_le, slice_index_or}
 use Rattle.std.specs.List.{flat_map, range_with_len}
 use Rattle.std.proofs.lemmas.Bool.Decides.{eqb_tells, leb_tells}
+use Rattle.mn_base.proofs.Bools.{and_off_left, and_off_right, and_on, clash, swap}
 use Rattle.mn_base.specs.Wiring.{nodes_of}
 use Rattle.mn_base.specs.declared.states.BgpState.TheVariants.{OpenSent, OpenConfirm, Established}
 use Rattle.mn_topo.specs.VrfTable.{is_edge}
@@ -23,11 +24,11 @@ use Rattle.mn_ledger.proofs.Members.{In, in_filter, filter_in, in_front}
 use Rattle.mn_ledger.proofs.GoingBy.{or_both, not_false, above, pair_here, pair_off}
 use Rattle.mn_ledger.proofs.Peers.{IsPeerNth, peer-nth, tellings-append, same_test, other_test, and_off, AreInOrder, Which, which, live_sym, state_alive}
 use Rattle.mn_ledger.proofs.Statics.{HasStatics}
-use Rattle.mn_settled.proofs.Once.{IsOnce, once-range, once-filter}
+use Rattle.mn_ledger.proofs.Saying.{IsOnce, once-range, once-filter}
 use Rattle.mn_settled.proofs.Changes.{AreSame, AreKept, changes-believed, announced-all, exports-kept, exports-different, believed-append}
-
-clash : true ≡ false → ⊥
-clash e = cc
+use Rattle.mn_ledger.proofs.Mentions.{few_off}
+pub use Rattle.mn_ledger.proofs.Peers.{told-own}
+pub use Rattle.mn_ledger.proofs.Peers.{told-other}
 
 -- 1. What one edge tells one peer, of all that is told
 
@@ -35,19 +36,6 @@ pick : (a b : ℕ) (x : Told) (xs : List Told) (on : Bool) → is_between a b x 
     → tellings_of a b (x ∷ xs) ≡ cond on (x.telling ∷ tellings_of a b xs) (tellings_of a b xs)
 pick a b x xs true h = ap (λ o. map (λ (told : Told). told.telling) (cond o (x ∷ filter (is_between a b) xs) (filter (is_between a b) xs))) h
 pick a b x xs false h = ap (λ o. map (λ (told : Told). told.telling) (cond o (x ∷ filter (is_between a b) xs) (filter (is_between a b) xs))) h
-
-pub told-own : (a b : ℕ) (xs : List Telling) → tellings_of a b (told_to a b xs) ≡ xs
-told-own a b [] = refl
-told-own a b (x ∷ xs) =
-    pick a b (record { teller = a; peer = b; telling = x }) (told_to a b xs) true (ap (λ o. o && (b == b)) (same_test a) ∙ same_test b)
-    ∙ ap (λ ys. x ∷ ys) (told-own a b xs)
-
-pub told-other : (a b j k : ℕ) (xs : List Telling) → (j ≢ a) ⊎ (k ≢ b) → tellings_of a b (told_to j k xs) ≡ []
-told-other a b j k [] d = refl
-told-other a b j k (x ∷ xs) d = pick a b (record { teller = j; peer = k; telling = x }) (told_to j k xs) false off ∙ told-other a b j k xs d
-  where
-    off : ((j == a) && (k == b)) ≡ false
-    off = elim d [ inl p ↦ ap (λ o. o && (k == b)) (other_test j a p) | inr p ↦ ap (λ o. (j == a) && o) (other_test k b p) ∙ and_off (j == a) ]
 
 abbrev to_each : ℕ → List ℕ → Telling → List Told
 to_each e peers telling = map (λ peer. record { teller = e; peer = peer; telling = telling }) peers
@@ -139,28 +127,11 @@ pub record Tells (t : Network) (c : Config) (p : Peerings) (a b : ℕ) : Type 0 
 abbrev pub AllTell : Network → Config → Peerings → Type 0
 AllTell t c p = (a b : ℕ) → a ≢ b → In (edges t) a → In (edges t) b → Tells t c p a b
 
-few_off : (b : Bool) (k : ℕ) → k < 2 → (b && nat_le 2 k) ≡ false
-few_off true k h = elim (leb_tells 2 k) [ inl r ↦ absurd (not_both h r.1) | inr r ↦ r.0 ]
-  where
-    not_both : k < 2 → 2 ≤ k → ⊥
-    not_both a b = omega (arith, a, b)
-few_off false k h = refl
-
 many_on : (b : Bool) (k : ℕ) → b ≡ true → 2 ≤ k → (b && nat_le 2 k) ≡ true
 many_on b k e h = ap (λ x. x && nat_le 2 k) e ∙ elim (leb_tells 2 k) [ inl r ↦ r.0 | inr r ↦ absurd (not_both h r.1) ]
   where
     not_both : 2 ≤ k → k < 2 → ⊥
     not_both a b = omega (arith, a, b)
-
-both_on : (x y : Bool) → x ≡ true → y ≡ true → (x && y) ≡ true
-both_on x y e f = ap (λ z. z && y) e ∙ f
-
-left_off : (x y : Bool) → x ≡ false → (x && y) ≡ false
-left_off x y e = ap (λ z. z && y) e
-
-right_off : (x y : Bool) → y ≡ false → (x && y) ≡ false
-right_off true y e = e
-right_off false y e = refl
 
 module _ (t : Network) (c : Config) (p : Peerings) (new : Config) (k : Peerings) (xs : List Told) (a b : ℕ) (i : In (edges t) a) (j : In (edges t) b) where
   abbrev told : List Told
@@ -175,7 +146,7 @@ module _ (t : Network) (c : Config) (p : Peerings) (new : Config) (k : Peerings)
   tells-fresh none zero_heard replies_are =
       let few : k.heard a b < 2 = subst (λ n. n < 2) (sym zero_heard) (omega arith) in
       let now_off : is_established new k a b ≡ false = few_off (peers_live new a b) (k.heard a b) few in
-      let quiet : tellings_of a b told ≡ [] = tells-unsteady t c p new k a b i (right_off (is_established c p a b) (is_established new k a b) now_off) in
+      let quiet : tellings_of a b told ≡ [] = tells-unsteady t c p new k a b i (and_off_right (is_established c p a b) (is_established new k a b) now_off) in
       record {
         on = λ e. absurd (clash (sym e ∙ now_off));
         off = λ e x m. elim replies_are [
@@ -196,7 +167,7 @@ module _ (t : Network) (c : Config) (p : Peerings) (new : Config) (k : Peerings)
             let was : is_established c p a b ≡ true = sym same ∙ e in
             let all : (with_told k (xs ++ told)).told a b ≡ p.told a b ++ changed (exports_of t c a) (exports_of t new a) =
             told-is [] quiet (changed (exports_of t c a) (exports_of t new a))
-            (tells-steady t c p new k a b i j (both_on (is_established c p a b) (is_established new k a b) was e))
+            (tells-steady t c p new k a b i j (and_on (is_established c p a b) (is_established new k a b) was e))
             ∙ ap (λ ys. ys ++ changed (exports_of t c a) (exports_of t new a)) said in
             subst (λ ys. AreSame ys (exports_of t new a)) (sym
             (ap (believed_from []) all ∙ believed-append [] (p.told a b) (changed (exports_of t c a) (exports_of t new a))))
@@ -205,7 +176,7 @@ module _ (t : Network) (c : Config) (p : Peerings) (new : Config) (k : Peerings)
         off = λ e x m.
             let was : is_established c p a b ≡ false = sym same ∙ e in
             h.off was x (subst (λ ys. In (believed_from [] ys) x)
-            (told-is [] quiet [] (tells-unsteady t c p new k a b i (left_off (is_established c p a b) (is_established new k a b) was))
+            (told-is [] quiet [] (tells-unsteady t c p new k a b i (and_off_left (is_established c p a b) (is_established new k a b) was))
             ∙ append-nil (k.told a b) ∙ said) m);
       }
 
@@ -238,7 +209,7 @@ module _ (t : Network) (c : Config) (p : Peerings) (a b : ℕ) (i : In (edges t)
 
   unsteady : p.heard a b < 2 → tellings_of a b (flat_map (news t c p c (record p { heard = put_pair p.heard a b (p.heard a b + 1) })) (edges t)) ≡ []
   unsteady few =
-      tells-unsteady t c p c (record p { heard = put_pair p.heard a b (p.heard a b + 1) }) a b i (left_off (is_established c p a b) _ (few-before few))
+      tells-unsteady t c p c (record p { heard = put_pair p.heard a b (p.heard a b + 1) }) a b i (and_off_left (is_established c p a b) _ (few-before few))
 
   abbrev IsTold : Type 0
   IsTold = Tells t c then a b
@@ -283,7 +254,7 @@ module _ (t : Network) (c : Config) (p : Peerings) (a b : ℕ) (i : In (edges t)
       (subst (λ x. 2 ≤ x) (sym heard-is) (omega (arith, many))) in
       let all : then.told a b ≡ p.told a b ++ changed (exports_of t c a) (exports_of t c a) =
       all-told [] (changed (exports_of t c a) (exports_of t c a)) (ap (λ x. reply (state_heard x) message (exports_of t c a)) e ∙ silent message)
-      (tells-steady t c p c (record p { heard = put_pair p.heard a b (p.heard a b + 1) }) a b i j (both_on (is_established c p a b) _ was_on now_on)) in
+      (tells-steady t c p c (record p { heard = put_pair p.heard a b (p.heard a b + 1) }) a b i j (and_on (is_established c p a b) _ was_on now_on)) in
       record {
         on =
             λ f. subst (λ ys. AreSame ys (exports_of t c a)) (sym
@@ -308,9 +279,6 @@ module _ (t : Network) (c : Config) (p : Peerings) (a b : ℕ) (i : In (edges t)
       by_count (suc (suc n)) e = hears-later n e
 
 -- 3. Each kind of step
-
-swap : {P Q : Type 0} → P ⊎ Q → Q ⊎ P
-swap d = elim d [ inl p ↦ inr p | inr q ↦ inl q ]
 
 turned : (a b j k : ℕ) → (j ≢ a) ⊎ (k ≢ b) → (a ≢ j) ⊎ (b ≢ k)
 turned a b j k d = elim d [ inl p ↦ inl (λ e. p (sym e)) | inr q ↦ inr (λ e. q (sym e)) ]

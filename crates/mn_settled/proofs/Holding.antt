@@ -9,6 +9,7 @@ use Rattle.mn_topo.specs.VrfTable.{is_edge}
 use Rattle.mn_topo.specs.Network.{Network, wiring_of}
 use Rattle.mn_topo.specs.Lawful.{IsLawful}
 use Rattle.mn_base.specs.Wiring.{JoinsNodes, EndsDiffer}
+use Rattle.mn_base.proofs.Bools.{clash}
 use Rattle.mn_topo.specs.declared.steps.JournalEntry.{JournalEntry}
 use Rattle.mn_ledger.specs.Places.{loopback, vrf_at, edges}
 use Rattle.mn_ledger.specs.World.{Config, Export, Telling, World}
@@ -31,9 +32,6 @@ use Rattle.mn_settled.specs.Routes.{TellTheirExports, HoldsItsRoutes, routes_of}
 use Rattle.mn_settled.proofs.Mapped.{flat_map_in}
 use Rattle.mn_settled.proofs.Changes.{AreSame}
 use Rattle.mn_settled.proofs.Exporting.{Tells, AllTell, tells-step}
-
-clash : true ≡ false → ⊥
-clash e = cc
 
 -- 1. Over a journal
 

@@ -4,13 +4,11 @@ use Rattle.std.proofs.lemmas.Bool.Decides.{eqb_tells}
 use Rattle.mn_base.specs.Wiring.{View, across}
 use Rattle.mn_base.specs.Paths.{IsNext, next, next_by, dists_to}
 use Rattle.mn_base.proofs.Next.{next_is}
+use Rattle.mn_base.proofs.Rules.{none_is}
 use Rattle.mn_topo.specs.Network.{Network, wiring_of}
 use Rattle.mn_topo.specs.Lawful.{IsLawful}
 use Rattle.mn_ledger.proofs.Turning.{across-end}
 use Rattle.mn_settled.proofs.Offering.{ends_below}
-
-none-some : {A : Type 0} (x : A) → None ≡ Some x → ⊥
-none-some x e = cc
 
 module _ (t : Network) (v : View) (lawful : IsLawful t) (p : ℕ) where
   next-self : (n : ℕ) → n ≡ p → next (wiring_of t) v n p ≡ None
@@ -22,7 +20,7 @@ module _ (t : Network) (v : View) (lawful : IsLawful t) (p : ℕ) where
 
   pub some-next : (n : ℕ) (hop : ℕ × ℕ) → n < length t.loopbacks → next (wiring_of t) v n p ≡ Some hop → (n ≢ p) × IsNext (wiring_of t) v n p (Some hop)
   some-next n hop below is =
-      let apart : n ≢ p = λ q. none-some hop (sym (next-self n q) ∙ is) in
+      let apart : n ≢ p = λ q. none_is hop (sym (next-self n q) ∙ is) in
       (apart, subst (IsNext (wiring_of t) v n p) is (next_is (wiring_of t) v p lawful.joins_nodes n below apart))
 
   pub hop-below : (n : ℕ) (hop : ℕ × ℕ) → IsNext (wiring_of t) v n p (Some hop) → hop.0 < length t.loopbacks

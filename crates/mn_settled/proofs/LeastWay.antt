@@ -1,9 +1,9 @@
 -- In a settled world the route is a least walk.
 use Rattle.std.proofs.Common.{ℕ, ◌≡◌, ◌+◌, ◌<◌, ◌≤◌, true, cond, List, [], ◌∷◌, length, refl, arith, sym, ◌∙◌, ap, subst, None, Some}
 use Rattle.std.specs.Prelude.{◌&&◌, nat_lt}
-use Rattle.std.proofs.lemmas.Bool.Decides.{nat_tests}
 use Rattle.mn_base.specs.Wiring.{View, link, is_up, is_end, across}
 use Rattle.mn_base.specs.Paths.{IsLeast, may_go, walk_end, cost_of}
+use Rattle.mn_base.proofs.Bools.{less_is}
 use Rattle.mn_topo.specs.Network.{Network, wiring_of}
 use Rattle.mn_topo.specs.Lawful.{IsLawful}
 use Rattle.mn_topo.specs.declared.steps.JournalEntry.{JournalEntry}
@@ -16,9 +16,6 @@ use Rattle.mn_settled.specs.Arrival.{GoesBy, nodes_over, IsLeastWay}
 use Rattle.mn_settled.proofs.Hops.{some-next, hop-below}
 use Rattle.mn_settled.proofs.Ways.{know_the_ways}
 use Rattle.mn_settled.proofs.Route.{route_is}
-
-less-test : (a b : ℕ) → a < b → nat_lt a b ≡ true
-less-test a b h = grind (arith, nat_tests, h)
 
 one-least : (t : Network) (v : View) (q p a b : ℕ) → IsLeast (wiring_of t) v q p a → IsLeast (wiring_of t) v q p b → a ≤ b
 one-least t v q p a b x y = subst (λ n. a ≤ n) y.walk.2 (x.least y.walk.0 y.walk.1)
@@ -53,7 +50,7 @@ module _ (t : Network) (w : World) (lawful : IsLawful t) (ways : KnowTheWays t w
 
       goes : {l : ℕ} → is_up (links_up t w) l ≡ true → is_end (wiring_of t) l n ≡ true → l < length t.links → may_go (wiring_of t) (links_up t w) n l ≡ true
       goes {l = l} u e h =
-          ap (λ b. b && (is_end (wiring_of t) l n && nat_lt l (length t.links))) u ∙ ap (λ b. b && nat_lt l (length t.links)) e ∙ less-test l (length t.links) h
+          ap (λ b. b && (is_end (wiring_of t) l n && nat_lt l (length t.links))) u ∙ ap (λ b. b && nat_lt l (length t.links)) e ∙ less_is l (length t.links) h
 
 pub route_is_least : (t : Network) (es : List JournalEntry) (ps : List (List ℕ)) → IsLawful t → IsLawfulJournal t es ps → IsSettled t (world_of t es)
     → (from to : ℕ) → from < length t.loopbacks → to < length t.loopbacks → Reaches t (world_of t es) from to

@@ -10,5 +10,4 @@ pub mod Exporting
 pub mod Holding
 pub mod LeastWay
 pub mod Witness
-pub mod Once
 pub mod Hops

@@ -1,6 +1,7 @@
 -- In a settled world the best route for an address is the one that the present configuration gives.
-use Rattle.std.proofs.Common.{ℕ, ◌≡◌, true, false, List, refl, sym, ◌∙◌, Option, None, Some}
+use Rattle.std.proofs.Common.{ℕ, ◌≡◌, List, refl, sym, ◌∙◌, Option, None, Some}
 use Rattle.std.specs.List.{Contains}
+use Rattle.mn_base.proofs.Bools.{clash}
 use Rattle.mn_topo.specs.Network.{Network}
 use Rattle.mn_topo.specs.Lawful.{IsLawful}
 use Rattle.mn_topo.specs.declared.steps.JournalEntry.{JournalEntry}
@@ -27,9 +28,6 @@ some-best xs ys address same one other = by_best (best xs address) refl (best ys
     across : (us vs : List HeldRoute) (r : HeldRoute) → ((q : HeldRoute) → Contains us q → Contains vs q) → ((q : HeldRoute) → Contains vs q → Contains us q)
         → IsBest us address r → IsBest vs address r
     across us vs r there back b = record { held = there r b.held; matches = b.matches; unbeaten = λ q c m. b.unbeaten q (back q c) m }
-
-    clash : true ≡ false → ⊥
-    clash e = cc
 
     by_best : (o : Option HeldRoute) → best xs address ≡ o → (q : Option HeldRoute) → best ys address ≡ q → best xs address ≡ best ys address
     by_best (Some r) e q f = e ∙ sym (other.one r (across xs ys r (λ z. (same z).0) (λ z. (same z).1) (one.named r e)))

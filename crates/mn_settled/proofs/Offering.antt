@@ -6,7 +6,7 @@ use Rattle.std.specs.List.{flat_map}
 use Rattle.std.proofs.lemmas.Bool.Decides.{eqb_tells, leb_tells}
 use Rattle.std.proofs.lemmas.List.{take-append-le}
 use Rattle.std.proofs.lemmas.List.FromFn.{get_or-map-range_with_len}
-use Rattle.mn_base.proofs.Bools.{two_ways}
+use Rattle.mn_base.proofs.Bools.{two_ways, and_off_left, not_on, clash}
 use Rattle.mn_base.specs.Wiring.{Wiring, View, nodes_of, is_end, across, receiver, JoinsNodes, EndsDiffer}
 use Rattle.mn_base.specs.Paths.{IsNext, next}
 use Rattle.mn_base.proofs.Next.{next_is}
@@ -35,9 +35,6 @@ use Rattle.mn_ledger.specs.Turns.{IsInTurn, EndsAreInTurn}
 use Rattle.mn_ledger.proofs.InTurn.{goes_step, begins, not_empty, link_there}
 use Rattle.mn_settled.specs.Offers.{SaysItsOffers}
 use Rattle.mn_settled.proofs.Mapped.{mapped-append, mapped-said, speaks, range_in}
-
-clash : true ≡ false → ⊥
-clash e = cc
 
 -- 1. Replies mention no FEC
 
@@ -128,10 +125,7 @@ more_heard false b d i j e h off = refl
 both_and : (a b c d : Bool) → a ≡ c → b ≡ d → (a && b) ≡ (c && d)
 both_and a b c d e f = ap (λ x. x && b) e ∙ ap (λ x. c && x) f
 
-off_and : (a b : Bool) → a ≡ false → (a && b) ≡ false
-off_and a b e = ap (λ x. x && b) e
-
-on_and : (a b : Bool) → a ≡ true → (a && b) ≡ b
+pub on_and : (a b : Bool) → a ≡ true → (a && b) ≡ b
 on_and a b e = ap (λ x. x && b) e
 
 pub ends_below : (t : Network) → JoinsNodes (wiring_of t) → (l m : ℕ) → l < length t.links → is_end (wiring_of t) l m ≡ true → m < length t.loopbacks
@@ -182,7 +176,7 @@ module _ (t : Network) (c new : Config) (v nv : Views) (s k : Sessions) (step : 
   said-off counts says l m p h e inside off = elim (counts l m h e).own [
     | inl q ↦ ap (is_mapped false p) q.0
     | inr q ↦ ap (is_mapped false p) q.0 ∙ says l m p h e inside
-        ∙ off_and (is_operational (before m) l) _ (operational-is (wiring_of t) c v s m l h
+        ∙ and_off_left (is_operational (before m) l) _ (operational-is (wiring_of t) c v s m l h
         ∙ more_heard (lives c l) (is_end (wiring_of t) l m) (lives new l) (s.heard l m) (k.heard l m) q.1 q.2
         (sym (operational-is (wiring_of t) new nv k m l h) ∙ off))
   ]
@@ -208,7 +202,7 @@ module _ (t : Network) (c new : Config) (v nv : Views) (s k : Sessions) (step : 
             ∙ sym (on_and (is_operational (between m) l) (offers (wiring_of t) (between m) m p) on)
         | inr off ↦
             ap (is_mapped (is_mapped false p (k.said l m)) p) (messages-none between l m told each off) ∙ said-off counts says l m p h e inside off
-            ∙ sym (off_and (is_operational (between m) l) (offers (wiring_of t) (between m) m p) off)
+            ∙ sym (and_off_left (is_operational (between m) l) (offers (wiring_of t) (between m) m p) off)
       ])
       ∙ sym (both_and _ _ _ _ (final-on l m h) (final-offers counts m p (ends_below t joins l m h e)))
 
@@ -216,9 +210,6 @@ module _ (t : Network) (c new : Config) (v nv : Views) (s k : Sessions) (step : 
 
 speaks-all : (t : Network) → JoinsNodes (wiring_of t) → (l m : ℕ) → l < length t.links → is_end (wiring_of t) l m ≡ true → In (nodes_of (wiring_of t)) m
 speaks-all t joins l m h e = range_in 0 (length t.loopbacks) m (omega arith) (omega (arith, ends_below t joins l m h e))
-
-not_on : (b : Bool) → b ≡ false → not b ≡ true
-not_on b e = ap not e
 
 speaks-ends : (t : Network) → JoinsNodes (wiring_of t) → (at l m : ℕ) → l < length t.links → is_end (wiring_of t) l m ≡ true
     → In (ends_first (wiring_of t) at) m
@@ -328,7 +319,7 @@ says-on t apart joins differ (e ∷ es) tick w k i ps lawful g h =
 
 says-first : (t : Network) → SaysItsOffers t (start t)
 says-first t l m p h e inside =
-    sym (off_and (is_operational (known_before t (start t) m) l) _
+    sym (and_off_left (is_operational (known_before t (start t) m) l) _
     (few-off (wiring_of t) (start t).config (start t).views (start t).sessions m l h (omega arith)))
 
 pub says_its_offers : (t : Network) (es : List JournalEntry) (ps : List (List ℕ)) → IsLawful t → IsLawfulJournal t es ps → SaysItsOffers t (world_of t es)

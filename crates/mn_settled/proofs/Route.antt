@@ -9,6 +9,7 @@ use Rattle.mn_base.specs.Wiring.{across}
 use Rattle.mn_base.specs.Paths.{IsLeast, IsNext, IsDist, next, next_by, dists_to}
 use Rattle.mn_base.proofs.Next.{next_is}
 use Rattle.mn_base.proofs.Dist.{dists_are_least}
+use Rattle.mn_base.proofs.Bools.{clash}
 use Rattle.mn_topo.specs.Network.{Network, wiring_of}
 use Rattle.mn_topo.specs.Lawful.{IsLawful}
 use Rattle.mn_ledger.specs.World.{World}
@@ -28,9 +29,6 @@ AreFarther t w p d seen = (q : ℕ) → list_any (eqb q) seen ≡ true → (q < 
 
 one-least : (t : Network) (w : World) (q p a b : ℕ) → IsLeast (wiring_of t) (links_up t w) q p a → IsLeast (wiring_of t) (links_up t w) q p b → a ≤ b
 one-least t w q p a b x y = subst (λ n. a ≤ n) y.walk.2 (x.least y.walk.0 y.walk.1)
-
-clash : true ≡ false → ⊥
-clash e = cc
 
 not-seen : (t : Network) (w : World) (p d n : ℕ) (seen : List ℕ) → IsLeast (wiring_of t) (links_up t w) n p d → AreFarther t w p d seen
     → list_any (eqb n) seen ≡ false

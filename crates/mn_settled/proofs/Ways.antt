@@ -9,6 +9,7 @@ use Rattle.std.proofs.lemmas.List.FromFn.{get_or-map-range_with_len}
 use Rattle.mn_base.specs.Wiring.{link, is_end, is_up, across, JoinsNodes}
 use Rattle.mn_base.specs.Paths.{IsLeast, IsNext, next, next_by, dists_to}
 use Rattle.mn_base.proofs.Next.{next_is}
+use Rattle.mn_base.proofs.Bools.{clash}
 use Rattle.mn_topo.specs.Network.{Network, wiring_of}
 use Rattle.mn_topo.specs.Lawful.{IsLawful}
 use Rattle.mn_topo.specs.declared.steps.JournalEntry.{JournalEntry}
@@ -29,9 +30,6 @@ use Rattle.mn_settled.specs.Offers.{SaysItsOffers}
 use Rattle.mn_settled.specs.Ways.{links_up, AreUpWhereOdd, way, Reaches, KnowTheWays}
 use Rattle.mn_settled.proofs.Offering.{hearing-is, ends_below, says_its_offers}
 use Rattle.mn_settled.proofs.Parity.{up_where_odd}
-
-clash : true ≡ false → ⊥
-clash e = cc
 
 -- 1. One view
 

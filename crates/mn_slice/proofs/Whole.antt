@@ -2,8 +2,9 @@
 use Rattle.std.proofs.Common.{ℕ, ◌≡◌, ◌≢◌, ◌+◌, ◌<◌, ◌≤◌, ◌⊎◌, inl, inr, Bool, true, false, List, [], ◌∷◌, ◌++◌, length, map, refl, arith, sym, ◌∙◌, ap, subst, append-nil, Option, Some, None}
 use Rattle.std.specs.Prelude.{◌==◌, ◌&&◌, ◌||◌, not, nat_lt, nat_le, slice_index_or, if◌then◌else◌}
 use Rattle.std.specs.List.{flat_map}
-use Rattle.std.proofs.lemmas.Bool.Decides.{eqb_tells, nat_tests}
+use Rattle.std.proofs.lemmas.Bool.Decides.{eqb_tells}
 use Rattle.std.proofs.lemmas.List.Elements.{filter-append}
+use Rattle.mn_base.proofs.Bools.{and_left, and_off_left, and_right, less_tells, other_test, clash}
 use Rattle.mn_base.specs.Wiring.{nodes_of, link, is_end, across, sender, receiver}
 use Rattle.mn_topo.specs.Network.{Network, wiring_of}
 use Rattle.mn_topo.specs.Lawful.{IsLawful}
@@ -35,23 +36,6 @@ use Rattle.mn_slice.proofs.Steps.{answers_any, part-is, node-is, life-part, open
 
 -- 1. What a lawful step owes
 
-less_is : (a b : ℕ) → nat_lt a b ≡ true → a < b
-less_is a b h = grind (arith, nat_tests, h)
-
-and_right : (a b : Bool) → (a && b) ≡ true → b ≡ true
-and_right true b h = h
-and_right false b h = cc
-
-off_left : (b d : Bool) → b ≡ false → (b && d) ≡ false
-off_left b d h = ap (λ x. x && d) h
-
-off_right : (b d : Bool) → d ≡ false → (b && d) ≡ false
-off_right true d h = h
-off_right false d h = refl
-
-clash : true ≡ false → ⊥
-clash h = cc
-
 -- LDP is switched, so one of the two lives isn't
 switched : (up was on : Bool) → agree on was ≡ false → (up && was) ≡ true → (up && on) ≡ false
 switched true true true a h = absurd (clash a)
@@ -71,13 +55,6 @@ pub record TurnsLife (t : Network) (w : World) (s : Step) (l : ℕ) : Type 0 whe
   pub within : l < length t.links
   pub others : (k : ℕ) → k ≢ l → lives (config_after w.config s) k ≡ lives w.config k
   pub once : lives w.config l ≡ true → lives (config_after w.config s) l ≡ false
-
-and_left : (a b : Bool) → (a && b) ≡ true → a ≡ true
-and_left true b h = refl
-and_left false b h = cc
-
-test_other : (a b : ℕ) → a ≢ b → (a == b) ≡ false
-test_other a b d = elim (eqb_tells a b) [ inl p ↦ absurd (d p.1) | inr p ↦ p.0 ]
 
 abbrev first_word : ℕ → ℕ → List Said
 first_word l n = said_on l n (Initialization ∷ [])
@@ -144,32 +121,32 @@ module _ (t : Network) (lawful : IsLawful t) (w : World) (packets : Packets) (tu
 
   up-turns : (l : _) → fits t (step.LinkUp l) ≡ true → is_unchanged w.config (step.LinkUp l) ≡ false → TurnsLife t w (step.LinkUp l) l.0
   up-turns l fit new = record {
-    within = less_is l.0 (length t.links) fit;
+    within = less_tells l.0 (length t.links) fit;
     others = λ j d. ap (λ b. b && w.config.ldp_on j) (put_off w.config.is_up l.0 true j d);
-    once = λ h. absurd (clash (sym h ∙ off_left (w.config.is_up l.0) (w.config.ldp_on l.0) new));
+    once = λ h. absurd (clash (sym h ∙ and_off_left (w.config.is_up l.0) (w.config.ldp_on l.0) new));
   }
 
   down-turns : (l : _) → fits t (step.LinkDown l) ≡ true → TurnsLife t w (step.LinkDown l) l.0
   down-turns l fit = record {
-    within = less_is l.0 (length t.links) fit;
+    within = less_tells l.0 (length t.links) fit;
     others = λ j d. ap (λ b. b && w.config.ldp_on j) (put_off w.config.is_up l.0 false j d);
-    once = λ h. off_left (put w.config.is_up l.0 false l.0) (w.config.ldp_on l.0) (put_here w.config.is_up l.0 false);
+    once = λ h. and_off_left (put w.config.is_up l.0 false l.0) (w.config.ldp_on l.0) (put_here w.config.is_up l.0 false);
   }
 
   switch-turns : (l : _) (on : Bool) → fits t (step.LdpAdmin l on) ≡ true → is_unchanged w.config (step.LdpAdmin l on) ≡ false → TurnsLife t w (step.LdpAdmin l on) l.0
   switch-turns l on fit new = record {
-    within = less_is l.0 (length t.links) fit;
+    within = less_tells l.0 (length t.links) fit;
     others = λ j d. ap (λ b. w.config.is_up j && b) (put_off w.config.ldp_on l.0 on j d);
     once = λ h. ap (λ b. w.config.is_up l.0 && b) (put_here w.config.ldp_on l.0 on) ∙ switched (w.config.is_up l.0) (w.config.ldp_on l.0) on new h;
   }
 
   heard-there : (l : _) (dir : _) → fits t (step.HearLdp l dir) ≡ true → is_empty t w packets (step.HearLdp l dir) ≡ false → IsThere t w l.0 (receiver (wiring_of t) l.0 dir)
   heard-there l dir fit full =
-      let below = less_is l.0 (length t.links) fit in
+      let below = less_tells l.0 (length t.links) fit in
       there-is l.0 (receiver (wiring_of t) l.0 dir) (sender (wiring_of t) l.0 dir) below (dir_ends (wiring_of t) l.0 dir (lawful.ends_differ l.0 below)) full
 
   pub changes : (s : Step) → fits t s ≡ true → is_unchanged w.config s ≡ false → is_empty t w packets s ≡ false → (m : ℕ) → settled s m ≡ changed_any (wiring_of t) (node_at t w m) (happens s m)
-  changes (step.Learn n l) fit new full m = learn-changes n.0 l.0 m (less_is l.0 (length t.links) (and_right (nat_lt n.0 (length t.loopbacks)) (nat_lt l.0 (length t.links)) fit))
+  changes (step.Learn n l) fit new full m = learn-changes n.0 l.0 m (less_tells l.0 (length t.links) (and_right (nat_lt n.0 (length t.loopbacks)) (nat_lt l.0 (length t.links)) fit))
   changes (step.LinkUp l) fit new full m = let h = up-turns l fit new in life t w.config (config_after w.config (step.LinkUp l)) w.views (views_after w.views (step.LinkUp l)) w.sessions l.0 m refl h.others h.once
   changes (step.LinkDown l) fit new full m = let h = down-turns l fit in life t w.config (config_after w.config (step.LinkDown l)) w.views (views_after w.views (step.LinkDown l)) w.sessions l.0 m refl h.others h.once
   changes (step.LdpAdmin l on) fit new full m = let h = switch-turns l on fit new in life t w.config (config_after w.config (step.LdpAdmin l on)) w.views w.views w.sessions l.0 m refl h.others h.once
@@ -235,8 +212,8 @@ module _ (t : Network) (lawful : IsLawful t) (w : World) (packets : Packets) (tu
 
   no_opening : (l : _) → fits t (step.LinkDown l) ≡ true → [] ≡ opening t (config_after w.config (step.LinkDown l)) l.0
   no_opening l fit =
-      sym (opening_if t l.0 (loopbacks_apart t lawful) lawful.joins_nodes lawful.ends_differ (less_is l.0 (length t.links) fit) (config_after w.config (step.LinkDown l)) false
-      (off_left (put w.config.is_up l.0 false l.0) (w.config.ldp_on l.0) (put_here w.config.is_up l.0 false)))
+      sym (opening_if t l.0 (loopbacks_apart t lawful) lawful.joins_nodes lawful.ends_differ (less_tells l.0 (length t.links) fit) (config_after w.config (step.LinkDown l)) false
+      (and_off_left (put w.config.is_up l.0 false l.0) (w.config.ldp_on l.0) (put_here w.config.is_up l.0 false)))
 
   -- each node's part of what is said in a step is what it says as that happens to it
   pub speaks : (s : Step) → fits t s ≡ true → is_unchanged w.config s ≡ false → is_empty t w packets s ≡ false → (m : ℕ) → m < length t.loopbacks → said_by t w s m ≡ said_any (wiring_of t) (node_at t w m) (happens s m)
@@ -402,13 +379,13 @@ module _ (t : Network) (lawful : IsLawful t) (w : World) (packets : Packets) (tu
   -- all that is said is what the acting nodes say, one after another
   pub order : (s : Step) → fits t s ≡ true → is_unchanged w.config s ≡ false → is_empty t w packets s ≡ false → is_transport s ≡ true → words s ≡ flat_map (said_at s) (acting t s)
   order (step.Learn n l) fit new full moves =
-      one_speaks (step.Learn n l) fit new full n.0 (less_is n.0 (length t.loopbacks) (and_left (nat_lt n.0 (length t.loopbacks)) (nat_lt l.0 (length t.links)) fit)) [] tt (λ m d. ap (λ b. if b then Some (Learns l.0) else None) (test_other n.0 m (λ q. d (sym q)))) refl
+      one_speaks (step.Learn n l) fit new full n.0 (less_tells n.0 (length t.loopbacks) (and_left (nat_lt n.0 (length t.loopbacks)) (nat_lt l.0 (length t.links)) fit)) [] tt (λ m d. ap (λ b. if b then Some (Learns l.0) else None) (other_test n.0 m (λ q. d (sym q)))) refl
   order (step.HearLdp l dir) fit new full moves =
       let r : ℕ = receiver (wiring_of t) l.0 dir in
       let h = heard-there l dir fit full in
       one_speaks (step.HearLdp l dir) fit new full r (end-there t lawful l.0 r h.within h.at_end) (answered t w.sessions l.0 r (sender (wiring_of t) l.0 dir))
       (by-said l.0 r (answer (state_of t w.sessions l.0 r) (slice_index_or (w.sessions.said l.0 (sender (wiring_of t) l.0 dir)) (w.sessions.heard l.0 r) Address)))
-      (λ m d. ap (λ b. if b then hears l.0 m else None) (test_other r m (λ q. d (sym q)))) refl
+      (λ m d. ap (λ b. if b then hears l.0 m else None) (other_test r m (λ q. d (sym q)))) refl
   order (step.LinkUp l) fit new full moves = life_order (step.LinkUp l) fit new full l.0 (up-turns l fit new) (λ m. refl) (opening t (config_after w.config (step.LinkUp l)) l.0) refl refl (lives w.config l.0) (lives (config_after w.config (step.LinkUp l)) l.0) refl refl
   order (step.LinkDown l) fit new full moves = life_order (step.LinkDown l) fit new full l.0 (down-turns l fit) (λ m. refl) [] (no_opening l fit) refl (lives w.config l.0) (lives (config_after w.config (step.LinkDown l)) l.0) refl refl
   order (step.LdpAdmin l on) fit new full moves = life_order (step.LdpAdmin l on) fit new full l.0 (switch-turns l on fit new) (λ m. refl) (opening t (config_after w.config (step.LdpAdmin l on)) l.0) refl refl (lives w.config l.0) (lives (config_after w.config (step.LdpAdmin l on)) l.0) refl refl

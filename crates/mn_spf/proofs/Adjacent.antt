@@ -1,10 +1,11 @@
 -- The links at each node, found one after another.
-use Rattle.std.proofs.Common.{ℕ, ◌≡◌, ◌≢◌, ◌+◌, ◌<◌, ◌≤◌, ◌==◌, Bool, true, false, List, [], ◌∷◌, ◌++◌, length, get_or, set, replicate, refl, arith, sym, ◌∙◌, ap, ◌⊎◌, inl, inr, subst, get_or-set_other, get_or-set_same}
-use Rattle.std.specs.Prelude.{◌||◌, All, Contains}
+use Rattle.std.proofs.Common.{ℕ, ◌≡◌, ◌≢◌, ◌+◌, ◌<◌, ◌≤◌, ◌==◌, true, false, List, [], ◌∷◌, ◌++◌, length, get_or, set, replicate, arith, sym, ◌∙◌, ap, ◌⊎◌, inl, inr, subst, get_or-set_other, get_or-set_same}
+use Rattle.std.specs.Prelude.{All, Contains}
 use Rattle.std.proofs.lemmas.Bool.{eqb-true, lt-ltb, cases_lt}
 use Rattle.std.proofs.lemmas.Bool.Decides.{eqb_tells}
 use Rattle.std.proofs.lemmas.List.{get_or-replicate, length-set, length-replicate}
 use Rattle.std.proofs.lemmas.List.Elements.{All-nil, All-push, Contains-append_left, Contains-push}
+use Rattle.mn_base.proofs.Bools.{or_left, or_right, or_ways, same_test}
 use Rattle.mn_base.specs.declared.numbers.LinkNo.{LinkNo}
 use Rattle.mn_base.specs.Wiring.{link, is_up}
 use Rattle.mn_linkdb.specs.Learned.{Learned, links_up}
@@ -48,20 +49,6 @@ put_has lists m node x y p h =
 put_new : (lists : List (List LinkNo)) (m : ℕ) (x : LinkNo) → m < length lists → Contains (get_or (put lists m x) m []) x
 put_new lists m x p = subst (λ xs. Contains xs x) (sym (get_or-set_same lists m (get_or lists m [] ++ x ∷ []) [] p)) (Contains-push (get_or lists m []) x)
 
-either : (p q : Bool) → (p || q) ≡ true → (p ≡ true) ⊎ (q ≡ true)
-either true q h = inl refl
-either false q h = inr h
-
-or_left : (p q : Bool) → p ≡ true → (p || q) ≡ true
-or_left p q h = rw h refl
-
-or_right : (p q : Bool) → q ≡ true → (p || q) ≡ true
-or_right true q h = refl
-or_right false q h = h
-
-eqb_refl : (a : ℕ) → (a == a) ≡ true
-eqb_refl a = elim (eqb_tells a a) [ inl e ↦ e.0 | inr e ↦ absurd (e.1 refl) ]
-
 last_or_before : (l k : ℕ) → l < k + 1 → (l < k) ⊎ (l ≡ k)
 last_or_before l k p = elim (cases_lt l k) [ inl q ↦ inl q | inr q ↦ inr (omega (arith, p, q)) ]
 
@@ -98,13 +85,13 @@ module _ (v : Learned) where
     -- the link is up, and is put to both its ends
     module _ (up : is_up (links_up v) k ≡ true) (a b : ℕ) (is_a : a ≡ (link (wiring_of v) k).a.0) (is_b : b ≡ (link (wiring_of v) k).b.0) where
       goes_a : goes v a k ≡ true
-      goes_a = all_true _ _ _ up (or_left _ _ (subst (λ n. (n == a) ≡ true) is_a (eqb_refl a))) (lt-ltb _ _ here)
+      goes_a = all_true _ _ _ up (or_left _ _ (subst (λ n. (n == a) ≡ true) is_a (same_test a))) (lt-ltb _ _ here)
 
       goes_b : goes v b k ≡ true
-      goes_b = all_true _ _ _ up (or_right ((link (wiring_of v) k).a.0 == b) _ (subst (λ n. (n == b) ≡ true) is_b (eqb_refl b))) (lt-ltb _ _ here)
+      goes_b = all_true _ _ _ up (or_right ((link (wiring_of v) k).a.0 == b) _ (subst (λ n. (n == b) ≡ true) is_b (same_test b))) (lt-ltb _ _ here)
 
       ends_alone : (node : ℕ) → goes v node k ≡ true → (node ≡ a) ⊎ (node ≡ b)
-      ends_alone node g = elim (either _ _ (goes_at v node k g).at_node) [
+      ends_alone node g = elim (or_ways _ _ (goes_at v node k g).at_node) [
         | inl e ↦ inl (sym (is_a ∙ eqb-true _ _ e))
         | inr e ↦ inr (sym (is_b ∙ eqb-true _ _ e))
       ]

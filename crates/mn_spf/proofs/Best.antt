@@ -1,7 +1,6 @@
 -- What the search knows in the end is a tree of least walks.
-use Rattle.std.proofs.Common.{ℕ, ◌≡◌, ◌≢◌, ◌+◌, ◌*◌, ◌<◌, ◌≤◌, ◌==◌, Bool, true, false, List, [], ◌∷◌, length, refl, arith, sym, ◌∙◌, ap, inl, inr, subst}
+use Rattle.std.proofs.Common.{ℕ, ◌≡◌, ◌≢◌, ◌+◌, ◌*◌, ◌<◌, ◌≤◌, ◌==◌, Bool, true, false, List, [], ◌∷◌, length, refl, arith, sym, ◌∙◌, ap, subst}
 use Rattle.std.specs.Prelude.{Option, Some, None, if◌then◌else◌}
-use Rattle.std.proofs.lemmas.Bool.Decides.{eqb_tells}
 use Rattle.mn_base.specs.declared.numbers.NodeNo.{NodeNo}
 use Rattle.mn_base.specs.Wiring.{Wiring, link}
 use Rattle.mn_base.specs.Paths.{walk_end, cost_of, IsLeast, IsDist, IsOnLeast}
@@ -13,6 +12,7 @@ use Rattle.mn_spf.specs.Ways.{wiring_of, goes, beyond, IsWalked, rank, rank_in, 
 use Rattle.mn_spf.specs.Search.{IsDone, IsFound}
 use Rattle.std.proofs.lemmas.Bool.{lt-ltb}
 use Rattle.mn_spf.proofs.Walks.{all_true, gone, same_node, goes_at, link_is, beyond_below, walk_same, cost_same}
+pub use Rattle.mn_base.proofs.Bools.{same_test as eqb_same}
 
 -- 1. Bounds on what is known
 pub at_most_more : (o : Option ℕ) (a b : ℕ) → AtMost o a → a ≤ b → AtMost o b
@@ -30,9 +30,6 @@ at_most_is (Some j) k a e h = let f : j ≡ k = same_node e in omega (arith, f, 
 pub at_most_from : (o : Option ℕ) (k a : ℕ) → o ≡ Some k → k ≤ a → AtMost o a
 at_most_from None k a e p = cc
 at_most_from (Some j) k a e p = let f : j ≡ k = same_node e in omega (arith, f, p)
-
-pub eqb_same : (a : ℕ) → (a == a) ≡ true
-eqb_same a = elim (eqb_tells a a) [ inl e ↦ e.0 | inr e ↦ absurd (e.1 refl) ]
 
 over_at_most : (b : Bool) (cost far known most : ℕ) → far < 65536 → 65536 ≤ most → known ≤ most → (if b then rank cost far else known + 65536 * cost) ≤ most + 65536 * cost
 over_at_most true cost far known most p q r = omega (arith, p, q)

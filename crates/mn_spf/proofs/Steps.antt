@@ -12,6 +12,7 @@ use Rattle.std.proofs.lemmas.List.{get_or-replicate, get_or_default, length-set,
 use Rattle.std.proofs.lemmas.List.Elements.{All-nil, All-cons, All-tail, All-head, All-contains, All-weaker, All-from_recursion, Contains-append_right, Contains-append_cases, Contains-push_cases}
 use Rattle.std.proofs.lemmas.List.Sorted.{All-permutation, Contains-permutation}
 use Rattle.std.proofs.lemmas.List.Sums.{sum_by-set, count_by-le-length}
+use Rattle.mn_base.proofs.Bools.{none_below, two_ways}
 use Rattle.mn_base.specs.declared.numbers.LinkNo.{LinkNo}
 use Rattle.mn_base.specs.declared.numbers.NodeNo.{NodeNo}
 use Rattle.mn_base.specs.Wiring.{link}
@@ -31,11 +32,8 @@ contains_head x xs = (0, omega arith, refl)
 contains_tail : {X : Type 0} (y x : X) (xs : List X) → Contains xs x → Contains (y ∷ xs) x
 contains_tail y x xs h = Contains-append_right (y ∷ []) xs x h
 
-not_below : (k : ℕ) → k < 0 → ⊥
-not_below k h = omega (arith, h)
-
 only_one : {X : Type 0} (y x : X) → Contains (y ∷ []) x → y ≡ x
-only_one y x h = elim (Contains-push_cases [] y x h) [ inl i ↦ absurd (not_below i.0 i.1) | inr e ↦ e ]
+only_one y x h = elim (Contains-push_cases [] y x h) [ inl i ↦ absurd (none_below i.0 i.1) | inr e ↦ e ]
 
 contains_cases : {X : Type 0} (y x : X) (xs : List X) → Contains (y ∷ xs) x → (y ≡ x) ⊎ Contains xs x
 contains_cases y x xs h = elim (Contains-append_cases (y ∷ []) xs x h) [ inl i ↦ inl (only_one y x i) | inr i ↦ inr i ]
@@ -46,10 +44,6 @@ All-both P Q f xs p q = λ k d i. f _ (p k d i) (q k d i)
 -- 2. Marks
 apart : true ≢ false
 apart e = cc
-
-mark_tells : (b : Bool) → (b ≡ true) ⊎ (b ≡ false)
-mark_tells true = inl refl
-mark_tells false = inr refl
 
 one_less : (marks : List Bool) (node : ℕ) → node < length marks → get_or marks node false ≡ false → count_by not (set marks node true) + 1 ≡ count_by not marks
 one_less marks node p e =
@@ -589,11 +583,11 @@ module _ (v : Learned) (root : ℕ) where
       }
     where
       in_none : (w : Reverse Way) (q : List (Reverse Way)) → q ≡ [] → Contains q w → ⊥
-      in_none w q e c = not_below c.0 (omega (arith, c.1, ap (λ (x : List (Reverse Way)). length x) e))
+      in_none w q e c = none_below c.0 (omega (arith, c.1, ap (λ (x : List (Reverse Way)). length x) e))
 
       settled_all : (node known : ℕ) → node < v.nodes → rank_at s.table node ≡ Some known → is_settled s node ≡ true
       settled_all node known p r =
-          elim (mark_tells (is_settled s node)) [
+          elim (two_ways (is_settled s node)) [
             | inl m ↦ m
             | inr m ↦ (let w = h.waiting node known p m r in absurd (in_none _ s.queue e w.1))
           ]

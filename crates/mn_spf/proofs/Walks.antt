@@ -4,6 +4,7 @@ use Rattle.std.specs.Prelude.{◌&&◌, Option, Some, None, nat_lt}
 use Rattle.std.proofs.lemmas.Bool.{and_parts, ltb-true}
 use Rattle.mn_base.specs.Wiring.{is_up, link, is_end}
 use Rattle.mn_base.specs.Paths.{walk_end, cost_of}
+use Rattle.mn_base.proofs.Dist.{cond_below}
 use Rattle.mn_linkdb.specs.Network.{IsLink, IsNetwork}
 use Rattle.mn_linkdb.specs.Learned.{Learned, links_up}
 use Rattle.mn_spf.specs.Ways.{wiring_of, goes, beyond, IsWalked}
@@ -15,10 +16,6 @@ gone false o h = cc
 
 pub same_node : {x p : ℕ} → ◌≡◌ {A = Option ℕ} (Some x) (Some p) → x ≡ p
 same_node h = cc
-
-chosen_below : (c : Bool) (a b n : ℕ) → a < n → b < n → cond c a b < n
-chosen_below true a b n p q = p
-chosen_below false a b n p q = q
 
 -- what a test of a link says
 pub record IsAt (v : Learned) (node l : ℕ) : Type 0 where
@@ -40,7 +37,7 @@ module _ (v : Learned) (net : IsNetwork v.nodes v.ends) where
   link_is node l g = net.links l _ (goes_at v node l g).there
 
   pub beyond_below : (node l : ℕ) → goes v node l ≡ true → beyond v node l < v.nodes
-  beyond_below node l g = chosen_below _ _ _ _ (link_is node l g).to (link_is node l g).from
+  beyond_below node l g = cond_below _ _ _ _ (link_is node l g).to (link_is node l g).from
 
 module _ (v : Learned) where
   walk_on : (ls : List ℕ) (x u l : ℕ) → walk_end (wiring_of v) (links_up v) x ls ≡ Some u → goes v u l ≡ true → walk_end (wiring_of v) (links_up v) x (ls ++ l ∷ []) ≡ Some (beyond v u l)

@@ -1,5 +1,5 @@
 -- What is written is read again, and what is read is what is written.
-use Rattle.std.proofs.Common.{◌≡◌, ◌≢◌, inl, inr, ℕ, zero, suc, Bool, true, false, not, ◌&&◌, ◌||◌, ◌==◌, nat_lt, ◌+◌, ◌*◌, ◌/◌, ◌%◌, ◌^◌, ◌<◌, ◌≤◌, List, [], ◌∷◌, ◌++◌, length, get_or, Some, None, Ok, refl, ap, lit<, arith, rules, length-append}
+use Rattle.std.proofs.Common.{◌≡◌, ◌≢◌, inl, inr, ℕ, zero, suc, Bool, true, false, not, ◌||◌, ◌==◌, nat_lt, ◌+◌, ◌*◌, ◌/◌, ◌%◌, ◌^◌, ◌<◌, ◌≤◌, List, [], ◌∷◌, ◌++◌, length, get_or, Some, None, Ok, refl, ap, lit<, arith, rules, length-append}
 use Rattle.std.proofs.lemmas.Bool.Decides.{nat_tests, eqb_tells}
 use Rattle.std.proofs.lemmas.Bool.{and_parts}
 use Rattle.std.proofs.Math.Seq.{take-append_seam, drop-append-add}
@@ -10,6 +10,7 @@ use Rattle.std.specs.Fmt.{decimal}
 use Rattle.std.specs.Str.Parse.{digits_value}
 use Rattle.std.proofs.lemmas.Str.Parse.{IsNumeralModel, numerals_by_value}
 use Rattle.std.proofs.lemmas.Fmt.{digits_decimal, digits_value-decimal, first_decimal, decimal_digit, decimal_nonempty}
+use Rattle.mn_base.proofs.Bools.{and_off_right}
 use Rattle.mn_base.specs.Numbers.{has_rd_form, has_rt_form, type_field}
 use Rattle.mn_base.specs.declared.numbers.Rd.{Rd}
 use Rattle.mn_base.specs.declared.numbers.Rt.{Rt}
@@ -18,7 +19,7 @@ use Rattle.mn_text.specs.Numbers.{begins_well, is_number, number_of, number_up_t
 use Rattle.mn_text.specs.Addresses.{cut, address_of, slashed_of, prefix_of, address_text, prefix_text}
 use Rattle.mn_text.specs.Pairs.{pair_text, by_as_text, by_address_text, pair_of, rd_of, rd_text, rt_of, rt_text}
 
-own : IsNumeralModel (λ ds. list_all is_ascii_digit ds ≡ true) (digits_value 10)
+pub own : IsNumeralModel (λ ds. list_all is_ascii_digit ds ≡ true) (digits_value 10)
 own = numerals_by_value _ (search rules)
 
 digits-decimal : (n : ℕ) → n < 2 ^ 64 → list_all is_ascii_digit (decimal n) ≡ true
@@ -111,17 +112,14 @@ prefix_again p h =
     ) refl
 
 -- 2. Pairs
-false_after : (a b : Bool) → b ≡ false → (a && b) ≡ false
-false_after true b h = h
-false_after false b h = refl
 
 -- a text with a dot is no number
 dotted_digits : (v w : List ℕ) → list_all is_ascii_digit (v ++ 46 ∷ w) ≡ false
 dotted_digits [] w = refl
-dotted_digits (x ∷ xs) w = false_after (is_ascii_digit x) _ (dotted_digits xs w)
+dotted_digits (x ∷ xs) w = and_off_right (is_ascii_digit x) _ (dotted_digits xs w)
 
 dotted : (v w : List ℕ) (most : ℕ) → number_up_to (v ++ 46 ∷ w) most ≡ None
-dotted v w most = rw (false_after (begins_well (v ++ 46 ∷ w)) _ (dotted_digits v w)) refl
+dotted v w most = rw (and_off_right (begins_well (v ++ 46 ∷ w)) _ (dotted_digits v w)) refl
 
 address_no_number : (a most : ℕ) → number_up_to (address_text a) most ≡ None
 unfolding address_text

@@ -1,5 +1,5 @@
 -- What is read as a value is the value's text.
-use Rattle.std.proofs.Common.{◌≡◌, ◌≢◌, ℕ, Bool, true, false, ◌&&◌, ◌||◌, ◌==◌, nat_lt, nat_le, cond, if◌then◌else◌, ◌+◌, ◌*◌, ◌/◌, ◌%◌, ◌^◌, ◌<◌, ◌≤◌, List, [], ◌∷◌, ◌++◌, length, get_or, take, drop, Option, Some, None, option_map, option_and_then, refl, ap, sym, ◌∙◌, lit<, arith, rules, add-one, subst}
+use Rattle.std.proofs.Common.{◌≡◌, ◌≢◌, ℕ, Bool, true, false, ◌&&◌, ◌||◌, ◌==◌, nat_lt, nat_le, cond, if◌then◌else◌, ◌+◌, ◌*◌, ◌/◌, ◌%◌, ◌^◌, ◌<◌, ◌≤◌, List, [], ◌∷◌, ◌++◌, length, get_or, take, drop, Option, Some, None, option_map, option_and_then, refl, ap, sym, ◌∙◌, lit<, arith, add-one, subst}
 use Rattle.std.proofs.lemmas.Bool.Decides.{nat_tests}
 use Rattle.std.proofs.lemmas.Bool.{and_parts, eqb-true, ltb-true}
 use Rattle.std.proofs.lemmas.Option.{same_Some}
@@ -10,16 +10,13 @@ use Rattle.std.specs.List.{list_all, position_or_len}
 use Rattle.std.specs.Char.{is_ascii_digit}
 use Rattle.std.specs.Fmt.{decimal}
 use Rattle.std.specs.Str.Parse.{digits_value}
-use Rattle.std.proofs.lemmas.Str.Parse.{IsNumeralModel, numerals_by_value}
 use Rattle.std.proofs.lemmas.Fmt.{decimal-digits_value}
 use Rattle.mn_base.specs.Numbers.{type_field}
 use Rattle.mn_prefix.specs.Prefix.{AddressBlock}
 use Rattle.mn_text.specs.Numbers.{begins_well, is_number, number_up_to, number_text}
 use Rattle.mn_text.specs.Addresses.{cut, address_of, slashed_of, address_text, prefix_text}
 use Rattle.mn_text.specs.Pairs.{pair_text, by_as_text, by_address_text, pair_of, as_pair, address_pair, typed, or_else}
-
-own : IsNumeralModel (λ ds. list_all is_ascii_digit ds ≡ true) (digits_value 10)
-own = numerals_by_value _ (search rules)
+use Rattle.mn_text.proofs.Again.{own}
 
 begun : (w : List ℕ) → begins_well w ≡ true → (0 < length w) × (get_or w 0 0 ≡ 48 → length w ≡ 1)
 begun [] h = cc
@@ -34,7 +31,7 @@ number_only w n h e fits =
     let small : digits_value 10 w < 2 ^ 64 = omega (arith, e, fits) in
     sym (decimal-digits_value own w form.1 start.0 start.1 small) ∙ ap decimal (sym e)
 
-up_to_parts : (a b : Bool) (v n : ℕ) → ◌≡◌ {A = Option ℕ} (if a && b then Some v else None) (Some n) → (a ≡ true) × (b ≡ true) × (v ≡ n)
+pub up_to_parts : (a b : Bool) (v n : ℕ) → ◌≡◌ {A = Option ℕ} (if a && b then Some v else None) (Some n) → (a ≡ true) × (b ≡ true) × (v ≡ n)
 up_to_parts true true v n h = (refl, refl, cc)
 up_to_parts true false v n h = cc
 up_to_parts false b v n h = cc
@@ -61,7 +58,7 @@ cut_only byte w front back h =
     sym (take-append-drop i w) ∙ rw (drop-cons w i 0 inside) (cc (p.1, p.2, there, ap (λ n. drop n w) (add-one i)))
 
 -- 3. Chains of optional steps
-bind_parts : {A B : Type 0} (f : A → Option B) (o : Option A) (y : B) → option_and_then f o ≡ Some y → (x : A) × (o ≡ Some x) × (f x ≡ Some y)
+pub bind_parts : {A B : Type 0} (f : A → Option B) (o : Option A) (y : B) → option_and_then f o ≡ Some y → (x : A) × (o ≡ Some x) × (f x ≡ Some y)
 bind_parts f None y h = cc
 bind_parts f (Some x) y h = (x, refl, h)
 

@@ -1,5 +1,5 @@
 -- The prefixes that are read have no bit set past their length.
-use Rattle.std.proofs.Common.{◌≡◌, ◌<◌, ◌≤◌, ◌+◌, ◌-◌, ◌*◌, ◌^◌, ◌%◌, ◌==◌, ℕ, arith, Bool, true, false, ◌&&◌, nat_le, nat_lt, if◌then◌else◌, List, [], ◌∷◌, ◌++◌, length, map, Option, Some, None, unwrap_or, option_and_then, codes, Ok, Err, refl, ap, ◌∙◌, subst}
+use Rattle.std.proofs.Common.{◌≡◌, ◌<◌, ◌≤◌, ◌+◌, ◌-◌, ◌*◌, ◌^◌, ◌%◌, ◌==◌, ℕ, arith, Bool, true, false, ◌&&◌, nat_le, nat_lt, if◌then◌else◌, List, [], ◌∷◌, ◌++◌, length, Option, Some, None, unwrap_or, codes, Ok, Err, refl, subst}
 use Rattle.std.specs.List.{list_all}
 use Rattle.std.specs.Result.{result_ok}
 use Rattle.std.proofs.lemmas.Bool.Decides.{nat_tests}
@@ -11,12 +11,14 @@ use Rattle.toml.specs.Data.{Data, Items, no_items, item, Members, as_str}
 use Rattle.mn_prefix.specs.Prefix.{AddressBlock, IsPrefix}
 use Rattle.mn_text.specs.Numbers.{is_number, number_up_to}
 use Rattle.std.specs.Option.{option_map_or}
+use Rattle.mn_base.proofs.Bools.{and_on, at_most_is, less_is}
 use Rattle.mn_text.specs.declared.refusal.TextBad.TheVariants.{BadPrefix, HostBits}
 use Rattle.mn_text.specs.Addresses.{cut, address_of, slashed_of, without_host_bits}
 use Rattle.mn_topo.specs.SiteTable.{Static, in_vrf, is_lawful_prefix}
 use Rattle.mn_topo.specs.Sites.{prefix_in, prefixes_from, prefixes_at, prefixes_of}
 use Rattle.mn_topo.specs.Tables.{array_at}
 use Rattle.mn_topo.proofs.LawfulEntries.{all_push}
+use Rattle.mn_text.proofs.Only.{bind_parts}
 
 -- 1. The test tells
 
@@ -26,28 +28,15 @@ prefix_is p h =
     let both = and_parts (nat_lt p.address (2 ^ 32)) (nat_le p.length 32) front.0 in
     record { fits = grind (arith, nat_tests, both.0); short = grind (arith, nat_tests, both.1); clear = grind (arith, nat_tests, front.1) }
 
-and_is : (a b : Bool) → a ≡ true → b ≡ true → (a && b) ≡ true
-and_is a b h g = ap (λ x. x && b) h ∙ g
-
-below_is : (m n : ℕ) → m < n → nat_lt m n ≡ true
-below_is m n h = grind (arith, nat_tests, h)
-
-most_is : (m n : ℕ) → m ≤ n → nat_le m n ≡ true
-most_is m n h = grind (arith, nat_tests, h)
-
 passes : (p : AddressBlock) → p.address < 2 ^ 32 → p.length ≤ 32 → (p.address % 2 ^ (32 - p.length) == 0) ≡ true → is_lawful_prefix p ≡ true
 passes p fits short clear =
-    and_is (nat_lt p.address (2 ^ 32) && nat_le p.length 32) (p.address % 2 ^ (32 - p.length) == 0)
-    (and_is (nat_lt p.address (2 ^ 32)) (nat_le p.length 32) (below_is p.address (2 ^ 32) fits) (most_is p.length 32 short)) clear
+    and_on (nat_lt p.address (2 ^ 32) && nat_le p.length 32) (p.address % 2 ^ (32 - p.length) == 0)
+    (and_on (nat_lt p.address (2 ^ 32)) (nat_le p.length 32) (less_is p.address (2 ^ 32) fits) (at_most_is p.length 32 short)) clear
 
 pub is_lawful : (p : AddressBlock) → IsPrefix p.address p.length → is_lawful_prefix p ≡ true
 is_lawful p h = passes p h.fits h.short (grind (arith, nat_tests, h.clear))
 
 -- 2. What is read
-
-bind_parts : {A B : Type 0} (f : A → Option B) (o : Option A) (y : B) → option_and_then f o ≡ Some y → (x : A) × (o ≡ Some x) × (f x ≡ Some y)
-bind_parts f None y h = cc
-bind_parts f (Some x) y h = (x, refl, h)
 
 at_most : (a b : Bool) (v n : ℕ) → ◌≡◌ {A = Option ℕ} (if a && b then Some v else None) (Some n) → (b ≡ true) × (v ≡ n)
 at_most true true v n h = (refl, cc)
@@ -111,7 +100,7 @@ entry_lawful entry = some_lawful (prefixes_at entry) (λ ps e. let q = bind_part
 
 in_vrf_lawful : (v : ℕ) (ps : List AddressBlock) → list_all is_lawful_prefix ps ≡ true → list_all (λ (static : Static). is_lawful_prefix static.1) (in_vrf v ps) ≡ true
 in_vrf_lawful v [] h = refl
-in_vrf_lawful v (p ∷ ps) h = let q = and_parts (is_lawful_prefix p) (list_all is_lawful_prefix ps) h in and_is (is_lawful_prefix p) _ q.0 (in_vrf_lawful v ps q.1)
+in_vrf_lawful v (p ∷ ps) h = let q = and_parts (is_lawful_prefix p) (list_all is_lawful_prefix ps) h in and_on (is_lawful_prefix p) _ q.0 (in_vrf_lawful v ps q.1)
 
 pub statics_lawful : (statics : List Static) (v : ℕ) (entry : Members) → list_all (λ (static : Static). is_lawful_prefix static.1) statics ≡ true → list_all (λ (static : Static). is_lawful_prefix static.1) (statics ++ in_vrf v (prefixes_of entry)) ≡ true
 statics_lawful statics v entry h = rw (list_all-append (λ (static : Static). is_lawful_prefix static.1) statics (in_vrf v (prefixes_of entry)), h, in_vrf_lawful v (prefixes_of entry) (entry_lawful entry)) refl

@@ -9,7 +9,7 @@ use Rattle.mn_topo.specs.Links.{joins}
 use Rattle.mn_topo.specs.Lawful.{AreLinks, joins_two_of}
 
 -- what each of a list passes, one of them passes
-passes_at : {A : Type 0} (test : A → Bool) (xs : List A) (i : ℕ) (d : A) → list_all test xs ≡ true → i < length xs → test (slice_index_or xs i d) ≡ true
+pub passes_at : {A : Type 0} (test : A → Bool) (xs : List A) (i : ℕ) (d : A) → list_all test xs ≡ true → i < length xs → test (slice_index_or xs i d) ≡ true
 passes_at test [] i d h below = absurd (omega arith)
 passes_at test (x ∷ xs) zero d h below = (and_parts (test x) (list_all test xs) h).0
 passes_at test (x ∷ xs) (suc i) d h below = passes_at test xs i d (and_parts (test x) (list_all test xs) h).1 (omega arith)

@@ -1,14 +1,12 @@
 -- Numbers and their bytes.
-use Rattle.std.proofs.Common.{◌≡◌, ◌≤◌, ◌<◌, ◌+◌, ◌-◌, ◌*◌, ◌/◌, ◌%◌, ◌^◌, ℕ, zero, suc, List, [], ◌∷◌, length, take, drop, get_or, refl, ap, sym, ◌∙◌, arith}
+use Rattle.std.proofs.Common.{◌≡◌, ◌<◌, ◌-◌, ◌/◌, ◌%◌, ◌^◌, ℕ, zero, suc, [], ◌∷◌, refl, arith}
 use Rattle.std.specs.Int.{from_be_bytes, w64}
 use Rattle.std.proofs.lemmas.Nat.{be_bytes_8}
 use Rattle.byteorder.specs.Endian.{big_bytes, big_number}
 use Rattle.mn_vpn_nlri.specs.Reading.{IsBytes}
+use Rattle.mn_prefix.proofs.PrefixBytes.{three}
 
 -- three bytes and eight are the bytes of their number
-
-three : {a b c p q r : ℕ} → p ≡ a → q ≡ b → r ≡ c → p ∷ q ∷ r ∷ [] ≡ a ∷ b ∷ c ∷ []
-three {a} {b} {c} {p} {q} {r} first second third = cc
 
 pub number-three : (a b c : ℕ) → a < 256 → b < 256 → c < 256 → big_bytes 3 (big_number 3 (a ∷ b ∷ c ∷ [])) ≡ a ∷ b ∷ c ∷ []
 number-three a b c ha hb hc =

@@ -4,10 +4,10 @@ use Rattle.std.specs.Prelude.{nat_lt, not, ◌||◌, ◌≢◌, slice_range, is_
 use Rattle.std.proofs.lemmas.List.{length-append, length-drop, length-take-le, take_at, take-append-drop}
 use Rattle.std.proofs.Math.Seq.{take-add, take-append-add}
 use Rattle.std.proofs.lemmas.Bool.Decides.{nat_tests}
+use Rattle.mn_base.proofs.Bools.{not_false, or_off}
 use Rattle.byteorder.specs.Endian.{big_bytes, big_number}
 use Rattle.byteorder.specs.Numbers.{big_number-reads_back, big_from-lt}
 use Rattle.mn_base.specs.Numbers.{has_rd_form}
-use Rattle.mn_prefix.specs.Prefix.{AddressBlock}
 use Rattle.mn_vpn_nlri.specs.declared.message.VpnRoute.{VpnRoute}
 use Rattle.mn_vpn_nlri.specs.declared.refusal.NlriBad.{NlriBad}
 use Rattle.mn_vpn_nlri.specs.declared.refusal.NlriBad.TheVariants.{Short, BadLength, BadRd, HostBits, NoMemory}
@@ -122,20 +122,11 @@ pub record IsRead (bytes : List ℕ) (route : VpnRoute) (size : ℕ) : Type 0 wh
   pub route_is : vpn_route_of bytes ≡ route
   pub size_is : size_of bytes ≡ size
 
-not_false : (b : Bool) → not b ≡ false → b ≡ true
-not_false true e = refl
-not_false false e = cc
-
-neither : (a b : Bool) → (a || b) ≡ false → (a ≡ false) × (b ≡ false)
-neither true b e = cc
-neither false true e = cc
-neither false false e = (refl, refl)
-
 pub is_read : (bytes : List ℕ) (route : VpnRoute) (size : ℕ) → route_at bytes ≡ Ok (route, size) → IsRead bytes route size
 unfolding route_at
 is_read bytes route size e =
     let p = passes (vpn_route_of bytes, size_of bytes) (route, size) (length bytes == 0) (nat_lt (bits_of bytes) bits_before_prefix || nat_lt (bits_before_prefix + 32) (bits_of bytes)) (nat_lt (length bytes) (size_of bytes)) (not (has_rd_form (rd_of bytes))) (has_host_bits (prefix_address_of bytes) (prefix_length_of bytes)) e in
-    let lengths = neither (nat_lt (bits_of bytes) bits_before_prefix) (nat_lt (bits_before_prefix + 32) (bits_of bytes)) p.1 in
+    let lengths = or_off (nat_lt (bits_of bytes) bits_before_prefix) (nat_lt (bits_before_prefix + 32) (bits_of bytes)) p.1 in
     record {
       low = grind (arith, nat_tests, lengths.0);
       high = grind (arith, nat_tests, lengths.1);

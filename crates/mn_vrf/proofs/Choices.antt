@@ -1,20 +1,14 @@
 -- What is chosen route by route is the first of those of the longest prefix.
-use Rattle.std.proofs.Common.{ℕ, ◌≡◌, ◌⊎◌, inl, inr, Bool, true, false, cond, List, [], ◌∷◌, filter, refl, arith, sym, ◌∙◌, ap, Option, Some, None}
+use Rattle.std.proofs.Common.{ℕ, ◌≡◌, Bool, true, false, cond, List, [], ◌∷◌, filter, refl, arith, sym, ◌∙◌, ap, Option, Some, None}
 use Rattle.std.specs.Prelude.{◌&&◌, nat_lt, nat_le, fold, if◌then◌else◌}
 use Rattle.std.specs.List.{list_all}
 use Rattle.std.proofs.lemmas.Bool.Decides.{nat_tests}
+use Rattle.mn_base.proofs.Bools.{and_left, and_right, no}
 use Rattle.mn_prefix.specs.Prefix.{AddressBlock, contains}
 use Rattle.mn_prefix.specs.Longest.{is_longest}
 use Rattle.mn_prefix.specs.Table.{first_of, longest_match}
 use Rattle.mn_vrf.specs.declared.source.Source.{Source}
 use Rattle.mn_vrf.specs.Routes.{chosen}
-
-no : false ≡ true → ⊥
-no e = cc
-
-two_ways : (b : Bool) → (b ≡ true) ⊎ (b ≡ false)
-two_ways true = inl refl
-two_ways false = inr refl
 
 Route : Type 0
 Route = AddressBlock × Source
@@ -39,14 +33,6 @@ and_wider : (a b : Bool) → (b ≡ true → a ≡ true) → (a && b) ≡ b
 and_wider true b h = refl
 and_wider false true h = h refl
 and_wider false false h = refl
-
-and_first : (a b : Bool) → (a && b) ≡ true → a ≡ true
-and_first true b h = refl
-and_first false b h = absurd (no h)
-
-and_second : (a b : Bool) → (a && b) ≡ true → b ≡ true
-and_second true b h = h
-and_second false b h = absurd (no h)
 
 less_then : (a b x : ℕ) → nat_lt a b ≡ true → nat_le b x ≡ true → nat_le a x ≡ true
 less_then a b x h g = grind (arith, nat_tests, h, g)
@@ -79,7 +65,7 @@ is_picked best (route ∷ found) = split (nat_lt best.0.length route.0.length) r
         → first_longest (best ∷ route ∷ found) ≡ Some (picked (if b then route else best) found)
     split true e _ more =
         ap (λ b. first_of (cond b (best ∷ filter with_three (route ∷ found)) (filter with_three (route ∷ found)))) (and_off (nat_le best.0.length best.0.length) (nat_le route.0.length best.0.length) (all_of best) (not_longest best.0.length route.0.length e))
-        ∙ ap first_of (filter_alike with_three (λ x. nat_le route.0.length x.0.length && all_of x) (route ∷ found) (λ x. and_wider (nat_le best.0.length x.0.length) (nat_le route.0.length x.0.length && all_of x) (λ h. less_then best.0.length route.0.length x.0.length e (and_first (nat_le route.0.length x.0.length) (all_of x) h))))
+        ∙ ap first_of (filter_alike with_three (λ x. nat_le route.0.length x.0.length && all_of x) (route ∷ found) (λ x. and_wider (nat_le best.0.length x.0.length) (nat_le route.0.length x.0.length && all_of x) (λ h. less_then best.0.length route.0.length x.0.length e (and_left (nat_le route.0.length x.0.length) (all_of x) h))))
         ∙ more
     split false e more _ =
         ap first_of (filter_alike with_three two (best ∷ route ∷ found) alike)
@@ -102,11 +88,11 @@ is_picked best (route ∷ found) = split (nat_lt best.0.length route.0.length) r
         without_middle false true f g = absurd (no (sym f ∙ ap (λ c. c && all_of best) (itself best.0.length) ∙ every_one))
           where
             every_one : all_of best ≡ true
-            every_one = shorter found (and_second (nat_le best.0.length route.0.length) (all_of route) g)
+            every_one = shorter found (and_right (nat_le best.0.length route.0.length) (all_of route) g)
               where
                 shorter : (xs : List (AddressBlock × Source)) → list_all (λ (other : AddressBlock × Source). nat_le other.0.length route.0.length) xs ≡ true → list_all (λ (other : AddressBlock × Source). nat_le other.0.length best.0.length) xs ≡ true
                 shorter [] h = refl
-                shorter (y ∷ ys) h = ap (λ c. c && list_all (λ (other : AddressBlock × Source). nat_le other.0.length best.0.length) ys) (not_above (and_first (nat_le y.0.length route.0.length) _ h)) ∙ shorter ys (and_second (nat_le y.0.length route.0.length) _ h)
+                shorter (y ∷ ys) h = ap (λ c. c && list_all (λ (other : AddressBlock × Source). nat_le other.0.length best.0.length) ys) (not_above (and_left (nat_le y.0.length route.0.length) _ h)) ∙ shorter ys (and_right (nat_le y.0.length route.0.length) _ h)
                   where
                     not_above : nat_le y.0.length route.0.length ≡ true → nat_le y.0.length best.0.length ≡ true
                     not_above k = grind (arith, nat_tests, e, k)

@@ -2,9 +2,8 @@
 use Rattle.std.specs.Prelude.{ℕ, ◌==◌, nat_le, Bool, true, false, List, [], ◌∷◌, if◌then◌else◌, Option, Some, None, option_map, Result, Ok, Err, length}
 use Rattle.mn_base.specs.declared.numbers.Rd.{Rd}
 use Rattle.mn_base.specs.declared.numbers.Rt.{Rt}
-use Rattle.mn_prefix.specs.Prefix.{AddressBlock, same_prefix}
+use Rattle.mn_prefix.specs.Prefix.{AddressBlock, same_prefix, prefix_before}
 use Rattle.mn_base.specs.Ordered.{with_one, without_one, one_at}
-use Rattle.mn_rib_in.specs.Heard.{prefix_before}
 use Rattle.mn_targets.specs.Targets.{has_target}
 use Rattle.mn_vrf.specs.declared.source.Source.{Source}
 use Rattle.mn_vrf.specs.declared.refusal.VrfBad.{VrfBad}

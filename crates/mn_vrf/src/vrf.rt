@@ -5,7 +5,7 @@ ghost use Rattle.mn_prefix.specs.Table.{longest_match};
 ghost use Rattle.mn_base.specs.Ordered.{with_one, without_one, one_at};
 ghost use Rattle.mn_targets.specs.Targets.{target_set, has_target};
 ghost use Rattle.mn_vrf.specs.Routes.{route_before, without_route};
-ghost use Rattle.mn_vrf.specs.Vrf.{Holding, with_static, without_static, with_imports, with_exports, add_refused, del_refused, set_refused, refusal_of, heads};
+ghost use Rattle.mn_vrf.specs.Vrf.{Holding, with_static, without_static, with_imports, with_exports, add_refused, del_refused, set_refused, refusal_of, static_of, heads};
 
 use crate::{Routes, Source, StaticRoute, Statics, VrfBad};
 use mn_base::{Rd, Rt, SiteNo, VrfNo};
@@ -79,6 +79,27 @@ impl Vrf {
             statics: Statics::new(alloc),
             imports: Targets::new(alloc),
             exports: Targets::new(alloc),
+            held: Routes::new(alloc),
+        }
+    }
+
+    /// As it was told, without held routes. It takes no memory.
+    pub fn of(
+        alloc: Global,
+        number: VrfNo,
+        rd: Rd,
+        statics: Statics,
+        imports: Targets,
+        exports: Targets,
+    ) -> Vrf
+        ensures { result ≡ record { vrf = record { number = number.0; rd = rd; statics = statics; imports = imports; exports = exports }; held = [] } }
+    {
+        Vrf {
+            number,
+            rd,
+            statics,
+            imports,
+            exports,
             held: Routes::new(alloc),
         }
     }
@@ -191,6 +212,13 @@ impl Vrf {
         ensures { result ≡ slice_get (heads self.now.held) k }
     {
         self.held.held(k)
+    }
+
+    /// The static of a prefix. It takes no memory.
+    pub fn static_of(&self, prefix: Prefix) -> Option<StaticRoute>
+        ensures { result ≡ static_of prefix self.now.vrf.statics }
+    {
+        self.statics.of_prefix(prefix)
     }
 
     /// The static of this number. It takes no memory.
