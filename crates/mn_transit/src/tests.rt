@@ -7,10 +7,11 @@ ghost use Rattle.std.specs.Prelude.{◌≡◌, ◌<◌, ◌≤◌, ◌*◌, leng
 ghost use Rattle.std.specs.List.{All};
 ghost use Rattle.mn_transit.specs.Entering.{HasRoom, OuterFits};
 
-use crate::{Clock, Entered, Transit};
+use crate::{Clock, Transit};
 use mn_base::{Dir, LinkNo, NodeNo, Rule, SiteNo};
 use mn_ledger::Verdict;
 use mn_lfib::Lfib;
+use mn_pe::Entered;
 use mn_stack::Frame;
 use mn_topo::{Topology, read_topology};
 use std::alloc::Global;
