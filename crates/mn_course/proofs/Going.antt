@@ -106,13 +106,14 @@ has_or_else P None b h g = g
 has_or_else P (Some x) b h g = h
 
 module _ (t : Network) (lawful : IsLawful t) (capture : List (List ℕ)) where
-  abbrev IsGood : Past → Type 0
+  abbrev pub IsGood : Past → Type 0
   IsGood past = IsLawfulPast t capture past
 
   -- the item can be delivered now
   pub record CanCome (past : Past) (item : Coming) : Type 0 where
     pub delivered : IsOpen t past.entries (inputs_of capture past.entries) (delivery item)
     pub quiet : packet_at capture (delivery item) ≡ []
+    pub soon : item.due ≤ tick_from 0 past.entries + 1000
 
   can_come : (past : Past) → IsGood past → (kind : Kind) (limit : ℕ) → Has (CanCome past) (coming t past.entries (inputs_of capture past.entries) kind limit)
   can_come past h kind limit =
@@ -123,6 +124,7 @@ module _ (t : Network) (lawful : IsLawful t) (capture : List (List ℕ)) where
       by (Some item) g = record {
         delivered = g.delivered;
         quiet = ap (λ s. packet_at capture (lost item.lossy s)) g.step ∙ injects_nothing capture t g.item.on item.lossy;
+        soon = g.soon;
       }
 
   pub next_can_come : (arrivals : Arrivals) (past : Past) → IsGood past → Has (CanCome past) (next_now t capture arrivals past)
@@ -183,14 +185,14 @@ module _ (t : Network) (lawful : IsLawful t) (capture : List (List ℕ)) where
       (ap (refusal_now t capture past (delivery item)) c.quiet ∙ c.delivered.refused ∙ unrefused (is_full past) cause.TooManySteps room)
 
   on_its_tick : (tick : ℕ) (past : Past) (item : Coming) → CanCome past item → CanCome (on_to tick past) item
-  on_its_tick tick past item c = record { delivered = c.delivered; quiet = c.quiet }
+  on_its_tick tick past item c = record { delivered = c.delivered; quiet = c.quiet; soon = c.soon }
 
-  arrived_goes : (arrivals : Arrivals) (past : Past) (item : Coming) → IsGood past → CanCome past item → is_full past ≡ false → IsGood (arrived arrivals past item)
+  pub arrived_goes : (arrivals : Arrivals) (past : Past) (item : Coming) → IsGood past → CanCome past item → is_full past ≡ false → IsGood (arrived arrivals past item)
   arrived_goes News past item h c room = arrives past item h c room
   arrived_goes (DueBy end) past item h c room = arrives (on_to item.due past) item (time_passes item.due past h) (on_its_tick item.due past item c) room
   arrived_goes AllFrames past item h c room = arrives (on_to item.due past) item (time_passes item.due past h) (on_its_tick item.due past item c) room
 
-  deliver_goes : (arrivals : Arrivals) (most : ℕ) (past : Past) → IsGood past → IsGood (deliver t capture arrivals most past).past
+  pub deliver_goes : (arrivals : Arrivals) (most : ℕ) (past : Past) → IsGood past → IsGood (deliver t capture arrivals most past).past
   deliver_goes arrivals zero past h = h
   deliver_goes arrivals (suc more) past h =
       by (is_full past) (next_now t capture arrivals past) refl (next_can_come arrivals past h) (λ later g. deliver_goes arrivals more later g)
