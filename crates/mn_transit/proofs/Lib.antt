@@ -9,3 +9,4 @@ pub mod Bytes
 pub mod Counts
 pub mod Counting
 pub mod Labelled
+pub mod Numbers

@@ -1,21 +1,13 @@
--- What an edge's answer on a packet that enters stands for.
+-- What goes with an edge's answer on a packet that enters: the way out, and what the frame has room for.
 use Rattle.std.specs.Prelude.{◌≡◌, ◌<◌, ◌^◌, ℕ, List, length, Option, Some, None, ⊤}
 use Rattle.mn_base.specs.declared.numbers.NodeNo.{NodeNo}
 use Rattle.mn_stack.specs.Labelled.{Labelled}
 use Rattle.mn_topo.specs.Network.{Network}
 use Rattle.mn_ledger.specs.World.{World}
-use Rattle.mn_ledger.specs.Vpn.{HeldRoute}
 use Rattle.mn_frames.specs.Given.{Labelling}
-use Rattle.mn_frames.specs.Entries.{fate, Falls, Stays, Leaves, IsPushed, IsAged, outer_for}
-use Rattle.mn_transit.specs.declared.entered.Entered.{Entered}
-use Rattle.mn_transit.specs.declared.entered.Entered.TheVariants.{Drop, Local, Tunnel}
-
--- the answer is the packet's fate
-abbrev pub IsEntered : Network → Labelling → World → ℕ → List ℕ → Entered → Type 0
-IsEntered topology given world s bytes (Drop cause) = fate topology world s bytes ≡ Falls cause
-IsEntered topology given world s bytes (Local site frame) = (fate topology world s bytes ≡ Stays site.0) × IsAged bytes frame
-IsEntered topology given world s bytes (Tunnel edge frame) =
-    (route : HeldRoute) × (fate topology world s bytes ≡ Leaves route) × (route.edge ≡ edge.0) × IsPushed topology given route bytes frame
+use Rattle.mn_frames.specs.Entries.{outer_for}
+use Rattle.mn_pe.specs.declared.entering.Entered.{Entered}
+use Rattle.mn_pe.specs.declared.entering.Entered.TheVariants.{Tunnel}
 
 -- what the edge's node says of the way to another edge
 abbrev pub IsWayOut : Network → Labelling → World → ℕ → Entered → Option (NodeNo × Option ℕ) → Type 0

@@ -13,17 +13,18 @@ ghost use Rattle.mn_ledger.specs.World.{World};
 ghost use Rattle.mn_frames.specs.Departures.{with_outer};
 ghost use Rattle.mn_frames.specs.Entries.{IsPushed, outer_for};
 ghost use Rattle.mn_frames.specs.Given.{Labelling};
-ghost use Rattle.mn_transit.specs.Entering.{IsEntered, IsWayOut, HasRoom, IsLabel, OuterFits, IfTunnel, size_of};
+ghost use Rattle.mn_pe.specs.Entries.{IsItsFate};
+ghost use Rattle.mn_transit.specs.Entering.{IsWayOut, HasRoom, IsLabel, OuterFits, IfTunnel, size_of};
 ghost use Rattle.mn_transit.specs.Moving.{bytes_in, HoldsHops, CountsOn};
 ghost use Rattle.mn_transit.specs.Stands.{StandsFor, Makes};
 ghost use Rattle.mn_transit.specs.Visits.{path_of};
 
-use crate::entered::Entered;
 use crate::flown::Flown;
 use crate::transit::{Clock, Transit};
 use mn_base::{NodeNo, Rule, SiteNo};
 use mn_ipv4::check;
 use mn_ledger::Verdict;
+use mn_pe::Entered;
 use mn_stack::Frame;
 use mn_topo::Topology;
 use std::alloc::{AllocError, Global};
@@ -130,7 +131,7 @@ impl Transit {
         requires room { HasRoom entered }
         requires label { OuterFits outer }
         ensures moved { OnOk result ((given : Labelling) (world : World) (packets : Packets) (site : SiteNo) (number : ℕ) (bytes : List ℕ) →
-            node.0 ≡ home_of topology.now site.0 → IsEntered topology.now given world site.0 bytes entered → IsWayOut topology.now given world node.0 entered outer →
+            node.0 ≡ home_of topology.now site.0 → IsItsFate topology.now given world site.0 bytes entered → IsWayOut topology.now given world node.0 entered outer →
             StandsFor topology.now given self.old packets →
             StandsFor topology.now given self.new (packets_after topology.now world packets (Step.Inject site number) bytes)) }
         ensures made { IfOk result (λ made. Makes topology.now clock.tick clock.number self.old.flying self.new.flying made) }

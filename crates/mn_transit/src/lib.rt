@@ -17,7 +17,6 @@
 //! TTL lets it come to. So nothing but `inject` can want memory.
 //!
 //! - `flown`, `path`: a frame in flight, and where a packet was
-//! - `entered`: what an edge says of a packet that enters
 //! - `ends`: the directions of links
 //! - `transit`: what is kept, and one call for each thing that may become of a packet
 //! - `entry`, `arrival`, `loss`: the steps that move packets; `tell`: what became of them
@@ -28,16 +27,16 @@
 
 mod arrival;
 mod ends;
-mod entered;
 mod entry;
 mod flown;
 mod laws;
 mod loss;
 mod path;
 mod tell;
+#[cfg(test)]
+mod tests;
 mod transit;
 
-pub use entered::Entered;
 pub use flown::Flown;
 pub use laws::stands_as_labels_are_given;
 pub use transit::{Clock, Transit};

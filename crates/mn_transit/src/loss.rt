@@ -41,11 +41,11 @@ impl Transit {
         ensures left { self.new.flying ≡ off_channel (channel link.0 dir) self.old.flying }
         ensures counts { CountsOn self.old self.new 0 0 0 }
     {
-        let node = sender(topology, link, dir);
+        let from = sender(topology, link, dir);
         let at = channel_of(link, dir);
         'frames: while let Some(taken) = self.take(at, 0) {
             let rule = Rule::LinkCut;
-            self.judge(taken.item.packet, Verdict::Dropped { rule, node });
+            self.judge(taken.item.packet, Verdict::Dropped { rule, node: from });
         }
     }
 

@@ -27,9 +27,9 @@ impl Path {
     pub fn starting(alloc: Global, node: NodeNo, room: u8) -> Result<Path, AllocError>
         ensures { IfOk result (λ path. path ≡ record { nodes = node ∷ []; room = room }) }
     {
-        let mut nodes = Vec::with_capacity(alloc, 1 + usize::from(room))?;
-        nodes.push_reserved(node);
-        Ok(Path { nodes })
+        let mut visited = Vec::with_capacity(alloc, 1 + usize::from(room))?;
+        visited.push_reserved(node);
+        Ok(Path { nodes: visited })
     }
 
     /// The packet is at one node more. It takes no memory.

@@ -86,9 +86,16 @@ impl Model for Transit {
 impl Transit {
     /// No packet, on the links of a topology.
     pub fn new(alloc: Global, topology: &Topology) -> Result<Transit, AllocError>
-        ensures channels { IfOk result (λ transit. transit.channels ≡ 2 * length topology.now.links) }
-        ensures empty { IfOk result (λ transit. transit.flying ≡ []) }
-        ensures works { IfOk result (λ transit. transit.failed ≡ false) }
+        ensures new { IfOk result (λ transit. transit ≡ record {
+          verdicts = [];
+          paths = [];
+          copies = 0;
+          delivered = None;
+          flying = [];
+          spare = transit.spare;
+          channels = 2 * length topology.now.links;
+          failed = false;
+        }) }
         ensures stands { IfOk result (λ transit. (given : Labelling) → StandsFor topology.now given transit no_packets) }
     {
         topology.laws();

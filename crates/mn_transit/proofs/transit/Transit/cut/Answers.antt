@@ -16,7 +16,7 @@ frames-preserved c = record {
   topology = refl;
   cuts = λ given packets stands.
       let before = c.frames.invariant.cuts given packets stands in
-      let step = cuts_first _ given _ _ _ before.0 _ c.args.link c.args.dir c.sender-node.result c.in-Some.taken c.frames.invariant.at c.frames.invariant.node
+      let step = cuts_first _ given _ _ _ before.0 _ c.args.link c.args.dir c.sender-from.result c.in-Some.taken c.frames.invariant.at c.frames.invariant.node
       (record { found = c.in-Some.ensures.taken; left = c.in-Some.ensures.left; flight = c.take.ensures.flight }) c.judge.ensures before.1 in
       (step.0, step.1, step.2 ∙ before.2);
   left =
