@@ -1,3 +1,4 @@
+pub mod Numbers
 pub mod News
 pub mod Going
 pub mod Counted

@@ -6,7 +6,8 @@ use Rattle.std.proofs.lemmas.List.{length-map, length-append}
 use Rattle.mn_base.specs.Wiring.{receiver}
 use Rattle.mn_base.specs.declared.links.Dir.{Dir}
 use Rattle.mn_flight.specs.declared.Item.{Item as ItemOf}
-use Rattle.mn_flight.specs.Flying.{IsFlight, on_channel, without}
+use Rattle.mn_timetable.proofs.Taking.{Ascends}
+use Rattle.mn_flight.specs.Flying.{on_channel, without}
 use Rattle.mn_topo.specs.Network.{Network, wiring_of}
 use Rattle.mn_topo.specs.Lawful.{IsLawful}
 use Rattle.mn_topo.specs.declared.steps.Step.{Step}
@@ -108,8 +109,8 @@ frames_quiet t es tick s b ps old new h none left =
     ∙ sym (ap (λ (x : Flight). keys_on of_frames x.items) (flight_more t es tick s b ps h.each))
 
 -- to take the item of a place is to take that place's key
-pub taken_keys : (channels c n : ℕ) (xs : List (ItemOf Flown)) → IsFlight channels xs → n < length (on_channel c xs) → keys_in (without (slice_get (on_channel c xs) n) xs) ≡ key_without c n (keys_in xs)
-taken_keys channels c n xs flight there = by (slice_get (on_channel c xs) n) refl
+pub taken_keys : (c n : ℕ) (xs : List (ItemOf Flown)) → Ascends xs → n < length (on_channel c xs) → keys_in (without (slice_get (on_channel c xs) n) xs) ≡ key_without c n (keys_in xs)
+taken_keys c n xs up there = by (slice_get (on_channel c xs) n) refl
   where
     by : (o : Option (ItemOf Flown)) → slice_get (on_channel c xs) n ≡ o → keys_in (without o xs) ≡ key_without c n (keys_in xs)
     by None e = absurd (lack n (on_channel c xs) there e)
@@ -118,4 +119,4 @@ taken_keys channels c n xs flight there = by (slice_get (on_channel c xs) n) ref
         lack n [] h e = omega (arith, h)
         lack zero (y ∷ ys) h e = cc
         lack (suc n) (y ∷ ys) h e = lack n ys (omega (arith, h)) e
-    by (Some x) e = key_taken c xs n x flight.ascending e
+    by (Some x) e = key_taken c xs n x up e

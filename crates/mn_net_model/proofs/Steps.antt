@@ -7,7 +7,7 @@ use Rattle.mn_base.specs.declared.links.Dir.TheVariants.{Forth, Back}
 use Rattle.mn_base.specs.declared.numbers.LinkNo.{LinkNo}
 use Rattle.mn_base.specs.declared.numbers.SiteNo.{SiteNo}
 use Rattle.mn_flight.specs.declared.Item.{Item as ItemOf}
-use Rattle.mn_flight.specs.Flying.{IsFlight, on_channel, off_channel, without}
+use Rattle.mn_flight.specs.Flying.{on_channel, off_channel, without}
 use Rattle.mn_topo.specs.Network.{Network}
 use Rattle.mn_topo.specs.declared.steps.Step.{Step}
 use Rattle.mn_topo.specs.declared.steps.Step.TheVariants.{Carry, Lose, Inject, LinkDown}
@@ -23,13 +23,14 @@ use Rattle.mn_transit.specs.Moving.{Moving}
 use Rattle.mn_transit.specs.Stands as transit
 use Rattle.mn_transit.specs.Stands.{Makes}
 use Rattle.mn_transit.proofs.Standing.{stands_begun}
-use Rattle.mn_timetable.specs.Keys.{Key, keys_in, keys_on, keys_by, of_notices, of_messages, of_routes, frames_leave, notices_leave, messages_leave, routes_leave}
+use Rattle.mn_timetable.specs.Keys.{Key, keys_in, keys_on, keys_by, of_notices, of_messages, of_routes, of_frames, frames_leave, notices_leave, messages_leave, routes_leave}
 use Rattle.mn_timetable.specs.Steps.{pushed, later_world, messages_now, routes_now}
 use Rattle.mn_ledger.specs.OneMore.{with_packet}
 use Rattle.mn_net_model.specs.Stands.{Packed, StandsFor}
 use Rattle.mn_net_model.specs.Stepped.{MayStep, later_packets}
 use Rattle.mn_timetable.proofs.Made.{one_frame}
 use Rattle.mn_timetable.proofs.Keys.{keys_dropped}
+use Rattle.mn_net_model.proofs.Numbers.{flight_ascends}
 use Rattle.mn_net_model.proofs.Going.{goes_on, labelled_more}
 use Rattle.mn_net_model.proofs.Moved.{frames_counted, made_counted, frames_quiet, taken_keys}
 
@@ -45,18 +46,18 @@ still keys = sym (append-nil keys)
 
 -- 1. A packet is carried: `Transit::carry`
 
-pub carried : (t : Network) (es : List JournalEntry) (tick : ℕ) (l : LinkNo) (dir : Dir) (place : ℕ) (b : List ℕ) (ps : List (List ℕ)) (old : Packed) (moving : Moving) (channels : ℕ) (made : Bool) →
+pub carried : (t : Network) (es : List JournalEntry) (tick : ℕ) (l : LinkNo) (dir : Dir) (place : ℕ) (b : List ℕ) (ps : List (List ℕ)) (old : Packed) (moving : Moving) (made : Bool) →
     StandsFor t es old ps → MayStep t es tick (Carry l dir place) b ps →
-    IsFlight channels old.moving.flying → place < length (on_channel (channel l.0 dir) old.moving.flying) →
+    place < length (on_channel (channel l.0 dir) old.moving.flying) →
     transit.StandsFor t (given t (pushed es tick (Carry l dir place))) moving (later_packets t es ps (Carry l dir place) b) →
     Makes t tick old.made (without (slice_get (on_channel (channel l.0 dir) old.moving.flying) place) old.moving.flying) moving.flying made →
     StandsFor t (pushed es tick (Carry l dir place)) (moved_on old moving (one_if made)) ps
-carried t es tick l dir place b ps old moving channels made h may flight there moved makes =
+carried t es tick l dir place b ps old moving made h may there moved makes =
     let s : Step = Carry l dir place in
     let before : List (ItemOf Flown) = without (slice_get (on_channel (channel l.0 dir) old.moving.flying) place) old.moving.flying in
     let new : Packed = moved_on old moving (one_if made) in
     let one = one_frame (packets_of t es ps) (later_packets t es ps s b) s in
-    let left = taken_keys channels (channel l.0 dir) place old.moving.flying flight there in
+    let left = taken_keys (channel l.0 dir) place old.moving.flying (flight_ascends of_frames t es ps old.moving.flying h.frames) there in
     let frames = frames_counted t es tick s b ps old new before made h may moved one left makes in
     goes_on t es tick s b ps old new h may (record {
       packets = moved;
@@ -90,13 +91,13 @@ injected t es tick site number b ps old moving made h may moved makes =
 
 -- 3. A packet is lost: `Transit::lose`
 
-pub lost : (t : Network) (es : List JournalEntry) (tick : ℕ) (l : LinkNo) (dir : Dir) (place : ℕ) (b : List ℕ) (ps : List (List ℕ)) (old : Packed) (moving : Moving) (channels : ℕ) →
+pub lost : (t : Network) (es : List JournalEntry) (tick : ℕ) (l : LinkNo) (dir : Dir) (place : ℕ) (b : List ℕ) (ps : List (List ℕ)) (old : Packed) (moving : Moving) →
     StandsFor t es old ps → MayStep t es tick (Lose l dir place) b ps →
-    IsFlight channels old.moving.flying → place < length (on_channel (channel l.0 dir) old.moving.flying) →
+    place < length (on_channel (channel l.0 dir) old.moving.flying) →
     transit.StandsFor t (given t (pushed es tick (Lose l dir place))) moving (later_packets t es ps (Lose l dir place) b) →
     moving.flying ≡ without (slice_get (on_channel (channel l.0 dir) old.moving.flying) place) old.moving.flying →
     StandsFor t (pushed es tick (Lose l dir place)) (moved_on old moving 0) ps
-lost t es tick l dir place b ps old moving channels h may flight there moved left =
+lost t es tick l dir place b ps old moving h may there moved left =
     let s : Step = Lose l dir place in
     let new : Packed = moved_on old moving 0 in
     goes_on t es tick s b ps old new h may (record {
@@ -105,7 +106,7 @@ lost t es tick l dir place b ps old moving channels h may flight there moved lef
       notices = still old.notices;
       messages = still old.messages;
       routes = still old.routes;
-      frames = frames_quiet t es tick s b ps old new h (λ w v. refl) (ap keys_in left ∙ taken_keys channels (channel l.0 dir) place old.moving.flying flight there);
+      frames = frames_quiet t es tick s b ps old new h (λ w v. refl) (ap keys_in left ∙ taken_keys (channel l.0 dir) place old.moving.flying (flight_ascends of_frames t es ps old.moving.flying h.frames) there);
     })
 
 -- 4. What the messages' parts say of a step: what has left their flights, what was put into them, and how much that was
