@@ -1,0 +1,17 @@
+pub mod Tables
+pub mod Hearing
+pub mod Steps
+pub mod Sessions
+pub mod Attaching
+pub mod Removing
+pub mod KeptOrder
+pub mod Present
+pub mod Exports
+pub mod Lookup
+pub mod Believed
+pub mod Holding
+pub mod OneVrf
+pub mod Told
+pub mod Lawful
+pub mod Whole
+pub mod Parts

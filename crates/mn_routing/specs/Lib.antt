@@ -1,0 +1,5 @@
+pub mod Standing
+pub mod Sources
+pub mod Touched
+pub mod Whole
+pub mod Laws

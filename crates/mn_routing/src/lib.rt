@@ -1,0 +1,6 @@
+//! The routes of a network: its edges, the sessions between them, and what they tell each other.
+#![tactic(auto)]
+
+mod laws;
+
+pub use laws::an_edge_stands_for_the_ledger;
