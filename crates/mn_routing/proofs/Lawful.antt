@@ -233,7 +233,7 @@ and_second : (a b : Bool) → (a && b) ≡ true → b ≡ true
 and_second true b h = h
 and_second false b h = absurd (no h)
 
-below_of : (nodes node : ℕ) (vrfs : List VrfDef) → list_all (is_vrf_of nodes) vrfs ≡ true → is_edge vrfs node ≡ true → node < nodes
+pub below_of : (nodes node : ℕ) (vrfs : List VrfDef) → list_all (is_vrf_of nodes) vrfs ≡ true → is_edge vrfs node ≡ true → node < nodes
 below_of nodes node [] h g = absurd (no g)
 below_of nodes node (vrf ∷ vrfs) h g = split (node == vrf.node.0) refl (below_of nodes node vrfs (and_second (is_vrf_of nodes vrf) _ h)) g
   where

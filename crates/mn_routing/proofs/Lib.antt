@@ -15,3 +15,4 @@ pub mod Told
 pub mod Lawful
 pub mod Whole
 pub mod Parts
+pub mod GoingOn

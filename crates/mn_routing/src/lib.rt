@@ -3,4 +3,4 @@
 
 mod laws;
 
-pub use laws::an_edge_stands_for_the_ledger;
+pub use laws::{a_step_changes_its_parts, an_edge_stands_for_the_ledger};
