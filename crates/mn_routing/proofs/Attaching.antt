@@ -41,7 +41,8 @@ AgreeOn l m _ = ⊤
 
 same_says : (t : Network) (l m : Labels) (q : ℕ) (x : Telling) → AgreeOn l m x → says_of t l q x ≡ says_of t m q x
 unfolding AgreeOn
-same_says t l m q (Announce e) h = ap (λ label. Some (says_announced (loopback t q) (record { rd = (vrf_at t e.vrf).rd; prefix = e.prefix; label = label }) (as_targets e.targets))) h
+same_says t l m q (Announce e) h = ap (λ label. Some (says_announced (loopback t q) (record { rd = (vrf_at t e.vrf).rd; prefix = e.prefix; label = label })
+    (as_targets e.targets))) h
 same_says t l m q (Unreach v p) h = refl
 same_says t l m q Open h = refl
 same_says t l m q Alive h = refl
@@ -53,8 +54,10 @@ same_fold t l m q heard (x ∷ xs) h =
     ap (λ says. fold (λ heard telling. heard_if heard (says_of t l q telling)) (heard_if heard says) xs) (same_says t l m q x (h x (inl refl)))
     ∙ same_fold t l m q (heard_if heard (says_of t m q x)) xs (λ y i. h y (inr i))
 
-same_heard : (t : Network) (l m : Labels) (c : Config) (p : Peerings) (edge q : ℕ) → ((x : Telling) → In (p.told q edge) x → AgreeOn l m x) → heard_in t l c p edge q ≡ heard_in t m c p edge q
-same_heard t l m c p edge q h = ap (λ xs. if q == edge then [] else if peers_live c edge q then xs else []) (same_fold t l m q [] (heard_of p edge q) (λ x i. h x (in_take (p.heard edge q) (p.told q edge) x i)))
+same_heard : (t : Network) (l m : Labels) (c : Config) (p : Peerings) (edge q : ℕ) → ((x : Telling) → In (p.told q edge) x → AgreeOn l m x) →
+    heard_in t l c p edge q ≡ heard_in t m c p edge q
+same_heard t l m c p edge q h = ap (λ xs. if q == edge then [] else if peers_live c edge q then xs else [])
+    (same_fold t l m q [] (heard_of p edge q) (λ x i. h x (in_take (p.heard edge q) (p.told q edge) x i)))
 
 agrees : (t : Network) (c : Config) (l : Labels) (s : SiteNo) (x : Telling) → IsKnown c x → AgreeOn (labels_after t c l (step.Attach s)) l x
 unfolding AgreeOn
@@ -76,25 +79,39 @@ some_other l m None h = refl
 some_other l m (Some k) h = ap (λ x. Some x) (h k)
 
 made : (t : Network) (c : Config) (edge : ℕ) → List (Option ℕ) → List (List Heard) → Edge
-made t c edge labels heard = record { vrfs = map (vrf_in t c) (vrfs_at t edge); sites = map (λ (def : SiteDef). def.vrf) t.sites; labels = labels; loopbacks = t.loopbacks; heard = heard }
+made t c edge labels heard = record {
+  vrfs = map (vrf_in t c) (vrfs_at t edge);
+  sites = map (λ (def : SiteDef). def.vrf) t.sites;
+  labels = labels;
+  loopbacks =
+      t.loopbacks;
+  heard = heard;
+}
 
 module _ (t : Network) (l : Labels) (c : Config) (p : Peerings) (s : SiteNo) (turn : IsInTurn p) where
   new_label : ℕ
   new_label = 16 + labels_given t c (home_of t s.0)
 
-  label_elsewhere : (edge site : ℕ) → site ≢ s.0 → label_in t (labels_after t c l (step.Attach s)) (config_after c (step.Attach s)) edge site ≡ label_in t l c edge site
+  label_elsewhere : (edge site : ℕ) → site ≢ s.0 → label_in t (labels_after t c l (step.Attach s))
+      (config_after c (step.Attach s)) edge site ≡ label_in t l c edge site
   label_elsewhere edge site d =
-      ap (λ o. if home_of t site == edge then option_map (labels_after t c l (step.Attach s) site) o else None) (put_off c.attached s.0 (Some (c.attaches s.0 + 2)) site d)
-      ∙ ap (λ o. if home_of t site == edge then o else None) (some_other (labels_after t c l (step.Attach s) site) (l site) (c.attached site) (λ k. pair_off l s.0 (c.attaches s.0 + 2) (16 + labels_given t c (home_of t s.0)) site k (inl d)))
+      ap (λ o. if home_of t site == edge then option_map (labels_after t c l (step.Attach s) site) o else None)
+      (put_off c.attached s.0 (Some (c.attaches s.0 + 2)) site d)
+      ∙ ap (λ o. if home_of t site == edge then o else None)
+      (some_other (labels_after t c l (step.Attach s) site) (l site) (c.attached site)
+      (λ k. pair_off l s.0 (c.attaches s.0 + 2) (16 + labels_given t c (home_of t s.0)) site k (inl d)))
 
   label_there : label_in t (labels_after t c l (step.Attach s)) (config_after c (step.Attach s)) (home_of t s.0) s.0 ≡ Some new_label
   unfolding new_label
   label_there =
-      ap (λ b. if b then option_map (labels_after t c l (step.Attach s) s.0) (put c.attached s.0 (Some (c.attaches s.0 + 2)) s.0) else None) (same_test (home_of t s.0))
+      ap (λ b. if b then option_map (labels_after t c l (step.Attach s) s.0) (put c.attached s.0 (Some (c.attaches s.0 + 2)) s.0) else None)
+      (same_test (home_of t s.0))
       ∙ ap (option_map (labels_after t c l (step.Attach s) s.0)) (put_here c.attached s.0 (Some (c.attaches s.0 + 2)))
       ∙ ap (λ x. Some x) (pair_here l s.0 (c.attaches s.0 + 2) (16 + labels_given t c (home_of t s.0)))
 
-  heard_kept : AllKnown c p → (edge : ℕ) → map (heard_in t (labels_after t c l (step.Attach s)) (config_after c (step.Attach s)) (peerings_after t c (config_after c (step.Attach s)) p (step.Attach s)) edge) (nodes_of (wiring_of t)) ≡ map (heard_in t l c p edge) (nodes_of (wiring_of t))
+  heard_kept : AllKnown c p → (edge : ℕ) → map (heard_in t (labels_after t c l (step.Attach s)) (config_after c (step.Attach s))
+      (peerings_after t c (config_after c (step.Attach s)) p (step.Attach s)) edge) (nodes_of (wiring_of t)) ≡ map (heard_in t l c p edge)
+      (nodes_of (wiring_of t))
   unfolding peerings_after
   heard_kept known edge =
       let new : Config = config_after c (step.Attach s) in
@@ -105,26 +122,33 @@ module _ (t : Network) (l : Labels) (c : Config) (p : Peerings) (s : SiteNo) (tu
       ∙ same_heard t m l c p edge q (λ x j. agrees t c l s x (known q edge x j)))
 
   pub attach_here : AllKnown c p → s.0 < length t.sites
-      → edge_in t (labels_after t c l (step.Attach s)) (config_after c (step.Attach s)) (peerings_after t c (config_after c (step.Attach s)) p (step.Attach s)) (home_of t s.0)
+      → edge_in t (labels_after t c l (step.Attach s)) (config_after c (step.Attach s))
+      (peerings_after t c (config_after c (step.Attach s)) p (step.Attach s)) (home_of t s.0)
       ≡ after_attach (edge_in t l c p (home_of t s.0)) s.0 (16 + labels_given t c (home_of t s.0))
   unfolding made new_label
   attach_here known below =
-      ap (λ hs. made t c (home_of t s.0) (map (label_in t (labels_after t c l (step.Attach s)) (config_after c (step.Attach s)) (home_of t s.0)) (range_with_len 0 (length t.sites))) hs) (heard_kept known (home_of t s.0))
+      ap (λ hs. made t c (home_of t s.0) (map (label_in t (labels_after t c l (step.Attach s)) (config_after c (step.Attach s)) (home_of t s.0))
+      (range_with_len 0 (length t.sites))) hs) (heard_kept known (home_of t s.0))
       ∙ ap (λ ls. made t c (home_of t s.0) ls (map (heard_in t l c p (home_of t s.0)) (nodes_of (wiring_of t))))
-      (map_numbers_set (label_in t l c (home_of t s.0)) (label_in t (labels_after t c l (step.Attach s)) (config_after c (step.Attach s)) (home_of t s.0)) (length t.sites) s.0 (Some new_label) below label_there (λ x d. label_elsewhere (home_of t s.0) x d))
+      (map_numbers_set (label_in t l c (home_of t s.0)) (label_in t (labels_after t c l (step.Attach s)) (config_after c (step.Attach s)) (home_of t s.0))
+      (length t.sites) s.0 (Some new_label) below label_there (λ x d. label_elsewhere (home_of t s.0) x d))
 
   pub attach_off : AllKnown c p → (edge : ℕ) → edge ≢ home_of t s.0
-      → edge_in t (labels_after t c l (step.Attach s)) (config_after c (step.Attach s)) (peerings_after t c (config_after c (step.Attach s)) p (step.Attach s)) edge ≡ edge_in t l c p edge
+      → edge_in t (labels_after t c l (step.Attach s)) (config_after c (step.Attach s))
+      (peerings_after t c (config_after c (step.Attach s)) p (step.Attach s)) edge ≡ edge_in t l c p edge
   unfolding made
   attach_off known edge d =
-      ap (λ hs. made t c edge (map (label_in t (labels_after t c l (step.Attach s)) (config_after c (step.Attach s)) edge) (range_with_len 0 (length t.sites))) hs) (heard_kept known edge)
+      ap (λ hs. made t c edge (map (label_in t (labels_after t c l (step.Attach s)) (config_after c (step.Attach s)) edge)
+      (range_with_len 0 (length t.sites))) hs) (heard_kept known edge)
       ∙ ap (λ ls. made t c edge ls (map (heard_in t l c p edge) (nodes_of (wiring_of t))))
-      (map_same (label_in t (labels_after t c l (step.Attach s)) (config_after c (step.Attach s)) edge) (label_in t l c edge) (range_with_len 0 (length t.sites)) (λ x i. elim (eqb_tells x s.0) [
+      (map_same (label_in t (labels_after t c l (step.Attach s)) (config_after c (step.Attach s)) edge) (label_in t l c edge)
+      (range_with_len 0 (length t.sites)) (λ x i. elim (eqb_tells x s.0) [
         | inr e ↦ label_elsewhere edge x e.1
         | inl e ↦ none_here x e.1 (labels_after t c l (step.Attach s) x) (put c.attached s.0 (Some (c.attaches s.0 + 2)) x) (l x) (c.attached x)
       ]))
     where
-      none_here : (x : ℕ) → x ≡ s.0 → (f : ℕ → ℕ) (o : Option ℕ) (g : ℕ → ℕ) (q : Option ℕ) → (if home_of t x == edge then option_map f o else None) ≡ (if home_of t x == edge then option_map g q else None)
+      none_here : (x : ℕ) → x ≡ s.0 → (f : ℕ → ℕ) (o : Option ℕ) (g : ℕ → ℕ) (q : Option ℕ) →
+          (if home_of t x == edge then option_map f o else None) ≡ (if home_of t x == edge then option_map g q else None)
       none_here x e f o g q = elim (eqb_tells (home_of t x) edge) [
         | inl h ↦ absurd (d (sym h.1 ∙ ap (home_of t) e))
         | inr h ↦ ap (λ b. if b then option_map f o else None) h.0 ∙ sym (ap (λ b. if b then option_map g q else None) h.0)
@@ -141,20 +165,25 @@ module _ (t : Network) (l : Labels) (c : Config) (p : Peerings) (s : SiteNo) (tu
       either true = refl
       either false = refl
 
-  detach_heard : (edge : ℕ) → map (heard_in t l (config_after c (step.Detach s)) (peerings_after t c (config_after c (step.Detach s)) p (step.Detach s)) edge) (nodes_of (wiring_of t)) ≡ map (heard_in t l c p edge) (nodes_of (wiring_of t))
+  detach_heard : (edge : ℕ) → map (heard_in t l (config_after c (step.Detach s)) (peerings_after t c (config_after c (step.Detach s)) p (step.Detach s)) edge)
+      (nodes_of (wiring_of t)) ≡ map (heard_in t l c p edge) (nodes_of (wiring_of t))
   unfolding peerings_after
   detach_heard edge =
       let new : Config = config_after c (step.Detach s) in
       let k : Peerings = with_told p (told_in t c p new p (step.Detach s)) in
-      map_same (heard_in t l new k edge) (heard_in t l c p edge) (nodes_of (wiring_of t)) (λ q i. heard_same t l c new p k edge q (tellings_of q edge (told_in t c p new p (step.Detach s))) refl refl refl (turn edge q))
+      map_same (heard_in t l new k edge) (heard_in t l c p edge) (nodes_of (wiring_of t))
+      (λ q i. heard_same t l c new p k edge q (tellings_of q edge (told_in t c p new p (step.Detach s))) refl refl refl (turn edge q))
 
   pub detach_here : s.0 < length t.sites
-      → edge_in t l (config_after c (step.Detach s)) (peerings_after t c (config_after c (step.Detach s)) p (step.Detach s)) (home_of t s.0) ≡ after_detach (edge_in t l c p (home_of t s.0)) s.0
+      → edge_in t l (config_after c (step.Detach s)) (peerings_after t c (config_after c (step.Detach s)) p (step.Detach s)) (home_of t s.0) ≡ after_detach
+      (edge_in t l c p (home_of t s.0)) s.0
   unfolding made
   detach_here below =
-      ap (λ hs. made t c (home_of t s.0) (map (label_in t l (config_after c (step.Detach s)) (home_of t s.0)) (range_with_len 0 (length t.sites))) hs) (detach_heard (home_of t s.0))
+      ap (λ hs. made t c (home_of t s.0) (map (label_in t l (config_after c (step.Detach s)) (home_of t s.0)) (range_with_len 0 (length t.sites))) hs)
+      (detach_heard (home_of t s.0))
       ∙ ap (λ ls. made t c (home_of t s.0) ls (map (heard_in t l c p (home_of t s.0)) (nodes_of (wiring_of t))))
-      (map_numbers_set (label_in t l c (home_of t s.0)) (label_in t l (config_after c (step.Detach s)) (home_of t s.0)) (length t.sites) s.0 None below (gone_there (home_of t s.0)) (λ x d. gone_elsewhere (home_of t s.0) x d))
+      (map_numbers_set (label_in t l c (home_of t s.0)) (label_in t l (config_after c (step.Detach s)) (home_of t s.0)) (length t.sites) s.0 None below
+      (gone_there (home_of t s.0)) (λ x d. gone_elsewhere (home_of t s.0) x d))
 
   pub detach_off : (edge : ℕ) → edge ≢ home_of t s.0
       → edge_in t l (config_after c (step.Detach s)) (peerings_after t c (config_after c (step.Detach s)) p (step.Detach s)) edge ≡ edge_in t l c p edge
@@ -164,7 +193,8 @@ module _ (t : Network) (l : Labels) (c : Config) (p : Peerings) (s : SiteNo) (tu
       ∙ ap (λ ls. made t c edge ls (map (heard_in t l c p edge) (nodes_of (wiring_of t))))
       (map_same (label_in t l (config_after c (step.Detach s)) edge) (label_in t l c edge) (range_with_len 0 (length t.sites)) (λ x i. elim (eqb_tells x s.0) [
         | inr e ↦ gone_elsewhere edge x e.1
-        | inl e ↦ ap (label_in t l (config_after c (step.Detach s)) edge) e.1 ∙ gone_there edge ∙ sym (ap (label_in t l c edge) e.1 ∙ not_here (option_map (l s.0) (c.attached s.0)))
+        | inl e ↦ ap (label_in t l (config_after c (step.Detach s)) edge) e.1 ∙ gone_there edge
+            ∙ sym (ap (label_in t l c edge) e.1 ∙ not_here (option_map (l s.0) (c.attached s.0)))
       ]))
     where
       not_here : (o : Option ℕ) → (if home_of t s.0 == edge then o else None) ≡ None

@@ -44,13 +44,15 @@ module _ (t : Network) (l : Labels) (lawful : IsLawful t) where
       rd : ℕ → ℕ
       rd u = (vrf_at t u).rd.0
 
-      same_keys : v ≡ y.vrf → p ≡ y.prefix → (heard_before (heard_route t l y) (place_of (vrf_at t v).rd p) || heard_before (place_of (vrf_at t v).rd p) (heard_route t l y)) ≡ false
+      same_keys : v ≡ y.vrf → p ≡ y.prefix → (heard_before (heard_route t l y) (place_of (vrf_at t v).rd p) || heard_before (place_of (vrf_at t v).rd p)
+          (heard_route t l y)) ≡ false
       same_keys e f =
           ap (λ b. b || heard_before (place_of (vrf_at t v).rd p) (heard_route t l y)) (first_same (rd y.vrf) (rd v) _ (ap rd (sym e)))
           ∙ ap (λ b. prefix_before y.prefix p || b) (first_same (rd v) (rd y.vrf) _ (ap rd e))
           ∙ ap (λ q. prefix_before y.prefix q || prefix_before q y.prefix) f ∙ same_place y.prefix
 
-      apart : is_for v p y ≡ false → (b : Bool) → (heard_before (heard_route t l y) (place_of (vrf_at t v).rd p) || heard_before (place_of (vrf_at t v).rd p) (heard_route t l y)) ≡ b → b ≡ true
+      apart : is_for v p y ≡ false → (b : Bool) → (heard_before (heard_route t l y) (place_of (vrf_at t v).rd p) || heard_before (place_of (vrf_at t v).rd p)
+          (heard_route t l y)) ≡ b → b ≡ true
       apart h true e = refl
       apart h false e =
           let n = first_neither (rd y.vrf) (rd v) (prefix_before y.prefix p) (prefix_before p y.prefix) e in
@@ -65,14 +67,17 @@ module _ (t : Network) (l : Labels) (lawful : IsLawful t) where
           turn false true h = absurd (no (sym h))
           turn false false h = refl
 
-      by_test : (b : Bool) → is_for v p y ≡ b → (heard_before (heard_route t l y) (place_of (vrf_at t v).rd p) || heard_before (place_of (vrf_at t v).rd p) (heard_route t l y)) ≡ not b
-      by_test true h = same_keys (same_numbers v y.vrf (and_left _ _ h)) (elim (two_prefixes p y.prefix) [ inl q ↦ q.0 | inr q ↦ absurd (no (sym q.0 ∙ and_right (v == y.vrf) _ h)) ])
+      by_test : (b : Bool) → is_for v p y ≡ b → (heard_before (heard_route t l y) (place_of (vrf_at t v).rd p) || heard_before (place_of (vrf_at t v).rd p)
+          (heard_route t l y)) ≡ not b
+      by_test true h = same_keys (same_numbers v y.vrf (and_left _ _ h))
+          (elim (two_prefixes p y.prefix) [ inl q ↦ q.0 | inr q ↦ absurd (no (sym q.0 ∙ and_right (v == y.vrf) _ h)) ])
       by_test false h = apart h _ refl
 
   not_for : (v : ℕ) (p : AddressBlock) (y : Export) (b : Bool) → b ≡ not (is_for v p y) → b ≡ true → not (is_for v p y) ≡ true
   not_for v p y b e h = sym e ∙ h
 
-  announced : (es : List Export) (hs : List Heard) (x : Export) → x.vrf < length t.vrfs → KeepsBelieved t l es hs → KeepsBelieved t l (believed_after es (Announce x)) (heard_if hs (says_of t l 0 (Announce x)))
+  announced : (es : List Export) (hs : List Heard) (x : Export) → x.vrf < length t.vrfs → KeepsBelieved t l es hs →
+      KeepsBelieved t l (believed_after es (Announce x)) (heard_if hs (says_of t l 0 (Announce x)))
   announced es hs x below k = record {
     named = λ y i. elim (in_append (filter (λ other. not (is_for x.vrf x.prefix other)) es) (x ∷ []) y i) [
       | inl j ↦ k.named y (in_filter (λ other. not (is_for x.vrf x.prefix other)) es y j).0
@@ -82,34 +87,49 @@ module _ (t : Network) (l : Labels) (lawful : IsLawful t) where
       | inl j ↦
           let m = in_filter (λ other. not (is_for x.vrf x.prefix other)) es y j in
           in_with heard_before (heard_route t l x) hs (heard_route t l y) (k.there y m.0) (place_is x.vrf x.prefix y below (k.named y m.0) ∙ m.1)
-      | inr j ↦ elim j [ inl e ↦ subst (λ (z : Export). In (heard_if hs (says_of t l 0 (Announce x))) (heard_route t l z)) e (in_with_new heard_before (heard_route t l x) hs) | inr n ↦ absurd n ]
+      | inr j ↦ elim j [
+        | inl e ↦ subst (λ (z : Export). In (heard_if hs (says_of t l 0 (Announce x))) (heard_route t l z)) e
+            (in_with_new heard_before (heard_route t l x) hs)
+        | inr n ↦ absurd n
+      ]
     ];
     only = λ h i. elim (with_in heard_before (heard_route t l x) hs h i) [
       | inl e ↦ (x, in_rest (filter (λ other. not (is_for x.vrf x.prefix other)) es) (x ∷ []) x (inl refl), e)
       | inr j ↦
           let o = k.only h j.0 in
-          let kept : not (is_for x.vrf x.prefix o.0) ≡ true = sym (place_is x.vrf x.prefix o.0 below (k.named o.0 o.1)) ∙ ap (λ (z : Heard). heard_before z (place_of (vrf_at t x.vrf).rd x.prefix) || heard_before (place_of (vrf_at t x.vrf).rd x.prefix) z) o.2 ∙ j.1 in
-          (o.0, in_front (filter (λ other. not (is_for x.vrf x.prefix other)) es) (x ∷ []) o.0 (filter_in (λ other. not (is_for x.vrf x.prefix other)) es o.0 o.1 kept), o.2)
+          let kept : not (is_for x.vrf x.prefix o.0) ≡ true = sym (place_is x.vrf x.prefix o.0 below (k.named o.0 o.1))
+          ∙ ap (λ (z : Heard). heard_before z (place_of (vrf_at t x.vrf).rd x.prefix) || heard_before (place_of (vrf_at t x.vrf).rd x.prefix) z) o.2
+          ∙ j.1 in (
+            o.0,
+            in_front (filter (λ other. not (is_for x.vrf x.prefix other)) es) (x ∷ []) o.0
+                (filter_in (λ other. not (is_for x.vrf x.prefix other)) es o.0 o.1 kept),
+            o.2,
+          )
     ];
   }
 
-  withdrawn : (es : List Export) (hs : List Heard) (v : ℕ) (p : AddressBlock) → v < length t.vrfs → KeepsBelieved t l es hs → KeepsBelieved t l (believed_after es (Unreach v p)) (heard_if hs (says_of t l 0 (Unreach v p)))
+  withdrawn : (es : List Export) (hs : List Heard) (v : ℕ) (p : AddressBlock) → v < length t.vrfs → KeepsBelieved t l es hs →
+      KeepsBelieved t l (believed_after es (Unreach v p)) (heard_if hs (says_of t l 0 (Unreach v p)))
   withdrawn es hs v p below k = record {
     named = λ y i. k.named y (in_filter (λ other. not (is_for v p other)) es y i).0;
     there = λ y i.
         let m = in_filter (λ other. not (is_for v p other)) es y i in
-        filter_in (λ z. heard_before z (place_of (vrf_at t v).rd p) || heard_before (place_of (vrf_at t v).rd p) z) hs (heard_route t l y) (k.there y m.0) (place_is v p y below (k.named y m.0) ∙ m.1);
+        filter_in (λ z. heard_before z (place_of (vrf_at t v).rd p) || heard_before (place_of (vrf_at t v).rd p) z) hs (heard_route t l y) (k.there y m.0)
+        (place_is v p y below (k.named y m.0) ∙ m.1);
     only = λ h i.
         let j = in_filter (λ z. heard_before z (place_of (vrf_at t v).rd p) || heard_before (place_of (vrf_at t v).rd p) z) hs h i in
         let o = k.only h j.0 in
-        let kept : not (is_for v p o.0) ≡ true = sym (place_is v p o.0 below (k.named o.0 o.1)) ∙ ap (λ (z : Heard). heard_before z (place_of (vrf_at t v).rd p) || heard_before (place_of (vrf_at t v).rd p) z) o.2 ∙ j.1 in
+        let kept : not (is_for v p o.0) ≡ true = sym (place_is v p o.0 below (k.named o.0 o.1))
+        ∙ ap (λ (z : Heard). heard_before z (place_of (vrf_at t v).rd p) || heard_before (place_of (vrf_at t v).rd p) z) o.2 ∙ j.1 in
         (o.0, filter_in (λ other. not (is_for v p other)) es o.0 o.1 kept, o.2);
   }
 
   pub keeps_from : (q : ℕ) (es : List Export) (hs : List Heard) (ms : List Telling) → ((m : Telling) → In ms m → NamesVrf t m) → KeepsBelieved t l es hs
       → KeepsBelieved t l (believed_from es ms) (fold (λ heard telling. heard_if heard (says_of t l q telling)) hs ms)
   keeps_from q es hs [] named k = k
-  keeps_from q es hs (Announce x ∷ ms) named k = keeps_from q (believed_after es (Announce x)) (heard_if hs (says_of t l q (Announce x))) ms (λ m i. named m (inr i)) (announced es hs x (named (Announce x) (inl refl)) k)
-  keeps_from q es hs (Unreach v p ∷ ms) named k = keeps_from q (believed_after es (Unreach v p)) (heard_if hs (says_of t l q (Unreach v p))) ms (λ m i. named m (inr i)) (withdrawn es hs v p (named (Unreach v p) (inl refl)) k)
+  keeps_from q es hs (Announce x ∷ ms) named k = keeps_from q (believed_after es (Announce x)) (heard_if hs (says_of t l q (Announce x))) ms
+      (λ m i. named m (inr i)) (announced es hs x (named (Announce x) (inl refl)) k)
+  keeps_from q es hs (Unreach v p ∷ ms) named k = keeps_from q (believed_after es (Unreach v p)) (heard_if hs (says_of t l q (Unreach v p))) ms
+      (λ m i. named m (inr i)) (withdrawn es hs v p (named (Unreach v p) (inl refl)) k)
   keeps_from q es hs (Open ∷ ms) named k = keeps_from q es hs ms (λ m i. named m (inr i)) k
   keeps_from q es hs (Alive ∷ ms) named k = keeps_from q es hs ms (λ m i. named m (inr i)) k

@@ -1,10 +1,9 @@
 -- After a lawful journal each step that fits and isn't refused changes the routes as its parts say.
-use Rattle.std.proofs.Common.{ℕ, ◌+◌, ◌≡◌, ◌⊎◌, ◌≢◌, ◌<◌, ◌≤◌, inl, inr, Bool, true, false, cond, List, [], ◌∷◌, ◌++◌, length, refl, arith, sym, ◌∙◌, ap, subst, Option, Some, None}
-use Rattle.std.specs.Prelude.{◌==◌, ◌&&◌, ◌||◌, not, nat_lt, nat_le, slice_index_or, if◌then◌else◌}
-use Rattle.std.specs.List.{list_any, list_all}
+use Rattle.std.proofs.Common.{ℕ, ◌≡◌, ◌⊎◌, ◌≢◌, ◌<◌, inl, inr, Bool, true, false, cond, List, [], ◌∷◌, ◌++◌, length, refl, arith, sym, ◌∙◌, ap, Some, None}
+use Rattle.std.specs.Prelude.{◌==◌, ◌&&◌, ◌||◌, not, nat_lt, nat_le, if◌then◌else◌}
+use Rattle.std.specs.List.{list_any}
 use Rattle.std.proofs.lemmas.Bool.Decides.{eqb_tells, nat_tests}
-use Rattle.mn_base.proofs.Bools.{no, and_left, and_right, or_off, not_false, not_true, less_is, not_less, less_tells, two_ways}
-use Rattle.mn_base.specs.declared.numbers.NodeNo.{NodeNo}
+use Rattle.mn_base.proofs.Bools.{no, and_left, and_right, or_off, not_false, less_is, less_tells, two_ways}
 use Rattle.mn_prefix.specs.Prefix.{AddressBlock, same_prefix}
 use Rattle.mn_topo.specs.Network.{Network}
 use Rattle.mn_topo.specs.VrfTable.{is_edge}
@@ -13,27 +12,24 @@ use Rattle.mn_topo.specs.SiteTable.{is_lawful_prefix}
 use Rattle.mn_topo.specs.Steps.{fits}
 use Rattle.mn_topo.specs.declared.steps.Step.{Step}
 use Rattle.mn_topo.specs.declared.steps.Step.TheVariants as step
-use Rattle.mn_topo.specs.declared.steps.JournalEntry.{JournalEntry}
 use Rattle.mn_base.specs.Numbers.{has_rt_form}
-use Rattle.mn_ledger.specs.Places.{home_of, edge_of, vrf_of}
-use Rattle.mn_ledger.specs.World.{SiteRoute, Config, Telling, Peerings, World}
-use Rattle.mn_ledger.specs.Vpn.{peers_live, peerings_after, exports_of, changed, has_target}
+use Rattle.mn_ledger.specs.World.{SiteRoute, Config, World}
+use Rattle.mn_ledger.specs.Vpn.{peers_live, peerings_after}
 use Rattle.mn_ledger.specs.Ledger.{is_static, config_after, start, world_of, packets_of}
-use Rattle.mn_ledger.specs.Lawful.{IsLawfulJournal}
 use Rattle.mn_ledger.specs.Packets.{Packets}
 use Rattle.mn_ledger.specs.declared.refused.Refused.{Refused}
 use Rattle.mn_ledger.specs.declared.refused.Refused.TheVariants.{NoRouteThere}
 use Rattle.mn_ledger.specs.Turns.{IsInTurn, PeersAreInTurn}
 use Rattle.mn_ledger.proofs.Members.{In}
 use Rattle.mn_ledger.proofs.More.{world_from-push}
-use Rattle.mn_ledger.proofs.Peers.{AreInOrder, live_sym}
+use Rattle.mn_ledger.proofs.Peers.{live_sym}
 use Rattle.mn_ledger.proofs.InTurn.{in_order, in_turn, rows}
 use Rattle.mn_ledger.proofs.Refusals.{IsFree, free}
 use Rattle.mn_laws.proofs.There.{edge_there, home_there}
 use Rattle.mn_frames.specs.Numbers.{labels_after, labels_of}
 use Rattle.mn_frames.proofs.Anew.{table_grows}
 use Rattle.mn_bgp_spelling.specs.Spelling.{Labels}
-use Rattle.mn_routing.specs.Whole.{RoutesNow, routes_in}
+use Rattle.mn_routing.specs.Whole.{routes_in}
 use Rattle.mn_routing.specs.Steps.{routes_after, GoByParts}
 use Rattle.mn_routing.proofs.Hearing.{IsInTurn as HeardInTurn}
 use Rattle.mn_routing.proofs.Removing.{two_prefixes}
@@ -54,7 +50,8 @@ edge_below : (t : Network) (node : ℕ) → IsLawful t → is_edge t.vrfs node �
 edge_below t node lawful h = below_of (length t.loopbacks) node t.vrfs lawful.vrfs.formed h
 
 -- what two edges are
-two_below : (t : Network) (a b : ℕ) (c : Bool) → IsLawful t → ((is_edge t.vrfs a && is_edge t.vrfs b) && c) ≡ true → (a < length t.loopbacks) × (b < length t.loopbacks)
+two_below : (t : Network) (a b : ℕ) (c : Bool) → IsLawful t → ((is_edge t.vrfs a && is_edge t.vrfs b) && c) ≡ true → (a < length t.loopbacks) ×
+    (b < length t.loopbacks)
 two_below t a b c lawful fit =
     let pair = and_left (is_edge t.vrfs a && is_edge t.vrfs b) c fit in
     (edge_below t a lawful (and_left (is_edge t.vrfs a) (is_edge t.vrfs b) pair), edge_below t b lawful (and_right (is_edge t.vrfs a) (is_edge t.vrfs b) pair))
@@ -72,14 +69,16 @@ any_there s p (x ∷ xs) h = elim (two_ways (is_static s p x)) [
   where
     same : is_static s p x ≡ true → x ≡ record { site = s; prefix = p }
     same here = elim (two_prefixes x.prefix p) [
-      | inl e ↦ ap (λ n. let r : SiteRoute = record { site = n; prefix = x.prefix } in r) (site (eqb_tells x.site s)) ∙ ap (λ q. let r : SiteRoute = record { site = s; prefix = q } in r) e.0
+      | inl e ↦ ap (λ n. let r : SiteRoute = record { site = n; prefix = x.prefix } in r) (site (eqb_tells x.site s))
+          ∙ ap (λ q. let r : SiteRoute = record { site = s; prefix = q } in r) e.0
       | inr e ↦ absurd (no (sym e.0 ∙ and_right (x.site == s) (same_prefix x.prefix p) here))
     ]
       where
         site : (((x.site == s) ≡ true) × (x.site ≡ s)) ⊎ (((x.site == s) ≡ false) × (x.site ≢ s)) → x.site ≡ s
         site d = elim d [ inl e ↦ e.1 | inr e ↦ absurd (no (sym e.0 ∙ and_left (x.site == s) (same_prefix x.prefix p) here)) ]
 
-static_there : (s : ℕ) (p : AddressBlock) (xs : List SiteRoute) (bad : Refused) (b : Bool) → list_any (is_static s p) xs ≡ b → cond b None (Some bad) ≡ None → In xs (record { site = s; prefix = p })
+pub static_there : (s : ℕ) (p : AddressBlock) (xs : List SiteRoute) (bad : Refused) (b : Bool) → list_any (is_static s p) xs ≡ b →
+    cond b None (Some bad) ≡ None → In xs (record { site = s; prefix = p })
 static_there s p xs bad true e h = any_there s p xs e
 static_there s p xs bad false e h = absurd (let none : Some bad ≡ None → ⊥ = (λ q. cc) in none h)
 
@@ -87,7 +86,8 @@ static_there s p xs bad false e h = absurd (let none : Some bad ≡ None → ⊥
 next_there : (heard told : ℕ) → nat_le told heard ≡ false → heard < told
 next_there heard told h = grind (arith, nat_tests, h)
 
-go_by : (t : Network) (l : Labels) (w : World) (k : Packets) (n : ℕ) (b : List ℕ) (s : Step) → IsLawful t → Rests t w → IsInTurn t w → fits t s ≡ true → IsFree t w k n s b
+go_by : (t : Network) (l : Labels) (w : World) (k : Packets) (n : ℕ) (b : List ℕ) (s : Step) → IsLawful t → Rests t w → IsInTurn t w → fits t s ≡ true →
+    IsFree t w k n s b
     → routes_in t (labels_after t w.config l s) (config_after w.config s) (peerings_after t w.config (config_after w.config s) w.peerings s)
     ≡ routes_after t l w (routes_in t l w.config w.peerings) s
 unfolding peerings_after
@@ -104,7 +104,8 @@ go_by t l w k n b (step.HearBgp x y) lawful h turn fit ok =
     let parts = or_off (not (peers_live w.config x.0 y.0)) (nat_le (length (w.peerings.told x.0 y.0)) (w.peerings.heard y.0 x.0)) ok.there in
     let alive : peers_live w.config y.0 x.0 ≡ true = sym (live_sym w.config x.0 y.0 apart) ∙ not_false (peers_live w.config x.0 y.0) parts.0 in
     let more : w.peerings.heard y.0 x.0 < length (w.peerings.told x.0 y.0) = next_there (w.peerings.heard y.0 x.0) (length (w.peerings.told x.0 y.0)) parts.1 in
-    hears_whole t l w.config w.peerings x y apart below.0 below.1 alive more ((rows t w lawful turn).bgp y.0 x.0 (λ e. apart (sym e)) alive more) (heard_turn w turn.bgp)
+    hears_whole t l w.config w.peerings x y apart below.0 below.1 alive more ((rows t w lawful turn).bgp y.0 x.0 (λ e. apart (sym e)) alive more)
+    (heard_turn w turn.bgp)
 go_by t l w k n b (step.AddRoute s p) lawful h turn fit ok =
     add_whole t l w.config w.peerings s p (home_there t s.0 lawful (at_site t s.0 p fit)) (heard_turn w turn.bgp)
 go_by t l w k n b (step.DelRoute s p) lawful h turn fit ok =

@@ -17,7 +17,8 @@ IsInTurn peerings = (edge peer : ℕ) → edge ≢ peer → peerings.heard edge 
 -- 1. More is told
 
 live_same : (t : Network) (l : Labels) (c new : Config) (p k : Peerings) (edge peer : ℕ) (more : List Telling)
-    → peers_live new edge peer ≡ peers_live c edge peer → k.heard edge peer ≡ p.heard edge peer → k.told peer edge ≡ p.told peer edge ++ more → p.heard edge peer ≤ length (p.told peer edge)
+    → peers_live new edge peer ≡ peers_live c edge peer → k.heard edge peer ≡ p.heard edge peer → k.told peer edge ≡ p.told peer edge ++ more →
+    p.heard edge peer ≤ length (p.told peer edge)
     → heard_live t l new k edge peer ≡ heard_live t l c p edge peer
 live_same t l c new p k edge peer more alive heard told turn =
     let same : heard_of k edge peer ≡ heard_of p edge peer =
@@ -25,7 +26,8 @@ live_same t l c new p k edge peer more alive heard told turn =
     ap (λ b. if b then heard_from t l peer (heard_of k edge peer) else []) alive ∙ ap (λ ms. if peers_live c edge peer then heard_from t l peer ms else []) same
 
 pub heard_same : (t : Network) (l : Labels) (c new : Config) (p k : Peerings) (edge peer : ℕ) (more : List Telling)
-    → peers_live new edge peer ≡ peers_live c edge peer → k.heard edge peer ≡ p.heard edge peer → k.told peer edge ≡ p.told peer edge ++ more → (edge ≢ peer → p.heard edge peer ≤ length (p.told peer edge))
+    → peers_live new edge peer ≡ peers_live c edge peer → k.heard edge peer ≡ p.heard edge peer → k.told peer edge ≡ p.told peer edge ++ more →
+    (edge ≢ peer → p.heard edge peer ≤ length (p.told peer edge))
     → heard_in t l new k edge peer ≡ heard_in t l c p edge peer
 heard_same t l c new p k edge peer more alive heard told turn = elim (eqb_tells peer edge) [
   | inl e ↦ ap (λ b. if b then [] else heard_live t l new k edge peer) e.0 ∙ sym (ap (λ b. if b then [] else heard_live t l c p edge peer) e.0)
@@ -38,22 +40,26 @@ take_next : {A : Type 0} (n : ℕ) (xs ys : List A) (d : A) → n < length xs �
 take_next n xs ys d h = take-append-le (suc n) xs ys h ∙ take-suc xs n d h
 
 live_next : (t : Network) (l : Labels) (c new : Config) (p k : Peerings) (edge peer : ℕ) (more : List Telling)
-    → peers_live new edge peer ≡ true → peers_live c edge peer ≡ true → k.heard edge peer ≡ p.heard edge peer + 1 → k.told peer edge ≡ p.told peer edge ++ more → p.heard edge peer < length (p.told peer edge)
+    → peers_live new edge peer ≡ true → peers_live c edge peer ≡ true → k.heard edge peer ≡ p.heard edge peer + 1 →
+    k.told peer edge ≡ p.told peer edge ++ more → p.heard edge peer < length (p.told peer edge)
     → heard_live t l new k edge peer ≡ heard_if (heard_live t l c p edge peer) (says_of t l peer (slice_index_or (p.told peer edge) (p.heard edge peer) Open))
 live_next t l c new p k edge peer more alive was heard told below =
     let message : Telling = slice_index_or (p.told peer edge) (p.heard edge peer) Open in
     let one : heard_of k edge peer ≡ heard_of p edge peer ++ message ∷ [] =
-    ap (λ n. take n (k.told peer edge)) (heard ∙ add-one (p.heard edge peer)) ∙ ap (take (suc (p.heard edge peer))) told ∙ take_next (p.heard edge peer) (p.told peer edge) more Open below in
+    ap (λ n. take n (k.told peer edge)) (heard ∙ add-one (p.heard edge peer)) ∙ ap (take (suc (p.heard edge peer))) told
+    ∙ take_next (p.heard edge peer) (p.told peer edge) more Open below in
     ap (λ b. if b then heard_from t l peer (heard_of k edge peer) else []) alive
     ∙ ap (heard_from t l peer) one
     ∙ fold-append (λ heard telling. heard_if heard (says_of t l peer telling)) [] (heard_of p edge peer) (message ∷ [])
     ∙ ap (λ b. heard_if (if b then heard_from t l peer (heard_of p edge peer) else []) (says_of t l peer message)) (sym was)
 
 pub heard_next : (t : Network) (l : Labels) (c new : Config) (p k : Peerings) (edge peer : ℕ) (more : List Telling) → edge ≢ peer
-    → peers_live new edge peer ≡ true → peers_live c edge peer ≡ true → k.heard edge peer ≡ p.heard edge peer + 1 → k.told peer edge ≡ p.told peer edge ++ more → p.heard edge peer < length (p.told peer edge)
+    → peers_live new edge peer ≡ true → peers_live c edge peer ≡ true → k.heard edge peer ≡ p.heard edge peer + 1 →
+    k.told peer edge ≡ p.told peer edge ++ more → p.heard edge peer < length (p.told peer edge)
     → heard_in t l new k edge peer ≡ heard_if (heard_in t l c p edge peer) (says_of t l peer (slice_index_or (p.told peer edge) (p.heard edge peer) Open))
 heard_next t l c new p k edge peer more apart alive was heard told below = elim (eqb_tells peer edge) [
   | inl e ↦ absurd (apart (sym e.1))
   | inr e ↦ ap (λ b. if b then [] else heard_live t l new k edge peer) e.0 ∙ live_next t l c new p k edge peer more alive was heard told below
-      ∙ ap (λ b. heard_if (if b then [] else heard_live t l c p edge peer) (says_of t l peer (slice_index_or (p.told peer edge) (p.heard edge peer) Open))) (sym e.0)
+      ∙ ap (λ b. heard_if (if b then [] else heard_live t l c p edge peer) (says_of t l peer (slice_index_or (p.told peer edge) (p.heard edge peer) Open)))
+      (sym e.0)
 ]

@@ -87,14 +87,19 @@ module _ (t : Network) (l : Labels) (c : Config) (p : Peerings) (e v : ℕ) (s :
   own_there y i =
       let m = in_map (vpn.held_by e vpn.Own) (vpn.present_with t c v []) y i in
       subst (λ z. In (held_own (edge_in t l c p e) (vrf_in t c v)) (as_held l z)) m.2
-      (map_in (λ (x : Exported). (x.prefix, own_over x.site)) (held.present_with (edge_in t l c p e) (vrf_in t c v) []) (exported t l m.0) (present_there t l c p e s.statics s.sited v [] m.0 s.at m.1))
+      (map_in (λ (x : Exported). (x.prefix, own_over x.site)) (held.present_with (edge_in t l c p e) (vrf_in t c v) []) (exported t l m.0)
+      (present_there t l c p e s.statics s.sited v [] m.0 s.at m.1))
 
   own_only : (h : AddressBlock × Source) → In (held_own edge vrf) h → (y : HeldRoute) × In (own_routes t c e v) y × (as_held l y ≡ h)
   unfolding edge vrf
   own_only h i =
       let m = in_map (λ (x : Exported). (x.prefix, own_over x.site)) (held.present_with (edge_in t l c p e) (vrf_in t c v) []) h i in
-      let o = present_only t l c p e s.statics s.sited v [] m.0 s.at m.1 in
-      (vpn.held_by e vpn.Own o.0, map_in (vpn.held_by e vpn.Own) (vpn.present_with t c v []) o.0 o.1, ap (λ (x : Exported). (x.prefix, own_over x.site)) o.2 ∙ m.2)
+      let o = present_only t l c p e s.statics s.sited v [] m.0 s.at m.1 in (
+        vpn.held_by e vpn.Own o.0,
+        map_in (vpn.held_by e vpn.Own) (vpn.present_with t c v []) o.0 o.1,
+        ap (λ (x : Exported). (x.prefix, own_over x.site)) o.2
+            ∙ m.2,
+      )
 
   near_there : (y : HeldRoute) → In (near_routes t c e v) y → In (held_near edge vrf) (as_held l y)
   unfolding edge vrf
@@ -104,19 +109,24 @@ module _ (t : Network) (l : Labels) (c : Config) (p : Peerings) (e v : ℕ) (s :
       let f = in_filter (λ (export : Export). vpn.meet export.targets (c.imports v)) others m.0 m.1 in
       let g = in_filter (λ (export : Export). not (export.vrf == v)) (vpn.exports_of t c e) m.0 f.0 in
       subst (λ z. In (held_near (edge_in t l c p e) (vrf_in t c v)) (as_held l z)) m.2
-      (map_in (λ (x : Exported). (x.prefix, near_over x.vrf x.site)) (filter (λ (x : Exported). not (x.vrf == v) && meet x.targets (as_targets (c.imports v))) (held.exports_of (edge_in t l c p e))) (exported t l m.0)
-      (filter_in (λ (x : Exported). not (x.vrf == v) && meet x.targets (as_targets (c.imports v))) (held.exports_of (edge_in t l c p e)) (exported t l m.0) (all_there t l c p e s.statics s.sited m.0 g.0)
+      (map_in (λ (x : Exported). (x.prefix, near_over x.vrf x.site))
+      (filter (λ (x : Exported). not (x.vrf == v) && meet x.targets (as_targets (c.imports v))) (held.exports_of (edge_in t l c p e))) (exported t l m.0)
+      (filter_in (λ (x : Exported). not (x.vrf == v) && meet x.targets (as_targets (c.imports v))) (held.exports_of (edge_in t l c p e)) (exported t l m.0)
+      (all_there t l c p e s.statics s.sited m.0 g.0)
       (ap (λ b. b && meet (as_targets m.0.targets) (as_targets (c.imports v))) g.1 ∙ meets_same m.0.targets (c.imports v) ∙ f.1)))
 
   near_only : (h : AddressBlock × Source) → In (held_near edge vrf) h → (y : HeldRoute) × In (near_routes t c e v) y × (as_held l y ≡ h)
   unfolding edge vrf
   near_only h i =
-      let m = in_map (λ (x : Exported). (x.prefix, near_over x.vrf x.site)) (filter (λ (x : Exported). not (x.vrf == v) && meet x.targets (as_targets (c.imports v))) (held.exports_of (edge_in t l c p e))) h i in
+      let m = in_map (λ (x : Exported). (x.prefix, near_over x.vrf x.site))
+      (filter (λ (x : Exported). not (x.vrf == v) && meet x.targets (as_targets (c.imports v))) (held.exports_of (edge_in t l c p e))) h i in
       let f = in_filter (λ (x : Exported). not (x.vrf == v) && meet x.targets (as_targets (c.imports v))) (held.exports_of (edge_in t l c p e)) m.0 m.1 in
       let o = all_only t l c p e s.statics s.sited m.0 f.0 in
-      let test : (not (o.0.vrf == v) && meet (as_targets o.0.targets) (as_targets (c.imports v))) ≡ true = ap (λ (x : Exported). not (x.vrf == v) && meet x.targets (as_targets (c.imports v))) o.2 ∙ f.1 in (
+      let test : (not (o.0.vrf == v) && meet (as_targets o.0.targets) (as_targets (c.imports v))) ≡ true =
+      ap (λ (x : Exported). not (x.vrf == v) && meet x.targets (as_targets (c.imports v))) o.2 ∙ f.1 in (
         vpn.held_by e (vpn.Near o.0.vrf) o.0,
-        map_in (λ (export : Export). vpn.held_by e (vpn.Near export.vrf) export) (imported c v (filter (λ export. not (export.vrf == v)) (vpn.exports_of t c e))) o.0
+        map_in (λ (export : Export). vpn.held_by e (vpn.Near export.vrf) export)
+            (imported c v (filter (λ export. not (export.vrf == v)) (vpn.exports_of t c e))) o.0
             (filter_in (λ (export : Export). vpn.meet export.targets (c.imports v)) (filter (λ export. not (export.vrf == v)) (vpn.exports_of t c e)) o.0
             (filter_in (λ (export : Export). not (export.vrf == v)) (vpn.exports_of t c e) o.0 o.1 (and_left _ _ test))
             (sym (meets_same o.0.targets (c.imports v)) ∙ and_right (not (o.0.vrf == v)) _ test)),
@@ -124,7 +134,8 @@ module _ (t : Network) (l : Labels) (c : Config) (p : Peerings) (e v : ℕ) (s :
       )
 
   keeps : (q : ℕ) → KeepsBelieved t l (believed_from [] (heard_of p e q)) (heard_from t l q (heard_of p e q))
-  keeps q = keeps_from t l s.lawful q [] [] (heard_of p e q) (λ m i. s.named q m (in_take (p.heard e q) (p.told q e) m i)) (record { named = λ x i. absurd i; there = λ x i. absurd i; only = λ h i. absurd i })
+  keeps q = keeps_from t l s.lawful q [] [] (heard_of p e q) (λ m i. s.named q m (in_take (p.heard e q) (p.told q e) m i))
+      (record { named = λ x i. absurd i; there = λ x i. absurd i; only = λ h i. absurd i })
 
   heard_is : (q : ℕ) → q < length t.loopbacks → heard_of_peer edge q ≡ heard_in t l c p e q
   unfolding edge
@@ -147,19 +158,22 @@ module _ (t : Network) (l : Labels) (c : Config) (p : Peerings) (e v : ℕ) (s :
       (subst (λ hs. In hs (heard_route t l m.0)) (sym (heard_is q below)) (by_tests (q == e) (peers_live c e q) other m.0 f.0))
       (meets_same m.0.targets (c.imports v) ∙ f.1)))
     where
-      by_tests : (a b : Bool) → not a ≡ true → (x : Export) → In (if b then believed_from [] (heard_of p e q) else []) x → In (if a then [] else if b then heard_from t l q (heard_of p e q) else []) (heard_route t l x)
+      by_tests : (a b : Bool) → not a ≡ true → (x : Export) → In (if b then believed_from [] (heard_of p e q) else []) x →
+          In (if a then [] else if b then heard_from t l q (heard_of p e q) else []) (heard_route t l x)
       by_tests true b h x i = absurd (no h)
       by_tests false true h x i = (keeps q).there x i
       by_tests false false h x i = absurd i
 
-  peer_only : (q : ℕ) (h : AddressBlock × Source) → q < length t.loopbacks → In (held_far edge vrf q) h → (peers_live c e q ≡ true) × (not (q == e) ≡ true) × ((y : HeldRoute) × In (far_routes t c p e v q) y × (as_held l y ≡ h))
+  peer_only : (q : ℕ) (h : AddressBlock × Source) → q < length t.loopbacks → In (held_far edge vrf q) h → (peers_live c e q ≡ true) × (not (q == e) ≡ true) ×
+      ((y : HeldRoute) × In (far_routes t c p e v q) y × (as_held l y ≡ h))
   unfolding edge vrf far_of far_route
   peer_only q h below i =
       let m = in_map (far_of q) (filter (λ (route : Heard). meet route.targets (as_targets (c.imports v))) (heard_of_peer (edge_in t l c p e) q)) h i in
       let f = in_filter (λ (route : Heard). meet route.targets (as_targets (c.imports v))) (heard_of_peer (edge_in t l c p e) q) m.0 m.1 in
       by_tests m.0 m.2 f.1 (q == e) refl (peers_live c e q) refl (subst (λ hs. In hs m.0) (heard_is q below) f.0)
     where
-      by_tests : (r : Heard) → far_of q r ≡ h → meet r.targets (as_targets (c.imports v)) ≡ true → (a : Bool) → (q == e) ≡ a → (b : Bool) → peers_live c e q ≡ b → In (if a then [] else if b then heard_from t l q (heard_of p e q) else []) r
+      by_tests : (r : Heard) → far_of q r ≡ h → meet r.targets (as_targets (c.imports v)) ≡ true → (a : Bool) → (q == e) ≡ a → (b : Bool) →
+          peers_live c e q ≡ b → In (if a then [] else if b then heard_from t l q (heard_of p e q) else []) r
           → (peers_live c e q ≡ true) × (not (q == e) ≡ true) × ((y : HeldRoute) × In (far_routes t c p e v q) y × (as_held l y ≡ h))
       by_tests r is meets true same b live j = absurd j
       by_tests r is meets false same false live j = absurd j
@@ -186,18 +200,21 @@ module _ (t : Network) (l : Labels) (c : Config) (p : Peerings) (e v : ℕ) (s :
 
   raw_there : (y : HeldRoute) → In (vpn.held t c p e v) y → In raw (as_held l y)
   unfolding vpn.held raw
-  raw_there y i = elim (in_append (own_routes t c e v) (near_routes t c e v ++ flat_map (far_routes t c p e v) (filter (λ peer. not (peer == e)) (edges t))) y i) [
-    | inl j ↦ in_front (held_own edge vrf) _ (as_held l y) (own_there y j)
-    | inr j ↦ in_rest (held_own edge vrf) _ (as_held l y) (elim (in_append (near_routes t c e v) (flat_map (far_routes t c p e v) (filter (λ peer. not (peer == e)) (edges t))) y j) [
-      | inl k ↦ in_front (held_near edge vrf) _ (as_held l y) (near_there y k)
-      | inr k ↦ in_rest (held_near edge vrf) _ (as_held l y) (
-          let m = in_flat_map (far_routes t c p e v) (filter (λ peer. not (peer == e)) (edges t)) y k in
-          let f = in_filter (λ peer. not (peer == e)) (edges t) m.0 m.1 in
-          let g = in_filter (λ node. is_edge t.vrfs node) (range_with_len 0 (length t.loopbacks)) m.0 f.0 in
-          let below : m.0 < 0 + length t.loopbacks = (in_range 0 (length t.loopbacks) m.0 g.0).1 in
-          flat_map_in (held_far edge vrf) (range_with_len 0 (length edge.heard)) m.0 (as_held l y) (subst (λ n. In (range_with_len 0 n) m.0) (sym peers_heard) g.0) (peer_there m.0 y (omega (arith, below)) f.1 m.2))
-    ])
-  ]
+  raw_there y i = elim (in_append (own_routes t c e v) (near_routes t c e v ++ flat_map (far_routes t c p e v)
+      (filter (λ peer. not (peer == e)) (edges t))) y i) [
+        | inl j ↦ in_front (held_own edge vrf) _ (as_held l y) (own_there y j)
+        | inr j ↦ in_rest (held_own edge vrf) _ (as_held l y) (elim
+            (in_append (near_routes t c e v) (flat_map (far_routes t c p e v) (filter (λ peer. not (peer == e)) (edges t))) y j) [
+              | inl k ↦ in_front (held_near edge vrf) _ (as_held l y) (near_there y k)
+              | inr k ↦ in_rest (held_near edge vrf) _ (as_held l y) (
+                  let m = in_flat_map (far_routes t c p e v) (filter (λ peer. not (peer == e)) (edges t)) y k in
+                  let f = in_filter (λ peer. not (peer == e)) (edges t) m.0 m.1 in
+                  let g = in_filter (λ node. is_edge t.vrfs node) (range_with_len 0 (length t.loopbacks)) m.0 f.0 in
+                  let below : m.0 < 0 + length t.loopbacks = (in_range 0 (length t.loopbacks) m.0 g.0).1 in
+                  flat_map_in (held_far edge vrf) (range_with_len 0 (length edge.heard)) m.0 (as_held l y)
+                  (subst (λ n. In (range_with_len 0 n) m.0) (sym peers_heard) g.0) (peer_there m.0 y (omega (arith, below)) f.1 m.2))
+            ])
+      ]
 
   raw_only : (h : AddressBlock × Source) → In raw h → (y : HeldRoute) × In (vpn.held t c p e v) y × (as_held l y ≡ h)
   unfolding vpn.held raw
@@ -211,7 +228,8 @@ module _ (t : Network) (l : Labels) (c : Config) (p : Peerings) (e v : ℕ) (s :
           let o = peer_only m.0 h below m.2 in (
             o.2.0,
             in_rest (own_routes t c e v) _ o.2.0 (in_rest (near_routes t c e v) _ o.2.0
-                (flat_map_in (far_routes t c p e v) (filter (λ peer. not (peer == e)) (edges t)) m.0 o.2.0 (filter_in (λ peer. not (peer == e)) (edges t) m.0 (s.only_edges m.0 o.0) o.1) o.2.1)),
+                (flat_map_in (far_routes t c p e v) (filter (λ peer. not (peer == e)) (edges t)) m.0 o.2.0
+                (filter_in (λ peer. not (peer == e)) (edges t) m.0 (s.only_edges m.0 o.0) o.1) o.2.1)),
             o.2.2,
           )
     ]
@@ -226,11 +244,14 @@ module _ (t : Network) (l : Labels) (c : Config) (p : Peerings) (e v : ℕ) (s :
         let b = raw_only h j in
         let n = first_neither g.0.address h.0.address _ _ q in
         let k = first_neither g.0.length h.0.length _ _ n.1 in
-        let prefix : b.0.prefix ≡ a.0.prefix = ap (λ (x : AddressBlock × Source). x.0) b.2 ∙ same_blocks h.0 g.0 (sym n.0) (sym k.0) ∙ sym (ap (λ (x : AddressBlock × Source). x.0) a.2) in
+        let prefix : b.0.prefix ≡ a.0.prefix = ap (λ (x : AddressBlock × Source). x.0) b.2 ∙ same_blocks h.0 g.0 (sym n.0) (sym k.0)
+        ∙ sym (ap (λ (x : AddressBlock × Source). x.0) a.2) in
         let sources = or_parts (source_before g.1 h.1) (source_before h.1 g.1) k.1 in
         let source : b.0.source ≡ a.0.source = pref_neither b.0.source a.0.source
-        (sym (preferred_same l b.0 a.0) ∙ ap (λ (x : AddressBlock × Source). source_before x.1 (as_held l a.0).1) b.2 ∙ ap (λ (x : AddressBlock × Source). source_before h.1 x.1) a.2 ∙ sources.1)
-        (sym (preferred_same l a.0 b.0) ∙ ap (λ (x : AddressBlock × Source). source_before x.1 (as_held l b.0).1) a.2 ∙ ap (λ (x : AddressBlock × Source). source_before g.1 x.1) b.2 ∙ sources.0) in
+        (sym (preferred_same l b.0 a.0) ∙ ap (λ (x : AddressBlock × Source). source_before x.1 (as_held l a.0).1) b.2
+        ∙ ap (λ (x : AddressBlock × Source). source_before h.1 x.1) a.2 ∙ sources.1)
+        (sym (preferred_same l a.0 b.0) ∙ ap (λ (x : AddressBlock × Source). source_before x.1 (as_held l b.0).1) a.2
+        ∙ ap (λ (x : AddressBlock × Source). source_before g.1 x.1) b.2 ∙ sources.0) in
         inr (sym b.2 ∙ ap (as_held l) (one_held t c p e v b.0 a.0 s.lawful s.apart s.statics s.good b.1 a.1 source prefix) ∙ a.2)
   ]
     where
@@ -239,7 +260,8 @@ module _ (t : Network) (l : Labels) (c : Config) (p : Peerings) (e v : ℕ) (s :
       or_parts false b h = (refl, h)
 
       same_blocks : (x y : AddressBlock) → x.address ≡ y.address → x.length ≡ y.length → x ≡ y
-      same_blocks x y f g = ap (λ a. let r : AddressBlock = record { address = a; length = x.length } in r) f ∙ ap (λ n. let r : AddressBlock = record { address = y.address; length = n } in r) g
+      same_blocks x y f g = ap (λ a. let r : AddressBlock = record { address = a; length = x.length } in r) f
+          ∙ ap (λ n. let r : AddressBlock = record { address = y.address; length = n } in r) g
 
   -- the VRF holds what the ledger says
   pub holds : SameRoutes l (vpn.held t c p e v) (held_by (edge_in t l c p e) (vrf_in t c v))

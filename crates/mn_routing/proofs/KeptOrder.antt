@@ -36,7 +36,8 @@ range_ascends : (from size : ℕ) → Ascends nat_lt (range_with_len from size)
 range_ascends from zero = tt
 range_ascends from (suc size) = (all_above from (from + 1) size (omega arith), range_ascends (from + 1) size)
 
-all_numbers : (t : Network) (c : Config) (u : ℕ) (us : List ℕ) → AllByRecursion (λ n. nat_lt u n ≡ true) us → AllByRecursion (λ (w : VrfState). nat_lt u w.number ≡ true) (map (vrf_in t c) us)
+all_numbers : (t : Network) (c : Config) (u : ℕ) (us : List ℕ) → AllByRecursion (λ n. nat_lt u n ≡ true) us →
+    AllByRecursion (λ (w : VrfState). nat_lt u w.number ≡ true) (map (vrf_in t c) us)
 all_numbers t c u [] h = tt
 all_numbers t c u (w ∷ us) h = (h.0, all_numbers t c u us h.1)
 
@@ -49,15 +50,19 @@ withdrawn_ascends : (hs : List Heard) (routes : List VpnRoute) → Ascends heard
 withdrawn_ascends hs [] h = h
 withdrawn_ascends hs (r ∷ routes) h = withdrawn_ascends (without_heard r.rd r.prefix hs) routes (ascends_without heard_before (place_of r.rd r.prefix) hs h)
 
-reached_ascends : (targets : List Rt) (hs : List Heard) (routes : List VpnRoute) → Ascends heard_before hs → Ascends heard_before (after_reached targets hs routes)
+reached_ascends : (targets : List Rt) (hs : List Heard) (routes : List VpnRoute) → Ascends heard_before hs →
+    Ascends heard_before (after_reached targets hs routes)
 reached_ascends targets hs [] h = h
-reached_ascends targets hs (r ∷ routes) h = reached_ascends targets (with_heard (record { rd = r.rd; prefix = r.prefix; label = r.label; targets = targets }) hs) routes (ascends_with heard_before (record { rd = r.rd; prefix = r.prefix; label = r.label; targets = targets }) hs heard_order h)
+reached_ascends targets hs (r ∷ routes) h = reached_ascends targets
+    (with_heard (record { rd = r.rd; prefix = r.prefix; label = r.label; targets = targets }) hs) routes
+    (ascends_with heard_before (record { rd = r.rd; prefix = r.prefix; label = r.label; targets = targets }) hs heard_order h)
 
 if_ascends : (hs : List Heard) (says : Option Says) → Ascends heard_before hs → Ascends heard_before (heard_if hs says)
 if_ascends hs None h = h
 if_ascends hs (Some says) h = reached_ascends says.targets (after_withdrawn hs says.withdrawn) says.reached (withdrawn_ascends hs says.withdrawn h)
 
-from_ascends : (t : Network) (l : Labels) (q : ℕ) (hs : List Heard) (ms : List Telling) → Ascends heard_before hs → Ascends heard_before (fold (λ heard telling. heard_if heard (says_of t l q telling)) hs ms)
+from_ascends : (t : Network) (l : Labels) (q : ℕ) (hs : List Heard) (ms : List Telling) → Ascends heard_before hs →
+    Ascends heard_before (fold (λ heard telling. heard_if heard (says_of t l q telling)) hs ms)
 from_ascends t l q hs [] h = h
 from_ascends t l q hs (m ∷ ms) h = from_ascends t l q (heard_if hs (says_of t l q m)) ms (if_ascends hs (says_of t l q m) h)
 
@@ -78,7 +83,8 @@ pub kept_in : (t : Network) (l : Labels) (c : Config) (p : Peerings) (e : ℕ) �
 kept_in t l c p e apart = record {
   statics = λ vrf i.
       let m = in_map (vrf_in t c) (vrfs_at t e) vrf i in
-      subst (λ (w : VrfState). Ascends static_before w.statics) m.2 (fold_ascends static_before [] (map static_of (filter (λ static. vrf_of t static.site == m.0) c.statics)) static_order tt);
+      subst (λ (w : VrfState). Ascends static_before w.statics) m.2
+      (fold_ascends static_before [] (map static_of (filter (λ static. vrf_of t static.site == m.0) c.statics)) static_order tt);
   vrfs = vrfs_ascend t c (vrfs_at t e) (ascends_filter nat_lt (λ v. edge_of t v == e) (range_with_len 0 (length t.vrfs)) (range_ascends 0 (length t.vrfs)));
   heard = λ k. one_at (Ascends heard_before) (heard_in t l c p e) (nodes_of (wiring_of t)) k [] (heard_ascends t l c p e) tt;
   loopbacks = λ j k d h g. apart j k (omega (arith, h, size)) (omega (arith, g, size)) d;

@@ -66,7 +66,8 @@ some_same m k e = ap (λ o. unwrap_or o 0) e
 numbered_go : (t : Network) (c : Config) (s : Step) → AreNumbered c → AreNumbered (config_after c s)
 numbered_go t c (step.Attach a) h = λ s k e. elim (eqb_tells s a.0) [
   | inl q ↦
-      let is : c.attaches a.0 + 2 ≡ k = some_same (c.attaches a.0 + 2) k (sym (put_here c.attached a.0 (Some (c.attaches a.0 + 2))) ∙ ap (put c.attached a.0 (Some (c.attaches a.0 + 2))) (sym q.1) ∙ e) in
+      let is : c.attaches a.0 + 2 ≡ k = some_same (c.attaches a.0 + 2) k
+      (sym (put_here c.attached a.0 (Some (c.attaches a.0 + 2))) ∙ ap (put c.attached a.0 (Some (c.attaches a.0 + 2))) (sym q.1) ∙ e) in
       omega (arith, is, ap (put c.attaches a.0 (c.attaches a.0 + 1)) q.1 ∙ put_here c.attaches a.0 (c.attaches a.0 + 1))
   | inr q ↦ omega (arith, h s k (sym (put_off c.attached a.0 (Some (c.attaches a.0 + 2)) s q.1) ∙ e), put_off c.attaches a.0 (c.attaches a.0 + 1) s q.1)
 ]
@@ -107,19 +108,23 @@ sound_announce t c edge e h i =
 Sound : Network → Config → List Telling → Type 0
 Sound t c ms = (m : Telling) → In ms m → IsSound t c m
 
-sound_announced : (t : Network) (c : Config) (edge : ℕ) (es : List Export) → AreNumbered c → ((e : Export) → In es e → In (exports_of t c edge) e) → Sound t c (map (λ export. Announce export) es)
+sound_announced : (t : Network) (c : Config) (edge : ℕ) (es : List Export) → AreNumbered c → ((e : Export) → In es e → In (exports_of t c edge) e) →
+    Sound t c (map (λ export. Announce export) es)
 unfolding Sound
 sound_announced t c edge es h g m i = let f = in_map (λ export. Announce export) es m i in subst (IsSound t c) f.2 (sound_announce t c edge f.0 h (g f.0 f.1))
 
 sound_changed : (t : Network) (c new : Config) (edge : ℕ) → AreNumbered new → Sound t new (changed (exports_of t c edge) (exports_of t new edge))
 unfolding Sound
-sound_changed t c new edge h m i = elim (in_append (withdrawn (exports_of t c edge) (exports_of t new edge)) (announced (exports_of t c edge) (exports_of t new edge)) m i) [
-  | inl j ↦
-      let f = in_map (λ (export : Export). Unreach export.vrf export.prefix) (filter (λ export. not (list_any (is_for export.vrf export.prefix) (exports_of t new edge))) (exports_of t c edge)) m j in
-      let g = in_filter (λ (export : Export). not (list_any (is_for export.vrf export.prefix) (exports_of t new edge))) (exports_of t c edge) f.0 f.1 in
-      subst (IsSound t new) f.2 ((exported_by t c edge f.0 g.0).0, tt)
-  | inr j ↦ sound_announced t new edge (filter (λ export. not (list_any (same_export export) (exports_of t c edge))) (exports_of t new edge)) h (λ e k. (in_filter (λ export. not (list_any (same_export export) (exports_of t c edge))) (exports_of t new edge) e k).0) m j
-]
+sound_changed t c new edge h m i = elim (in_append (withdrawn (exports_of t c edge) (exports_of t new edge))
+    (announced (exports_of t c edge) (exports_of t new edge)) m i) [
+      | inl j ↦
+          let f = in_map (λ (export : Export). Unreach export.vrf export.prefix)
+          (filter (λ export. not (list_any (is_for export.vrf export.prefix) (exports_of t new edge))) (exports_of t c edge)) m j in
+          let g = in_filter (λ (export : Export). not (list_any (is_for export.vrf export.prefix) (exports_of t new edge))) (exports_of t c edge) f.0 f.1 in
+          subst (IsSound t new) f.2 ((exported_by t c edge f.0 g.0).0, tt)
+      | inr j ↦ sound_announced t new edge (filter (λ export. not (list_any (same_export export) (exports_of t c edge))) (exports_of t new edge)) h
+          (λ e k. (in_filter (λ export. not (list_any (same_export export) (exports_of t c edge))) (exports_of t new edge) e k).0) m j
+    ]
 
 one_sound : (t : Network) (c : Config) (m : Telling) → IsSound t c m → Sound t c (m ∷ [])
 unfolding Sound
@@ -136,7 +141,8 @@ AllSound t c xs = (x : Told) → In xs x → IsSound t c x.telling
 
 sound_to : (t : Network) (c : Config) (a b : ℕ) (ms : List Telling) → Sound t c ms → AllSound t c (told_to a b ms)
 unfolding Sound AllSound
-sound_to t c a b ms h x i = let f = in_map (λ telling. record { teller = a; peer = b; telling = telling }) ms x i in subst (λ (y : Told). IsSound t c y.telling) f.2 (h f.0 f.1)
+sound_to t c a b ms h x i = let f = in_map (λ telling. record { teller = a; peer = b; telling = telling }) ms x i in
+    subst (λ (y : Told). IsSound t c y.telling) f.2 (h f.0 f.1)
 
 join_sound : (t : Network) (c : Config) (xs ys : List Told) → AllSound t c xs → AllSound t c ys → AllSound t c (xs ++ ys)
 unfolding AllSound
@@ -144,14 +150,16 @@ join_sound t c xs ys h g x i = elim (in_append xs ys x i) [ inl j ↦ h x j | in
 
 sound_replies : (t : Network) (c : Config) (k : Peerings) (s : Step) → AreNumbered c → AllSound t c (replies t c k s)
 unfolding AllSound
-sound_replies t c k (step.BgpUp a b) h = join_sound t c (told_to a.0 b.0 (Open ∷ [])) (told_to b.0 a.0 (Open ∷ [])) (sound_to t c a.0 b.0 (Open ∷ []) (one_sound t c Open (tt, tt))) (sound_to t c b.0 a.0 (Open ∷ []) (one_sound t c Open (tt, tt)))
+sound_replies t c k (step.BgpUp a b) h = join_sound t c (told_to a.0 b.0 (Open ∷ [])) (told_to b.0 a.0 (Open ∷ []))
+    (sound_to t c a.0 b.0 (Open ∷ []) (one_sound t c Open (tt, tt))) (sound_to t c b.0 a.0 (Open ∷ []) (one_sound t c Open (tt, tt)))
 sound_replies t c k (step.HearBgp a b) h = sound_to t c b.0 a.0 (reply _ _ (exports_of t c b.0)) (sound_reply t c b.0 _ _ h)
 sound_replies t c k _ h = λ x i. absurd i
 
 sound_news : (t : Network) (c : Config) (p : Peerings) (new : Config) (k : Peerings) (edge : ℕ) → AreNumbered new → AllSound t new (news t c p new k edge)
 unfolding AllSound Sound
 sound_news t c p new k edge h x i =
-    let f = in_flat_map (λ telling. map (λ peer. record { teller = edge; peer = peer; telling = telling }) (steady_peers t c p new k edge)) (changed (exports_of t c edge) (exports_of t new edge)) x i in
+    let f = in_flat_map (λ telling. map (λ peer. record { teller = edge; peer = peer; telling = telling }) (steady_peers t c p new k edge))
+    (changed (exports_of t c edge) (exports_of t new edge)) x i in
     let g = in_map (λ peer. record { teller = edge; peer = peer; telling = f.0 }) (steady_peers t c p new k edge) x f.2 in
     subst (λ (y : Told). IsSound t new y.telling) g.2 (sound_changed t c new edge h f.0 f.1)
 
@@ -176,22 +184,26 @@ in_cleared f a b edge peer m i = elim (eqb_tells edge a) [
 ]
 
 still_sound : (t : Network) (c : Config) (p : Peerings) (s : Step) → AllTellSound t c p → AllTellSound t c (counted p s)
-still_sound t c p (step.BgpUp a b) h = λ edge peer m i. h edge peer m (in_cleared p.told a.0 b.0 edge peer m (in_cleared (put_pair p.told a.0 b.0 []) b.0 a.0 edge peer m i))
-still_sound t c p (step.BgpDown a b) h = λ edge peer m i. h edge peer m (in_cleared p.told a.0 b.0 edge peer m (in_cleared (put_pair p.told a.0 b.0 []) b.0 a.0 edge peer m i))
+still_sound t c p (step.BgpUp a b) h = λ edge peer m i. h edge peer m
+    (in_cleared p.told a.0 b.0 edge peer m (in_cleared (put_pair p.told a.0 b.0 []) b.0 a.0 edge peer m i))
+still_sound t c p (step.BgpDown a b) h = λ edge peer m i. h edge peer m
+    (in_cleared p.told a.0 b.0 edge peer m (in_cleared (put_pair p.told a.0 b.0 []) b.0 a.0 edge peer m i))
 still_sound t c p _ h = h
 
 told_sound : (t : Network) (c : Config) (p : Peerings) (s : Step) → AreNumbered c → AllTellSound t c p → (edge peer : ℕ) (m : Telling)
     → In ((counted p s).told edge peer ++ tellings_of edge peer (told_in t c p (config_after c s) (counted p s) s)) m → IsSound t (config_after c s) m
 unfolding AllSound
-told_sound t c p s numbered h edge peer m i = elim (in_append ((counted p s).told edge peer) (tellings_of edge peer (told_in t c p (config_after c s) (counted p s) s)) m i) [
-  | inl j ↦ sound_more t c s m (still_sound t c p s h edge peer m j)
-  | inr j ↦
-      let f = in_map (λ (told : Told). told.telling) (filter (is_between edge peer) (told_in t c p (config_after c s) (counted p s) s)) m j in
-      let g = in_filter (is_between edge peer) (told_in t c p (config_after c s) (counted p s) s) f.0 f.1 in
-      subst (IsSound t (config_after c s)) f.2 (sound_told t c p (config_after c s) (counted p s) s (numbered_go t c s numbered) f.0 g.0)
-]
+told_sound t c p s numbered h edge peer m i = elim (in_append ((counted p s).told edge peer)
+    (tellings_of edge peer (told_in t c p (config_after c s) (counted p s) s)) m i) [
+      | inl j ↦ sound_more t c s m (still_sound t c p s h edge peer m j)
+      | inr j ↦
+          let f = in_map (λ (told : Told). told.telling) (filter (is_between edge peer) (told_in t c p (config_after c s) (counted p s) s)) m j in
+          let g = in_filter (is_between edge peer) (told_in t c p (config_after c s) (counted p s) s) f.0 f.1 in
+          subst (IsSound t (config_after c s)) f.2 (sound_told t c p (config_after c s) (counted p s) s (numbered_go t c s numbered) f.0 g.0)
+    ]
 
-pub sound_go : (t : Network) (w : World) (s : Step) → AreNumbered w.config → AllTellSound t w.config w.peerings → AllTellSound t (config_after w.config s) (after t w s).peerings
+pub sound_go : (t : Network) (w : World) (s : Step) → AreNumbered w.config → AllTellSound t w.config w.peerings →
+    AllTellSound t (config_after w.config s) (after t w s).peerings
 unfolding peerings_after
 sound_go t w (step.BgpUp a b) n h = told_sound t w.config w.peerings (step.BgpUp a b) n h
 sound_go t w (step.BgpDown a b) n h = told_sound t w.config w.peerings (step.BgpDown a b) n h
@@ -215,7 +227,11 @@ less_of m n h = grind (arith, nat_tests, h)
 pub sited_go : (t : Network) (c : Config) (s : Step) → fits t s ≡ true → AreSited t c → AreSited t (config_after c s)
 sited_go t c (step.AddRoute a p) fit h = λ x i. elim (in_append c.statics (record { site = a.0; prefix = p } ∷ []) x i) [
   | inl j ↦ h x j
-  | inr j ↦ elim j [ inl e ↦ subst (λ (z : SiteRoute). z.site < length t.sites) e (less_of a.0 (length t.sites) (and_left (nat_lt a.0 (length t.sites)) (is_lawful_prefix p) fit)) | inr n ↦ absurd n ]
+  | inr j ↦ elim j [
+    | inl e ↦ subst (λ (z : SiteRoute). z.site < length t.sites) e
+        (less_of a.0 (length t.sites) (and_left (nat_lt a.0 (length t.sites)) (is_lawful_prefix p) fit))
+    | inr n ↦ absurd n
+  ]
 ]
 sited_go t c (step.DelRoute a p) fit h = λ x i. h x (in_filter (λ static. not (is_static a.0 p static)) c.statics x i).0
 sited_go t c _ fit h = h
@@ -238,7 +254,8 @@ below_of nodes node [] h g = absurd (no g)
 below_of nodes node (vrf ∷ vrfs) h g = split (node == vrf.node.0) refl (below_of nodes node vrfs (and_second (is_vrf_of nodes vrf) _ h)) g
   where
     split : (b : Bool) → (node == vrf.node.0) ≡ b → (is_edge vrfs node ≡ true → node < nodes) → (b || is_edge vrfs node) ≡ true → node < nodes
-    split true e more k = less_of node nodes (ap (λ n. nat_lt n nodes) (same_numbers node vrf.node.0 e) ∙ and_first (nat_lt vrf.node.0 nodes) _ (and_first (is_vrf_of nodes vrf) _ h))
+    split true e more k = less_of node nodes (ap (λ n. nat_lt n nodes) (same_numbers node vrf.node.0 e)
+        ∙ and_first (nat_lt vrf.node.0 nodes) _ (and_first (is_vrf_of nodes vrf) _ h))
     split false e more k = more k
 
 edge_in_list : (t : Network) (node : ℕ) → IsLawful t → is_edge t.vrfs node ≡ true → In (edges t) node
@@ -252,15 +269,19 @@ edges_go t c (step.BgpUp a b) lawful fit h = λ x y on. elim (eqb_tells x a.0) [
   | inl p ↦ elim (eqb_tells y b.0) [
     | inr q ↦ h x y (sym (pair_off c.bgp_on a.0 b.0 true x y (inr q.1)) ∙ on)
     | inl q ↦
-        let both = and_first (is_edge t.vrfs a.0 && is_edge t.vrfs b.0) _ fit in
-        (subst (In (edges t)) (sym p.1) (edge_in_list t a.0 lawful (and_first (is_edge t.vrfs a.0) _ both)), subst (In (edges t)) (sym q.1) (edge_in_list t b.0 lawful (and_second (is_edge t.vrfs a.0) _ both)))
+        let both = and_first (is_edge t.vrfs a.0 && is_edge t.vrfs b.0) _ fit in (
+          subst (In (edges t)) (sym p.1) (edge_in_list t a.0 lawful (and_first (is_edge t.vrfs a.0) _ both)),
+          subst (In (edges t)) (sym q.1)
+              (edge_in_list t b.0 lawful (and_second (is_edge t.vrfs a.0) _ both)),
+        )
   ]
 ]
 edges_go t c (step.BgpDown a b) lawful fit h = λ x y on. elim (eqb_tells x a.0) [
   | inr p ↦ h x y (sym (pair_off c.bgp_on a.0 b.0 false x y (inl p.1)) ∙ on)
   | inl p ↦ elim (eqb_tells y b.0) [
     | inr q ↦ h x y (sym (pair_off c.bgp_on a.0 b.0 false x y (inr q.1)) ∙ on)
-    | inl q ↦ absurd (no (sym (ap (λ k. put_pair c.bgp_on a.0 b.0 false k y) p.1 ∙ ap (put_pair c.bgp_on a.0 b.0 false a.0) q.1 ∙ pair_here c.bgp_on a.0 b.0 false) ∙ on))
+    | inl q ↦ absurd (no (sym (ap (λ k. put_pair c.bgp_on a.0 b.0 false k y) p.1 ∙ ap (put_pair c.bgp_on a.0 b.0 false a.0) q.1
+        ∙ pair_here c.bgp_on a.0 b.0 false) ∙ on))
   ]
 ]
 edges_go t c _ lawful fit h = h
@@ -283,7 +304,8 @@ pub record Rests (t : Network) (w : World) : Type 0 where
   pub forms : HasForms w.config.statics
   pub good : AllGood t w.peerings
 
-pub rests_from : (t : Network) (es : List JournalEntry) (tick : ℕ) (w : World) (k : Packets) (i : ℕ) (ps : List (List ℕ)) → IsLawful t → IsLawfulFrom t tick w k i es ps → Rests t w → Rests t (world_from t w es)
+pub rests_from : (t : Network) (es : List JournalEntry) (tick : ℕ) (w : World) (k : Packets) (i : ℕ) (ps : List (List ℕ)) → IsLawful t →
+    IsLawfulFrom t tick w k i es ps → Rests t w → Rests t (world_from t w es)
 rests_from t [] tick w k i ps topology lawful h = h
 rests_from t (e ∷ es) tick w k i ps topology lawful h =
     let statics = statics_go t w k i e.step (next_of ps) lawful.2 h.statics in
@@ -301,7 +323,8 @@ rests_from t (e ∷ es) tick w k i ps topology lawful h =
 sited_from : (k : ℕ) (sites : List SiteDef) (x : SiteRoute) → In (statics_from k sites) x → x.site < k + length sites
 sited_from k [] x i = absurd i
 sited_from k (site ∷ sites) x i = elim (in_append (map (λ prefix. record { site = k; prefix = prefix }) site.prefixes) (statics_from (k + 1) sites) x i) [
-  | inl j ↦ let m = in_map (λ prefix. record { site = k; prefix = prefix }) site.prefixes x j in subst (λ (z : SiteRoute). z.site < k + suc (length sites)) m.2 (omega arith)
+  | inl j ↦ let m = in_map (λ prefix. record { site = k; prefix = prefix }) site.prefixes x j in
+      subst (λ (z : SiteRoute). z.site < k + suc (length sites)) m.2 (omega arith)
   | inr j ↦ omega (arith, sited_from (k + 1) sites x j)
 ]
 
@@ -330,8 +353,10 @@ stands t w e v topology h at = record {
 }
 
 -- the route that the edge finds is the ledger's best, after every lawful journal
-pub finds_best : (t : Network) (l : Labels) (es : List JournalEntry) (ps : List (List ℕ)) (e v address : ℕ) → IsLawful t → IsLawfulJournal t es ps → edge_of t v ≡ e
-    → longest_match address (held_by (edge_in t l (world_of t es).config (world_of t es).peerings e) (vrf_in t (world_of t es).config v)) ≡ option_map (as_held l) (best (vpn.held t (world_of t es).config (world_of t es).peerings e v) address)
+pub finds_best : (t : Network) (l : Labels) (es : List JournalEntry) (ps : List (List ℕ)) (e v address : ℕ) → IsLawful t → IsLawfulJournal t es ps →
+    edge_of t v ≡ e
+    → longest_match address (held_by (edge_in t l (world_of t es).config (world_of t es).peerings e) (vrf_in t (world_of t es).config v)) ≡ option_map
+    (as_held l) (best (vpn.held t (world_of t es).config (world_of t es).peerings e v) address)
 finds_best t l es ps e v address topology journal at =
     finds t l (world_of t es).config (world_of t es).peerings e v (stands t (world_of t es) e v topology (rests t es ps topology journal) at) address
 

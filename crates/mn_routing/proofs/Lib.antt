@@ -16,3 +16,4 @@ pub mod Lawful
 pub mod Whole
 pub mod Parts
 pub mod GoingOn
+pub mod Telling

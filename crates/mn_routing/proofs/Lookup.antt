@@ -33,7 +33,8 @@ all_in : {A : Type 0} (P : A → Type 0) (xs : List A) (x : A) → AllByRecursio
 all_in P [] x h i = absurd i
 all_in P (y ∷ ys) x h i = elim i [ inl e ↦ subst P e h.0 | inr j ↦ all_in P ys x h.1 j ]
 
-pub first_is_least : {A : Type 0} (before : A → A → Bool) (xs : List A) (x : A) → ((y z : A) → before y z ≡ true → before z y ≡ true → ⊥) → Ascends before xs → In xs x → ((y : A) → In xs y → (before x y ≡ true) ⊎ (x ≡ y)) → first_of xs ≡ Some x
+pub first_is_least : {A : Type 0} (before : A → A → Bool) (xs : List A) (x : A) → ((y z : A) → before y z ≡ true → before z y ≡ true → ⊥) →
+    Ascends before xs → In xs x → ((y : A) → In xs y → (before x y ≡ true) ⊎ (x ≡ y)) → first_of xs ≡ Some x
 first_is_least before [] x one_way up i least = absurd i
 first_is_least before (y ∷ ys) x one_way up i least = elim (least y (inl refl)) [
   | inr e ↦ ap (λ z. Some z) (sym e)
@@ -87,7 +88,8 @@ or_parts : (a b : Bool) → (a || b) ≡ false → (a ≡ false) × (b ≡ false
 or_parts true b h = absurd (no (sym h))
 or_parts false b h = (refl, h)
 
-better_parts : (x y : HeldRoute) → is_better x y ≡ false → (nat_lt y.prefix.length x.prefix.length ≡ false) × (((x.prefix.length == y.prefix.length) && is_preferred x.source y.source) ≡ false)
+better_parts : (x y : HeldRoute) → is_better x y ≡ false → (nat_lt y.prefix.length x.prefix.length ≡ false) ×
+    (((x.prefix.length == y.prefix.length) && is_preferred x.source y.source) ≡ false)
 better_parts x y h = or_parts (nat_lt y.prefix.length x.prefix.length) ((x.prefix.length == y.prefix.length) && is_preferred x.source y.source) h
 
 pub record SameRoutes (l : Labels) (routes : List HeldRoute) (held : List (AddressBlock × Source)) : Type 0 where
@@ -95,7 +97,8 @@ pub record SameRoutes (l : Labels) (routes : List HeldRoute) (held : List (Addre
   pub there : (x : HeldRoute) → In routes x → In held (as_held l x)
   pub only : (h : AddressBlock × Source) → In held h → (x : HeldRoute) × In routes x × (as_held l x ≡ h)
 
-module _ (l : Labels) (routes : List HeldRoute) (held : List (AddressBlock × Source)) (address : ℕ) (one_way : (y z : AddressBlock × Source) → route_before y z ≡ true → route_before z y ≡ true → ⊥) (same : SameRoutes l routes held)
+module _ (l : Labels) (routes : List HeldRoute) (held : List (AddressBlock × Source)) (address : ℕ)
+    (one_way : (y z : AddressBlock × Source) → route_before y z ≡ true → route_before z y ≡ true → ⊥) (same : SameRoutes l routes held)
     (formed : (a : HeldRoute) → In routes a → IsPrefix a.prefix.address a.prefix.length)
     (apart : (a b : HeldRoute) → In routes a → In routes b → a.source ≡ b.source → a.prefix ≡ b.prefix → a ≡ b) where
   found : List (AddressBlock × Source)
@@ -111,7 +114,8 @@ module _ (l : Labels) (routes : List HeldRoute) (held : List (AddressBlock × So
 
   none_found : best routes address ≡ None → longest_match address held ≡ None
   unfolding found
-  none_found h = ap (λ xs. first_of (filter (is_longest (λ (pair : AddressBlock × Source). pair.0) xs) xs)) (empty found (λ x i. let r = from_found x i in no (sym ((names_one routes address formed apart).none h r.0 (contained_in routes r.0 r.1)) ∙ r.3)))
+  none_found h = ap (λ xs. first_of (filter (is_longest (λ (pair : AddressBlock × Source). pair.0) xs) xs))
+      (empty found (λ x i. let r = from_found x i in no (sym ((names_one routes address formed apart).none h r.0 (contained_in routes r.0 r.1)) ∙ r.3)))
     where
       empty : (xs : List (AddressBlock × Source)) → ((x : AddressBlock × Source) → In xs x → ⊥) → xs ≡ []
       empty [] g = refl
@@ -122,26 +126,35 @@ module _ (l : Labels) (routes : List HeldRoute) (held : List (AddressBlock × So
   best_found x h =
       let b : IsBest routes address x = (names_one routes address formed apart).named x h in
       let here : In routes x = in_contained routes x b.held in
-      let in_found : In found (as_held l x) = filter_in (λ (pair : AddressBlock × Source). contains pair.0 address) held (as_held l x) (same.there x here) b.matches in
+      let in_found : In found (as_held l x) = filter_in (λ (pair : AddressBlock × Source). contains pair.0 address) held (as_held l x)
+      (same.there x here) b.matches in
       let longest_here : is_longest (λ (pair : AddressBlock × Source). pair.0) found (as_held l x) ≡ true =
       every (λ (other : AddressBlock × Source). nat_le other.0.length x.prefix.length) found (λ o i.
       let r = from_found o i in
-      ap (λ (pair : AddressBlock × Source). nat_le pair.0.length x.prefix.length) (sym r.2) ∙ not_above x.prefix.length r.0.prefix.length (better_parts r.0 x (b.unbeaten r.0 (contained_in routes r.0 r.1) r.3)).0) in
+      ap (λ (pair : AddressBlock × Source). nat_le pair.0.length x.prefix.length) (sym r.2)
+      ∙ not_above x.prefix.length r.0.prefix.length (better_parts r.0 x (b.unbeaten r.0 (contained_in routes r.0 r.1) r.3)).0) in
       first_is_least route_before (filter (is_longest (λ (pair : AddressBlock × Source). pair.0) found) found) (as_held l x) one_way
-      (ascends_filter route_before (is_longest (λ (pair : AddressBlock × Source). pair.0) found) found (ascends_filter route_before (λ (pair : AddressBlock × Source). contains pair.0 address) held same.up))
+      (ascends_filter route_before (is_longest (λ (pair : AddressBlock × Source). pair.0) found) found
+      (ascends_filter route_before (λ (pair : AddressBlock × Source). contains pair.0 address) held same.up))
       (filter_in (is_longest (λ (pair : AddressBlock × Source). pair.0) found) found (as_held l x) in_found longest_here)
       (λ o i.
       let m = in_filter (is_longest (λ (pair : AddressBlock × Source). pair.0) found) found o i in
       let r = from_found o m.0 in
       let unbeaten = better_parts r.0 x (b.unbeaten r.0 (contained_in routes r.0 r.1) r.3) in
-      let longer : nat_le x.prefix.length r.0.prefix.length ≡ true = each_of (λ (other : AddressBlock × Source). nat_le other.0.length r.0.prefix.length) found (as_held l x) (ap (is_longest (λ (pair : AddressBlock × Source). pair.0) found) r.2 ∙ m.1) in_found in
-      let as_long : r.0.prefix.length ≡ x.prefix.length = both_least r.0.prefix.length x.prefix.length (not_above x.prefix.length r.0.prefix.length unbeaten.0) longer in
+      let longer : nat_le x.prefix.length r.0.prefix.length ≡ true =
+      each_of (λ (other : AddressBlock × Source). nat_le other.0.length r.0.prefix.length) found (as_held l x)
+      (ap (is_longest (λ (pair : AddressBlock × Source). pair.0) found) r.2 ∙ m.1) in_found in
+      let as_long : r.0.prefix.length ≡ x.prefix.length = both_least r.0.prefix.length x.prefix.length
+      (not_above x.prefix.length r.0.prefix.length unbeaten.0) longer in
       let one : r.0.prefix ≡ x.prefix = one_prefix r.0.prefix x.prefix address (formed r.0 r.1) (formed x here) as_long r.3 b.matches in
       elim (two_ways (is_preferred x.source r.0.source)) [
         | inl p ↦ inl (subst (λ o. route_before (as_held l x) o ≡ true) r.2
-            (first_same x.prefix.address r.0.prefix.address _ (ap (λ (q : AddressBlock). q.address) (sym one)) ∙ first_same x.prefix.length r.0.prefix.length _ (sym as_long) ∙ preferred_same l x r.0 ∙ p))
+            (first_same x.prefix.address r.0.prefix.address _ (ap (λ (q : AddressBlock). q.address) (sym one))
+            ∙ first_same x.prefix.length r.0.prefix.length _ (sym as_long) ∙ preferred_same l x r.0 ∙ p))
         | inr p ↦
-            let back : is_better x r.0 ≡ false = ap (λ c. c || ((x.prefix.length == r.0.prefix.length) && is_preferred x.source r.0.source)) (no_less r.0.prefix.length x.prefix.length as_long) ∙ ap (λ c. (x.prefix.length == r.0.prefix.length) && c) p ∙ and_false (x.prefix.length == r.0.prefix.length) in
+            let back : is_better x r.0 ≡ false = ap (λ c. c || ((x.prefix.length == r.0.prefix.length) && is_preferred x.source r.0.source))
+            (no_less r.0.prefix.length x.prefix.length as_long) ∙ ap (λ c. (x.prefix.length == r.0.prefix.length) && c) p
+            ∙ and_false (x.prefix.length == r.0.prefix.length) in
             let neither = neither_better x r.0 back (b.unbeaten r.0 (contained_in routes r.0 r.1) r.3) in
             inr (ap (as_held l) (apart x r.0 here r.1 neither.1 (sym one)) ∙ r.2)
       ])

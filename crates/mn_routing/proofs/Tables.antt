@@ -11,7 +11,8 @@ map_same f g [] h = refl
 map_same f g (x ∷ xs) h = ap (λ y. y ∷ map f xs) (h x (inl refl)) ∙ ap (λ ys. g x ∷ ys) (map_same f g xs (λ y i. h y (inr i)))
 
 -- one number of a range
-pub map_range_set : {B : Type 0} (f g : ℕ → B) (from size at : ℕ) (v : B) → at < size → g (from + at) ≡ v → ((x : ℕ) → x ≢ from + at → g x ≡ f x) → map g (range_with_len from size) ≡ slice_set (map f (range_with_len from size)) at v
+pub map_range_set : {B : Type 0} (f g : ℕ → B) (from size at : ℕ) (v : B) → at < size → g (from + at) ≡ v → ((x : ℕ) → x ≢ from + at → g x ≡ f x) →
+    map g (range_with_len from size) ≡ slice_set (map f (range_with_len from size)) at v
 map_range_set f g from zero at v below here off = absurd (none at below)
   where
     none : (k : ℕ) → k < 0 → ⊥
@@ -50,7 +51,8 @@ map_range_at f from (suc size) (suc at) d below = map_range_at f (from + 1) size
     next = omega arith
 
 -- the same, from 0
-pub map_numbers_set : {B : Type 0} (f g : ℕ → B) (size at : ℕ) (v : B) → at < size → g at ≡ v → ((x : ℕ) → x ≢ at → g x ≡ f x) → map g (range_with_len 0 size) ≡ slice_set (map f (range_with_len 0 size)) at v
+pub map_numbers_set : {B : Type 0} (f g : ℕ → B) (size at : ℕ) (v : B) → at < size → g at ≡ v → ((x : ℕ) → x ≢ at → g x ≡ f x) →
+    map g (range_with_len 0 size) ≡ slice_set (map f (range_with_len 0 size)) at v
 map_numbers_set f g size at v below here off = map_range_set f g 0 size at v below (ap g zero_more ∙ here) (λ x d. off x (λ e. d (e ∙ sym zero_more)))
   where
     zero_more : 0 + at ≡ at

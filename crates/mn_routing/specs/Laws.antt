@@ -16,18 +16,29 @@ use Rattle.mn_routing.specs.Sources.{as_held}
 
 -- an export as its edge has it
 abbrev pub exported_in : Network → Labels → Export → Exported
-exported_in t l x = record { vrf = x.vrf; rd = (vrf_at t x.vrf).rd; prefix = x.prefix; label = l x.site x.attachment; site = x.site; targets = as_targets x.targets }
+exported_in t l x = record {
+  vrf = x.vrf;
+  rd = (vrf_at t x.vrf).rd;
+  prefix = x.prefix;
+  label = l x.site x.attachment;
+  site = x.site;
+  targets =
+      as_targets x.targets;
+}
 
 -- the first longest match among what the VRF holds is the ledger's best
 abbrev pub FindsTheBest : Network → Labels → World → ℕ → ℕ → ℕ → Type 0
-FindsTheBest t l w edge v address = longest_match address (held_by (edge_in t l w.config w.peerings edge) (vrf_in t w.config v)) ≡ option_map (as_held l) (vpn.best (vpn.held t w.config w.peerings edge v) address)
+FindsTheBest t l w edge v address = longest_match address (held_by (edge_in t l w.config w.peerings edge) (vrf_in t w.config v)) ≡ option_map (as_held l)
+    (vpn.best (vpn.held t w.config w.peerings edge v) address)
 
 -- the edge's exports are the ledger's, in the same order
 abbrev pub ExportsAlike : Network → Labels → World → ℕ → Type 0
 ExportsAlike t l w edge = map (exported_in t l) (vpn.exports_of t w.config edge) ≡ exports_of (edge_in t l w.config w.peerings edge)
 
 abbrev pub AllFindTheBest : Type 0
-AllFindTheBest = (t : Network) (l : Labels) (entries : List JournalEntry) (inputs : List (List ℕ)) (edge v address : ℕ) → IsLawful t → IsLawfulJournal t entries inputs → edge_of t v ≡ edge → FindsTheBest t l (world_of t entries) edge v address
+AllFindTheBest = (t : Network) (l : Labels) (entries : List JournalEntry) (inputs : List (List ℕ)) (edge v address : ℕ) → IsLawful t →
+    IsLawfulJournal t entries inputs → edge_of t v ≡ edge → FindsTheBest t l (world_of t entries) edge v address
 
 abbrev pub AllExportAlike : Type 0
-AllExportAlike = (t : Network) (l : Labels) (entries : List JournalEntry) (inputs : List (List ℕ)) (edge : ℕ) → IsLawful t → IsLawfulJournal t entries inputs → ExportsAlike t l (world_of t entries) edge
+AllExportAlike = (t : Network) (l : Labels) (entries : List JournalEntry) (inputs : List (List ℕ)) (edge : ℕ) → IsLawful t →
+    IsLawfulJournal t entries inputs → ExportsAlike t l (world_of t entries) edge

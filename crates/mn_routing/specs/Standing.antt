@@ -39,7 +39,8 @@ label_in topology labels config edge site = if home_of topology site == edge the
 
 -- what the UPDATE of an edge says that tells this
 abbrev pub says_of : Network → Labels → ℕ → Telling → Option Says
-says_of topology labels teller (Announce export) = Some (says_announced (loopback topology teller) (route_of topology labels export) (as_targets export.targets))
+says_of topology labels teller (Announce export) = Some (says_announced (loopback topology teller) (route_of topology labels export)
+    (as_targets export.targets))
 says_of topology labels teller (Unreach v prefix) = Some (says_withdrawn (vrf_at topology v).rd prefix)
 says_of topology labels teller _ = None
 

@@ -30,9 +30,12 @@ routes_after topology labels world routes (AddRoute s prefix) =
     at_edge (home_of topology s.0) (λ now. after_vrf now (vrf_of topology s.0) (with_static (record { prefix = prefix; site = s.0 }))) routes
 routes_after topology labels world routes (DelRoute s prefix) =
     at_edge (home_of topology s.0) (λ now. after_vrf now (vrf_of topology s.0) (without_static (record { prefix = prefix; site = s.0 }))) routes
-routes_after topology labels world routes (Import v target on) = at_edge (edge_of topology v.0) (λ now. after_vrf now v.0 (with_imports (target_set target on))) routes
-routes_after topology labels world routes (Export v target on) = at_edge (edge_of topology v.0) (λ now. after_vrf now v.0 (with_exports (target_set target on))) routes
-routes_after topology labels world routes (Attach s) = at_edge (home_of topology s.0) (λ now. after_attach now s.0 (16 + labels_given topology world.config (home_of topology s.0))) routes
+routes_after topology labels world routes (Import v target on) =
+    at_edge (edge_of topology v.0) (λ now. after_vrf now v.0 (with_imports (target_set target on))) routes
+routes_after topology labels world routes (Export v target on) =
+    at_edge (edge_of topology v.0) (λ now. after_vrf now v.0 (with_exports (target_set target on))) routes
+routes_after topology labels world routes (Attach s) = at_edge (home_of topology s.0)
+    (λ now. after_attach now s.0 (16 + labels_given topology world.config (home_of topology s.0))) routes
 routes_after topology labels world routes (Detach s) = at_edge (home_of topology s.0) (λ now. after_detach now s.0) routes
 routes_after topology labels world routes _ = routes
 
@@ -44,11 +47,13 @@ routes_of topology entries = routes_in topology (labels_of topology entries) (wo
 abbrev pub GoByParts : Type 0
 GoByParts = (topology : Network) (entries : List JournalEntry) (inputs : List (List ℕ)) (entry : JournalEntry) (bytes : List ℕ) →
     IsLawful topology → IsLawfulJournal topology entries inputs → fits topology entry.step ≡ true → refusal topology entries inputs entry.step bytes ≡ None →
-    routes_of topology (entries ++ entry ∷ []) ≡ routes_after topology (labels_of topology entries) (world_of topology entries) (routes_of topology entries) entry.step
+    routes_of topology (entries ++ entry ∷ []) ≡ routes_after topology (labels_of topology entries) (world_of topology entries)
+    (routes_of topology entries) entry.step
 
 -- what is told of an edge's exports in the step is told of those that the step touches
 abbrev pub TellsWhatIsTouched : Type 0
 TellsWhatIsTouched = (topology : Network) (entries : List JournalEntry) (inputs : List (List ℕ)) (entry : JournalEntry) (bytes : List ℕ) (edge : ℕ) →
     IsLawful topology → IsLawfulJournal topology entries inputs → fits topology entry.step ≡ true → refusal topology entries inputs entry.step bytes ≡ None →
-    changed (exports_of topology (world_of topology entries).config edge) (exports_of topology (config_after (world_of topology entries).config entry.step) edge)
+    changed (exports_of topology (world_of topology entries).config edge)
+    (exports_of topology (config_after (world_of topology entries).config entry.step) edge)
     ≡ told_of topology (world_of topology entries).config entry.step edge

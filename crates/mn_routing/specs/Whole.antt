@@ -47,7 +47,8 @@ at_edge edge change routes = record routes { edges = slice_set routes.edges edge
 -- one end of a session
 abbrev pub at_end : ℕ → ℕ → (Option BgpSession → Option BgpSession) → RoutesNow → RoutesNow
 at_end edge peer change routes = record routes {
-  sessions = slice_set routes.sessions edge (slice_set (slice_index_or routes.sessions edge []) peer (change (slice_index_or (slice_index_or routes.sessions edge []) peer None)));
+  sessions = slice_set routes.sessions edge (slice_set (slice_index_or routes.sessions edge []) peer
+      (change (slice_index_or (slice_index_or routes.sessions edge []) peer None)));
 }
 
 -- as an edge hears a message of a peer: what it says of routes is taken, and the session goes on by the table
