@@ -40,7 +40,7 @@ use Rattle.mn_script.specs.declared.command.Command.TheVariants as command
 use Rattle.mn_script.specs.declared.command.Show.{Show}
 use Rattle.mn_script.specs.declared.command.Show.TheVariants as table
 use Rattle.mn_script.specs.Words.{is_word}
-use Rattle.mn_script.specs.Lines.{run_line, drain_line, flush_line, plain_show, show_tree, show_vrf, show_line, do_line, table_line, command_line, line_says, show_fits, command_fits}
+use Rattle.mn_script.specs.Lines.{run_line, bounded_drain, drain_line, flush_line, plain_show, show_tree, show_vrf, show_line, do_line, table_line, command_line, line_says, show_fits, command_fits}
 use Rattle.mn_script.specs.Spelled.{show_words, command_words, IsCommand}
 
 -- each name names its thing
@@ -309,12 +309,12 @@ show_again network table.Flight lawful fit = refl
 
 -- the words of a command are read as the command
 pub command_again : (network : Network) (asked : Command) → IsLawful network → command_fits network asked ≡ true → IsCommand asked → line_says network (command_words network asked) ≡ Ok (Some asked)
-unfolding line_says command_line run_line drain_line flush_line
+unfolding line_says command_line run_line bounded_drain drain_line flush_line
 command_again network (command.Do step) lawful fit is = step_said network (step_words network step) step (step_words_are network step) (step_again network step lawful fit is)
 command_again network (command.Run ticks) lawful fit is =
     let most : ticks ≤ 1000000 = leb-true _ _ fit in
     ap (λ found. (found >>= (λ n. Ok (command.Run n))) >>= (λ it. Ok (Some it))) (number_in_again ticks 0 1000000 (omega arith) (omega arith) most)
-command_again network (command.Drain None) lawful fit is = absurd is
+command_again network (command.Drain None) lawful fit is = refl
 command_again network (command.Drain (Some steps)) lawful fit is =
     let most : steps ≤ 4000000 = leb-true _ _ fit in
     ap (λ found. (found >>= (λ n. Ok (command.Drain (Some n)))) >>= (λ it. Ok (Some it))) (number_in_again steps 0 4000000 (omega arith) (omega arith) most)

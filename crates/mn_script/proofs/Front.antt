@@ -3,7 +3,7 @@ use Rattle.std.proofs.Common.{◌≡◌, ◌<◌, ◌==◌, ℕ, false, List, []
 use Rattle.mn_topo.specs.Network.{Network}
 use Rattle.mn_script.specs.declared.command.Show.{Show}
 use Rattle.mn_script.specs.declared.command.Show.TheVariants as table
-use Rattle.mn_script.specs.Lines.{run_line, drain_line, flush_line, plain_show, show_tree, show_vrf, show_line}
+use Rattle.mn_script.specs.Lines.{run_line, bounded_drain, drain_line, flush_line, plain_show, show_tree, show_vrf, show_line}
 use Rattle.mn_script.specs.Lines.{table_line, do_line, command_line, line_says}
 use Rattle.mn_script.specs.Steps.{link_line, learn_line, ldp_line, hear_line, bgp_line, route_line, target_operands, import_line}
 use Rattle.mn_script.specs.Steps.{export_line, site_line, inject_line, frame_operands, carry_line, lose_line, step_line}
@@ -21,8 +21,8 @@ unfolding run_line
 run_more a b c d e ws = rw (many a b c d e ws 2 (lit< tt)) refl
 
 drain_more : (a b c d e : List ℕ) (ws : List (List ℕ)) → drain_line (five a b c d e ws) ≡ drain_line (five a b c d e [])
-unfolding drain_line
-drain_more a b c d e ws = rw (many a b c d e ws 2 (lit< tt)) refl
+unfolding drain_line bounded_drain
+drain_more a b c d e ws = rw (many a b c d e ws 1 (lit< tt), many a b c d e ws 2 (lit< tt)) refl
 
 flush_more : (a b c d e : List ℕ) (ws : List (List ℕ)) → flush_line (five a b c d e ws) ≡ flush_line (five a b c d e [])
 unfolding flush_line

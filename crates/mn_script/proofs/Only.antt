@@ -42,7 +42,7 @@ use Rattle.mn_script.specs.declared.command.Command.{Command}
 use Rattle.mn_script.specs.declared.command.Command.TheVariants as command
 use Rattle.mn_script.specs.declared.command.Show.{Show}
 use Rattle.mn_script.specs.declared.command.Show.TheVariants as table
-use Rattle.mn_script.specs.Lines.{run_line, drain_line, flush_line, plain_show, show_tree, show_vrf, show_line, do_line, table_line, command_line, line_says}
+use Rattle.mn_script.specs.Lines.{run_line, bounded_drain, drain_line, flush_line, plain_show, show_tree, show_vrf, show_line, do_line, table_line, command_line, line_says}
 use Rattle.mn_script.specs.Spelled.{show_words, AskFor}
 
 -- 1. Chains of rules
@@ -478,12 +478,20 @@ run_only network ws asked first h =
     let ticks = bind_ok (number_in (word_at ws 1) 0 1000000) _ asked full.2 in
     subst (AskFor network ws) (same_Ok (command.Run ticks.0) asked ticks.2) (of_two ws (codes "run") _ (counted_only ws 2 full.0 full.1) first (number_in_only (word_at ws 1) 0 1000000 ticks.0 (lit< tt) ticks.1))
 
-drain_only : (network : Network) (ws : List (List ℕ)) (asked : Command) → word_at ws 0 ≡ codes "drain" → drain_line ws ≡ Ok asked → AskFor network ws asked
-unfolding drain_line
-drain_only network ws asked first h =
+bounded_only : (network : Network) (ws : List (List ℕ)) (asked : Command) → word_at ws 0 ≡ codes "drain" → bounded_drain ws ≡ Ok asked → AskFor network ws asked
+unfolding bounded_drain
+bounded_only network ws asked first h =
     let full = bind_ok (counted ws 2) _ asked h in
     let steps = bind_ok (number_in (word_at ws 1) 0 4000000) _ asked full.2 in
     subst (AskFor network ws) (same_Ok (command.Drain (Some steps.0)) asked steps.2) (of_two ws (codes "drain") _ (counted_only ws 2 full.0 full.1) first (number_in_only (word_at ws 1) 0 4000000 steps.0 (lit< tt) steps.1))
+
+drain_only : (network : Network) (ws : List (List ℕ)) (asked : Command) → word_at ws 0 ≡ codes "drain" → drain_line ws ≡ Ok asked → AskFor network ws asked
+unfolding drain_line
+drain_only network ws asked first h =
+    elim (either (length ws == 1) (Ok (command.Drain None)) (bounded_drain ws) asked h) as (λ _. AskFor network ws asked) [
+      | inl here ↦ subst (AskFor network ws) (same_Ok (command.Drain None) asked here.1) (of_one ws (codes "drain") (eqb-true (length ws) 1 here.0) first)
+      | inr h1 ↦ bounded_only network ws asked first h1
+    ]
 
 flush_only : (network : Network) (ws : List (List ℕ)) (asked : Command) → word_at ws 0 ≡ codes "flush" → flush_line ws ≡ Ok asked → AskFor network ws asked
 unfolding flush_line

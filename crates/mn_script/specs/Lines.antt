@@ -21,11 +21,15 @@ run_line ws = do
   Ok (command.Run ticks)
 
 -- drain N: steps
-unfoldable pub drain_line : List (List ℕ) → Result Command ScriptRule
-drain_line ws = do
+unfoldable pub bounded_drain : List (List ℕ) → Result Command ScriptRule
+bounded_drain ws = do
   full ← counted ws 2
   steps ← number_in (word_at ws 1) 0 4000000
   Ok (command.Drain (Some steps))
+
+-- drain N, or drain without a number, which has no bound
+unfoldable pub drain_line : List (List ℕ) → Result Command ScriptRule
+drain_line ws = if length ws == 1 then Ok (command.Drain None) else bounded_drain ws
 
 -- flush
 unfoldable pub flush_line : List (List ℕ) → Result Command ScriptRule

@@ -105,8 +105,6 @@ IsStep (Carry link direction place) = place < 2 ^ 32
 IsStep (Lose link direction place) = place < 2 ^ 32
 IsStep _ = ⊤
 
--- a drain has a bound
 abbrev pub IsCommand : Command → Type 0
 IsCommand (command.Do step) = IsStep step
-IsCommand (command.Drain None) = ⊥
 IsCommand _ = ⊤

@@ -5,7 +5,7 @@
 //! learn N A B                             inject SITE K
 //! ldp on A B, ldp off A B                 carry A B PLACE, lose A B PLACE
 //! hear ldp A B, hear bgp A B              run T
-//! bgp up A B, bgp down A B                drain N
+//! bgp up A B, bgp down A B                drain N, drain
 //! route add SITE PREFIX, route del ..     flush
 //! import add VRF TARGET, import del ..    show links, show tree N, show ldp,
 //! export add VRF TARGET, export del ..      show bgp, show vrf VRF, show flight

@@ -2,7 +2,7 @@
 ghost use Rattle.std.specs.Prelude.{◌≡◌, ◌≤◌, true, IfOk, IfSome};
 ghost use Rattle.mn_topo.specs.Network.{Network};
 ghost use Rattle.mn_script.specs.Words.{texts};
-ghost use Rattle.mn_script.specs.Lines.{run_line, drain_line, flush_line, plain_show, show_tree, show_vrf, show_line, table_line, do_line, command_line, line_says, show_fits, command_fits};
+ghost use Rattle.mn_script.specs.Lines.{run_line, bounded_drain, drain_line, flush_line, plain_show, show_tree, show_vrf, show_line, table_line, do_line, command_line, line_says, show_fits, command_fits};
 
 use crate::operands::{node_in, number_in, vrf_in};
 use crate::steps::step_line;
@@ -28,14 +28,27 @@ fn run_line(words: &[&[u8]]) -> Result<Command, ScriptRule>
 }
 
 /// `drain N`.
-#[tactic(auto, unfolding(crate::specs::Lines::drain_line))]
-fn drain_line(words: &[&[u8]]) -> Result<Command, ScriptRule>
-    ensures value { result ≡ drain_line (texts words.now) }
+#[tactic(auto, unfolding(crate::specs::Lines::bounded_drain))]
+fn bounded_drain(words: &[&[u8]]) -> Result<Command, ScriptRule>
+    ensures value { result ≡ bounded_drain (texts words.now) }
     ensures fits { (network : Network) → IfOk result (λ command. command_fits network command ≡ true) }
 {
     counted(words, 2)?;
     let steps = number_in(word_at(words, 1), 0, MOST_STEPS)?;
     Ok(Command::Drain(Some(steps)))
+}
+
+/// `drain N`, or `drain` with no bound.
+#[tactic(auto, unfolding(crate::specs::Lines::drain_line))]
+fn drain_line(words: &[&[u8]]) -> Result<Command, ScriptRule>
+    ensures value { result ≡ drain_line (texts words.now) }
+    ensures fits { (network : Network) → IfOk result (λ command. command_fits network command ≡ true) }
+{
+    if words.len() == 1 {
+        Ok(Command::Drain(None))
+    } else {
+        bounded_drain(words)
+    }
 }
 
 /// `flush`.

@@ -147,6 +147,7 @@ fn lines_on_edges_and_sites_name_steps(rt: HostRuntime) -> Result<(), Fail> {
 
 const OTHER_LINES: &str = "run 100 -> 1 Run(100)
 drain 1000 -> 1 Drain(Some(1000))
+drain -> 1 Drain(None)
 flush -> 1 Flush
 show links -> 1 Show(Links)
 show tree pe2 -> 1 Show(Tree(NodeNo(2)))
@@ -223,7 +224,6 @@ carry pe1 p -> WrongCount at 1
 lose pe1 p 0 0 -> WrongCount at 1
 run -> WrongCount at 1
 run 1 2 -> WrongCount at 1
-drain -> WrongCount at 1
 drain 1 2 -> WrongCount at 1
 flush now -> WrongCount at 1
 show -> WrongCount at 1
@@ -364,6 +364,7 @@ run 5# -> BadNumber at 1
 #run 5 -> nothing
 link # up pe1 p -> WrongCount at 1
 show links # all -> 1 Show(Links)
+drain # 5 -> 1 Drain(None)
 run\u{a0}5 -> UnknownWord at 1";
 
 #[test]

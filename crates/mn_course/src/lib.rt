@@ -1,0 +1,25 @@
+//! The course of a script: the journal that its lines make, with the clock.
+//!
+//! ```text
+//!   a step         that step, unless it is refused; the clock stands still
+//!   run T          what is due in the next T ticks arrives, the earliest first; then T ticks have passed
+//!   drain N        notices are learned, and then messages are heard, at most N in all; the clock stands still
+//!   drain          the same, until none is in flight
+//!   flush          frames arrive, the earliest first, until none flies
+//!   show ..        a table of what has come about
+//! ```
+//!
+//! Of items that are due at one tick the one that was made first arrives first. What arrives is a step like any other: it
+//! enters the journal, with the tick at which it is done. A frame whose number in its direction is a multiple of the link's
+//! loss is lost instead.
+//!
+//! - `specs/Coming`: which item in flight comes next, and the step that delivers it
+//! - `specs/Course`: what one line does; `specs/Expansion`: what a script does, and what is told of its lines
+//! - `proofs/Runs`: lines and scripts over a network of two links, computed from the definitions
+#![tactic(auto)]
+
+mod coming;
+mod laws;
+
+pub use coming::{Arrivals, Coming, Ending, Kind};
+pub use laws::nothing_is_left;

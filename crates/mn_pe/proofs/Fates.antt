@@ -1,0 +1,96 @@
+-- What an edge that stands for the ledger's world says of a packet is the packet's fate.
+use Rattle.std.proofs.Common.{ℕ, ◌≡◌, ◌<◌, inl, inr, false, List, [], ◌∷◌, filter, refl, arith, sym, ◌∙◌, ap, subst, Option, Some, None}
+use Rattle.std.specs.Prelude.{◌==◌, not, nat_lt, is_none, option_map, slice_index, if◌then◌else◌}
+use Rattle.mn_base.proofs.Bools.{test_same, not_true}
+use Rattle.mn_base.proofs.Members.{In, in_append, in_contained, in_map, in_filter, in_flat_map}
+use Rattle.mn_base.specs.declared.drops.Rule.{Rule}
+use Rattle.mn_base.specs.declared.drops.Rule.TheVariants as rule
+use Rattle.mn_ipv4.specs.Header.{is_not_ipv4, is_malformed, is_truncated, has_bad_checksum, ttl_of, destination_of}
+use Rattle.mn_topo.specs.Network.{Network}
+use Rattle.mn_ledger.specs.Entry.{when, first_rule, is_unicast}
+use Rattle.mn_ledger.specs.Places.{home_of, vrf_of, edges}
+use Rattle.mn_ledger.specs.World.{World, Config, Export, Peerings}
+use Rattle.mn_ledger.specs.Vpn.{HeldRoute, held, best, own_routes, near_routes, far_routes, held_by, imported, believed, present_with, exports_of}
+use Rattle.mn_ledger.specs.Vpn as vpn
+use Rattle.mn_ledger.specs.Packets.{entry_rules}
+use Rattle.mn_laws.proofs.Entering.{best_is}
+use Rattle.mn_frames.specs.Given.{Labelling}
+use Rattle.mn_frames.specs.Entries.{Stays, Leaves, fate, fate_by, fate_of, IsAged, IsFit, IsFall}
+use Rattle.mn_frames.proofs.Fit.{fits_or_falls}
+use Rattle.mn_pe.specs.Edge.{Edge}
+use Rattle.mn_pe.specs.Held.{label_of}
+use Rattle.mn_pe.specs.Entries.{alone, entered_at, entered_by, entered_over, route_for, as_held, source_of, StandsAtEntry, IsItsFate}
+
+-- a route from the edge itself leads to a site of it, and one of a peer to another edge
+abbrev IsPlaced : ℕ → ℕ → vpn.Source → Type 0
+IsPlaced edge at vpn.Own = at ≡ edge
+IsPlaced edge at (vpn.Near v) = at ≡ edge
+IsPlaced edge at (vpn.Far address rd) = (at == edge) ≡ false
+
+placed : (t : Network) (c : Config) (p : Peerings) (edge v : ℕ) (r : HeldRoute) → In (held t c p edge v) r → IsPlaced edge r.edge r.source
+unfolding held
+placed t c p edge v r i = elim (in_append (own_routes t c edge v) _ r i) [
+  | inl j ↦ let m = in_map (held_by edge vpn.Own) (present_with t c v []) r j in subst (λ (x : HeldRoute). IsPlaced edge x.edge x.source) m.2 refl
+  | inr j ↦ elim (in_append (near_routes t c edge v) _ r j) [
+    | inl k ↦ let m = in_map (λ (x : Export). held_by edge (vpn.Near x.vrf) x)
+        (imported c v (filter (λ (x : Export). not (x.vrf == v)) (exports_of t c edge))) r k in
+        subst (λ (x : HeldRoute). IsPlaced edge x.edge x.source) m.2 refl
+    | inr k ↦
+        let f = in_flat_map (far_routes t c p edge v) (filter (λ peer. not (peer == edge)) (edges t)) r k in
+        let m = in_map (λ (x : Export). held_by f.0 (vpn.Far _ _) x) (imported c v (believed c p edge f.0)) r f.2 in
+        let apart = in_filter (λ peer. not (peer == edge)) (edges t) f.0 f.1 in
+        subst (λ (x : HeldRoute). IsPlaced edge x.edge x.source) m.2 (not_true (f.0 == edge) apart.1)
+  ]
+]
+
+rules_same : (attachment other : Option ℕ) (bytes : List ℕ) → is_none attachment ≡ is_none other →
+    first_rule (entry_rules attachment bytes) ≡ first_rule (entry_rules other bytes)
+rules_same attachment other bytes e =
+    ap (λ b. first_rule (when b rule.SiteDown ∷ when (is_not_ipv4 bytes) rule.NotIpv4 ∷ when (is_malformed bytes) rule.Malformed ∷ when
+    (is_truncated bytes) rule.Truncated
+    ∷ when (has_bad_checksum bytes) rule.BadChecksum ∷ when (nat_lt (ttl_of bytes) 2) rule.TtlExpired ∷ when
+    (not (is_unicast (destination_of bytes))) rule.NotUnicast ∷ [])) e
+
+module _ (t : Network) (g : Labelling) (w : World) (edge : Edge) (s : ℕ) (bytes : List ℕ) (stands : StandsAtEntry edge t g w s bytes)
+    (small : (i : ℕ) → slice_index bytes i < 256) where
+  abbrev home : ℕ
+  home = home_of t s
+
+  abbrev routes : List HeldRoute
+  routes = held t w.config w.peerings home (vrf_of t s)
+
+  abbrev found : Option HeldRoute
+  found = best routes (destination_of bytes)
+
+  abbrev cause : Option Rule
+  cause = first_rule (entry_rules (w.config.attached s) bytes)
+
+  stays : (r : HeldRoute) → cause ≡ None → found ≡ Some r → r.edge ≡ home → fate t w s bytes ≡ Stays r.site
+  stays r e f p = ap (fate_of home found) e ∙ ap (fate_by home) f ∙ ap (λ b. if b then Stays r.site else Leaves r) (test_same r.edge home p)
+
+  leaves : (r : HeldRoute) → cause ≡ None → found ≡ Some r → (r.edge == home) ≡ false → fate t w s bytes ≡ Leaves r
+  leaves r e f p = ap (fate_of home found) e ∙ ap (fate_by home) f ∙ ap (λ b. if b then Stays r.site else Leaves r) p
+
+  older : (site : ℕ) → fate t w s bytes ≡ Stays site → IsAged bytes (alone bytes)
+  older site e =
+      let fit : IsFit bytes = fits_or_falls t w s bytes small (λ fall. subst IsFall e fall) in
+      record { packet = refl; ttl = fit.ttl; alive = omega (arith, fit.alive) }
+
+  over : (r : HeldRoute) → cause ≡ None → found ≡ Some r → (source : vpn.Source) → IsPlaced home r.edge source →
+      IsItsFate t g w s bytes (entered_over bytes (source_of g r source))
+  over r e f vpn.Own p = let is = stays r e f p in (is, older r.site is)
+  over r e f (vpn.Near v) p = let is = stays r e f p in (is, older r.site is)
+  over r e f (vpn.Far address rd) p = let is = leaves r e f p in (r, is, refl, record { stack = refl; packet = refl; sound = stands.sound r is })
+
+  by_cause : (o : Option Rule) → cause ≡ o → (r : Option HeldRoute) → found ≡ r → IsItsFate t g w s bytes (entered_by bytes o (option_map (as_held g) r))
+  by_cause (Some c) e r f = ap (fate_of home found) e
+  by_cause None e None f = ap (fate_of home found) e ∙ ap (fate_by home) f
+  by_cause None e (Some r) f = over r e f r.source (placed t w.config w.peerings home (vrf_of t s) r
+      (in_contained routes r (best_is routes (destination_of bytes) r f).held))
+
+  pub is_its_fate : IsItsFate t g w s bytes (entered_at edge s bytes)
+  is_its_fate =
+      subst (IsItsFate t g w s bytes)
+      (sym (ap (λ o. entered_by bytes o (route_for edge s (destination_of bytes))) (rules_same (label_of edge s) (w.config.attached s) bytes stands.attached)
+      ∙ ap (entered_by bytes cause) stands.route))
+      (by_cause cause refl found refl)

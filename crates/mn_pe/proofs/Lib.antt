@@ -1,0 +1,16 @@
+pub mod Ranges
+pub mod Walks
+pub mod Present
+pub mod Offers
+pub mod Retracts
+pub mod OnePlaces
+pub mod Sound
+pub mod Rebuilding
+pub mod Anew
+pub mod Places
+pub mod Orderly
+pub mod Starting
+pub mod Found
+pub mod Fates
+pub mod AtEntry
+pub mod Read

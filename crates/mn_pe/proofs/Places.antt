@@ -1,0 +1,85 @@
+-- A change of the VRF at the place of its number is the change of the VRF of that number.
+use Rattle.std.proofs.Common.{ℕ, zero, suc, ◌≡◌, ◌≢◌, ◌<◌, true, cond, List, [], ◌∷◌, length, refl, arith, sym, ◌∙◌, ap, Option, None}
+use Rattle.std.specs.Prelude.{Result, Ok, Err, OnOk, OnErr, slice_set, slice_index_or, ◌==◌, if◌then◌else◌}
+use Rattle.std.specs.List.{AllByRecursion}
+use Rattle.std.proofs.lemmas.List.{set-get_or}
+use Rattle.mn_base.specs.Ordered.{Ascends}
+use Rattle.mn_base.proofs.Bools.{none_below, test_same, other_test, less_tells}
+use Rattle.mn_vrf.specs.Vrf.{VrfState, Holding}
+use Rattle.mn_pe.specs.Edge.{on_vrf}
+use Rattle.mn_pe.specs.Pe.{by_number, found_in, IsAbsent, IsAt}
+use Rattle.mn_pe.specs.Rebuilt.{told}
+
+tail_absent : (v : ℕ) (h : Holding) (hs : List Holding) → IsAbsent v (h ∷ hs) → IsAbsent v hs
+tail_absent v h hs absent k d lt = absent (suc k) d (omega (arith, lt))
+
+pub absent_on : (v : ℕ) (f : VrfState → VrfState) (hs : List Holding) → IsAbsent v hs → on_vrf v f (told hs) ≡ told hs
+absent_on v f [] absent = refl
+absent_on v f (h ∷ hs) absent =
+    ap (λ b. cond b (f h.vrf) h.vrf ∷ on_vrf v f (told hs)) (other_test h.vrf.number v (absent 0 h (omega arith)))
+    ∙ ap (λ vs. h.vrf ∷ vs) (absent_on v f hs (tail_absent v h hs absent))
+
+pub absent_found : {A : Type 0} (v : ℕ) (g : VrfState → Option A) (hs : List Holding) → IsAbsent v hs → found_in v g (told hs) ≡ None
+absent_found v g [] absent = refl
+absent_found v g (h ∷ hs) absent =
+    ap (λ b. if b then g h.vrf else found_in v g (told hs)) (other_test h.vrf.number v (absent 0 h (omega arith)))
+    ∙ absent_found v g hs (tail_absent v h hs absent)
+
+told_at : (hs : List Holding) (k : ℕ) (d : Holding) → slice_index_or (told hs) k d.vrf ≡ (slice_index_or hs k d).vrf
+told_at [] k d = refl
+told_at (h ∷ hs) zero d = refl
+told_at (h ∷ hs) (suc k) d = told_at hs k d
+
+all_index : (P : VrfState → Type 0) (hs : List Holding) → AllByRecursion P (told hs) → (k : ℕ) (d : Holding) → k < length hs → P (slice_index_or hs k d).vrf
+all_index P [] all k d lt = absurd (none_below k lt)
+all_index P (h ∷ hs) all zero d lt = all.0
+all_index P (h ∷ hs) all (suc k) d lt = all_index P hs all.1 k d (omega (arith, lt))
+
+-- those behind a VRF have other numbers
+others : (v : ℕ) (h : Holding) (hs : List Holding) → Ascends by_number (told (h ∷ hs)) → h.vrf.number ≡ v → IsAbsent v hs
+others v h hs up e k d lt same =
+    let less : h.vrf.number < (slice_index_or hs k d).vrf.number =
+    less_tells h.vrf.number (slice_index_or hs k d).vrf.number (all_index (λ w. by_number h.vrf w ≡ true) hs up.0 k d lt) in
+    omega (arith, less, e, same)
+
+tail_at : (v : ℕ) (h : Holding) (hs : List Holding) (at : ℕ) → IsAt v (h ∷ hs) (suc at) → IsAt v hs at
+tail_at v h hs at is = record { there = let lt = is.there in omega (arith, lt); is = λ d. is.is d }
+
+-- those before it too
+not_first : (v : ℕ) (h : Holding) (hs : List Holding) (at : ℕ) → Ascends by_number (told (h ∷ hs)) → IsAt v hs at → h.vrf.number ≢ v
+not_first v h hs at up is e =
+    let less : h.vrf.number < (slice_index_or hs at h).vrf.number =
+    less_tells h.vrf.number (slice_index_or hs at h).vrf.number (all_index (λ w. by_number h.vrf w ≡ true) hs up.0 at h is.there) in
+    let same : (slice_index_or hs at h).vrf.number ≡ v = is.is h in
+    omega (arith, less, e, same)
+
+pub changed_at : (v : ℕ) (f : VrfState → VrfState) (hs : List Holding) (at : ℕ) (one new : Holding) → Ascends by_number (told hs) → IsAt v hs at →
+    one ≡ slice_index_or hs at one → new.vrf ≡ f one.vrf → told (slice_set hs at new) ≡ on_vrf v f (told hs)
+changed_at v f [] at one new up is one_is e = absurd (none_below at is.there)
+changed_at v f (h ∷ hs) zero one new up is one_is e =
+    ap (λ w. w ∷ told hs) (e ∙ ap (λ (x : Holding). f x.vrf) one_is)
+    ∙ ap (λ b. cond b (f h.vrf) h.vrf ∷ told hs) (sym (test_same h.vrf.number v (is.is h)))
+    ∙ ap (λ vs. cond (h.vrf.number == v) (f h.vrf) h.vrf ∷ vs) (sym (absent_on v f hs (others v h hs up (is.is h))))
+changed_at v f (h ∷ hs) (suc at) one new up is one_is e =
+    ap (λ vs. h.vrf ∷ vs) (changed_at v f hs at one new up.1 (tail_at v h hs at is) one_is e)
+    ∙ ap (λ b. cond b (f h.vrf) h.vrf ∷ on_vrf v f (told hs)) (sym (other_test h.vrf.number v (not_first v h hs at up (tail_at v h hs at is))))
+
+pub found_at : {A : Type 0} (v : ℕ) (g : VrfState → Option A) (hs : List Holding) (at : ℕ) (one : Holding) → Ascends by_number (told hs) → IsAt v hs at →
+    one ≡ slice_index_or hs at one → found_in v g (told hs) ≡ g one.vrf
+found_at v g [] at one up is one_is = absurd (none_below at is.there)
+found_at v g (h ∷ hs) zero one up is one_is =
+    ap (λ b. if b then g h.vrf else found_in v g (told hs)) (test_same h.vrf.number v (is.is h)) ∙ sym (ap (λ (x : Holding). g x.vrf) one_is)
+found_at v g (h ∷ hs) (suc at) one up is one_is =
+    ap (λ b. if b then g h.vrf else found_in v g (told hs)) (other_test h.vrf.number v (not_first v h hs at up (tail_at v h hs at is)))
+    ∙ found_at v g hs at one up.1 (tail_at v h hs at is) one_is
+
+pub stays_at : (hs : List Holding) (at : ℕ) (one new : Holding) → one ≡ slice_index_or hs at one → new ≡ one → slice_set hs at new ≡ hs
+stays_at hs at one new one_is e = ap (slice_set hs at) (e ∙ one_is) ∙ set-get_or hs at one
+
+pub on_ok : {A E : Type 0} (r : Result A E) (P Q : Type 0) → (P → Q) → OnOk r P → OnOk r Q
+on_ok (Ok x) P Q f h = f h
+on_ok (Err e) P Q f h = h
+
+pub on_err : {A E : Type 0} (r : Result A E) (P Q : Type 0) → (P → Q) → OnErr r P → OnErr r Q
+on_err (Ok x) P Q f h = h
+on_err (Err e) P Q f h = f h

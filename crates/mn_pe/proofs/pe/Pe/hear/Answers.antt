@@ -1,0 +1,55 @@
+use Rattle.std.proofs.Common.{◌≡◌, ◌<◌, length, arith, sym, ◌∙◌, ap, false}
+use Rattle.std.specs.Prelude.{slice_index_or}
+use Rattle.mn_pe.specs.Edge.{Edge, after_withdrawn, after_reached, after_update}
+use Rattle.mn_pe.specs.Pe.{PeNow, after_giving, after_taking}
+use Rattle.mn_pe.proofs.Sound.{heard_edge, heard_sound}
+use Rattle.mn_pe.proofs.pe.Pe.hear.Goals as goal
+
+-- each VRF holds what it should after the UPDATE
+pub invariant_of-self-2 : goal.invariant_of-self-2
+invariant_of-self-2 c _ =
+    let address : c.args.loopback ≡ slice_index_or c.self.inside.loopbacks.items c.args.peer.0 0 = c.requires.address
+    ∙ ap (λ (p : PeNow). slice_index_or p.edge.loopbacks c.args.peer.0 0) (sym c.self.view_is) in
+    let below : c.args.peer.0 < length c.self.inside.heard.items = omega arith in
+    heard_sound c.self.inside.vrfs.items c.self.inside.sites.items c.self.inside.labels.items c.self.inside.loopbacks.items c.self.inside.heard.items
+    c.args.peer.0 c.args.update.now c.index_mut.result.now c.index_mut-2.result.now c.hear_withdrawn.new.heard c.hear_reached.new.heard
+    c.hear_withdrawn.new.vrfs.items c.hear_reached.new.vrfs.items
+    below
+    (record {
+      first_is = c.index_mut.ensures.value;
+      one_is = c.hear_withdrawn.ensures.heard ∙ ap (after_withdrawn c.index_mut.result.now) c.withdrawn.ensures;
+      given_is = c.hear_withdrawn.ensures.vrfs ∙ ap (after_giving c.args.loopback c.args.peer.0 c.self.inside.vrfs.items) c.withdrawn.ensures
+          ∙ ap (λ n. after_giving n c.args.peer.0 c.self.inside.vrfs.items c.args.update.now.withdrawn) address;
+      last_is = c.index_mut-2.ensures.value;
+      two_is = c.in-Ok.ensures.heard ∙ ap (after_reached c.targets.result.now c.index_mut-2.result.now) c.reached.ensures
+          ∙ ap (λ ts. after_reached ts c.index_mut-2.result.now c.args.update.now.reached) c.targets.ensures;
+      taken_is = c.in-Ok.ensures.vrfs ∙ ap (after_taking c.args.loopback c.args.peer.0 c.targets.result.now c.hear_withdrawn.new.vrfs.items) c.reached.ensures
+          ∙ ap (λ ts. after_taking c.args.loopback c.args.peer.0 ts c.hear_withdrawn.new.vrfs.items c.args.update.now.reached) c.targets.ensures
+          ∙ ap (λ n. after_taking n c.args.peer.0 c.args.update.now.targets c.hear_withdrawn.new.vrfs.items c.args.update.now.reached) address;
+    })
+    c.requires.labels (c.self.invariant c.if-self.false)
+
+-- and the edge is as after it
+pub returns-clause-ok : goal.returns-clause-ok
+returns-clause-ok c =
+    let address : c.args.loopback ≡ slice_index_or c.self.inside.loopbacks.items c.args.peer.0 0 = c.requires.address
+    ∙ ap (λ (p : PeNow). slice_index_or p.edge.loopbacks c.args.peer.0 0) (sym c.self.view_is) in
+    let below : c.args.peer.0 < length c.self.inside.heard.items = omega arith in
+    ap (λ (e : Edge). let p : PeNow = record { edge = e; failed = false } in p)
+    (heard_edge c.self.inside.vrfs.items c.self.inside.sites.items c.self.inside.labels.items c.self.inside.loopbacks.items c.self.inside.heard.items
+    c.args.peer.0 c.args.update.now c.index_mut.result.now c.index_mut-2.result.now c.hear_withdrawn.new.heard c.hear_reached.new.heard
+    c.hear_withdrawn.new.vrfs.items c.hear_reached.new.vrfs.items
+    below
+    (record {
+      first_is = c.index_mut.ensures.value;
+      one_is = c.hear_withdrawn.ensures.heard ∙ ap (after_withdrawn c.index_mut.result.now) c.withdrawn.ensures;
+      given_is = c.hear_withdrawn.ensures.vrfs ∙ ap (after_giving c.args.loopback c.args.peer.0 c.self.inside.vrfs.items) c.withdrawn.ensures
+          ∙ ap (λ n. after_giving n c.args.peer.0 c.self.inside.vrfs.items c.args.update.now.withdrawn) address;
+      last_is = c.index_mut-2.ensures.value;
+      two_is = c.in-Ok.ensures.heard ∙ ap (after_reached c.targets.result.now c.index_mut-2.result.now) c.reached.ensures
+          ∙ ap (λ ts. after_reached ts c.index_mut-2.result.now c.args.update.now.reached) c.targets.ensures;
+      taken_is = c.in-Ok.ensures.vrfs ∙ ap (after_taking c.args.loopback c.args.peer.0 c.targets.result.now c.hear_withdrawn.new.vrfs.items) c.reached.ensures
+          ∙ ap (λ ts. after_taking c.args.loopback c.args.peer.0 ts c.hear_withdrawn.new.vrfs.items c.args.update.now.reached) c.targets.ensures
+          ∙ ap (λ n. after_taking n c.args.peer.0 c.args.update.now.targets c.hear_withdrawn.new.vrfs.items c.args.update.now.reached) address;
+    }))
+    ∙ ap (λ (p : PeNow). let q : PeNow = record { edge = after_update p.edge c.args.peer.0 c.args.update.now; failed = false } in q) c.self.view_is

@@ -1,0 +1,7 @@
+pub mod Edge
+pub mod Held
+pub mod Pe
+pub mod Rebuilt
+pub mod Exports
+pub mod Start
+pub mod Entries

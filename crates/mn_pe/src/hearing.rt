@@ -1,0 +1,114 @@
+// What a peer told, taken into the VRFs or out of them.
+ghost use Rattle.std.specs.Prelude.{◌≡◌, map, take, drop, ◌++◌, length, OnOk};
+ghost use Rattle.mn_pe.specs.Edge.{after_withdrawn, after_reached};
+ghost use Rattle.mn_pe.specs.Held.{far_over};
+ghost use Rattle.mn_pe.specs.Pe.{taking, giving, after_giving, after_taking, after_forgetting};
+
+use mn_base::{NodeNo, Rd, Rt};
+use mn_prefix::Prefix;
+use mn_rib_in::RibIn;
+use mn_vpn_nlri::VpnRoute;
+use mn_vrf::{Source, Vrf};
+use std::alloc::AllocError;
+
+/// Where a peer's route comes from.
+pub(crate) fn far_source(loopback: u32, peer: NodeNo, rd: Rd, label: u32) -> Source
+    ensures { result ≡ far_over loopback rd.0 peer.0 label }
+{
+    Source::Far {
+        loopback,
+        rd,
+        edge: peer,
+        label,
+    }
+}
+
+/// A VRF holds a route of these targets if it imports one of them, and else nothing in its place.
+fn take_route(
+    vrf: &mut Vrf,
+    prefix: Prefix,
+    source: Source,
+    targets: &[Rt],
+) -> Result<(), AllocError>
+    ensures ok { OnOk result (vrf.new ≡ taking (prefix, source) targets.now vrf.old) }
+{
+    if vrf.imports().meets(targets) {
+        return vrf.replace(prefix, source);
+    }
+    vrf.withdraw(prefix, &source);
+    Ok(())
+}
+
+/// Each VRF takes a route.
+fn take_in_all(
+    vrfs: &mut Vec<Vrf>,
+    prefix: Prefix,
+    source: Source,
+    targets: &[Rt],
+) -> Result<(), AllocError>
+    ensures ok { OnOk result (vrfs.new.items ≡ map (taking (prefix, source) targets.now) vrfs.old.items) }
+{
+    for at in 0..vrfs.len() {
+        take_route(&mut vrfs[at], prefix, source, targets)?;
+    }
+    Ok(())
+}
+
+/// Each VRF gives a route up.
+fn give_in_all(vrfs: &mut Vec<Vrf>, prefix: Prefix, source: Source)
+    ensures { vrfs.new.items ≡ map (giving (prefix, source)) vrfs.old.items }
+{
+    for at in 0..vrfs.len() {
+        vrfs[at].withdraw(prefix, &source);
+    }
+}
+
+/// A peer's routes are withdrawn.
+pub(crate) fn hear_withdrawn(
+    vrfs: &mut Vec<Vrf>,
+    heard: &mut RibIn,
+    peer: NodeNo,
+    loopback: u32,
+    routes: &[VpnRoute],
+)
+    ensures heard { heard.new ≡ after_withdrawn heard.old routes.now }
+    ensures vrfs { vrfs.new.items ≡ after_giving loopback peer.0 vrfs.old.items routes.now }
+{
+    for route in routes {
+        heard.remove(route.rd, route.prefix);
+        give_in_all(vrfs, route.prefix, far_source(loopback, peer, route.rd, 0));
+    }
+}
+
+/// A peer's routes are announced.
+pub(crate) fn hear_reached(
+    vrfs: &mut Vec<Vrf>,
+    heard: &mut RibIn,
+    peer: NodeNo,
+    loopback: u32,
+    routes: &[VpnRoute],
+    targets: &[Rt],
+) -> Result<(), AllocError>
+    ensures heard { OnOk result (heard.new ≡ after_reached targets.now heard.old routes.now) }
+    ensures vrfs { OnOk result (vrfs.new.items ≡ after_taking loopback peer.0 targets.now vrfs.old.items routes.now) }
+{
+    for route in routes {
+        heard.set(route.rd, route.prefix, route.label, targets)?;
+        let source = far_source(loopback, peer, route.rd, route.label);
+        take_in_all(vrfs, route.prefix, source, targets)?;
+    }
+    Ok(())
+}
+
+/// VRFs hold none of a peer's routes.
+pub(crate) fn forget_in_all(vrfs: &mut Vec<Vrf>, heard: &RibIn, peer: NodeNo, loopback: u32)
+    ensures { vrfs.new.items ≡ after_forgetting loopback peer.0 vrfs.old.items heard.now }
+{
+    for route in heard.as_slice() {
+        give_in_all(
+            vrfs,
+            route.prefix(),
+            far_source(loopback, peer, route.rd(), 0),
+        );
+    }
+}

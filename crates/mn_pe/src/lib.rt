@@ -1,0 +1,50 @@
+//! The routes of one edge.
+//!
+//! An edge of a provider's network has VRFs, each with statics over the sites of a customer, and hears the routes of other
+//! edges (RFC 4364, section 4.3). From what it was told follows what each VRF holds, and what the edge tells its peers:
+//!
+//! ```text
+//!                     of its own statics,          of the edge's other VRFs,       of peers,
+//!                     where the site is attached   where a target is imported      where a target is imported
+//!                              |                              |                            |
+//!                              v                              v                            v
+//!   +-----------------------------------------------------------------------------------------------------+
+//!   | what a VRF holds, in the order of prefixes and of preference                                        |
+//!   +-----------------------------------------------------------------------------------------------------+
+//!       | look-up: the longest prefix that contains the address, and of it the preferred route
+//!       v
+//! ```
+//!
+//! Contracts see what the edge was told alone (`specs/Edge.antt`); what a VRF holds is a function of it (`held_by` of
+//! `specs/Held.antt`), and so are the exports. A change of an import set needs no message: all that was heard is kept.
+//!
+//! - `pe`: `Pe`, an edge, with all its calls
+//! - `start`: the edge as the topology has it
+//! - `changes`: what the VRF of a number is told
+//! - `hearing`: what a peer told, taken into the VRFs or out of them
+//! - `rebuild`: what VRFs are to hold, made anew
+//! - `look`: what the VRF of a number holds
+//! - `export`: `Export`, a route that the edge tells
+//! - `entering`: `Entered`, what becomes of a packet that a site sends
+//! - `laws`: what is read can be heard
+//! - `refusal`: why a call gives up
+#![tactic(auto)]
+
+mod changes;
+mod entering;
+mod export;
+mod hearing;
+mod laws;
+mod look;
+mod pe;
+mod rebuild;
+mod refusal;
+mod start;
+#[cfg(test)]
+mod tests;
+
+pub use entering::Entered;
+pub use export::Export;
+pub use laws::what_is_read_has_labels;
+pub use pe::Pe;
+pub use refusal::NoMemory;

@@ -1,0 +1,115 @@
+-- How much there is of each as packets move.
+use Rattle.std.proofs.Common.{ℕ, ◌≡◌, ◌+◌, ◌<◌, ◌≤◌, List, [], ◌∷◌, ◌++◌, length, refl, arith, sym, ◌∙◌, ap, Some, None}
+use Rattle.std.specs.Prelude.{slice_set, slice_get}
+use Rattle.std.proofs.lemmas.List.{length-set, length_push}
+use Rattle.mn_base.specs.declared.links.Dir.{Dir}
+use Rattle.mn_flight.specs.declared.Item.{Item}
+use Rattle.mn_flight.specs.Flying.{on_channel, without, IsFlight}
+use Rattle.mn_ledger.specs.declared.verdict.Verdict.{Verdict}
+use Rattle.mn_transit.specs.declared.flown.Flown.{Flown}
+use Rattle.mn_transit.specs.Visits.{Visits}
+use Rattle.mn_transit.specs.Moving.{Moving, bytes_in, CountsOn}
+use Rattle.mn_transit.proofs.Bytes.{bytes_left, bytes_more}
+
+-- one after another
+pub counts_then : (a b c : Moving) (p q k l x y : ℕ) → CountsOn a b p k x → CountsOn b c q l y → CountsOn a c (p + q) (k + l) (x + y)
+counts_then a b c p q k l x y one two = record {
+  channels = two.channels ∙ one.channels;
+  failed = two.failed ∙ one.failed;
+  verdicts = omega (arith, one.verdicts, two.verdicts);
+  copies = omega (arith, one.copies, two.copies);
+  bytes = omega (arith, one.bytes, two.bytes);
+}
+
+pub counts_still : (m new : Moving) (copies bytes : ℕ) → new ≡ m → CountsOn m new 0 copies bytes
+counts_still m new copies bytes is = record {
+  channels = ap (λ (n : Moving). n.channels) is;
+  failed = ap (λ (n : Moving). n.failed) is;
+  verdicts = (let same = ap (λ (n : Moving). length n.verdicts) is in omega (arith, same));
+  copies = (let same = ap (λ (n : Moving). n.copies) is in omega (arith, same));
+  bytes = (let same = ap (λ (n : Moving). bytes_in n.flying) is in omega (arith, same));
+}
+
+pub counts_begun : (m new : Moving) → new ≡ record m { delivered = None } → CountsOn m new 0 0 0
+counts_begun m new is = record {
+  channels = ap (λ (n : Moving). n.channels) is;
+  failed = ap (λ (n : Moving). n.failed) is;
+  verdicts = (let same = ap (λ (n : Moving). length n.verdicts) is in omega (arith, same));
+  copies = (let same = ap (λ (n : Moving). n.copies) is in omega (arith, same));
+  bytes = (let same = ap (λ (n : Moving). bytes_in n.flying) is in omega (arith, same));
+}
+
+pub counts_spare : (m new : Moving) (spare : ℕ) → new ≡ record m { spare = spare } → CountsOn m new 0 0 0
+counts_spare m new spare is = record {
+  channels = ap (λ (n : Moving). n.channels) is;
+  failed = ap (λ (n : Moving). n.failed) is;
+  verdicts = (let same = ap (λ (n : Moving). length n.verdicts) is in omega (arith, same));
+  copies = (let same = ap (λ (n : Moving). n.copies) is in omega (arith, same));
+  bytes = (let same = ap (λ (n : Moving). bytes_in n.flying) is in omega (arith, same));
+}
+
+pub counts_judged : (m new : Moving) (packet copies bytes : ℕ) (verdict : Verdict) → new ≡ record m { verdicts = slice_set m.verdicts packet verdict } → CountsOn m new 0 copies bytes
+counts_judged m new packet copies bytes verdict is = record {
+  channels = ap (λ (n : Moving). n.channels) is;
+  failed = ap (λ (n : Moving). n.failed) is;
+  verdicts = (let same = ap (λ (n : Moving). length n.verdicts) is in omega (arith, same, length-set m.verdicts packet verdict));
+  copies = (let same = ap (λ (n : Moving). n.copies) is in omega (arith, same));
+  bytes = (let same = ap (λ (n : Moving). bytes_in n.flying) is in omega (arith, same));
+}
+
+pub counts_delivered : (m new : Moving) (packet bytes : ℕ) (verdict : Verdict) (packet_bytes : List ℕ) →
+    new ≡ record m { verdicts = slice_set m.verdicts packet verdict; copies = m.copies + 1; delivered = Some packet_bytes } → CountsOn m new 0 1 bytes
+counts_delivered m new packet bytes verdict packet_bytes is = record {
+  channels = ap (λ (n : Moving). n.channels) is;
+  failed = ap (λ (n : Moving). n.failed) is;
+  verdicts = (let same = ap (λ (n : Moving). length n.verdicts) is in omega (arith, same, length-set m.verdicts packet verdict));
+  copies = (let same = ap (λ (n : Moving). n.copies) is in omega (arith, same));
+  bytes = (let same = ap (λ (n : Moving). bytes_in n.flying) is in omega (arith, same));
+}
+
+pub counts_sent : (m new : Moving) (packet spare : ℕ) (verdict : Verdict) (item : Item Flown) →
+    new ≡ record m { flying = m.flying ++ item ∷ []; spare = spare; verdicts = slice_set m.verdicts packet verdict } → CountsOn m new 0 0 (length item.item.frame.packet)
+counts_sent m new packet spare verdict item is = record {
+  channels = ap (λ (n : Moving). n.channels) is;
+  failed = ap (λ (n : Moving). n.failed) is;
+  verdicts = (let same = ap (λ (n : Moving). length n.verdicts) is in omega (arith, same, length-set m.verdicts packet verdict));
+  copies = (let same = ap (λ (n : Moving). n.copies) is in omega (arith, same));
+  bytes = (let same = ap (λ (n : Moving). bytes_in n.flying) is in omega (arith, same, bytes_more m.flying item));
+}
+
+pub counts_more : (m new : Moving) (spare : ℕ) (verdict : Verdict) (path : Visits) →
+    new ≡ record m { verdicts = m.verdicts ++ verdict ∷ []; paths = m.paths ++ path ∷ []; spare = spare } → CountsOn m new 1 0 0
+counts_more m new spare verdict path is = record {
+  channels = ap (λ (n : Moving). n.channels) is;
+  failed = ap (λ (n : Moving). n.failed) is;
+  verdicts = (let same = ap (λ (n : Moving). length n.verdicts) is in omega (arith, same, length_push m.verdicts verdict));
+  copies = (let same = ap (λ (n : Moving). n.copies) is in omega (arith, same));
+  bytes = (let same = ap (λ (n : Moving). bytes_in n.flying) is in omega (arith, same));
+}
+
+-- what is taken is as many bytes less
+pub counts_taken : (m left : Moving) (channel place : ℕ) (item : Item Flown) → IsFlight m.channels m.flying → Some item ≡ slice_get (on_channel channel m.flying) place →
+    left ≡ record m { flying = without (Some item) m.flying; spare = left.spare } → CountsOn m left 0 0 0 × (bytes_in left.flying + length item.item.frame.packet ≡ bytes_in m.flying)
+counts_taken m left channel place item flight found is =
+    let same = ap (λ (n : Moving). bytes_in n.flying) is in
+    let less = bytes_left channel place m.flying item flight.ascending found in (
+      record {
+        channels = ap (λ (n : Moving). n.channels) is;
+        failed = ap (λ (n : Moving). n.failed) is;
+        verdicts = (let even = ap (λ (n : Moving). length n.verdicts) is in omega (arith, even));
+        copies = (let even = ap (λ (n : Moving). n.copies) is in omega (arith, even));
+        bytes = omega (arith, same, less);
+      },
+      omega (arith, same, less),
+    )
+
+-- so where it flies on, no more bytes fly than before
+pub counts_back : (m left there new : Moving) (paths : List Visits) (size : ℕ) → CountsOn m left 0 0 0 → bytes_in left.flying + size ≡ bytes_in m.flying → there ≡ record left { paths = paths } →
+    CountsOn there new 0 1 size → CountsOn m new 0 1 0
+counts_back m left there new paths size taken less visits goes = record {
+  channels = goes.channels ∙ ap (λ (n : Moving). n.channels) visits ∙ taken.channels;
+  failed = goes.failed ∙ ap (λ (n : Moving). n.failed) visits ∙ taken.failed;
+  verdicts = (let same = ap (λ (n : Moving). length n.verdicts) visits in omega (arith, same, goes.verdicts, taken.verdicts));
+  copies = (let same = ap (λ (n : Moving). n.copies) visits in omega (arith, same, goes.copies, taken.copies));
+  bytes = (let same = ap (λ (n : Moving). bytes_in n.flying) visits in omega (arith, same, goes.bytes, less));
+}

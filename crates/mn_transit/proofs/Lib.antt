@@ -1,0 +1,12 @@
+pub mod Taking
+pub mod Once
+pub mod Standing
+pub mod Arriving
+pub mod Going
+pub mod Leaving
+pub mod Injecting
+pub mod Bytes
+pub mod Counts
+pub mod Counting
+pub mod Labelled
+pub mod Numbers

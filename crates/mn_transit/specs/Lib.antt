@@ -1,0 +1,4 @@
+pub mod Visits
+pub mod Moving
+pub mod Stands
+pub mod Entering

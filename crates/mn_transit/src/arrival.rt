@@ -1,0 +1,140 @@
+//! A frame comes to a node, which forwards it by its table.
+ghost use Rattle.std.specs.Prelude.{◌≡◌, ◌≢◌, ◌<◌, ◌≤◌, ◌+◌, ◌*◌, ◌^◌, ℕ, List, true, length, slice_get};
+ghost use Rattle.std.specs.List.{All};
+ghost use Rattle.mn_base.specs.Wiring.{receiver};
+ghost use Rattle.mn_base.specs.declared.links.Dir.{Dir};
+ghost use Rattle.mn_flight.specs.Flying.{on_channel, without};
+ghost use Rattle.mn_lfib.specs.Hop.{carried_ttl};
+ghost use Rattle.mn_topo.specs.Links.{are_joined};
+ghost use Rattle.mn_topo.specs.Network.{Leads, wiring_of};
+ghost use Rattle.mn_topo.specs.declared.steps.Step.TheVariants as Step;
+ghost use Rattle.mn_ledger.specs.Packets.{channel, Token, Packets, arrive, packets_after};
+ghost use Rattle.mn_ledger.specs.World.{World};
+ghost use Rattle.mn_frames.specs.Arrivals.{sent};
+ghost use Rattle.mn_frames.specs.Given.{Labelling};
+ghost use Rattle.mn_frames.specs.Tables.{TableStands};
+ghost use Rattle.mn_transit.specs.Moving.{bytes_in, HoldsHops, CountsOn};
+ghost use Rattle.mn_transit.specs.Stands.{IsFlown, StandsFor, Makes};
+ghost use Rattle.mn_transit.specs.Visits.{path_of};
+
+use crate::ends::{channel_of, receiver};
+use crate::flown::Flown;
+use crate::transit::{Clock, Transit};
+use mn_base::{Dir, LinkNo, NodeNo, Rule};
+use mn_ledger::Verdict;
+use mn_lfib::{Forwarded, Lfib};
+use mn_topo::Topology;
+
+impl Transit {
+    /// A packet of which no frame flies goes on to a neighbour. True where there is a link to it.
+    pub(crate) fn hop(
+        &mut self,
+        topology: &Topology,
+        node: NodeNo,
+        next: NodeNo,
+        flown: Flown,
+        clock: Clock,
+    ) -> bool
+        requires channels { self.old.channels ≡ 2 * length topology.now.links }
+        requires clock { clock.tick ≤ 2 ^ 62 }
+        requires number { All (λ item. item.number < clock.number) self.old.flying }
+        requires bytes { bytes_in self.old.flying < 2 ^ 32 }
+        requires room { 0 < self.old.spare }
+        requires packet { flown.packet < length self.old.verdicts }
+        requires apart { All (λ other. other.item.packet ≢ flown.packet) self.old.flying }
+        requires hops { HoldsHops (path_of self.old.paths flown.packet).room flown.frame }
+        requires entry { 0 < length flown.frame.entries }
+        ensures stands { (given : Labelling) (packets : Packets) (token : Token) →
+            StandsFor topology.now given self.old packets → IsFlown topology.now given next.0 flown token → are_joined topology.now.links node.0 next.0 ≡ true →
+            (link : ℕ) × (dir : Dir) × Leads topology.now node.0 next.0 link dir × StandsFor topology.now given self.new (sent packets token link dir) }
+        ensures made { Makes topology.now clock.tick clock.number self.old.flying self.new.flying result }
+        ensures counts { CountsOn self.old self.new 0 0 (length flown.frame.packet) }
+    {
+        let Some((link, dir)) = topology.link_of(node, next) else {
+            return false;
+        };
+        self.send(topology, link, dir, flown, clock);
+        true
+    }
+
+    /// A packet of which no frame flies comes to a node, which forwards its frame by its table. True where it flies on.
+    pub(crate) fn arrive(
+        &mut self,
+        topology: &Topology,
+        table: &Lfib,
+        node: NodeNo,
+        flown: Flown,
+        clock: Clock,
+    ) -> bool
+        requires node { node.0 < length topology.now.loopbacks }
+        requires channels { self.old.channels ≡ 2 * length topology.now.links }
+        requires clock { clock.tick ≤ 2 ^ 62 }
+        requires number { All (λ item. item.number < clock.number) self.old.flying }
+        requires bytes { bytes_in self.old.flying < 2 ^ 32 }
+        requires room { 0 < self.old.spare }
+        requires packet { flown.packet < length self.old.verdicts }
+        requires apart { All (λ other. other.item.packet ≢ flown.packet) self.old.flying }
+        requires hops { carried_ttl flown.frame ≤ (path_of self.old.paths flown.packet).room + 1 }
+        requires entry { 0 < length flown.frame.entries }
+        requires copies { self.old.copies + 1 < 2 ^ 32 }
+        ensures stands { (given : Labelling) (world : World) (packets : Packets) (token : Token) →
+            TableStands topology.now given world node.0 table.now → StandsFor topology.now given self.old packets → IsFlown topology.now given node.0 flown token →
+            StandsFor topology.now given self.new (arrive topology.now world packets token node.0) }
+        ensures made { Makes topology.now clock.tick clock.number self.old.flying self.new.flying result }
+        ensures counts { CountsOn self.old self.new 0 1 (length flown.frame.packet) }
+    {
+        topology.laws();
+        let Flown { packet, mut frame } = flown;
+        let ttl = frame.top().ttl.saturating_sub(1);
+        match table.forward(&mut frame) {
+            Forwarded::Drop(rule) => {
+                self.judge(packet, Verdict::Dropped { rule, node });
+                false
+            }
+            Forwarded::Site(site) => {
+                self.deliver(packet, site, ttl, frame);
+                false
+            }
+            Forwarded::Next(next) => {
+                self.hop(topology, node, next, Flown { packet, frame }, clock)
+            }
+        }
+    }
+
+    /// Takes the packet at a place of a direction of a link to the node that it leads to, which forwards its frame by its
+    /// table. It takes no memory, and changes the frame in place.
+    ///
+    /// True where the packet flies on, with the clock's number.
+    pub fn carry(
+        &mut self,
+        topology: &Topology,
+        table: &Lfib,
+        link: LinkNo,
+        dir: Dir,
+        place: u32,
+        clock: Clock,
+    ) -> bool
+        requires link { link.0 < length topology.now.links }
+        requires there { place < length (on_channel (channel link.0 dir) self.old.flying) }
+        requires channels { self.old.channels ≡ 2 * length topology.now.links }
+        requires clock { clock.tick ≤ 2 ^ 62 }
+        requires number { All (λ item. item.number < clock.number) self.old.flying }
+        requires bytes { bytes_in self.old.flying < 2 ^ 32 }
+        requires copies { self.old.copies + 1 < 2 ^ 32 }
+        ensures moved { (given : Labelling) (world : World) (packets : Packets) (bytes : List ℕ) →
+            TableStands topology.now given world (receiver (wiring_of topology.now) link.0 dir) table.now → StandsFor topology.now given self.old packets →
+            StandsFor topology.now given self.new (packets_after topology.now world packets (Step.Carry link dir place) bytes) }
+        ensures made { Makes topology.now clock.tick clock.number (without (slice_get (on_channel (channel link.0 dir) self.old.flying) place) self.old.flying) self.new.flying result }
+        ensures counts { CountsOn self.old self.new 0 1 0 }
+    {
+        let node = receiver(topology, link, dir);
+        let at = channel_of(link, dir);
+        self.begin();
+        let Some(taken) = self.take(at, place) else {
+            return false;
+        };
+        let flown = taken.item;
+        self.visit(flown.packet, node);
+        self.arrive(topology, table, node, flown, clock)
+    }
+}

@@ -1,0 +1,42 @@
+//! Packets in transit: what became of each packet, the nodes at which it was, and the frames that fly.
+//!
+//! Each call moves packets as the ledger does, for whatever labels, world and packets these stand for. The ledger
+//! follows a packet as a token without a label; here flies its frame, and each node that it comes to forwards it by its own
+//! table. `Transit` keeps no byte of a packet that has ended, so which packets it stands for is a relation: `specs/Stands`.
+//!
+//! ```text
+//!   inject --> one more packet --+--> dropped, or delivered at a site of the same edge
+//!                                |
+//!                                v
+//!            +--------------> in flight --lose, link_down--> dropped at the sender
+//!            |                   |
+//!            +--- hop <-- carry: the node's table --> dropped, or delivered
+//! ```
+//!
+//! A packet takes all its memory as it enters: a node of the flight, its verdict, and a path with room for each node that its
+//! TTL lets it come to. So nothing but `inject` can want memory.
+//!
+//! - `flown`, `path`: a frame in flight, and where a packet was
+//! - `ends`: the directions of links
+//! - `transit`: what is kept, and one call for each thing that may become of a packet
+//! - `entry`, `arrival`, `loss`: the steps that move packets; `tell`: what became of them
+//! - `laws`: as labels are given
+//!
+//! RFC 3031, sections 3.10 and 3.11; RFC 3032, section 2.4; RFC 4364, section 5.
+#![tactic(auto)]
+
+mod arrival;
+mod ends;
+mod entry;
+mod flown;
+mod laws;
+mod loss;
+mod path;
+mod tell;
+#[cfg(test)]
+mod tests;
+mod transit;
+
+pub use flown::Flown;
+pub use laws::stands_as_labels_are_given;
+pub use transit::{Clock, Transit};

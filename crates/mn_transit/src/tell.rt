@@ -1,0 +1,103 @@
+//! What became of each packet, and what flies.
+ghost use Rattle.std.specs.Prelude.{◌≡◌, ◌<◌, ◌*◌, ◌^◌, ◌==◌, [], length, map, find, option_map, slice_index_or};
+ghost use Rattle.std.specs.Option.{option_copied};
+ghost use Rattle.mn_flight.specs.Earliest.{earliest};
+ghost use Rattle.mn_flight.specs.Flying.{on_channel};
+ghost use Rattle.mn_topo.specs.Network.{Network};
+ghost use Rattle.mn_ledger.specs.Packets.{channel, Packets, flying_on};
+ghost use Rattle.mn_ledger.specs.Refusal.{bytes_flying};
+ghost use Rattle.mn_ledger.specs.Verdicts.{verdict_on};
+ghost use Rattle.mn_frames.specs.Given.{Labelling};
+ghost use Rattle.mn_transit.specs.Moving.{bytes_in};
+ghost use Rattle.mn_transit.specs.Stands.{StandsFor};
+
+use crate::ends::channel_of;
+use crate::flown::Flown;
+use crate::transit::Transit;
+use mn_base::{Dir, LinkNo, NodeNo};
+use mn_flight::{Flight, Item};
+use mn_ledger::Verdict;
+
+impl Transit {
+    /// Whether an `inject` wanted memory.
+    pub fn failed(&self) -> bool
+        ensures { result ≡ self.now.failed }
+    {
+        self.failed
+    }
+
+    /// How many packets were injected.
+    pub fn packets(&self) -> u32
+        requires { length self.now.verdicts < 2 ^ 32 }
+        ensures counted { result ≡ length self.now.verdicts }
+        ensures told { (topology : Network) (given : Labelling) (packets : Packets) → StandsFor topology given self.now packets → result ≡ length packets.verdicts }
+    {
+        self.verdicts.len() as u32
+    }
+
+    /// What became of a packet.
+    pub fn verdict(&self, packet: u32) -> Verdict
+        requires { packet < length self.now.verdicts }
+        ensures told { (topology : Network) (given : Labelling) (packets : Packets) → StandsFor topology given self.now packets → result ≡ verdict_on packets packet }
+    {
+        self.verdicts[packet as usize]
+    }
+
+    /// The nodes at which a packet was, from the entry on.
+    pub fn path(&self, packet: u32) -> &[NodeNo]
+        requires { packet < length self.now.verdicts }
+        ensures told { (topology : Network) (given : Labelling) (packets : Packets) → StandsFor topology given self.now packets →
+            map (λ node. node.0) result.now ≡ slice_index_or packets.paths packet [] }
+    {
+        self.paths[packet as usize].nodes()
+    }
+
+    /// The packet that the last step delivered.
+    pub fn delivered(&self) -> Option<&[u8]>
+        ensures told { (topology : Network) (given : Labelling) (packets : Packets) → StandsFor topology given self.now packets → option_map (λ bytes. bytes.now) result ≡ packets.delivered }
+    {
+        match &self.delivered {
+            Some(frame) => Some(frame.packet()),
+            None => None,
+        }
+    }
+
+    /// How many frames fly on a direction of a link.
+    pub fn flying(&self, link: LinkNo, dir: Dir) -> u64
+        ensures counted { result ≡ length (on_channel (channel link.0 dir) self.now.flying) }
+        ensures told { (topology : Network) (given : Labelling) (packets : Packets) → StandsFor topology given self.now packets → result ≡ length (flying_on packets link.0 dir) }
+    {
+        self.frames.count(channel_of(link, dir))
+    }
+
+    /// The bytes of the packets that fly, without their labels.
+    pub fn flying_bytes(&self) -> u64
+        ensures counted { result ≡ bytes_in self.now.flying }
+        ensures told { (topology : Network) (given : Labelling) (packets : Packets) → self.now.channels ≡ 2 * length topology.links →
+            StandsFor topology given self.now packets → result ≡ bytes_flying topology packets }
+    {
+        self.bytes
+    }
+
+    /// How many frames fly.
+    pub fn in_flight(&self) -> u64
+        ensures { result ≡ length self.now.flying }
+    {
+        self.frames.len()
+    }
+
+    /// Of the frames that are due at a tick `limit` or before it, the one of least due tick and, among these, of least
+    /// number; `None` where none is due by then.
+    pub fn earliest(&self, limit: u64) -> Option<&Item<Flown>>
+        ensures { option_copied result ≡ earliest limit self.now.flying }
+    {
+        self.frames.earliest(limit)
+    }
+
+    /// The frame of a number; `None` where it isn't in flight.
+    pub fn frame(&self, number: u64) -> Option<&Item<Flown>>
+        ensures { option_copied result ≡ find (λ item. item.number == number) self.now.flying }
+    {
+        self.frames.get(number)
+    }
+}

@@ -1,0 +1,250 @@
+//! What is kept of the packets, and one call for each thing that may become of one.
+ghost use Rattle.std.specs.Prelude.{◌≡◌, ◌≢◌, ◌<◌, ◌≤◌, ◌+◌, ◌*◌, ◌^◌, ◌∷◌, ◌++◌, [], ℕ, List, true, false, Some, None, length, slice_get, slice_set, IfOk, IfSome, IsSome, OnOk, OnErr};
+ghost use Rattle.std.specs.List.{All};
+ghost use Rattle.mn_base.specs.Wiring.{link as link_of};
+ghost use Rattle.mn_base.specs.declared.drops.Rule.TheVariants as Rule;
+ghost use Rattle.mn_flight.specs.Flying.{IsFlight, on_channel, off_channel, without};
+ghost use Rattle.mn_topo.specs.Network.{Network, wiring_of};
+ghost use Rattle.mn_topo.specs.declared.steps.Step.{Step};
+ghost use Rattle.mn_ledger.specs.declared.verdict.Verdict.TheVariants as verdict;
+ghost use Rattle.mn_ledger.specs.Ledger.{no_packets};
+ghost use Rattle.mn_ledger.specs.Packets.{Packets, channel, packets_after};
+ghost use Rattle.mn_ledger.specs.Parts.{is_moving};
+ghost use Rattle.mn_ledger.specs.World.{World};
+ghost use Rattle.mn_frames.specs.Given.{Labelling};
+ghost use Rattle.mn_transit.specs.Moving.{bytes_in, HoldsHops};
+ghost use Rattle.mn_transit.specs.Stands.{StandsFor};
+ghost use Rattle.mn_transit.specs.Visits.{path_of, further};
+
+use crate::ends::channel_of;
+use crate::flown::Flown;
+use crate::path::Path;
+use mn_base::{Dir, LinkNo, NodeNo, Rule, SiteNo};
+use mn_flight::{Flight, Item};
+use mn_flight_pool::PoolFlight;
+use mn_ledger::Verdict;
+use mn_stack::Frame;
+use mn_topo::Topology;
+use std::alloc::{AllocError, Global};
+use std::marker::Model;
+
+/// The flight of the frames. Any `Flight` takes its place here.
+type Frames = PoolFlight<Flown>;
+
+/// When a step is done, and the number of the first item that it makes.
+#[derive(Clone, Copy, Debug, PartialEq, Eq)]
+pub struct Clock {
+    pub tick: u64,
+    pub number: u64,
+}
+
+/// What became of each packet, and the frames that fly.
+///
+/// Only `new` and `inject` take memory. Contracts see the verdicts, paths and deliveries, and the frames in flight with their
+/// numbers and due ticks.
+#[derive(Drop)]
+pub struct Transit {
+    pub(crate) frames: Frames,
+    pub(crate) verdicts: Vec<Verdict>,
+    pub(crate) paths: Vec<Path>,
+    copies: u32,
+    pub(crate) delivered: Option<Frame>,
+    // The bytes of the packets that fly.
+    pub(crate) bytes: u64,
+    pub(crate) failed: bool,
+}
+
+impl Model for Transit {
+    ghost use Rattle.std.specs.Prelude.{option_map};
+    ghost use Rattle.mn_transit.specs.Moving.{Moving, IsMoving};
+
+    ghost Value = { Moving };
+
+    ghost view = { λ t. record {
+      verdicts = t.verdicts.items;
+      paths = t.paths.items;
+      copies = t.copies;
+      delivered = option_map (λ frame. frame.packet) t.delivered;
+      flying = t.frames.items;
+      spare = t.frames.spare;
+      channels = t.frames.channels;
+      failed = t.failed;
+    } };
+
+    ghost invariant = { λ t. IsMoving (record {
+      verdicts = t.verdicts.items;
+      paths = t.paths.items;
+      copies = t.copies;
+      delivered = option_map (λ frame. frame.packet) t.delivered;
+      flying = t.frames.items;
+      spare = t.frames.spare;
+      channels = t.frames.channels;
+      failed = t.failed;
+    }) t.bytes };
+}
+
+impl Transit {
+    /// No packet, on the links of a topology.
+    pub fn new(alloc: Global, topology: &Topology) -> Result<Transit, AllocError>
+        ensures new { IfOk result (λ transit. transit ≡ record {
+          verdicts = [];
+          paths = [];
+          copies = 0;
+          delivered = None;
+          flying = [];
+          spare = transit.spare;
+          channels = 2 * length topology.now.links;
+          failed = false;
+        }) }
+        ensures stands { IfOk result (λ transit. (given : Labelling) → StandsFor topology.now given transit no_packets) }
+    {
+        topology.laws();
+        let links = topology.links().len() as u32;
+        let frames = Frames::new(alloc, 2 * links)?;
+        Ok(Transit {
+            frames,
+            verdicts: Vec::new(alloc),
+            paths: Vec::new(alloc),
+            copies: 0,
+            delivered: None,
+            bytes: 0,
+            failed: false,
+        })
+    }
+
+    /// A step begins, which has delivered nothing yet. One that moves no packet is done with this.
+    pub fn begin(&mut self)
+        ensures begun { self.new ≡ record self.old { delivered = None } }
+        ensures still { (topology : Network) (given : Labelling) (world : World) (packets : Packets) (step : Step) (bytes : List ℕ) →
+            is_moving step ≡ false → StandsFor topology given self.old packets →
+            StandsFor topology given self.new (packets_after topology world packets step bytes) }
+    {
+        self.delivered = None;
+    }
+
+    /// Takes the frame at a place of a channel out of flight.
+    pub(crate) fn take(&mut self, at: u32, place: u32) -> Option<Item<Flown>>
+        ensures taken { result ≡ slice_get (on_channel at self.old.flying) place }
+        ensures left { self.new ≡ record self.old { flying = without result self.old.flying; spare = self.new.spare } }
+        ensures room { IsSome result → 0 < self.new.spare }
+        ensures flight { IsFlight self.old.channels self.old.flying }
+        ensures injected { IfSome result (λ item. item.item.packet < length self.new.verdicts) }
+        ensures entry { IfSome result (λ item. 0 < length item.item.frame.entries) }
+        ensures apart { IfSome result (λ item. All (λ other. other.item.packet ≢ item.item.packet) self.new.flying) }
+        ensures hops { IfSome result (λ item. HoldsHops (path_of self.new.paths item.item.packet).room item.item.frame) }
+        ensures paths { length self.new.paths ≡ length self.new.verdicts }
+    {
+        let Some(taken) = self.frames.take(at, place) else {
+            return None;
+        };
+        self.bytes -= taken.item.frame.packet().len() as u64;
+        Some(taken)
+    }
+
+    /// A packet that doesn't fly is at one node more.
+    pub(crate) fn visit(&mut self, packet: u32, node: NodeNo)
+        requires packet { packet < length self.old.paths }
+        requires room { 0 < (path_of self.old.paths packet).room }
+        requires apart { All (λ other. other.item.packet ≢ packet) self.old.flying }
+        ensures { self.new ≡ record self.old { paths = slice_set self.old.paths packet (further (path_of self.old.paths packet) node) } }
+    {
+        self.paths[packet as usize].visit(node);
+    }
+
+    /// What becomes of a packet.
+    pub(crate) fn judge(&mut self, packet: u32, verdict: Verdict)
+        requires { packet < length self.old.verdicts }
+        ensures { self.new ≡ record self.old { verdicts = slice_set self.old.verdicts packet verdict } }
+    {
+        self.verdicts[packet as usize] = verdict;
+    }
+
+    /// The packet of a frame reaches a site with this TTL.
+    pub(crate) fn deliver(&mut self, packet: u32, site: SiteNo, ttl: u8, frame: Frame)
+        requires packet { packet < length self.old.verdicts }
+        requires copies { self.old.copies + 1 < 2 ^ 32 }
+        ensures { self.new ≡ record self.old {
+          verdicts = slice_set self.old.verdicts packet (verdict.Delivered site ttl (self.old.copies + 1));
+          copies = self.old.copies + 1;
+          delivered = Some frame.packet;
+        } }
+    {
+        self.copies += 1;
+        let copy = self.copies;
+        self.judge(packet, Verdict::Delivered { site, ttl, copy });
+        self.delivered = Some(frame);
+    }
+
+    /// A packet of which no frame flies comes to fly on a direction of a link, behind those that fly there.
+    pub(crate) fn send(
+        &mut self,
+        topology: &Topology,
+        link: LinkNo,
+        dir: Dir,
+        flown: Flown,
+        clock: Clock,
+    )
+        requires link { link.0 < length topology.now.links }
+        requires channels { self.old.channels ≡ 2 * length topology.now.links }
+        requires clock { clock.tick ≤ 2 ^ 62 }
+        requires number { All (λ item. item.number < clock.number) self.old.flying }
+        requires bytes { bytes_in self.old.flying < 2 ^ 32 }
+        requires room { 0 < self.old.spare }
+        requires packet { flown.packet < length self.old.verdicts }
+        requires apart { All (λ other. other.item.packet ≢ flown.packet) self.old.flying }
+        requires hops { HoldsHops (path_of self.old.paths flown.packet).room flown.frame }
+        requires entry { 0 < length flown.frame.entries }
+        ensures { self.new ≡ record self.old {
+          flying = self.old.flying ++ record { channel = channel link.0 dir; due = clock.tick + (link_of (wiring_of topology.now) link.0).delay; number = clock.number; item = flown } ∷ [];
+          spare = self.new.spare;
+          verdicts = slice_set self.old.verdicts flown.packet (verdict.Flying link dir);
+        } }
+    {
+        let due = clock.tick + u64::from(topology.links()[link.0 as usize].delay);
+        let packet = flown.packet;
+        let size = flown.frame.packet().len() as u64;
+        let at = channel_of(link, dir);
+        // There is room, so it can't fail.
+        let _ = self.frames.push(at, due, clock.number, flown);
+        self.bytes += size;
+        self.judge(packet, Verdict::Flying { link, dir });
+    }
+
+    /// One more packet, at the node where it enters, with room for a frame that flies and for so many more nodes. Its verdict
+    /// is replaced in the same step. It answers the packet's number.
+    pub(crate) fn one_more(
+        &mut self,
+        alloc: Global,
+        node: NodeNo,
+        room: u8,
+    ) -> Result<u32, AllocError>
+        requires { length self.old.verdicts < 4000000 }
+        ensures number { IfOk result (λ packet. packet ≡ length self.old.verdicts) }
+        ensures more { OnOk result (self.new ≡ record self.old {
+          verdicts = self.old.verdicts ++ verdict.Dropped Rule.Lost node ∷ [];
+          paths = self.old.paths ++ record { nodes = node ∷ []; room = room } ∷ [];
+          spare = self.new.spare;
+        }) }
+        ensures spare { OnOk result (0 < self.new.spare) }
+        ensures apart { IfOk result (λ packet. All (λ other. other.item.packet ≢ packet) self.new.flying) }
+        ensures room { IfOk result (λ packet. path_of self.new.paths packet ≡ record { nodes = node ∷ []; room = room }) }
+        ensures unchanged { OnErr result (self.new ≡ record self.old { spare = self.new.spare }) }
+    {
+        self.frames.reserve(1)?;
+        self.verdicts.reserve(1)?;
+        self.paths.reserve(1)?;
+        let path = Path::starting(alloc, node, room)?;
+        let packet = self.verdicts.len() as u32;
+        let rule = Rule::Lost;
+        self.paths.push_reserved(path);
+        self.verdicts.push_reserved(Verdict::Dropped { rule, node });
+        Ok(packet)
+    }
+
+    /// Memory was wanted.
+    pub(crate) fn fail(&mut self)
+        ensures { self.new ≡ record self.old { failed = true } }
+    {
+        self.failed = true;
+    }
+}
