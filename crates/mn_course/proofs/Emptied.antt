@@ -68,14 +68,16 @@ module _ (t : Network) (lawful : IsLawful t) (capture : List (List ℕ)) where
   abbrev items_of : Past → List Item
   items_of past = (flight_of t past.entries (inputs_of capture past.entries)).items
 
-  pub none_due : (past : Past) → IsLawfulPast t capture past → (kind : Kind) (limit : ℕ) → coming t past.entries (inputs_of capture past.entries) kind limit ≡ None
+  pub none_due : (past : Past) → IsLawfulPast t capture past → (kind : Kind) (limit : ℕ)
+      → coming t past.entries (inputs_of capture past.entries) kind limit ≡ None
       → (x : Item) → Contains (items_of past) x → is_due kind limit x ≡ false
   none_due past h kind limit e =
       subst (IsNext t past.entries (inputs_of capture past.entries) kind limit) e
       (what_is_next t lawful past.entries (inputs_of capture past.entries) h.journal kind limit)
 
   -- all is due before the clock reaches twice its present tick
-  pub due_ever : (past : Past) → IsLawfulPast t capture past → past.clock ≤ 2 ^ 61 + 4000001000 → (x : Item) → Contains (items_of past) x → nat_le x.due ever ≡ true
+  pub due_ever : (past : Past) → IsLawfulPast t capture past → past.clock ≤ 2 ^ 61 + 4000001000 → (x : Item) → Contains (items_of past) x
+      → nat_le x.due ever ≡ true
   due_ever past h early x c =
       let soon = due_soon t lawful past.entries (inputs_of capture past.entries) h.journal x c
       ((flies_as_counted t past.entries (inputs_of capture past.entries) lawful h.journal).channels x c) in

@@ -117,7 +117,8 @@ module _ (t : Network) (lawful : IsLawful t) (capture : List (List ℕ)) where
 
   can_come : (past : Past) → IsGood past → (kind : Kind) (limit : ℕ) → Has (CanCome past) (coming t past.entries (inputs_of capture past.entries) kind limit)
   can_come past h kind limit =
-      by (coming t past.entries (inputs_of capture past.entries) kind limit) (what_is_next t lawful past.entries (inputs_of capture past.entries) h.journal kind limit)
+      by (coming t past.entries (inputs_of capture past.entries) kind limit)
+      (what_is_next t lawful past.entries (inputs_of capture past.entries) h.journal kind limit)
     where
       by : (o : Option Coming) → IsNext t past.entries (inputs_of capture past.entries) kind limit o → Has (CanCome past) o
       by None g = tt
@@ -130,14 +131,17 @@ module _ (t : Network) (lawful : IsLawful t) (capture : List (List ℕ)) where
   pub next_can_come : (arrivals : Arrivals) (past : Past) → IsGood past → Has (CanCome past) (next_now t capture arrivals past)
   next_can_come (DueBy end) past h =
       has_earlier (CanCome past) (coming t past.entries (inputs_of capture past.entries) Notice end) _ (can_come past h Notice end)
-      (has_earlier (CanCome past) (coming t past.entries (inputs_of capture past.entries) Message end) _ (can_come past h Message end) (can_come past h Frame end))
+      (has_earlier (CanCome past) (coming t past.entries (inputs_of capture past.entries) Message end) _ (can_come past h Message end)
+      (can_come past h Frame end))
   next_can_come News past h =
-      has_or_else (CanCome past) (coming t past.entries (inputs_of capture past.entries) Notice ever) _ (can_come past h Notice ever) (can_come past h Message ever)
+      has_or_else (CanCome past) (coming t past.entries (inputs_of capture past.entries) Notice ever) _ (can_come past h Notice ever)
+      (can_come past h Message ever)
   next_can_come AllFrames past h = can_come past h Frame ever
 
   -- 3. A step more, and ticks that pass
 
-  pub step_more : (past : Past) (s : Step) → IsGood past → fits t s ≡ true → refusal_now t capture past s (packet_at capture s) ≡ None → IsGood (with_step past s)
+  pub step_more : (past : Past) (s : Step) → IsGood past → fits t s ≡ true → refusal_now t capture past s (packet_at capture s) ≡ None
+      → IsGood (with_step past s)
   step_more past s h fit r =
       let es : List JournalEntry = past.entries in
       let e : JournalEntry = record { tick = past.clock; step = s } in
@@ -187,7 +191,8 @@ module _ (t : Network) (lawful : IsLawful t) (capture : List (List ℕ)) where
   on_its_tick : (tick : ℕ) (past : Past) (item : Coming) → CanCome past item → CanCome (on_to tick past) item
   on_its_tick tick past item c = record { delivered = c.delivered; quiet = c.quiet; soon = c.soon }
 
-  pub arrived_goes : (arrivals : Arrivals) (past : Past) (item : Coming) → IsGood past → CanCome past item → is_full past ≡ false → IsGood (arrived arrivals past item)
+  pub arrived_goes : (arrivals : Arrivals) (past : Past) (item : Coming) → IsGood past → CanCome past item → is_full past ≡ false
+      → IsGood (arrived arrivals past item)
   arrived_goes News past item h c room = arrives past item h c room
   arrived_goes (DueBy end) past item h c room = arrives (on_to item.due past) item (time_passes item.due past h) (on_its_tick item.due past item c) room
   arrived_goes AllFrames past item h c room = arrives (on_to item.due past) item (time_passes item.due past h) (on_its_tick item.due past item c) room

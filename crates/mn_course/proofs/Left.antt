@@ -26,7 +26,8 @@ none_left topology capture arrivals (suc most) past room more over =
   where
     by : (full : Bool) (item : Option Coming) → is_full past ≡ full → next_now topology capture arrivals past ≡ item
         → (one_by_one arrivals (λ later. deliver topology capture arrivals most later) past full item).ending ≡ ending.All
-        → ((later : Past) → length later.entries ≤ 4000000 → 4000000 < length later.entries + most → (deliver topology capture arrivals most later).ending ≡ ending.All
+        → ((later : Past) → length later.entries ≤ 4000000 → 4000000 < length later.entries + most
+        → (deliver topology capture arrivals most later).ending ≡ ending.All
         → next_now topology capture arrivals (deliver topology capture arrivals most later).past ≡ None)
         → next_now topology capture arrivals (one_by_one arrivals (λ later. deliver topology capture arrivals most later) past full item).past ≡ None
     by full None f n e rest = n
@@ -37,6 +38,7 @@ none_left topology capture arrivals (suc most) past room more over =
         rest (arrived arrivals past item) (omega (arith, long)) (omega (arith, long)) e
 
 pub none_left_of_all : (topology : Network) (capture : List (List ℕ)) (arrivals : Arrivals) (past : Past) → length past.entries ≤ 4000000
-    → (deliver topology capture arrivals all past).ending ≡ ending.All → next_now topology capture arrivals (deliver topology capture arrivals all past).past ≡ None
+    → (deliver topology capture arrivals all past).ending ≡ ending.All
+    → next_now topology capture arrivals (deliver topology capture arrivals all past).past ≡ None
 unfolding all
 none_left_of_all topology capture arrivals past room over = none_left topology capture arrivals 4000001 past room (omega arith) over

@@ -24,7 +24,9 @@ use Rattle.mn_laws.proofs.Fates.{one_link}
 -- 1. Channels
 
 pub same_on : (on c : Channel) → same_channel on c ≡ true → c ≡ on
-same_on (Frames l d) (Frames k b) h = let one = one_link k l b d (same_numbers (channel k b) (channel l d) h) in ap (λ n. Frames n b) one.0 ∙ ap (Frames l) one.1
+same_on (Frames l d) (Frames k b) h =
+    let one = one_link k l b d (same_numbers (channel k b) (channel l d) h) in
+    ap (λ n. Frames n b) one.0 ∙ ap (Frames l) one.1
 same_on (Frames l d) (Notices k n) h = absurd (no h)
 same_on (Frames l d) (Messages k n) h = absurd (no h)
 same_on (Frames l d) (Routes k n) h = absurd (no h)

@@ -17,7 +17,7 @@ use Rattle.mn_course.specs.Next.{IsNext}
 use Rattle.mn_course.proofs.Leasts.{earlier_is, NoneBefore, IsLeastOf, least_is}
 use Rattle.mn_course.proofs.Made.{same_on, on_itself, made_before, due_soon}
 
-none_kept : {A : Type 0} (p : A → Bool) (xs : List A) → ((x : A) → In xs x → p x ≡ false) → length (filter p xs) ≡ 0
+pub none_kept : {A : Type 0} (p : A → Bool) (xs : List A) → ((x : A) → In xs x → p x ≡ false) → length (filter p xs) ≡ 0
 none_kept p [] h = refl
 none_kept p (x ∷ xs) h = ap (λ b. length (cond b (x ∷ filter p xs) (filter p xs))) (h x (inl refl)) ∙ none_kept p xs (λ y i. h y (inr i))
 
@@ -98,5 +98,6 @@ module _ (t : Network) (lawful : IsLawful t) (es : List JournalEntry) (ps : List
             step = ap (delivering t x.on) place;
             lossy = refl;
             soon = due_soon t lawful es ps journal x there (flies.channels x there);
-            delivered = open_there x.on (is_lost t es ps x.on x) (place_of items x) (subst (λ n. n < length (items_on x.on items)) (sym place) (first_there x f.0));
+            delivered = open_there x.on (is_lost t es ps x.on x) (place_of items x)
+                (subst (λ n. n < length (items_on x.on items)) (sym place) (first_there x f.0));
           }

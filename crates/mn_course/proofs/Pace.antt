@@ -72,7 +72,8 @@ module _ (t : Network) (lawful : IsLawful t) (capture : List (List ℕ)) where
   pub deliver_paced : (arrivals : Arrivals) (most : ℕ) (past : Past) → IsLawfulPast t capture past → IsPaced 0 past (deliver t capture arrivals most past).past
   deliver_paced arrivals zero past h = same_pace past
   deliver_paced arrivals (suc more) past h =
-      by (is_full past) (next_now t capture arrivals past) refl (next_can_come t lawful capture arrivals past h) (λ later g. deliver_paced arrivals more later g)
+      by (is_full past) (next_now t capture arrivals past) refl (next_can_come t lawful capture arrivals past h)
+      (λ later g. deliver_paced arrivals more later g)
     where
       by : (full : Bool) (o : Option Coming) → is_full past ≡ full → Has (CanCome t lawful capture past) o
           → ((later : Past) → IsLawfulPast t capture later → IsPaced 0 later (deliver t capture arrivals more later).past)
@@ -150,7 +151,8 @@ module _ (t : Network) (lawful : IsLawful t) (capture : List (List ℕ)) where
       let one : IsPaced 1000000 now.past course.past =
       at_most (ticks_of line.command) 1000000 now.past course.past (few_ticks line.command fits_line) (played_paced now.past line.command h) in
       by now.is_stopped (subst (IsPaced 1000000 now.past) (sym same) one)
-      (script_paced (with_line t capture now line) lines (subst (IsLawfulPast t capture) (sym same) (played_goes t lawful capture now.past line.command h fits_line))
+      (script_paced (with_line t capture now line) lines
+      (subst (IsLawfulPast t capture) (sym same) (played_goes t lawful capture now.past line.command h fits_line))
       (λ i d below. fit (suc i) d (omega (arith, below))))
     where
       by : (b : Bool) → IsPaced 1000000 now.past (with_line t capture now line).past
@@ -162,5 +164,6 @@ module _ (t : Network) (lawful : IsLawful t) (capture : List (List ℕ)) where
           at_most (1000000 + 1000000 * length lines) (1000000 * suc (length lines)) now.past last (omega arith)
           (both_paced 1000000 (1000000 * length lines) now.past (with_line t capture now line).past last h g)
 
-  pub expanded_paced : (lines : List Line) → AllFit t lines → IsPaced (1000000 * length lines) (record { clock = 0; entries = [] }) (expanded t capture lines).past
+  pub expanded_paced : (lines : List Line) → AllFit t lines
+      → IsPaced (1000000 * length lines) (record { clock = 0; entries = [] }) (expanded t capture lines).past
   expanded_paced lines fit = script_paced (start_of (record { clock = 0; entries = [] })) lines (record { journal = tt; late = omega arith; each = refl }) fit

@@ -1,9 +1,10 @@
 //! Laws of the definitions, each the contract of a function that does nothing.
-ghost use Rattle.std.specs.Prelude.{◌≡◌, ◌≤◌, ◌^◌, ◌*◌, List, [], ℕ, None, true, length};
+ghost use Rattle.std.specs.Prelude.{◌≡◌, ◌≤◌, ◌^◌, ◌*◌, List, [], ℕ, Some, None, true, length};
 ghost use Rattle.mn_topo.specs.Lawful.{IsLawful};
 ghost use Rattle.mn_topo.specs.Network.{Network};
 ghost use Rattle.mn_topo.specs.declared.steps.JournalEntry.{JournalEntry};
 ghost use Rattle.mn_script.specs.declared.command.Command.{Command};
+ghost use Rattle.mn_script.specs.declared.command.Command.TheVariants.{Drain};
 ghost use Rattle.mn_script.specs.declared.command.Line.{Line};
 ghost use Rattle.mn_script.specs.Lines.{command_fits};
 ghost use Rattle.mn_script.specs.Script.{AllFit};
@@ -14,6 +15,7 @@ ghost use Rattle.mn_course.specs.declared.coming.Ending.TheVariants as ending;
 ghost use Rattle.mn_course.specs.declared.coming.Kind.{Kind};
 ghost use Rattle.mn_course.specs.Coming.{coming};
 ghost use Rattle.mn_course.specs.Course.{Past, Course, inputs_of, next_now, deliver, all, played};
+ghost use Rattle.mn_course.specs.Drains.{DrainsOn, DrainsAll};
 ghost use Rattle.mn_course.specs.Expansion.{expanded};
 ghost use Rattle.mn_course.specs.Lawful.{IsLawfulPast, IsLawfulRun};
 ghost use Rattle.mn_course.specs.Next.{IsNext};
@@ -68,4 +70,19 @@ pub fn a_line_is_paced()
 pub fn a_script_is_paced()
     ensures { (topology : Network) (capture : List (List ℕ)) (lines : List Line) → IsLawful topology → AllFit topology lines →
         IsPaced (1000000 * length lines) (record { clock = 0; entries = [] }) (expanded topology capture lines).past }
+{}
+
+/// `drain N` does the steps of a drain, at the present tick and no more than its bound.
+pub fn a_drain_line_drains()
+    ensures { (topology : Network) (capture : List (List ℕ)) (past : Past) (most : ℕ) →
+        IsLawful topology → IsLawfulPast topology capture past → past.clock ≤ 2 ^ 61 →
+        DrainsOn topology past (played topology capture past (Drain (Some most))) }
+{}
+
+/// `drain` without a number does so until nothing is left to it, if the journal has room for as many steps as the bound; and there
+/// the network is settled, if LDP is switched on for each link that is up and BGP between all edges.
+pub fn a_whole_drain_settles()
+    ensures { (topology : Network) (capture : List (List ℕ)) (past : Past) →
+        IsLawful topology → IsLawfulPast topology capture past → past.clock ≤ 2 ^ 61 →
+        DrainsAll topology past (played topology capture past (Drain None)) }
 {}
