@@ -20,8 +20,34 @@ fn packet_to(edge: u32) -> [u8; 28]
 {
     let checksum = CHECKSUM - edge;
     [
-        0x45, 0, 0, 28, 0, 0, 0, 0, 64, 17, (checksum / 256) as u8, (checksum % 256) as u8, 10, 0, 0, 1, 10, edge as u8, 0, 1,
-        0, 53, 0, 53, 0, 8, 0, 0,
+        0x45,
+        0,
+        0,
+        28,
+        0,
+        0,
+        0,
+        0,
+        64,
+        17,
+        (checksum / 256) as u8,
+        (checksum % 256) as u8,
+        10,
+        0,
+        0,
+        1,
+        10,
+        edge as u8,
+        0,
+        1,
+        0,
+        53,
+        0,
+        53,
+        0,
+        8,
+        0,
+        0,
     ]
 }
 

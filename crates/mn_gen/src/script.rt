@@ -36,12 +36,7 @@ fn inject(alloc: Global, letter: &str, edge: u32, nth: u64) -> Result<String, Al
     format!(in alloc; "inject {letter}{edge} {nth}\n")
 }
 
-fn put_ring(
-    alloc: Global,
-    out: &mut Vec<u8>,
-    number: u32,
-    nodes: &[u32],
-) -> Result<(), AllocError>
+fn put_ring(alloc: Global, out: &mut Vec<u8>, number: u32, nodes: &[u32]) -> Result<(), AllocError>
     requires { number ≤ 99 }
     ensures { OnOk result (out.new.items ≡ out.old.items ++ flat_map (ring_up number) nodes.now) }
 {
@@ -70,12 +65,7 @@ fn put_chords(
 }
 
 /// The sessions of an edge with the later ones.
-fn put_sessions(
-    alloc: Global,
-    out: &mut Vec<u8>,
-    edge: u32,
-    all: &[u32],
-) -> Result<(), AllocError>
+fn put_sessions(alloc: Global, out: &mut Vec<u8>, edge: u32, all: &[u32]) -> Result<(), AllocError>
     ensures { OnOk result (out.new.items ≡ out.old.items ++ sessions_up all.now edge) }
 {
     for peer in all {

@@ -26,14 +26,18 @@ fn vrf_text(alloc: Global, colour: &str, edge: u32, vpn: u32) -> Result<String, 
     ensures { IfOk result (λ words. string_bytes words ≡ vrf_text colour.now edge vpn) }
 {
     let rd = 2 * edge as u64 + vpn as u64;
-    format!(in alloc; "[[vrf]]\nname = \"{colour}{edge}\"\nnode = \"n{edge}\"\nrd = \"65000:{rd}\"\nimport = [\"65000:{vpn}\"]\nexport = [\"65000:{vpn}\"]\n")
+    format!(in alloc;
+        "[[vrf]]\nname = \"{colour}{edge}\"\nnode = \"n{edge}\"\nrd = \"65000:{rd}\"\nimport = [\"65000:{vpn}\"]\nexport = [\"65000:{vpn}\"]\n"
+    )
 }
 
 #[tactic(auto, unfolding(crate::specs::Topology::site_text))]
 fn site_text(alloc: Global, letter: &str, colour: &str, edge: u32) -> Result<String, AllocError>
     ensures { IfOk result (λ words. string_bytes words ≡ site_text letter.now colour.now edge) }
 {
-    format!(in alloc; "[[site]]\nname = \"{letter}{edge}\"\nvrf = \"{colour}{edge}\"\nprefixes = [\"10.{edge}.0.0/16\"]\n")
+    format!(in alloc;
+        "[[site]]\nname = \"{letter}{edge}\"\nvrf = \"{colour}{edge}\"\nprefixes = [\"10.{edge}.0.0/16\"]\n"
+    )
 }
 
 fn put_nodes(alloc: Global, out: &mut Vec<u8>, nodes: &[u32]) -> Result<(), AllocError>
@@ -46,12 +50,7 @@ fn put_nodes(alloc: Global, out: &mut Vec<u8>, nodes: &[u32]) -> Result<(), Allo
     Ok(())
 }
 
-fn put_ring(
-    alloc: Global,
-    out: &mut Vec<u8>,
-    number: u32,
-    nodes: &[u32],
-) -> Result<(), AllocError>
+fn put_ring(alloc: Global, out: &mut Vec<u8>, number: u32, nodes: &[u32]) -> Result<(), AllocError>
     requires { number ≤ 99 }
     ensures { OnOk result (out.new.items ≡ out.old.items ++ flat_map (ring_text number) nodes.now) }
 {
