@@ -13,8 +13,9 @@
 //! enters the journal, with the tick at which it is done. A frame whose number in its direction is a multiple of the link's
 //! loss is lost instead.
 //!
-//! - `specs/Coming`: which item in flight comes next, and the step that delivers it
+//! - `specs/Coming`: which item in flight comes next, and the step that delivers it; `specs/Next`: the same in words
 //! - `specs/Course`: what one line does; `specs/Expansion`: what a script does, and what is told of its lines
+//! - `specs/Lawful`: what has happened lawfully; `laws`: the laws of all these
 //! - `proofs/Runs`: lines and scripts over a network of two links, computed from the definitions
 #![tactic(auto)]
 
@@ -22,4 +23,7 @@ mod coming;
 mod laws;
 
 pub use coming::{Arrivals, Coming, Ending, Kind};
-pub use laws::nothing_is_left;
+pub use laws::{
+    a_line_goes_on_lawfully, a_script_makes_a_lawful_journal, nothing_is_left,
+    what_comes_next_can_be_delivered,
+};
