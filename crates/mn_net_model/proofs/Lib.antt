@@ -4,4 +4,3 @@ pub mod Going
 pub mod Counted
 pub mod Moved
 pub mod Steps
-pub mod First
