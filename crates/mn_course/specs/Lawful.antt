@@ -18,4 +18,4 @@ pub record IsLawfulPast (topology : Network) (capture : List (List ℕ)) (past :
 -- a script's journal is lawful, and so is the journal at each of its tables
 pub record IsLawfulRun (topology : Network) (capture : List (List ℕ)) (run : Expansion) : Type 0 where
   pub past : IsLawfulPast topology capture run.past
-  pub tables : (table : show.Show) (then_ : Past) → Contains run.notes (Table table then_) → IsLawfulPast topology capture then_
+  pub tables : (table : show.Show) (so_far : Past) → Contains run.notes (Table table so_far) → IsLawfulPast topology capture so_far

@@ -16,6 +16,7 @@ ghost use Rattle.mn_course.specs.declared.coming.Kind.{Kind};
 ghost use Rattle.mn_course.specs.Coming.{coming};
 ghost use Rattle.mn_course.specs.Course.{Past, Course, inputs_of, next_now, deliver, all, played};
 ghost use Rattle.mn_course.specs.Drains.{DrainsOn, DrainsAll};
+ghost use Rattle.mn_course.specs.Endings.{EndsWell};
 ghost use Rattle.mn_course.specs.Expansion.{expanded};
 ghost use Rattle.mn_course.specs.Lawful.{IsLawfulPast, IsLawfulRun};
 ghost use Rattle.mn_course.specs.Next.{IsNext};
@@ -35,6 +36,12 @@ pub fn a_line_goes_on_lawfully()
     ensures { (topology : Network) (capture : List (List ℕ)) (past : Past) (command : Command) →
         IsLawful topology → IsLawfulPast topology capture past → command_fits topology command ≡ true →
         IsLawfulPast topology capture (played topology capture past command).past }
+{}
+
+/// A line is stopped by a full journal alone, and where it is refused or its record is missing all is as before.
+pub fn a_line_ends_well()
+    ensures { (topology : Network) (capture : List (List ℕ)) (past : Past) (command : Command) →
+        IsLawful topology → IsLawfulPast topology capture past → EndsWell past (played topology capture past command) }
 {}
 
 /// The journal of every script whose lines fit the topology is lawful, and so is the journal at each of its tables.
