@@ -1,6 +1,6 @@
 -- Routes come and go one after another: what is kept then, in order, is what is to be kept.
-use Rattle.std.proofs.Common.{ℕ, ◌≡◌, ◌⊎◌, inl, inr, Bool, true, List, [], ◌∷◌, refl, sym, ◌∙◌, ap, subst}
-use Rattle.std.specs.Prelude.{◌||◌, fold}
+use Rattle.std.proofs.Common.{◌≡◌, ◌⊎◌, inl, inr, List, [], ◌∷◌, refl, ap, subst}
+use Rattle.std.specs.Prelude.{◌||◌}
 use Rattle.mn_base.proofs.Bools.{or_ways}
 use Rattle.mn_base.proofs.Members.{In, in_filter, filter_in}
 use Rattle.mn_base.proofs.Kept.{with_in, in_with, in_with_new, fold_in, in_fold, ascending_unique}
@@ -51,7 +51,8 @@ gone_came (Goes r ∷ cs) ks z i j = elim j [
 ]
 
 to_changed : (cs : List Change) (ks : List (AddressBlock × Source)) (z : AddressBlock × Source) → In ks z ⊎ In cs (Comes z)
-    → ((r : AddressBlock × Source) → In cs (Comes r) → AreApart z r ⊎ (r ≡ z)) → ((r : AddressBlock × Source) → In cs (Goes r) → AreApart z r) → In (changed cs ks) z
+    → ((r : AddressBlock × Source) → In cs (Comes r) → AreApart z r ⊎ (r ≡ z)) → ((r : AddressBlock × Source) → In cs (Goes r) → AreApart z r) →
+    In (changed cs ks) z
 to_changed [] ks z i a b = elim i [ inl j ↦ j | inr n ↦ absurd n ]
 to_changed (Comes r ∷ cs) ks z i a b = to_changed cs (with_one route_before r ks) z now (λ s j. a s (inr j)) (λ s j. b s (inr j))
   where
@@ -106,4 +107,5 @@ module _ (raw new : List (AddressBlock × Source)) (cs : List Change) (one : Has
   ])
 
   pub changed_held : in_order new ≡ changed cs (in_order raw)
-  changed_held = ascending_unique route_before route_order (in_order new) (changed cs (in_order raw)) (up new) (changed_ascends cs (in_order raw) (up raw)) to back
+  changed_held = ascending_unique route_before route_order (in_order new) (changed cs (in_order raw)) (up new)
+      (changed_ascends cs (in_order raw) (up raw)) to back

@@ -18,3 +18,4 @@ pub mod Folds
 pub mod Spreads
 pub mod OneStatic
 pub mod Adding
+pub mod Deleting

@@ -1,6 +1,6 @@
 -- One static that comes to the VRFs that are to hold it, or goes, if its site has a label.
-use Rattle.std.proofs.Common.{ℕ, ◌≡◌, Bool, true, false, not, List, [], ◌∷◌, ◌++◌, map, refl, sym, ◌∙◌, ap, append-nil, Option, Some, None}
-use Rattle.std.specs.Prelude.{is_some, slice_index_or}
+use Rattle.std.proofs.Common.{ℕ, ◌≡◌, Bool, true, false, not, List, [], ◌∷◌, map, refl, sym, ◌∙◌, ap, append-nil, Option, Some, None}
+use Rattle.std.specs.Prelude.{is_some}
 use Rattle.mn_base.proofs.Bools.{no}
 use Rattle.mn_vrf.specs.Vrf.{Static, VrfState, Holding}
 use Rattle.mn_pe.specs.Changes.{Change, with_changes, spread_to, spreading, spread_over, present_of}

@@ -81,11 +81,13 @@ telling_at v f (h ∷ hs) zero one new up is one_is e =
     ∙ ap (λ gs. telling v f h ∷ gs) (sym (absent_telling v f hs (others v h hs up (is.is h))))
 telling_at v f (h ∷ hs) (suc at) one new up is one_is e =
     ap (λ gs. h ∷ gs) (telling_at v f hs at one new up.1 (tail_at v h hs at is) one_is e)
-    ∙ ap (λ b. cond b (let g : Holding = record h { vrf = f h.vrf } in g) h ∷ map (telling v f) hs) (sym (other_test h.vrf.number v (not_first v h hs at up (tail_at v h hs at is))))
+    ∙ ap (λ b. cond b (let g : Holding = record h { vrf = f h.vrf } in g) h ∷ map (telling v f) hs)
+    (sym (other_test h.vrf.number v (not_first v h hs at up (tail_at v h hs at is))))
 
 pub told_telling : (v : ℕ) (f : VrfState → VrfState) (hs : List Holding) → told (map (telling v f) hs) ≡ on_vrf v f (told hs)
 told_telling v f [] = refl
-told_telling v f (h ∷ hs) = ap (λ w. w ∷ told (map (telling v f) hs)) (split (h.vrf.number == v)) ∙ ap (λ ws. cond (h.vrf.number == v) (f h.vrf) h.vrf ∷ ws) (told_telling v f hs)
+told_telling v f (h ∷ hs) = ap (λ w. w ∷ told (map (telling v f) hs)) (split (h.vrf.number == v))
+    ∙ ap (λ ws. cond (h.vrf.number == v) (f h.vrf) h.vrf ∷ ws) (told_telling v f hs)
   where
     split : (b : Bool) → (let g : Holding = cond b (record h { vrf = f h.vrf }) h in g.vrf) ≡ cond b (f h.vrf) h.vrf
     split true = refl

@@ -58,5 +58,6 @@ present_of (Some label) static = static ∷ []
 pub data IsSpread (labels : List (Option ℕ)) (v : ℕ) (on : Bool) (static : Static) (old new : List Holding) : Type 0 where
   NoVrf : IsAbsent v old → new ≡ old → IsSpread labels v on static old new
   OfVrf : (at : ℕ) → IsAt v old at →
-      ((d : Holding) → new ≡ map (λ (h : Holding). with_changes (spread_over (slice_index_or old at d).vrf on (present_of (slice_index_or labels static.site None) static) h.vrf) h) old) →
+      ((d : Holding) → new ≡ map (λ (h : Holding). with_changes
+      (spread_over (slice_index_or old at d).vrf on (present_of (slice_index_or labels static.site None) static) h.vrf) h) old) →
       IsSpread labels v on static old new

@@ -107,7 +107,7 @@ pub(crate) fn del_in(
     site: SiteNo,
 ) -> Result<(), VrfBad>
     requires { Ascends by_number (told vrfs.old.items) }
-    ensures ok { OnOk result (told vrfs.new.items ≡ on_vrf number.0 (without_static (record { prefix = prefix; site = site.0 })) (told vrfs.old.items)) }
+    ensures ok { OnOk result (vrfs.new.items ≡ map (telling number.0 (without_static (record { prefix = prefix; site = site.0 }))) vrfs.old.items) }
     ensures err { OnErr result (vrfs.new.items ≡ vrfs.old.items) }
     ensures refusal { refusal_of result ≡ found_in number.0 (λ (vrf : VrfState). del_refused prefix site.0 vrf) (told vrfs.old.items) }
 {

@@ -268,9 +268,11 @@ impl Pe {
             self.failed = is_want(bad);
             return Err(bad);
         }
-        let Ok(()) = self.refresh() else {
+        let route = StaticRoute::new(prefix, site);
+        let Ok(()) = spread_present(&mut self.vrfs, &self.labels, vrf, route, false) else {
             return Err(VrfBad::NoMemory);
         };
+        self.failed = false;
         Ok(())
     }
 

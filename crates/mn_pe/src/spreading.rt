@@ -11,12 +11,7 @@ use mn_vrf::{Source, StaticRoute, Vrf};
 use std::alloc::AllocError;
 
 /// A VRF holds a route, or nothing in its place.
-fn hold_or_not(
-    vrf: &mut Vrf,
-    prefix: Prefix,
-    source: Source,
-    on: bool,
-) -> Result<(), AllocError>
+fn hold_or_not(vrf: &mut Vrf, prefix: Prefix, source: Source, on: bool) -> Result<(), AllocError>
     ensures ok { OnOk result (vrf.new ≡ with_changes (change_of on (prefix, source) ∷ []) vrf.old) }
 {
     if on {

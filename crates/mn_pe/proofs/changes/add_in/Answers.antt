@@ -1,4 +1,4 @@
-use Rattle.std.proofs.Common.{sym, ◌∙◌, ap, subst}
+use Rattle.std.proofs.Common.{sym, ◌∙◌, subst}
 use Rattle.mn_vrf.specs.Vrf.{VrfState, with_static, add_refused}
 use Rattle.mn_vrf.specs.declared.refusal.VrfBad.{VrfBad}
 use Rattle.mn_pe.specs.Pe.{IsAbsent, IsAt}

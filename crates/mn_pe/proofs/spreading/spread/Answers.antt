@@ -29,7 +29,8 @@ loop-i-preserved c = record {
       let at_now : at < length now = subst (λ n. at < n) (sym c.loop-i.invariant.as_many) c.requires.there in
       let one : Holding = c.index_mut.result.now in
       let number_is : c.number-teller.result.0 ≡ teller.number =
-      ap (λ (n : VrfNo). n.0) c.number-teller.ensures ∙ ap (λ (h : Holding). h.vrf.number) (c.index.ensures ∙ get_or_default old at c.index.result.now d c.requires.there) in
+      ap (λ (n : VrfNo). n.0) c.number-teller.ensures ∙ ap (λ (h : Holding). h.vrf.number)
+      (c.index.ensures ∙ get_or_default old at c.index.result.now d c.requires.there) in
       let same_teller : (slice_index_or now at d).vrf ≡ teller =
       sym (told_at now at d) ∙ ap (λ us. slice_index_or us at d.vrf) (ap told so_far ∙ told_same f (λ h. refl) old i) ∙ told_at old at d in
       let exports_are : c.as_slice.result.now ≡ teller.exports =
@@ -38,7 +39,8 @@ loop-i-preserved c = record {
       ∙ ap (λ (v : VrfState). v.exports) same_teller in
       let imports_are : c.imports.result.now ≡ one.vrf.imports =
       c.imports.ensures
-      ∙ ap (λ (h : Holding). h.vrf.imports) (c.index-in-loop-i.ensures ∙ get_or_default now i c.index-in-loop-i.result.now one there_now ∙ sym c.index_mut.ensures.value) in
+      ∙ ap (λ (h : Holding). h.vrf.imports) (c.index-in-loop-i.ensures ∙ get_or_default now i c.index-in-loop-i.result.now one there_now
+      ∙ sym c.index_mut.ensures.value) in
       let made : c.spread_one.new.vrf ≡ f one =
       c.in_ok-spread_one.ensures.ok
       ∙ ap (λ n. with_changes (spread_by n c.meets-meets.result c.args.on c.args.route one.vrf) one) number_is

@@ -9,4 +9,5 @@ returns-in-None c = NoVrf (subst (IsAbsent c.args.number.0) c.deref.ensures.valu
 
 pub returns-in-Some : goal.returns-in-Some
 returns-in-Some c =
-    on_ok c.spread_if.result _ _ (λ made. OfVrf c.in-Some.at (subst (λ hs. IsAt c.args.number.0 hs c.in-Some.at) c.deref.ensures.value c.in-Some.ensures) made) c.spread_if.ensures
+    on_ok c.spread_if.result _ _ (λ made. OfVrf c.in-Some.at
+    (subst (λ hs. IsAt c.args.number.0 hs c.in-Some.at) c.deref.ensures.value c.in-Some.ensures) made) c.spread_if.ensures
