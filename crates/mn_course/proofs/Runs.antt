@@ -1,7 +1,8 @@
 -- Lines and scripts over the network of two links, computed from the definitions:
 --
 --     site a --- pe1 --- p --- pe2 --- site b
-use Rattle.std.specs.Prelude.{◌≡◌, refl, ℕ, ◌+◌, ◌-◌, List, [], ◌∷◌, ◌++◌, length, drop, Some, None}
+use Rattle.std.proofs.Common.{arith}
+use Rattle.std.specs.Prelude.{◌≡◌, ◌<◌, refl, ℕ, zero, suc, ◌+◌, ◌-◌, false, List, [], ◌∷◌, ◌++◌, length, drop, Some, None}
 use Rattle.mn_base.specs.declared.links.Dir.TheVariants.{Forth, Back}
 use Rattle.mn_base.specs.declared.drops.Rule.TheVariants as rule
 use Rattle.mn_base.specs.Paths.{next}
@@ -14,6 +15,7 @@ use Rattle.mn_script.specs.declared.command.Command.{Command}
 use Rattle.mn_script.specs.declared.command.Command.TheVariants.{Do, Run, Drain, Flush, Show}
 use Rattle.mn_script.specs.declared.command.Show.TheVariants.{Links}
 use Rattle.mn_script.specs.declared.command.Line.{Line}
+use Rattle.mn_script.specs.Script.{AllFit}
 use Rattle.mn_ledger.specs.declared.refused.Refused.TheVariants.{Unchanged, Empty}
 use Rattle.mn_ledger.specs.declared.verdict.Verdict.{Verdict}
 use Rattle.mn_ledger.specs.declared.verdict.Verdict.TheVariants.{Delivered, Dropped, Flying}
@@ -22,9 +24,14 @@ use Rattle.mn_ledger.specs.Vpn.{peerings_after, held}
 use Rattle.mn_ledger.specs.Packets.{packets_after}
 use Rattle.mn_ledger.specs.Ledger.{packets_of}
 use Rattle.mn_ledger.specs.Refusal.{in_flight, bytes_flying}
-use Rattle.mn_ledger.proofs.TwoLinks.{node_no, link_no, site_no, two_links, packet}
+use Rattle.mn_ledger.proofs.TwoLinks.{node_no, link_no, site_no, two_links, packet, the_topology_is_lawful}
 use Rattle.mn_course.specs.declared.coming.Ending.TheVariants as ending
-use Rattle.mn_course.specs.Course.{Past, inputs_of, all, played}
+use Rattle.mn_course.specs.declared.coming.Arrivals.TheVariants.{News}
+use Rattle.mn_course.specs.declared.coming.Kind.TheVariants.{Notice}
+use Rattle.mn_course.specs.Coming.{coming}
+use Rattle.mn_course.specs.Course.{Past, inputs_of, deliver, all, played}
+use Rattle.mn_course.specs.Lawful.{IsLawfulRun}
+use Rattle.mn_course.proofs.Going.{expanded_goes}
 use Rattle.mn_course.specs.Expansion.{Refusal, Missing, Table, Sending, Expansion, expanded}
 
 -- UDP from 10.2.0.1 to 10.1.0.1
@@ -92,6 +99,21 @@ pub notices_come_before_messages :
 unfolding next knowledge_of news sessions_after peerings_after held packets_after is_not_ipv4 is_malformed is_truncated has_bad_checksum good
     checksum_for with_ttl aged in_flight bytes_flying all
 notices_come_before_messages = refl
+
+-- of the items that the two links' changes and the session's opening make, the first notice comes next, and none before it is due
+abbrev pub opening : Past
+opening = after_lines two_links beginning opened
+
+pub the_first_notice_comes_next : coming two_links opening.entries [] Notice 1
+    ≡ Some (record { due = 1; number = 0; step = Learn (node_no 0) (link_no 0); lossy = false })
+unfolding next knowledge_of news sessions_after peerings_after held packets_after is_not_ipv4 is_malformed is_truncated has_bad_checksum good
+    checksum_for with_ttl aged in_flight bytes_flying all
+the_first_notice_comes_next = refl
+
+pub none_comes_before_it_is_due : coming two_links opening.entries [] Notice 0 ≡ None
+unfolding next knowledge_of news sessions_after peerings_after held packets_after is_not_ipv4 is_malformed is_truncated has_bad_checksum good
+    checksum_for with_ttl aged in_flight bytes_flying all
+none_comes_before_it_is_due = refl
 
 -- 2. Flush: a packet's frames arrive one after the other, each as it is due
 
@@ -234,3 +256,28 @@ pub notes_stand_in_order : (run_of (Do (Inject (site_no 0) 3) ∷ Run 7 ∷ Show
 unfolding next knowledge_of news sessions_after peerings_after held packets_after is_not_ipv4 is_malformed is_truncated has_bad_checksum good
     checksum_for with_ttl aged in_flight bytes_flying all
 notes_stand_in_order = refl
+
+-- 7. What the laws ask is met: the topology is lawful, a script's lines fit, what has happened is lawful, and a drain ends with All
+
+abbrev pub settling_lines : List Line
+settling_lines = numbered_from 1 (head ++ inject ∷ Flush ∷ [])
+
+pub the_lines_fit : AllFit two_links settling_lines
+the_lines_fit zero d below = refl
+the_lines_fit (suc zero) d below = refl
+the_lines_fit (suc (suc zero)) d below = refl
+the_lines_fit (suc (suc (suc zero))) d below = refl
+the_lines_fit (suc (suc (suc (suc zero)))) d below = refl
+the_lines_fit (suc (suc (suc (suc (suc zero))))) d below = refl
+the_lines_fit (suc (suc (suc (suc (suc (suc more)))))) d below = absurd (none more below)
+  where
+    none : (more : ℕ) → suc (suc (suc (suc (suc (suc more))))) < 6 → ⊥
+    none more h = omega (arith, h)
+
+pub the_run_is_lawful : IsLawfulRun two_links capture (expanded two_links capture settling_lines)
+the_run_is_lawful = expanded_goes two_links the_topology_is_lawful capture settling_lines the_lines_fit
+
+pub the_drain_takes_its_course : (deliver two_links capture News all opening).ending ≡ ending.All
+unfolding next knowledge_of news sessions_after peerings_after held packets_after is_not_ipv4 is_malformed is_truncated has_bad_checksum good
+    checksum_for with_ttl aged in_flight bytes_flying all
+the_drain_takes_its_course = refl

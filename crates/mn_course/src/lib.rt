@@ -13,8 +13,10 @@
 //! enters the journal, with the tick at which it is done. A frame whose number in its direction is a multiple of the link's
 //! loss is lost instead.
 //!
-//! - `specs/Coming`: which item in flight comes next, and the step that delivers it
+//! - `specs/Coming`: which item in flight comes next, and the step that delivers it; `specs/Next`: the same in words
 //! - `specs/Course`: what one line does; `specs/Expansion`: what a script does, and what is told of its lines
+//! - `specs/Lawful`: what has happened lawfully; `specs/Paced`: how far the clock goes on, and what has arrived
+//! - `specs/Drains`: what a line `drain` comes to; `laws`: the laws of all these
 //! - `proofs/Runs`: lines and scripts over a network of two links, computed from the definitions
 #![tactic(auto)]
 
@@ -22,4 +24,8 @@ mod coming;
 mod laws;
 
 pub use coming::{Arrivals, Coming, Ending, Kind};
-pub use laws::nothing_is_left;
+pub use laws::{
+    a_drain_line_drains, a_line_goes_on_lawfully, a_line_is_paced, a_script_is_paced,
+    a_script_makes_a_lawful_journal, a_whole_drain_settles, nothing_is_left,
+    what_comes_next_can_be_delivered, what_was_to_arrive_has_arrived,
+};

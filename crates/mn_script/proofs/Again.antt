@@ -143,7 +143,7 @@ among (vrf ∷ vrfs) node nodes found formed =
     ] refl found
 
 -- edges are nodes
-edge_is_node : (network : Network) (node : NodeNo) → IsLawful network → is_edge network.vrfs node.0 ≡ true → node.0 < length network.loopbacks
+pub edge_is_node : (network : Network) (node : NodeNo) → IsLawful network → is_edge network.vrfs node.0 ≡ true → node.0 < length network.loopbacks
 edge_is_node network node lawful edge = among network.vrfs node.0 (length network.loopbacks) edge lawful.vrfs.formed
 
 hear_bgp : (network : Network) (a b : NodeNo) → IsLawful network → are_edges network a b ≡ true → step_line network (step_words network (HearBgp a b)) ≡ Ok (HearBgp a b)

@@ -38,5 +38,7 @@ mod words;
 
 pub use command::{Command, Line, Show};
 pub use laws::{all_read, command_again, command_only, first_refused};
+pub use lines::line_says;
 pub use read::{count_lines, read_script};
 pub use refusal::{ScriptBad, ScriptRule};
+pub use words::line_words;

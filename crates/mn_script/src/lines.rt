@@ -158,7 +158,7 @@ fn command_line(topology: &Topology, words: &[&[u8]]) -> Result<Command, ScriptR
 
 /// The command of a line, none where it has no words.
 #[tactic(auto, unfolding(crate::specs::Lines::line_says))]
-pub(crate) fn line_says(topology: &Topology, words: &[&[u8]]) -> Result<Option<Command>, ScriptRule>
+pub fn line_says(topology: &Topology, words: &[&[u8]]) -> Result<Option<Command>, ScriptRule>
     ensures value { result ≡ line_says topology.now (texts words.now) }
     ensures fits { IfOk result (λ said. IfSome said (λ command. command_fits topology.now command ≡ true)) }
 {

@@ -17,7 +17,7 @@ const MOST_WORDS: usize = 5;
 
 /// The first words of a line, before one that begins with `#`. They are five at most, so that a line of millions of
 /// words takes no more memory than a command: what it says is S2 by then, or S1 of its first words.
-pub(crate) fn line_words(alloc: Global, line: &[u8]) -> Result<Vec<&[u8]>, AllocError>
+pub fn line_words(alloc: Global, line: &[u8]) -> Result<Vec<&[u8]>, AllocError>
     ensures { IfOk result (λ found. texts found.items ≡ take 5 (line_words line.now)) }
 {
     let mut found = Vec::new(alloc);

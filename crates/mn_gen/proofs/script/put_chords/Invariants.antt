@@ -1,0 +1,7 @@
+use Rattle.std.proofs.Common.{◌≡◌, ◌++◌, take}
+use Rattle.std.specs.List.{flat_map}
+use Rattle.mn_gen.specs.Script.{chord_up}
+use Rattle.mn_gen.proofs.script.put_chords.Given as goal
+
+abbrev pub invariant-loop-node : goal.invariant-loop-node
+invariant-loop-node l = l.out.items ≡ l.fn.out.items ++ flat_map (chord_up l.number) (take l.node-index l.nodes)

@@ -1,0 +1,4 @@
+pub mod Shape
+pub mod Topology
+pub mod Script
+pub mod Capture

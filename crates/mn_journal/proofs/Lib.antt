@@ -1,0 +1,4 @@
+pub mod Spaces
+pub mod Plain
+pub mod Words
+pub mod Journals

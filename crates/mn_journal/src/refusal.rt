@@ -1,0 +1,32 @@
+//! Why bytes aren't a journal.
+ghost use Rattle.std.specs.Prelude.{◌≡◌};
+ghost use Rattle.mn_journal.specs.declared.refusal.JournalBad.TheVariants.{NoMemory};
+
+use std::alloc::{AllocError, AllocFailed};
+use thiserror::Error;
+
+/// Why there are no entries.
+#[derive(Clone, Copy, Debug, PartialEq, Eq, Error)]
+pub enum JournalBad {
+    /// The line, numbered from 1, is the first that isn't the text of a tick and a step that fits.
+    #[error("line {line} is no entry of the journal")]
+    BadLine { line: u64 },
+    #[error("no memory")]
+    NoMemory,
+}
+
+impl From<AllocError> for JournalBad {
+    ghost from_gives = { λ _ e. e ≡ NoMemory };
+
+    fn from(_: AllocError) -> Self {
+        JournalBad::NoMemory
+    }
+}
+
+impl<T: Drop> From<AllocFailed<T>> for JournalBad {
+    ghost from_gives = { λ _ e. e ≡ NoMemory };
+
+    fn from(_: AllocFailed<T>) -> Self {
+        JournalBad::NoMemory
+    }
+}

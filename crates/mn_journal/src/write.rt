@@ -1,0 +1,284 @@
+//! From an entry to its line.
+ghost use Rattle.std.specs.Prelude.{◌≡◌, ◌<◌, ◌++◌, ◌∷◌, [], OnOk, OnErr, length, true, slice_index_or, codes, if◌then◌else◌};
+ghost use Rattle.mn_base.specs.declared.links.Dir.TheVariants.{Forth};
+ghost use Rattle.mn_base.specs.Wiring.{sender, receiver};
+ghost use Rattle.mn_script.specs.Spelled.{node_text, vrf_text, site_text, from_text, to_text, step_words};
+ghost use Rattle.mn_text.specs.Addresses.{prefix_text};
+ghost use Rattle.mn_text.specs.Numbers.{number_text};
+ghost use Rattle.mn_text.specs.Pairs.{rt_text};
+ghost use Rattle.mn_topo.specs.Network.{wiring_of};
+ghost use Rattle.mn_topo.specs.Steps.{fits};
+ghost use Rattle.mn_topo.specs.declared.steps.JournalEntry.{JournalEntry};
+ghost use Rattle.mn_journal.specs.Lines.{line_of, spaced, text_of, texts, Grew};
+
+use crate::text::{prefix_text, target_text};
+use itoa::Buffer;
+use mn_base::{Dir, LinkNo, NodeNo, Rt, SiteNo, VrfNo};
+use mn_prefix::Prefix;
+use mn_topo::{Step, Topology};
+use std::alloc::AllocError;
+
+/// Appends words, each after a space; an `Err` a first part of them.
+fn put_words(out: &mut Vec<u8>, words: &[&[u8]]) -> Result<(), AllocError>
+    ensures ok { OnOk result (out.new.items ≡ out.old.items ++ spaced (texts words.now)) }
+    ensures grew { Grew out.old.items out.new.items }
+{
+    for word in words {
+        out.push(b' ')?;
+        out.extend_from_slice(word)?;
+    }
+    Ok(())
+}
+
+fn node_name(topology: &Topology, node: NodeNo) -> &[u8]
+    requires { node.0 < length topology.now.loopbacks }
+    ensures { result.now ≡ node_text topology.now node }
+{
+    topology.node_name(node)
+}
+
+fn vrf_name(topology: &Topology, vrf: VrfNo) -> &[u8]
+    requires { vrf.0 < length topology.now.vrfs }
+    ensures { result.now ≡ vrf_text topology.now vrf }
+{
+    topology.vrf_name(vrf)
+}
+
+fn site_name(topology: &Topology, site: SiteNo) -> &[u8]
+    requires { site.0 < length topology.now.sites }
+    ensures { result.now ≡ site_text topology.now site }
+{
+    topology.site_name(site)
+}
+
+/// The names of the node that sends in a direction of a link, and of the one that receives.
+fn ends(topology: &Topology, link: LinkNo, direction: Dir) -> (&[u8], &[u8])
+    requires { link.0 < length topology.now.links }
+    ensures from { result.0.now ≡ from_text topology.now link direction }
+    ensures to { result.1.now ≡ to_text topology.now link direction }
+{
+    topology.laws();
+    let ends = &topology.links()[link.0 as usize];
+    let (from, to) = match direction {
+        Dir::Forth => (ends.a, ends.b),
+        Dir::Back => (ends.b, ends.a),
+    };
+    (topology.node_name(from), topology.node_name(to))
+}
+
+/// Two words, and the two nodes of a link.
+fn put_link(
+    out: &mut Vec<u8>,
+    topology: &Topology,
+    one: &[u8],
+    other: &[u8],
+    link: LinkNo,
+    direction: Dir,
+) -> Result<(), AllocError>
+    requires { link.0 < length topology.now.links }
+    ensures ok { OnOk result (out.new.items ≡ out.old.items ++ spaced
+        (one.now ∷ other.now ∷ from_text topology.now link direction ∷ to_text topology.now link direction ∷ [])) }
+    ensures grew { Grew out.old.items out.new.items }
+{
+    let (from, to) = ends(topology, link, direction);
+    put_words(out, &[one, other, from, to])
+}
+
+/// Two words, and two nodes.
+fn put_nodes(
+    out: &mut Vec<u8>,
+    topology: &Topology,
+    one: &[u8],
+    other: &[u8],
+    a: NodeNo,
+    b: NodeNo,
+) -> Result<(), AllocError>
+    requires { (a.0 < length topology.now.loopbacks) × (b.0 < length topology.now.loopbacks) }
+    ensures ok { OnOk result (out.new.items ≡ out.old.items ++ spaced
+        (one.now ∷ other.now ∷ node_text topology.now a ∷ node_text topology.now b ∷ [])) }
+    ensures grew { Grew out.old.items out.new.items }
+{
+    put_words(
+        out,
+        &[one, other, node_name(topology, a), node_name(topology, b)],
+    )
+}
+
+/// `route`, a word, a site and a prefix.
+fn put_route(
+    out: &mut Vec<u8>,
+    topology: &Topology,
+    word: &[u8],
+    site: SiteNo,
+    prefix: Prefix,
+) -> Result<(), AllocError>
+    requires { site.0 < length topology.now.sites }
+    ensures ok { OnOk result (out.new.items ≡ out.old.items ++ spaced
+        (codes "route" ∷ word.now ∷ site_text topology.now site ∷ prefix_text prefix ∷ [])) }
+    ensures grew { Grew out.old.items out.new.items }
+{
+    let text = prefix_text(prefix);
+    put_words(
+        out,
+        &[b"route", word, site_name(topology, site), text.as_slice()],
+    )
+}
+
+/// A word, whether the target is added, a VRF and the target.
+fn put_target(
+    out: &mut Vec<u8>,
+    topology: &Topology,
+    word: &[u8],
+    vrf: VrfNo,
+    target: Rt,
+    on: bool,
+) -> Result<(), AllocError>
+    requires { vrf.0 < length topology.now.vrfs }
+    ensures ok { OnOk result (out.new.items ≡ out.old.items ++ spaced
+        (word.now ∷ (if on then codes "add" else codes "del") ∷ vrf_text topology.now vrf ∷ rt_text target ∷ [])) }
+    ensures grew { Grew out.old.items out.new.items }
+{
+    let text = target_text(target);
+    let whether = if on { "add" } else { "del" };
+    put_words(
+        out,
+        &[
+            word,
+            whether.as_bytes(),
+            vrf_name(topology, vrf),
+            text.as_slice(),
+        ],
+    )
+}
+
+/// A word, the sender and the receiver of a frame, and its place.
+fn put_frame(
+    out: &mut Vec<u8>,
+    topology: &Topology,
+    word: &[u8],
+    link: LinkNo,
+    direction: Dir,
+    place: u32,
+) -> Result<(), AllocError>
+    requires { link.0 < length topology.now.links }
+    ensures ok { OnOk result (out.new.items ≡ out.old.items ++ spaced
+        (word.now ∷ from_text topology.now link direction ∷ to_text topology.now link direction ∷ number_text place ∷ [])) }
+    ensures grew { Grew out.old.items out.new.items }
+{
+    let (from, to) = ends(topology, link, direction);
+    let mut digits = Buffer::new();
+    put_words(out, &[word, from, to, digits.format(place).as_bytes()])
+}
+
+/// `inject`, a site and the number of a record.
+fn put_record(
+    out: &mut Vec<u8>,
+    topology: &Topology,
+    site: SiteNo,
+    number: u32,
+) -> Result<(), AllocError>
+    requires { site.0 < length topology.now.sites }
+    ensures ok { OnOk result (out.new.items ≡ out.old.items ++ spaced
+        (codes "inject" ∷ site_text topology.now site ∷ number_text number ∷ [])) }
+    ensures grew { Grew out.old.items out.new.items }
+{
+    let mut digits = Buffer::new();
+    put_words(
+        out,
+        &[
+            b"inject",
+            site_name(topology, site),
+            digits.format(number).as_bytes(),
+        ],
+    )
+}
+
+/// The words of a step, each after a space.
+fn put_step_words(out: &mut Vec<u8>, topology: &Topology, step: &Step) -> Result<(), AllocError>
+    requires { fits topology.now step.now ≡ true }
+    ensures ok { OnOk result (out.new.items ≡ out.old.items ++ spaced (step_words topology.now step.now)) }
+    ensures grew { Grew out.old.items out.new.items }
+{
+    topology.laws();
+    match *step {
+        Step::LinkUp(link) => put_link(out, topology, b"link", b"up", link, Dir::Forth),
+        Step::LinkDown(link) => put_link(out, topology, b"link", b"down", link, Dir::Forth),
+        Step::Learn(node, link) => {
+            let name = node_name(topology, node);
+            put_link(out, topology, b"learn", name, link, Dir::Forth)
+        }
+        Step::LdpAdmin(link, on) => {
+            let whether = if on { "on" } else { "off" };
+            put_link(out, topology, b"ldp", whether.as_bytes(), link, Dir::Forth)
+        }
+        Step::HearLdp(link, direction) => put_link(out, topology, b"hear", b"ldp", link, direction),
+        Step::BgpUp(a, b) => put_nodes(out, topology, b"bgp", b"up", a, b),
+        Step::BgpDown(a, b) => put_nodes(out, topology, b"bgp", b"down", a, b),
+        Step::HearBgp(a, b) => put_nodes(out, topology, b"hear", b"bgp", a, b),
+        Step::AddRoute(site, prefix) => put_route(out, topology, b"add", site, prefix),
+        Step::DelRoute(site, prefix) => put_route(out, topology, b"del", site, prefix),
+        Step::Import(vrf, target, on) => put_target(out, topology, b"import", vrf, target, on),
+        Step::Export(vrf, target, on) => put_target(out, topology, b"export", vrf, target, on),
+        Step::Attach(site) => put_words(out, &[b"site", b"up", site_name(topology, site)]),
+        Step::Detach(site) => put_words(out, &[b"site", b"down", site_name(topology, site)]),
+        Step::Inject(site, number) => put_record(out, topology, site, number),
+        Step::Carry(link, direction, place) => {
+            put_frame(out, topology, b"carry", link, direction, place)
+        }
+        Step::Lose(link, direction, place) => {
+            put_frame(out, topology, b"lose", link, direction, place)
+        }
+    }
+}
+
+/// What the line of an entry says, without its line feed.
+pub(crate) fn put_text(
+    out: &mut Vec<u8>,
+    topology: &Topology,
+    tick: u64,
+    step: &Step,
+) -> Result<(), AllocError>
+    requires { fits topology.now step.now ≡ true }
+    ensures ok { OnOk result (out.new.items ≡
+        out.old.items ++ text_of topology.now (record { tick = tick; step = step.now })) }
+    ensures grew { Grew out.old.items out.new.items }
+{
+    let mut digits = Buffer::new();
+    out.extend_from_slice(digits.format(tick).as_bytes())?;
+    put_step_words(out, topology, step)
+}
+
+fn put_line(
+    out: &mut Vec<u8>,
+    topology: &Topology,
+    tick: u64,
+    step: &Step,
+) -> Result<(), AllocError>
+    requires { fits topology.now step.now ≡ true }
+    ensures ok { OnOk result (out.new.items ≡
+        out.old.items ++ line_of topology.now (record { tick = tick; step = step.now })) }
+    ensures grew { Grew out.old.items out.new.items }
+{
+    put_text(out, topology, tick, step)?;
+    out.extend_from_slice(b"\n")
+}
+
+/// Appends the line of a step that was done at the tick. An `Err` appends nothing.
+pub fn put_step(
+    out: &mut Vec<u8>,
+    topology: &Topology,
+    tick: u64,
+    step: &Step,
+) -> Result<(), AllocError>
+    requires { fits topology.now step.now ≡ true }
+    ensures ok { OnOk result (out.new.items ≡
+        out.old.items ++ line_of topology.now (record { tick = tick; step = step.now })) }
+    ensures err { OnErr result (out.new.items ≡ out.old.items) }
+{
+    let before = out.len();
+    let put = put_line(out, topology, tick, step);
+    if put.is_err() {
+        out.truncate(before);
+    }
+    put
+}

@@ -1,0 +1,201 @@
+-- A fresh node and bindings of which nothing was heard are tied.
+use Rattle.std.proofs.Common.{ℕ, zero, suc, ◌≡◌, ◌+◌, ◌<◌, ◌≤◌, inl, inr, true, false, List, [], ◌∷◌, length, map, refl, arith, sym, ◌∙◌, ap, subst, Option, Some, None, Vec, Global}
+use Rattle.std.specs.Prelude.{◌==◌, ◌&&◌, ◌%◌, nat_le, is_some, slice_index_or, replicate}
+use Rattle.std.specs.List.{range_with_len}
+use Rattle.std.proofs.lemmas.Bool.Decides.{eqb_tells}
+use Rattle.mn_base.specs.Wiring.{Wiring, JoinsNodes}
+use Rattle.mn_base.specs.Paths.{IsNext, next}
+use Rattle.mn_base.specs.declared.numbers.NodeNo.{NodeNo}
+use Rattle.mn_base.proofs.Next.{next_is}
+use Rattle.mn_linkdb.specs.Trees.{hop_alone}
+use Rattle.mn_lib.specs.Bindings.{nothing_heard}
+use Rattle.mn_node.specs.Node.{view_in, hearing_in}
+use Rattle.mn_node.specs.Machine.{fresh_node}
+use Rattle.mn_node.proofs.Lists.{map_below}
+use Rattle.mn_node.proofs.Opening.{hearing-in}
+use Rattle.mn_base.specs.declared.links.LinkEnds.{LinkEnds}
+use Rattle.mn_linkdb.specs.Learned.{Learned, links_up, IsOf}
+use Rattle.mn_linkdb.specs.PathTable.{PathTable}
+use Rattle.mn_linkdb.specs.Trees.{IsTree}
+use Rattle.mn_labels.specs.declared.meaning.Bind.{Bind}
+use Rattle.mn_labels.specs.declared.meaning.Bind.TheVariants as bind
+use Rattle.mn_labels.specs.Labels.{LabelTable, meaning_of}
+use Rattle.mn_lfib.specs.declared.answer.Use.{Use}
+use Rattle.mn_lfib.specs.Uses.{fec_use}
+use Rattle.mn_lib.specs.Bindings as lib
+use Rattle.mn_lib.specs.Bindings.{Bindings, usable}
+use Rattle.mn_node.specs.Node.{Session, Node}
+use Rattle.mn_ldp_session.specs.declared.session.Session.{Session as Machine}
+use Rattle.mn_lsr.specs.declared.parts.Open.{Open}
+use Rattle.mn_lsr.specs.declared.parts.Parts.{Parts}
+use Rattle.mn_lsr.specs.Standing.{IsWired, AreGiven, IsUseOf, fecs_given, attachments, sessions_from}
+use Rattle.mn_lsr.specs.Parts.{FitsLabel, machines_of, node_in, Stands}
+use Rattle.mn_lsr.proofs.Given.{are_given, few_given, no_site, none_attached}
+use Rattle.mn_lsr.specs.Ties.{AreTied}
+use Rattle.mn_lsr.proofs.Following.{no_next}
+
+none_there : {A : Type 0} (n k : ℕ) → (let o : Option A = slice_index_or (replicate n None) k None in o) ≡ None
+none_there zero k = refl
+none_there (suc n) zero = refl
+none_there (suc n) (suc k) = none_there n k
+
+all_down : (n l : ℕ) → slice_index_or (map (λ (count : ℕ). count % 2 == 1) (replicate n 0)) l false ≡ false
+all_down zero l = refl
+all_down (suc n) zero = refl
+all_down (suc n) (suc l) = all_down n l
+
+so_many : {A : Type 0} (n : ℕ) (x : A) → length (replicate n x) ≡ n
+so_many zero x = refl
+so_many (suc n) x = ap suc (so_many n x)
+
+nones : (n q : ℕ) → (let o : List (Option NodeNo) = map (λ k. None) (range_with_len q n) in o) ≡ replicate n None
+nones zero q = refl
+nones (suc n) q = ap (λ xs. None ∷ xs) (nones n (q + 1))
+
+-- over links that are all down there is no next hop
+no_hop : (w : Wiring) (me fec : ℕ) → JoinsNodes w → me < length w.loopbacks → hop_alone (next w (view_in (fresh_node w me)) me fec) ≡ None
+no_hop w me fec joins below = elim (eqb_tells me fec) [
+  | inl p ↦ ap (λ f. hop_alone (next w (view_in (fresh_node w me)) me f)) (sym p.1) ∙ ap hop_alone (no_next w (view_in (fresh_node w me)) me)
+  | inr p ↦ by (next w (view_in (fresh_node w me)) me fec) (next_is w (view_in (fresh_node w me)) fec joins me below p.1)
+]
+  where
+    clash : true ≡ false → ⊥
+    clash e = cc
+
+    by : (o : Option (ℕ × ℕ)) → IsNext w (view_in (fresh_node w me)) me fec o → hop_alone o ≡ None
+    by None h = refl
+    by (Some hop) h = absurd (clash (sym h.1.up ∙ all_down (length w.ends) hop.1))
+
+pub fresh_tied : (w : Wiring) (me : NodeNo) → JoinsNodes w → me.0 < length w.loopbacks → AreTied w (fresh_node w me.0) (nothing_heard me (length w.loopbacks))
+fresh_tied w me joins below = record {
+  one_each = so_many (length w.loopbacks) None;
+  me = refl;
+  hops = sym (map_below (λ fec. hop_alone (next w (view_in (fresh_node w me.0)) me.0 fec)) (λ fec. None) (length w.loopbacks) 0 (λ fec low high. no_hop w me.0 fec joins below) ∙ nones (length w.loopbacks) 0);
+  open_is = λ h l h_below j. ap is_some (none_there (length w.loopbacks) h) ∙ sym (ap (λ x. x.alive && nat_le 2 x.count) (hearing-in (fresh_node w me.0) l ∙ ap hearing_in (none_there (length w.ends) l)));
+  labels = λ h l fec h_below j on. absurd (clash (sym on ∙ ap is_some (none_there (length w.loopbacks) h)));
+}
+  where
+    clash : true ≡ false → ⊥
+    clash e = cc
+
+-- of a node of which nothing was heard no FEC can be used
+none_usable : (me : NodeNo) (nodes fec : ℕ) → usable (nothing_heard me nodes) fec ≡ None
+none_usable me nodes fec = ap (lib.usable_by (nothing_heard me nodes) fec) (none_there nodes fec)
+
+none_heard : (me : NodeNo) (nodes neighbour fec : ℕ) → lib.label_in (lib.row_of (nothing_heard me nodes) neighbour) fec ≡ None
+none_heard me nodes neighbour fec = ap (λ r. lib.label_in r fec) (none_there nodes neighbour)
+
+no_sessions : (w : Wiring) (me : ℕ) (b : Bindings) (q n : ℕ) → sessions_from w me b q (replicate n None) ≡ replicate n None
+no_sessions w me b q zero = refl
+no_sessions w me b q (suc n) = ap (λ ss. let o : List (Option Session) = None ∷ ss in o) (no_sessions w me b (q + 1) n)
+
+no_machines : (n : ℕ) → machines_of (replicate n None) ≡ replicate n None
+no_machines zero = refl
+no_machines (suc n) = ap (λ ss. let o : List (Option Machine) = None ∷ ss in o) (no_machines n)
+
+-- the parts of a node that has learned nothing stand
+module _ (me : NodeNo) (loopbacks : Vec ℕ Global) (ends : List LinkEnds) (tree : PathTable) (sessions : Vec (Option Open) Global) (labels : LabelTable) (attached : Vec ℕ Global)
+    (below : me.0 < length loopbacks.items) (wired : IsWired (record { loopbacks = loopbacks.items; ends = ends })) (sessions_are : sessions.items ≡ replicate (length ends) None)
+    (given_are : labels.given ≡ fecs_given (length loopbacks.items) me.0) (none_attached_yet : attached.items ≡ []) where
+  abbrev pub w : Wiring
+  w = record { loopbacks = loopbacks.items; ends = ends }
+
+  abbrev pub parts : Parts
+  parts = record {
+    me = me;
+    loopbacks = loopbacks;
+    view = record { nodes = length loopbacks.items; ends = ends; counts = replicate (length ends) 0 };
+    tree = tree;
+    sessions = sessions;
+    lib = nothing_heard me (length loopbacks.items);
+    labels = labels;
+    lfib = [];
+    attached = attached;
+  }
+
+  pub node-is : node_in parts ≡ fresh_node w me.0
+  node-is = ap (λ ss. let o : Node = record { me = me.0; learned = replicate (length ends) 0; sessions = ss } in o)
+      (ap (sessions_from w me.0 (nothing_heard me (length loopbacks.items)) 0) sessions_are ∙ no_sessions w me.0 (nothing_heard me (length loopbacks.items)) 0 (length ends))
+
+  machines : machines_of sessions.items ≡ replicate (length ends) None
+  machines = ap machines_of sessions_are ∙ no_machines (length ends)
+
+  pub stands : IsTree w (links_up (record { nodes = length loopbacks.items; ends = ends; counts = replicate (length ends) 0 })) me.0 tree → Stands parts
+  stands tree_is = record {
+    view = record { network = wired.network; one_each = so_many (length ends) 0 };
+    nodes = refl;
+    me = below;
+    wired = wired;
+    tree = tree_is;
+    ends = record { one_each = ap length machines ∙ so_many (length ends) None; own = λ l s e. absurd (clash (sym (ap (λ ms. slice_index_or ms l None) machines ∙ none_there (length ends) l) ∙ e)) };
+    rows = so_many (length loopbacks.items) None;
+    tied = subst (λ n. AreTied w n (nothing_heard me (length loopbacks.items))) (sym node-is) (fresh_tied w me wired.joins below);
+    fit = λ neighbour fec. subst FitsLabel (sym (none_heard me (length loopbacks.items) neighbour fec)) tt;
+    given = subst (AreGiven (length loopbacks.items) me.0) (sym given_are) (are_given (length loopbacks.items) me.0 below);
+    few = subst (λ n. n ≤ 1048560) (ap length (sym given_are)) (small (length (fecs_given (length loopbacks.items) me.0)) (length loopbacks.items) (few_given (length loopbacks.items) me.0) wired.spelled.few);
+    attached = λ site. ap (λ xs. slice_index_or xs site 0) none_attached_yet ∙ sym (ap (attachments site) given_are ∙ none_attached site (length loopbacks.items) me.0);
+    table = λ label. unused label (meaning_of labels.given label) refl;
+  }
+    where
+      clash : {s : Machine} → None ≡ Some s → ⊥
+      clash e = cc
+
+      small : (a n : ℕ) → a ≤ n → n ≤ 256 → a ≤ 1048560
+      small a n h g = omega (arith, h, g)
+
+      unused : (label : ℕ) (m : Option Bind) → meaning_of labels.given label ≡ m → IsUseOf (usable (nothing_heard me (length loopbacks.items))) m None
+      unused label None e = refl
+      unused label (Some (bind.Fec fec)) e = ap fec_use (sym (none_usable me (length loopbacks.items) fec.0))
+      unused label (Some (bind.Site site number)) e = absurd (no_site (length loopbacks.items) me.0 below label site number (ap (λ gs. meaning_of gs label) (sym given_are) ∙ e))
+
+-- the same of parts that are made so
+pub record IsMade (root : NodeNo) (addresses : List ℕ) (links : List LinkEnds) (p : Parts) : Type 0 where
+  pub me : p.me ≡ root
+  pub loopbacks : p.loopbacks.items ≡ addresses
+  pub view : p.view ≡ record { nodes = length addresses; ends = links; counts = replicate (length links) 0 }
+  pub tree : (w : Wiring) → IsOf w p.view → IsTree w (links_up p.view) root.0 p.tree
+  pub sessions : p.sessions.items ≡ replicate (length links) None
+  pub bindings : p.lib ≡ nothing_heard root (length addresses)
+  pub given : p.labels.given ≡ fecs_given (length addresses) root.0
+  pub uses : p.lfib ≡ []
+  pub attached : p.attached.items ≡ []
+
+module _ (me : NodeNo) (loopbacks : List ℕ) (ends : List LinkEnds) (p : Parts) (below : me.0 < length loopbacks) (wired : IsWired (record { loopbacks = loopbacks; ends = ends })) (h : IsMade me loopbacks ends p) where
+  here : me.0 < length p.loopbacks.items
+  here = subst (λ xs. me.0 < length xs) (sym h.loopbacks) below
+
+  wired-here : IsWired (record { loopbacks = p.loopbacks.items; ends = ends })
+  wired-here = subst (λ xs. IsWired (record { loopbacks = xs; ends = ends })) (sym h.loopbacks) wired
+
+  view-is : p.view ≡ record { nodes = length p.loopbacks.items; ends = ends; counts = replicate (length ends) 0 }
+  view-is = h.view ∙ ap (λ (xs : List ℕ). let o : Learned = record { nodes = length xs; ends = ends; counts = replicate (length ends) 0 } in o) (sym h.loopbacks)
+
+  lib-is : p.lib ≡ nothing_heard me (length p.loopbacks.items)
+  lib-is = h.bindings ∙ ap (λ (xs : List ℕ). nothing_heard me (length xs)) (sym h.loopbacks)
+
+  given-is : p.labels.given ≡ fecs_given (length p.loopbacks.items) me.0
+  given-is = h.given ∙ ap (λ (xs : List ℕ). fecs_given (length xs) me.0) (sym h.loopbacks)
+
+  is_of : IsOf (record { loopbacks = p.loopbacks.items; ends = ends }) p.view
+  is_of = subst (IsOf (record { loopbacks = p.loopbacks.items; ends = ends })) (sym view-is) (record { nodes = refl; ends = refl })
+
+  tree-is : IsTree (record { loopbacks = p.loopbacks.items; ends = ends }) (links_up (record { nodes = length p.loopbacks.items; ends = ends; counts = replicate (length ends) 0 })) me.0 p.tree
+  tree-is = subst (λ v. IsTree (record { loopbacks = p.loopbacks.items; ends = ends }) (links_up v) me.0 p.tree) view-is (h.tree (record { loopbacks = p.loopbacks.items; ends = ends }) is_of)
+
+  abbrev as_made : Parts
+  as_made = parts me p.loopbacks ends p.tree p.sessions p.labels p.attached here wired-here h.sessions given-is h.attached
+
+  made-is : p ≡ as_made
+  made-is =
+      ap (λ (m : NodeNo). let o : Parts = record { me = m; loopbacks = p.loopbacks; view = p.view; tree = p.tree; sessions = p.sessions; lib = p.lib; labels = p.labels; lfib = p.lfib; attached = p.attached } in o) h.me
+      ∙ ap (λ (v : Learned). let o : Parts = record { me = me; loopbacks = p.loopbacks; view = v; tree = p.tree; sessions = p.sessions; lib = p.lib; labels = p.labels; lfib = p.lfib; attached = p.attached } in o) view-is
+      ∙ ap (λ (b : Bindings). let o : Parts = record as_made { lib = b; lfib = p.lfib } in o) lib-is
+      ∙ ap (λ (us : List (ℕ × Use)). let o : Parts = record as_made { lfib = us } in o) h.uses
+
+  pub made-stands : Stands p
+  made-stands = subst Stands (sym made-is) (stands me p.loopbacks ends p.tree p.sessions p.labels p.attached here wired-here h.sessions given-is h.attached tree-is)
+
+  pub made-node : node_in p ≡ fresh_node (record { loopbacks = loopbacks; ends = ends }) me.0
+  made-node =
+      ap node_in made-is ∙ node-is me p.loopbacks ends p.tree p.sessions p.labels p.attached here wired-here h.sessions given-is h.attached
+      ∙ ap (λ xs. fresh_node (record { loopbacks = xs; ends = ends }) me.0) h.loopbacks

@@ -1,0 +1,5 @@
+use Rattle.mn_lsr.proofs.After.{tables-are}
+use Rattle.mn_lsr.proofs.lsr.Lsr.learn.Goals as goal
+
+pub returns-in-Ok-clause-table : goal.returns-in-Ok-clause-table
+returns-in-Ok-clause-table c = tables-are c.learn.new.self c.in-Ok.ensures.stands

@@ -1,0 +1,133 @@
+use Rattle.std.proofs.Common.{ℕ, List, map, ◌∙◌, ap, sym, refl, Option, Some, slice_index_or}
+use Rattle.std.specs.Option.{option_to_list}
+use Rattle.std.specs.Prelude.{None}
+use Rattle.mn_node.specs.Machine.{Hears}
+use Rattle.mn_ldp_session.specs.declared.session.Session.{Session}
+use Rattle.mn_lsr.specs.Message.{meaning}
+use Rattle.mn_lsr.specs.Said.{pdu_of}
+use Rattle.mn_lsr.specs.Replies.{replied}
+use Rattle.mn_lsr.specs.Parts.{wiring_in}
+use Rattle.mn_lsr.proofs.HeardMessage.{meant-is, hearing-as, machine-heard}
+use Rattle.mn_lsr.proofs.Tail.{after-all, may-follow-then, replied-then, machines-then}
+use Rattle.mn_lsr.proofs.parts.Parts.hear_meant.Goals as goal
+
+pub tell-requires : goal.tell-requires
+tell-requires c =
+    let p = c.args.self.now in
+    let st = c.requires.stands in
+    let l = c.args.link.0 in
+    let m = meaning c.args.heard.0 in
+    let label = c.args.heard.1 in
+    let body = c.args.message.now.body in
+    let es = option_to_list c.event_of-event.result in
+    let meant = meant-is (wiring_in p) body m label c.requires.lawful c.requires.meant in
+    let happens = hearing-as p st l c.requires.there c.in-Some.was (sym c.session.ensures ∙ c.in-Some.is) body m label c.in-Ok.reply c.hear.new.self c.far.result es c.set_session.new.self.sessions.items meant
+    c.in-Ok.ensures.table c.in-Ok.ensures.ends c.far.ensures c.event_of-event.ensures c.set_session.ensures.set in
+    let said = replied-then p c.set_session.new.self c.reply.new.self c.set_session.new.self.sessions.items l label c.in-Ok.reply (map pdu_of c.args.out.now.items) (map pdu_of c.reply.new.out.items) c.set_session.ensures.others refl
+    c.in_ok-reply.ensures.said c.in_ok-reply.ensures.counted c.in_ok-reply.ensures.others in
+    may-follow-then p st (Hears l m label) es c.set_session.new.self.sessions.items l (replied c.in-Ok.reply) happens.0 c.reply.new.self c.reply.new.self.sessions label said.parts said.ends_are happens.1
+
+pub returns-clause-stands : goal.returns-clause-stands
+returns-clause-stands c =
+    let p = c.args.self.now in
+    let st = c.requires.stands in
+    let l = c.args.link.0 in
+    let m = meaning c.args.heard.0 in
+    let label = c.args.heard.1 in
+    let body = c.args.message.now.body in
+    let es = option_to_list c.event_of-event.result in
+    let meant = meant-is (wiring_in p) body m label c.requires.lawful c.requires.meant in
+    let happens = hearing-as p st l c.requires.there c.in-Some.was (sym c.session.ensures ∙ c.in-Some.is) body m label c.in-Ok.reply c.hear.new.self c.far.result es c.set_session.new.self.sessions.items meant
+    c.in-Ok.ensures.table c.in-Ok.ensures.ends c.far.ensures c.event_of-event.ensures c.set_session.ensures.set in
+    let said = replied-then p c.set_session.new.self c.reply.new.self c.set_session.new.self.sessions.items l label c.in-Ok.reply (map pdu_of c.args.out.now.items) (map pdu_of c.reply.new.out.items) c.set_session.ensures.others refl
+    c.in_ok-reply.ensures.said c.in_ok-reply.ensures.counted c.in_ok-reply.ensures.others in
+    let done = after-all p st (Hears l m label) es c.set_session.new.self.sessions.items l (replied c.in-Ok.reply) happens.0 c.reply.new.self c.reply.new.self.sessions c.tell.new.self label
+    (map pdu_of c.args.out.now.items) (map pdu_of c.reply.new.out.items) (map pdu_of c.tell.new.out.items) said.parts said.ends_are said.pdus_are
+    (record {
+      said = c.in_ok-tell.ensures.said;
+      counted = c.in_ok-tell.ensures.counted;
+      bindings = c.in_ok-tell.ensures.bindings;
+      ways = c.in_ok-tell.ensures.ways;
+      uses = c.in_ok-tell.ensures.uses;
+      others = c.in_ok-tell.ensures.others;
+    }) in
+    done.stands
+
+pub returns-clause-node : goal.returns-clause-node
+returns-clause-node c =
+    let p = c.args.self.now in
+    let st = c.requires.stands in
+    let l = c.args.link.0 in
+    let m = meaning c.args.heard.0 in
+    let label = c.args.heard.1 in
+    let body = c.args.message.now.body in
+    let es = option_to_list c.event_of-event.result in
+    let meant = meant-is (wiring_in p) body m label c.requires.lawful c.requires.meant in
+    let happens = hearing-as p st l c.requires.there c.in-Some.was (sym c.session.ensures ∙ c.in-Some.is) body m label c.in-Ok.reply c.hear.new.self c.far.result es c.set_session.new.self.sessions.items meant
+    c.in-Ok.ensures.table c.in-Ok.ensures.ends c.far.ensures c.event_of-event.ensures c.set_session.ensures.set in
+    let said = replied-then p c.set_session.new.self c.reply.new.self c.set_session.new.self.sessions.items l label c.in-Ok.reply (map pdu_of c.args.out.now.items) (map pdu_of c.reply.new.out.items) c.set_session.ensures.others refl
+    c.in_ok-reply.ensures.said c.in_ok-reply.ensures.counted c.in_ok-reply.ensures.others in
+    let done = after-all p st (Hears l m label) es c.set_session.new.self.sessions.items l (replied c.in-Ok.reply) happens.0 c.reply.new.self c.reply.new.self.sessions c.tell.new.self label
+    (map pdu_of c.args.out.now.items) (map pdu_of c.reply.new.out.items) (map pdu_of c.tell.new.out.items) said.parts said.ends_are said.pdus_are
+    (record {
+      said = c.in_ok-tell.ensures.said;
+      counted = c.in_ok-tell.ensures.counted;
+      bindings = c.in_ok-tell.ensures.bindings;
+      ways = c.in_ok-tell.ensures.ways;
+      uses = c.in_ok-tell.ensures.uses;
+      others = c.in_ok-tell.ensures.others;
+    }) in
+    done.node
+
+pub returns-clause-said : goal.returns-clause-said
+returns-clause-said c =
+    let p = c.args.self.now in
+    let st = c.requires.stands in
+    let l = c.args.link.0 in
+    let m = meaning c.args.heard.0 in
+    let label = c.args.heard.1 in
+    let body = c.args.message.now.body in
+    let es = option_to_list c.event_of-event.result in
+    let meant = meant-is (wiring_in p) body m label c.requires.lawful c.requires.meant in
+    let happens = hearing-as p st l c.requires.there c.in-Some.was (sym c.session.ensures ∙ c.in-Some.is) body m label c.in-Ok.reply c.hear.new.self c.far.result es c.set_session.new.self.sessions.items meant
+    c.in-Ok.ensures.table c.in-Ok.ensures.ends c.far.ensures c.event_of-event.ensures c.set_session.ensures.set in
+    let said = replied-then p c.set_session.new.self c.reply.new.self c.set_session.new.self.sessions.items l label c.in-Ok.reply (map pdu_of c.args.out.now.items) (map pdu_of c.reply.new.out.items) c.set_session.ensures.others refl
+    c.in_ok-reply.ensures.said c.in_ok-reply.ensures.counted c.in_ok-reply.ensures.others in
+    let done = after-all p st (Hears l m label) es c.set_session.new.self.sessions.items l (replied c.in-Ok.reply) happens.0 c.reply.new.self c.reply.new.self.sessions c.tell.new.self label
+    (map pdu_of c.args.out.now.items) (map pdu_of c.reply.new.out.items) (map pdu_of c.tell.new.out.items) said.parts said.ends_are said.pdus_are
+    (record {
+      said = c.in_ok-tell.ensures.said;
+      counted = c.in_ok-tell.ensures.counted;
+      bindings = c.in_ok-tell.ensures.bindings;
+      ways = c.in_ok-tell.ensures.ways;
+      uses = c.in_ok-tell.ensures.uses;
+      others = c.in_ok-tell.ensures.others;
+    }) in
+    done.said
+
+pub returns-clause-machine : goal.returns-clause-machine
+returns-clause-machine c =
+    let p = c.args.self.now in
+    let st = c.requires.stands in
+    let l = c.args.link.0 in
+    let m = meaning c.args.heard.0 in
+    let label = c.args.heard.1 in
+    let body = c.args.message.now.body in
+    let es = option_to_list c.event_of-event.result in
+    let meant = meant-is (wiring_in p) body m label c.requires.lawful c.requires.meant in
+    let happens = hearing-as p st l c.requires.there c.in-Some.was (sym c.session.ensures ∙ c.in-Some.is) body m label c.in-Ok.reply c.hear.new.self c.far.result es c.set_session.new.self.sessions.items meant
+    c.in-Ok.ensures.table c.in-Ok.ensures.ends c.far.ensures c.event_of-event.ensures c.set_session.ensures.set in
+    let said = replied-then p c.set_session.new.self c.reply.new.self c.set_session.new.self.sessions.items l label c.in-Ok.reply (map pdu_of c.args.out.now.items) (map pdu_of c.reply.new.out.items) c.set_session.ensures.others refl
+    c.in_ok-reply.ensures.said c.in_ok-reply.ensures.counted c.in_ok-reply.ensures.others in
+    ap (λ (ms : List (Option Session)). slice_index_or ms l None)
+    (machines-then p st (Hears l m label) es c.set_session.new.self.sessions.items l (replied c.in-Ok.reply) happens.0 c.reply.new.self c.reply.new.self.sessions c.tell.new.self label
+    (map pdu_of c.reply.new.out.items) (map pdu_of c.tell.new.out.items) said.parts said.ends_are
+    (record {
+      said = c.in_ok-tell.ensures.said;
+      counted = c.in_ok-tell.ensures.counted;
+      bindings = c.in_ok-tell.ensures.bindings;
+      ways = c.in_ok-tell.ensures.ways;
+      uses = c.in_ok-tell.ensures.uses;
+      others = c.in_ok-tell.ensures.others;
+    }))
+    ∙ machine-heard p st l c.requires.there c.in-Some.was (sym c.session.ensures ∙ c.in-Some.is) body c.in-Ok.reply c.hear.new.self c.set_session.new.self.sessions.items c.in-Ok.ensures.table c.in-Ok.ensures.ends c.set_session.ensures.set

@@ -1,0 +1,45 @@
+use Rattle.std.proofs.Common.{refl}
+use Rattle.mn_lsr.specs.declared.parts.Parts.{Parts}
+use Rattle.mn_lsr.proofs.Fresh.{IsMade, made-stands, made-node}
+use Rattle.mn_lsr.proofs.parts.Parts.new.Goals as goal
+
+pub returns-clause-stands : goal.returns-clause-stands
+returns-clause-stands c =
+    let made : IsMade c.args.me c.args.loopbacks.now c.args.ends.now _ = record {
+      me = refl;
+      loopbacks = c.in_ok-loopbacks.ensures.items;
+      view = c.in_ok-view.ensures;
+      tree = c.in_ok-tree.ensures.least;
+      sessions = c.in_ok-sessions.ensures;
+      bindings = c.in_ok-lib.ensures;
+      given = c.in_ok-give_fecs.ensures;
+      uses = c.new-3.ensures;
+      attached = c.new-4.ensures.items;
+    } in
+    made-stands c.args.me c.args.loopbacks.now c.args.ends.now _ c.requires.me c.requires.wired made
+
+pub returns-clause-node : goal.returns-clause-node
+returns-clause-node c =
+    let p : Parts = record {
+      me = c.args.me;
+      loopbacks = c.in_ok-loopbacks.loopbacks;
+      view = c.in_ok-view.view;
+      tree = c.in_ok-tree.tree;
+      sessions = c.in_ok-sessions.sessions;
+      lib = c.in_ok-lib.lib;
+      labels = c.give_fecs.new.labels;
+      lfib = c.new-3.result;
+      attached = c.new-4.result;
+    } in
+    let made : IsMade c.args.me c.args.loopbacks.now c.args.ends.now p = record {
+      me = refl;
+      loopbacks = c.in_ok-loopbacks.ensures.items;
+      view = c.in_ok-view.ensures;
+      tree = c.in_ok-tree.ensures.least;
+      sessions = c.in_ok-sessions.ensures;
+      bindings = c.in_ok-lib.ensures;
+      given = c.in_ok-give_fecs.ensures;
+      uses = c.new-3.ensures;
+      attached = c.new-4.ensures.items;
+    } in
+    made-node c.args.me c.args.loopbacks.now c.args.ends.now p c.requires.me c.requires.wired made

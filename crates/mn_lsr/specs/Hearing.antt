@@ -1,0 +1,82 @@
+-- What becomes of bytes that come in on a link.
+use Rattle.std.specs.Prelude.{ℕ, ◌≡◌, ◌++◌, List, [], ◌∷◌, Option, Some, None, Result, Ok, Err}
+use Rattle.mn_base.specs.Wiring.{Wiring, across}
+use Rattle.mn_ldp_wire.specs.declared.message.LdpId.{LdpId}
+use Rattle.mn_ldp_wire.specs.declared.message.LdpMessage.{LdpMessage}
+use Rattle.mn_ldp_wire.specs.declared.refusal.WireBad.{WireBad}
+use Rattle.mn_ldp_wire.specs.Message.{PduContents}
+use Rattle.mn_ldp_wire.specs.Reading.{pdu_of}
+use Rattle.mn_ldp_session.specs.declared.refusal.SessionBad.{SessionBad}
+use Rattle.mn_ldp_session.specs.declared.session.Session.{Session}
+use Rattle.mn_ldp_session.specs.Table.{kind_of, then_state, refusal}
+use Rattle.mn_ldp_session.specs.Spelling.{Pdu, pdus, message_in}
+use Rattle.mn_node.specs.Ldp.{Message}
+use Rattle.mn_node.specs.Node as node
+use Rattle.mn_node.specs.Node.{Node, session_at}
+use Rattle.mn_node.specs.Machine.{Hears, loopback_of, changed, said, after_event}
+use Rattle.mn_ldp_wire.specs.declared.message.LdpBody.{LdpBody}
+use Rattle.mn_lsr.specs.declared.parts.Open.{Open}
+use Rattle.mn_lsr.specs.declared.refusal.LsrBad.{LsrBad}
+use Rattle.mn_lsr.specs.declared.refusal.LsrBad.TheVariants as bad
+
+-- a node once it has heard something, and what it says then
+pub record Heard : Type 0 where
+  pub node : Node
+  pub said : List Pdu
+
+-- all messages are tried on the session, in order
+abbrev pub first_refusal : Session → LdpId → List LdpMessage → Option SessionBad
+first_refusal session from [] = None
+first_refusal session from (message ∷ messages) = elim (refusal session from message.body) [
+  | Some why ↦ Some why
+  | None ↦ first_refusal (record session { state = then_state session.state (kind_of message.body) }) from messages
+]
+
+-- the session of an end accepts the message
+abbrev pub Accepts : Option Open → LdpId → LdpBody → Type 0
+Accepts None from body = ⊥
+Accepts (Some end) from body = refusal end.session from body ≡ None
+
+-- the state machine of an end once the message is heard
+abbrev pub machine_then : Option Open → LdpBody → Option Session
+machine_then None body = None
+machine_then (Some end) body = Some (record end.session { state = then_state end.session.state (kind_of body) })
+
+-- a message is heard as one change; one that says nothing to the node is passed over
+abbrev pub after_message : Wiring → ℕ → Node → Option (Message × ℕ) → Heard
+after_message wiring l n None = record { node = n; said = [] }
+after_message wiring l n (Some message) =
+    record { node = after_event wiring n (Hears l message.0 message.1); said = pdus wiring message.1 (changed wiring n (Hears l message.0 message.1)) (said wiring n (Hears l message.0 message.1)) }
+
+abbrev pub after_messages : Wiring → ℕ → Node → List LdpMessage → Heard
+after_messages wiring l n [] = record { node = n; said = [] }
+after_messages wiring l n (message ∷ messages) =
+    let one : Heard = after_message wiring l n (message_in wiring message.body) in
+    let rest : Heard = after_messages wiring l one.node messages in
+    record { node = rest.node; said = one.said ++ rest.said }
+
+-- the session accepts these messages, one after the other
+abbrev pub AcceptsAll : Option Session → LdpId → List LdpMessage → Type 0
+AcceptsAll None from messages = ⊥
+AcceptsAll (Some session) from messages = first_refusal session from messages ≡ None
+
+-- none of the messages of a PDU is heard where one is refused
+abbrev pub after_tried : Wiring → ℕ → Node → PduContents → Option SessionBad → Result Heard LsrBad
+after_tried wiring l n pdu (Some why) = Err (bad.Session why)
+after_tried wiring l n pdu None = Ok (after_messages wiring l n pdu.messages)
+
+abbrev pub after_read : Wiring → ℕ → Node → Session → Result PduContents WireBad → Result Heard LsrBad
+after_read wiring l n session (Err why) = Err (bad.Wire why)
+after_read wiring l n session (Ok pdu) = after_tried wiring l n pdu (first_refusal session pdu.from pdu.messages)
+
+-- the bytes are read as a PDU, and its messages are tried and heard
+abbrev pub after_pdu : Wiring → ℕ → Node → Option Session → List ℕ → Result Heard LsrBad
+after_pdu wiring l n None bytes = Err bad.NoMemory
+after_pdu wiring l n (Some session) bytes = after_read wiring l n session (pdu_of bytes)
+
+-- the session of a link, as the node's end of it tells
+abbrev pub session_over : Wiring → ℕ → Node → node.Session → Session
+session_over wiring l n session = record { me = loopback_of wiring n.me; peer = loopback_of wiring (across wiring l n.me); state = session.state }
+
+abbrev pub after_bytes : Wiring → ℕ → Node → node.Session → List ℕ → Result Heard LsrBad
+after_bytes wiring l n session bytes = after_read wiring l n (session_over wiring l n session) (pdu_of bytes)

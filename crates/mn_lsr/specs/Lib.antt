@@ -1,0 +1,10 @@
+pub mod Telling
+pub mod Message
+pub mod Standing
+pub mod Parts
+pub mod Said
+pub mod Ties
+pub mod Replies
+pub mod Hearing
+pub mod Inside
+pub mod InNetwork

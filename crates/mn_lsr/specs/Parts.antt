@@ -1,0 +1,113 @@
+-- The parts of a node, what contracts see of them, and how they hang together.
+use Rattle.std.specs.Prelude.{◌≡◌, ◌≢◌, ◌<◌, ◌≤◌, ◌^◌, ℕ, ◌+◌, ◌==◌, true, if◌then◌else◌, List, [], ◌∷◌, length, map, slice_index_or, slice_set, Option, Some, None, option_map, ⊤}
+use Rattle.std.specs.List.{flat_map, range_with_len}
+use Rattle.mn_base.specs.Wiring.{Wiring, is_end, across, JoinsNodes, EndsDiffer, JoinsOnce}
+use Rattle.mn_linkdb.specs.Learned.{links_up, IsView}
+use Rattle.mn_linkdb.specs.PathTable.{PathTable, next_at}
+use Rattle.mn_linkdb.specs.Trees.{IsTree}
+use Rattle.mn_labels.specs.Labels.{meaning_of}
+use Rattle.mn_lfib.specs.Uses.{use_of, fec_use, IsNextHop}
+use Rattle.mn_lib.specs.declared.event.LibEvent.{LibEvent}
+use Rattle.mn_lib.specs.declared.event.LibEvent.TheVariants as event
+use Rattle.mn_lib.specs.Bindings as lib
+use Rattle.mn_lib.specs.Tells.{tells}
+use Rattle.mn_node.specs.Ldp.{Said}
+use Rattle.mn_node.specs.Node.{Node, label_of}
+use Rattle.mn_node.specs.Machine.{loopback_of}
+use Rattle.mn_ldp_session.specs.declared.session.Session.{Session}
+use Rattle.mn_ldp_session.specs.Spelling.{Pdu, pdu, AreSpelled}
+use Rattle.mn_lsr.specs.declared.parts.Open.{Open}
+use Rattle.mn_lsr.specs.declared.parts.Parts.{Parts}
+use Rattle.mn_lsr.specs.Standing.{IsWired, AreGiven, IsUseOf, sessions_from, attachments}
+use Rattle.mn_lsr.specs.Telling.{MayTell}
+use Rattle.mn_lsr.specs.Ties.{AreTied}
+
+abbrev pub wiring_in : Parts → Wiring
+wiring_in p = record { loopbacks = p.loopbacks.items; ends = p.view.ends }
+
+abbrev pub node_in : Parts → Node
+node_in p = record { me = p.me.0; learned = p.view.counts; sessions = sessions_from (wiring_in p) p.me.0 p.lib 0 p.sessions.items }
+
+-- a label has 20 bits
+abbrev pub FitsLabel : Option ℕ → Type 0
+FitsLabel None = ⊤
+FitsLabel (Some label) = label < 2 ^ 20
+
+-- the state machines of the sessions, by link
+abbrev pub machines_of : List (Option Open) → List (Option Session)
+machines_of ends = map (option_map (λ end. end.session)) ends
+
+-- a session is that of a link at the node, between the loopbacks of the two ends
+pub record IsOwn (wiring : Wiring) (me l : ℕ) (session : Session) : Type 0 where
+  pub at_end : is_end wiring l me ≡ true
+  pub me_is : session.me ≡ loopback_of wiring me
+  pub peer_is : session.peer ≡ loopback_of wiring (across wiring l me)
+
+pub record AreOwn (wiring : Wiring) (me : ℕ) (sessions : List (Option Session)) : Type 0 where
+  pub one_each : length sessions ≡ length wiring.ends
+  pub own : (l : ℕ) (session : Session) → slice_index_or sessions l None ≡ Some session → IsOwn wiring me l session
+
+pub record Stands (p : Parts) : Type 0 where
+  pub view : IsView p.view
+  pub nodes : p.view.nodes ≡ length p.loopbacks.items
+  pub me : p.me.0 < length p.loopbacks.items
+  pub wired : IsWired (wiring_in p)
+  pub tree : IsTree (wiring_in p) (links_up p.view) p.me.0 p.tree
+  pub ends : AreOwn (wiring_in p) p.me.0 (machines_of p.sessions.items)
+  pub rows : length p.lib.heard ≡ length p.loopbacks.items
+  pub tied : AreTied (wiring_in p) (node_in p) p.lib
+  pub fit : (neighbour fec : ℕ) → FitsLabel (lib.label_in (lib.row_of p.lib neighbour) fec)
+  pub given : AreGiven (length p.loopbacks.items) p.me.0 p.labels.given
+  pub few : length p.labels.given ≤ 1048560
+  pub attached : (site : ℕ) → slice_index_or p.attached.items site 0 ≡ attachments site p.labels.given
+  pub table : (label : ℕ) → IsUseOf (lib.usable p.lib) (meaning_of p.labels.given label) (use_of p.lfib label)
+
+-- something may be said on each link
+pub record MaySpeak (p : Parts) : Type 0 where
+  pub few : length p.loopbacks.items ≤ 256
+  pub me : p.me.0 < length p.loopbacks.items
+  pub joins : JoinsNodes (wiring_in p)
+  pub one_each : length p.sessions.items ≡ length p.view.ends
+
+-- these events may be followed, where a Release brings this label
+pub record MayFollow (p : Parts) (withdrawn : ℕ) (events : List LibEvent) : Type 0 where
+  pub few : length p.loopbacks.items ≤ 256
+  pub few_links : length p.view.ends ≤ 1024
+  pub me : p.me.0 < length p.loopbacks.items
+  pub joins : JoinsNodes (wiring_in p)
+  pub one_each : length p.sessions.items ≡ length p.view.ends
+  pub view_nodes : p.view.nodes ≡ length p.loopbacks.items
+  pub lib_nodes : lib.nodes p.lib ≡ length p.loopbacks.items
+  pub fit : lib.EventsFit p.lib events
+  pub may : MayTell (length p.loopbacks.items) withdrawn (tells p.lib events)
+  pub ways : (fec : ℕ) → fec < length p.loopbacks.items → fec ≢ p.me.0 → use_of p.lfib (label_of p.me.0 fec) ≡ fec_use (lib.usable p.lib fec)
+  pub next : (fec : ℕ) → IsNextHop (lib.usable (lib.after_events p.lib events) fec)
+
+-- the next hop towards each other node, as it is in the tree
+abbrev pub hop_event : ℕ → PathTable → ℕ → List LibEvent
+hop_event me table fec = if fec == me then [] else event.Next (record { 0 = fec }) (next_at table fec) ∷ []
+
+abbrev pub hop_events : ℕ → PathTable → ℕ → List LibEvent
+hop_events me table nodes = flat_map (hop_event me table) (range_with_len 0 nodes)
+
+-- how much was said on a link, by its end
+abbrev pub said_in : Option Open → ℕ
+said_in None = 0
+said_in (Some end) = end.said
+
+abbrev pub one_more : Open → Open
+one_more end = record { session = end.session; said = end.said + 1 }
+
+-- the ends once one message more is said on a link
+abbrev pub bumped : List (Option Open) → ℕ → List (Option Open)
+bumped ends l = slice_set ends l (option_map one_more (slice_index_or ends l None))
+
+-- what is said, with ids from the ends, and the ends then
+abbrev pub pdus_by : Wiring → ℕ → ℕ → List (Option Open) → List Said → List Pdu
+pdus_by wiring me withdrawn ends [] = []
+pdus_by wiring me withdrawn ends (said ∷ sayings) =
+    pdu wiring said.link me withdrawn (said_in (slice_index_or ends said.link None) + 1) said.message ∷ pdus_by wiring me withdrawn (bumped ends said.link) sayings
+
+abbrev pub ends_after : List (Option Open) → List Said → List (Option Open)
+ends_after ends [] = ends
+ends_after ends (said ∷ sayings) = ends_after (bumped ends said.link) sayings

@@ -1,0 +1,33 @@
+-- What a session replies, and what its end means to the bindings.
+use Rattle.std.specs.Prelude.{ℕ, Bool, true, false, ◌++◌, if◌then◌else◌, List, [], ◌∷◌, Option, Some, None}
+use Rattle.mn_base.specs.declared.numbers.NodeNo.{NodeNo}
+use Rattle.mn_base.specs.declared.states.LdpState.{LdpState}
+use Rattle.mn_base.specs.declared.states.LdpState.TheVariants.{Initialized, OpenSent, OpenRec, Operational}
+use Rattle.mn_ldp_session.specs.declared.session.Reply.{Reply}
+use Rattle.mn_lib.specs.declared.event.LibEvent.{LibEvent}
+use Rattle.mn_lib.specs.declared.event.LibEvent.TheVariants as event
+use Rattle.mn_node.specs.Ldp.{Message, Initialization, KeepAlive, Address, Mapping, Withdraw}
+use Rattle.mn_lsr.specs.declared.parts.Open.{Open}
+
+abbrev pub replied : Reply → List Message
+replied reply = (if reply.say_init then Initialization ∷ [] else []) ++ ((if reply.say_keep then KeepAlive ∷ [] else []) ++ (if reply.became_operational then Address ∷ [] else []))
+
+abbrev pub first_reply : LdpState → Reply
+first_reply OpenSent = record { say_init = true; say_keep = false; became_operational = false }
+first_reply _ = record { say_init = false; say_keep = false; became_operational = false }
+
+abbrev pub closing_by : LdpState → NodeNo → List LibEvent
+closing_by Operational far = event.Closed far ∷ []
+closing_by _ far = []
+
+-- a neighbour whose session was OPERATIONAL is closed
+abbrev pub closing_events : Option Open → NodeNo → List LibEvent
+closing_events None far = []
+closing_events (Some end) far = closing_by end.session.state far
+
+-- what a message that brings a label means to the bindings, where the session began by it or not
+abbrev pub heard_by : NodeNo → Bool → Message → ℕ → List LibEvent
+heard_by far true KeepAlive label = event.Opened far ∷ []
+heard_by far began (Mapping fec) label = event.Map far (record { 0 = fec }) label ∷ []
+heard_by far began (Withdraw fec) label = event.Withdraw far (record { 0 = fec }) ∷ []
+heard_by far _ _ label = []

@@ -1,0 +1,125 @@
+-- What contracts see of one node's transport.
+use Rattle.std.specs.Prelude.{◌==◌, if◌then◌else◌, ◌≡◌, ◌≢◌, ◌<◌, ◌≤◌, ◌^◌, ℕ, ◌+◌, Bool, false, not, List, [], ◌∷◌, length, map, filter, replicate, slice_index_or, Option, Some, None, option_map, ⊤}
+use Rattle.std.specs.List.{range_with_len}
+use Rattle.mn_base.specs.Wiring.{Wiring, across, JoinsNodes, EndsDiffer, JoinsOnce}
+use Rattle.mn_base.specs.declared.numbers.NodeNo.{NodeNo}
+use Rattle.mn_base.specs.declared.numbers.SiteNo.{SiteNo}
+use Rattle.mn_base.specs.declared.states.LdpState.{LdpState}
+use Rattle.mn_linkdb.specs.Network.{IsNetwork}
+use Rattle.mn_labels.specs.declared.meaning.Bind.{Bind}
+use Rattle.mn_labels.specs.declared.meaning.Bind.TheVariants.{Fec, Site}
+use Rattle.mn_labels.specs.Labels.{LabelTable, meaning_of}
+use Rattle.mn_lfib.specs.declared.answer.Use.{Use}
+use Rattle.mn_lfib.specs.declared.answer.Use.TheVariants as use_kind
+use Rattle.mn_lfib.specs.Uses.{use_of, fec_use}
+use Rattle.mn_lib.specs.Bindings.{Bindings, row_of}
+use Rattle.mn_node.specs.Ldp.{usable_by}
+use Rattle.mn_node.specs.Node.{Session, Node, session_at, knowledge_in, label_of}
+use Rattle.mn_ldp_session.specs.Spelling.{AreSpelled}
+use Rattle.mn_lsr.specs.declared.parts.Open.{Open}
+
+-- the network around it, what it keeps, the labels that it gave, what they are used for, and whether it has wanted memory
+pub record Standing : Type 0 where
+  pub wiring : Wiring
+  pub node : Node
+  pub given : LabelTable
+  pub uses : List (ℕ × Use)
+  pub failed : Bool
+
+-- the session of a link, whose labels are those that the neighbour over it said
+abbrev pub labels_in : ℕ → Option (List (Option ℕ)) → List (Option ℕ)
+labels_in nodes None = replicate nodes None
+labels_in nodes (Some row) = row
+
+abbrev pub session_in : Wiring → ℕ → Bindings → ℕ → Open → Session
+session_in wiring me lib l end = record { state = end.session.state; said = end.said; labels = labels_in (length wiring.loopbacks) (row_of lib (across wiring l me)) }
+
+abbrev pub sessions_from : Wiring → ℕ → Bindings → ℕ → List (Option Open) → List (Option Session)
+sessions_from wiring me lib l [] = []
+sessions_from wiring me lib l (end ∷ ends) = option_map (session_in wiring me lib l) end ∷ sessions_from wiring me lib (l + 1) ends
+
+-- the label that was heard last in a session
+abbrev pub label_in : Option Session → ℕ → Option ℕ
+label_in None fec = None
+label_in (Some session) fec = slice_index_or session.labels fec None
+
+-- the next hop with the label that it gave the FEC
+abbrev pub labelled : Node → ℕ → Option (ℕ × ℕ) → Option (NodeNo × ℕ)
+labelled node fec None = None
+labelled node fec (Some hop) = option_map (λ label. (record { 0 = hop.0 }, label)) (label_in (session_at node hop.1) fec)
+
+-- the next hop towards an edge, and the label to be sent there
+abbrev pub way_to : Wiring → Node → ℕ → Option (NodeNo × ℕ)
+way_to wiring node fec = labelled node fec (usable_by wiring (knowledge_in node) node.me fec)
+
+-- The network that a node's transport asks for: at most 256 nodes, whose loopbacks can be told apart, and 1,024 links, each of a
+-- cost from 1 to 65,535 between two different nodes, and at most one between any two.
+pub record IsWired (wiring : Wiring) : Type 0 where
+  pub network : IsNetwork (length wiring.loopbacks) wiring.ends
+  pub few_links : length wiring.ends ≤ 1024
+  pub joins : JoinsNodes wiring
+  pub differ : EndsDiffer wiring
+  pub once : JoinsOnce wiring
+  pub spelled : AreSpelled wiring
+
+-- the FEC of each other node has its label, and no other label is a FEC's
+pub record AreGiven (nodes me : ℕ) (given : List Bind) : Type 0 where
+  pub each : (fec : ℕ) → fec < nodes → fec ≢ me → meaning_of given (label_of me fec) ≡ Some (Fec (record { 0 = fec }))
+  pub only : (label : ℕ) (fec : NodeNo) → meaning_of given label ≡ Some (Fec fec) → (fec.0 < nodes) × (fec.0 ≢ me) × (label ≡ label_of me fec.0)
+
+-- the FECs of the other nodes, in node order, to which labels are given first
+abbrev pub fecs_given : ℕ → ℕ → List Bind
+fecs_given nodes me = map (λ node. Fec (record { 0 = node })) (filter (λ node. not (node == me)) (range_with_len 0 nodes))
+
+abbrev pub is_of : ℕ → Bind → Bool
+is_of site (Fec fec) = false
+is_of site (Site other attachment) = other.0 == site
+
+-- how often a site was attached
+abbrev pub attachments : ℕ → List Bind → ℕ
+attachments site given = length (filter (is_of site) given)
+
+-- a label was given for an attachment
+abbrev pub IsAttachment : Option Bind → Type 0
+IsAttachment None = ⊥
+IsAttachment (Some (Fec fec)) = ⊥
+IsAttachment (Some (Site site attachment)) = ⊤
+
+-- an attachment is the present one of this site, or has ended
+abbrev pub IsSiteUse : SiteNo → Option Use → Type 0
+IsSiteUse site None = ⊥
+IsSiteUse site (Some (use_kind.Fec next_hop label)) = ⊥
+IsSiteUse site (Some (use_kind.Site there)) = there ≡ site
+IsSiteUse site (Some use_kind.Ended) = ⊤
+
+-- RFC 3031, section 3.11: what a label is used for that was given so, where `way` leads to each FEC
+abbrev pub IsUseOf : (ℕ → Option (NodeNo × ℕ)) → Option Bind → Option Use → Type 0
+IsUseOf way None used = used ≡ None
+IsUseOf way (Some (Fec fec)) used = used ≡ fec_use (way fec.0)
+IsUseOf way (Some (Site site attachment)) used = IsSiteUse site used
+
+-- A FEC's label is used for the way there exactly where there is one, an attachment's for its site or as one that has ended, and
+-- no other label has a use.
+abbrev pub TableStands : Standing → Type 0
+TableStands standing = (label : ℕ) → IsUseOf (way_to standing.wiring standing.node) (meaning_of standing.given.given label) (use_of standing.uses label)
+
+-- the labels of attachments are used as before
+abbrev pub SitesKeep : Standing → Standing → Type 0
+SitesKeep before after = (label : ℕ) → IsAttachment (meaning_of before.given.given label) → use_of after.uses label ≡ use_of before.uses label
+
+-- the state of a session, where there is one
+abbrev pub state_in : Option Session → Option LdpState
+state_in session = option_map (λ session. session.state) session
+
+-- implicit null isn't sent
+abbrev pub label_sent : ℕ → Option ℕ
+label_sent label = if label == 3 then None else Some label
+
+abbrev pub sent_to : NodeNo × ℕ → NodeNo × Option ℕ
+sent_to way = (way.0, label_sent way.1)
+
+-- a label that is sent has 20 bits
+abbrev pub FitsOuter : Option (NodeNo × Option ℕ) → Type 0
+FitsOuter None = ⊤
+FitsOuter (Some (hop, None)) = ⊤
+FitsOuter (Some (hop, Some label)) = label < 2 ^ 20

@@ -1,0 +1,36 @@
+-- What the bindings tell, said on the links that join the node with its neighbours.
+use Rattle.std.specs.Prelude.{ℕ, ◌<◌, ◌==◌, ◌&&◌, ◌||◌, Bool, if◌then◌else◌, List, [], ◌∷◌, ⊤}
+use Rattle.std.specs.List.{flat_map}
+use Rattle.mn_base.specs.Wiring.{Wiring, joining}
+use Rattle.mn_base.specs.declared.links.LinkEnds.{LinkEnds}
+use Rattle.mn_ldp_wire.specs.Grammar.{IsLabel}
+use Rattle.mn_node.specs.Ldp.{Message, Mapping, Withdraw, Release, Said, said_on}
+use Rattle.mn_lib.specs.declared.event.Tell.{Tell}
+use Rattle.mn_lib.specs.declared.event.TellKind.{TellKind}
+use Rattle.mn_lib.specs.declared.event.TellKind.TheVariants as tells
+
+-- the link's other end, and whether it joins the node with this neighbour
+abbrev pub other_end : LinkEnds → ℕ → ℕ
+other_end link me = if link.a.0 == me then link.b.0 else link.a.0
+
+abbrev pub joins_with : LinkEnds → ℕ → ℕ → Bool
+joins_with link me to = ((link.a.0 == me) || (link.b.0 == me)) && (other_end link me == to)
+
+abbrev pub message_of : TellKind → ℕ → Message
+message_of tells.Map fec = Mapping fec
+message_of tells.Withdraw fec = Withdraw fec
+message_of tells.Release fec = Release fec
+
+abbrev pub said_by_tell : Wiring → ℕ → Tell → List Said
+said_by_tell wiring me tell = flat_map (λ l. said_on l me (message_of tell.kind tell.fec.0 ∷ [])) (joining wiring me tell.to.0)
+
+-- a Release brings a lawful label
+abbrev pub MayBring : ℕ → TellKind → Type 0
+MayBring withdrawn tells.Release = IsLabel withdrawn
+MayBring withdrawn tells.Map = ⊤
+MayBring withdrawn tells.Withdraw = ⊤
+
+-- each tell is of one of these nodes' FECs
+abbrev pub MayTell : ℕ → ℕ → List Tell → Type 0
+MayTell nodes withdrawn [] = ⊤
+MayTell nodes withdrawn (tell ∷ rest) = (tell.fec.0 < nodes) × MayBring withdrawn tell.kind × MayTell nodes withdrawn rest

@@ -1,0 +1,234 @@
+ghost use Rattle.std.specs.Prelude.{◌≡◌, ◌≢◌, ◌≤◌, ◌<◌, ◌++◌, [], ℕ, List, All, None, Some, Ok, Err, length, map, slice_index_or, OnOk, IfOk, IfErr, MatchResult, option_map};
+ghost use Rattle.std.specs.Option.{option_to_list};
+ghost use Rattle.mn_ldp_wire.specs.Grammar.{IsLawful};
+ghost use Rattle.mn_node.specs.Node.{label_of, session_at};
+ghost use Rattle.mn_node.specs.Node as node;
+ghost use Rattle.mn_lfib.specs.Uses.{use_of};
+ghost use Rattle.mn_ldp_session.specs.Spelling.{message_in};
+ghost use Rattle.mn_lsr.specs.Said.{pdu_of};
+ghost use Rattle.mn_lsr.specs.Message.{meaning, meant};
+ghost use Rattle.mn_lsr.specs.Replies.{heard_by};
+ghost use Rattle.mn_lsr.specs.Hearing.{after_message, after_messages, after_pdu, after_bytes, first_refusal, Accepts, AcceptsAll, machine_then};
+ghost use Rattle.mn_lsr.specs.Parts.{wiring_in, node_in, machines_of, Stands};
+
+use crate::message::{Message, node_of};
+use crate::parts::{Open, Parts};
+use crate::refusal::LsrBad;
+use crate::said::Said;
+use mn_base::{LinkNo, NodeNo};
+use mn_ldp_session::{Session, SessionBad};
+use mn_ldp_wire::{LdpBody, LdpId, LdpMessage, WireBad, read_pdu};
+use mn_lib::LibEvent;
+use std::alloc::{AllocError, Global};
+
+/// What a body says to the node, and the label that it brings. A mention of a FEC that is no node's is passed over.
+fn heard_in(loopbacks: &[u32], body: &LdpBody) -> Option<(Message, u32)>
+    requires few { length loopbacks.now ≤ 256 }
+    ensures { option_map meant result ≡ message_in (record { loopbacks = loopbacks.now; ends = [] }) body.now }
+{
+    match body {
+        LdpBody::Notification { .. } => None,
+        LdpBody::Initialization { .. } => Some((Message::Initialization, 0)),
+        LdpBody::KeepAlive => Some((Message::KeepAlive, 0)),
+        LdpBody::Address(_) => Some((Message::Address, 0)),
+        LdpBody::Mapping(prefix, label) => match node_of(loopbacks, prefix) {
+            None => None,
+            Some(fec) => Some((Message::Mapping(fec), *label)),
+        },
+        LdpBody::Withdraw(prefix, label) => match node_of(loopbacks, prefix) {
+            None => None,
+            Some(fec) => Some((Message::Withdraw(fec), *label)),
+        },
+        LdpBody::Release(prefix, _) => match node_of(loopbacks, prefix) {
+            None => None,
+            Some(fec) => Some((Message::Release(fec), 0)),
+        },
+    }
+}
+
+/// What a message means to the bindings, where the session began by it or not.
+fn event_of(far: NodeNo, began: bool, message: Message, label: u32) -> Option<LibEvent>
+    ensures { option_to_list result ≡ heard_by far began (meaning message) label }
+{
+    match message {
+        Message::KeepAlive => {
+            if began {
+                Some(LibEvent::Opened(far))
+            } else {
+                None
+            }
+        }
+        Message::Mapping(fec) => Some(LibEvent::Map(far, fec, label)),
+        Message::Withdraw(fec) => Some(LibEvent::Withdraw(far, fec)),
+        _ => None,
+    }
+}
+
+impl Parts {
+    /// Hears a message that the session accepts and that says this to the node.
+    fn hear_meant(
+        &mut self,
+        alloc: Global,
+        link: LinkNo,
+        from: LdpId,
+        message: &LdpMessage,
+        heard: (Message, u32),
+        out: &mut Vec<Said>,
+    ) -> Result<(), AllocError>
+        requires stands { Stands self.old }
+        requires there { link.0 < length self.old.view.ends }
+        requires lawful { IsLawful message.now.body }
+        requires accepted { Accepts (slice_index_or self.old.sessions.items link.0 None) from message.now.body }
+        requires meant { message_in (wiring_in self.old) message.now.body ≡ Some (meant heard) }
+        ensures stands { OnOk result (Stands self.new) }
+        ensures node { OnOk result (node_in self.new ≡ (after_message (wiring_in self.old) link.0 (node_in self.old) (Some (meant heard))).node) }
+        ensures said { OnOk result (map pdu_of out.new.items ≡ map pdu_of out.old.items ++ (after_message (wiring_in self.old) link.0 (node_in self.old) (Some (meant heard))).said) }
+        ensures machine { OnOk result (slice_index_or (machines_of self.new.sessions.items) link.0 None ≡ machine_then (slice_index_or self.old.sessions.items link.0 None) message.now.body) }
+        ensures uses { OnOk result ((label : ℕ) → ((fec : ℕ) → fec < length self.old.loopbacks.items → fec ≢ self.old.me.0 → label ≢ label_of self.old.me.0 fec) →
+            use_of self.new.lfib label ≡ use_of self.old.lfib label) }
+        ensures others { OnOk result (self.new ≡ record self.old { sessions = self.new.sessions; lib = self.new.lib; lfib = self.new.lfib }) }
+    {
+        let Some(was) = self.session(link) else {
+            unreachable!()
+        };
+        let mut session = was.session;
+        let Ok(reply) = session.hear(from, message) else {
+            unreachable!()
+        };
+        let (said, label) = heard;
+        let event = event_of(self.far(link), reply.became_operational, said, label);
+        let now = Open {
+            session,
+            said: was.said,
+        };
+        self.set_session(link, Some(now));
+        self.reply(alloc, link, reply, out)?;
+        self.tell(alloc, event, label, out)?;
+        Ok(())
+    }
+
+    /// Hears a message that the session accepts, as one change.
+    pub(crate) fn hear(
+        &mut self,
+        alloc: Global,
+        link: LinkNo,
+        from: LdpId,
+        message: &LdpMessage,
+        out: &mut Vec<Said>,
+    ) -> Result<(), AllocError>
+        requires stands { Stands self.old }
+        requires there { link.0 < length self.old.view.ends }
+        requires lawful { IsLawful message.now.body }
+        requires accepted { Accepts (slice_index_or self.old.sessions.items link.0 None) from message.now.body }
+        ensures stands { OnOk result (Stands self.new) }
+        ensures node { OnOk result (node_in self.new ≡ (after_message (wiring_in self.old) link.0 (node_in self.old) (message_in (wiring_in self.old) message.now.body)).node) }
+        ensures said { OnOk result (map pdu_of out.new.items ≡ map pdu_of out.old.items ++ (after_message (wiring_in self.old) link.0 (node_in self.old) (message_in (wiring_in self.old) message.now.body)).said) }
+        ensures machine { OnOk result (slice_index_or (machines_of self.new.sessions.items) link.0 None ≡ machine_then (slice_index_or self.old.sessions.items link.0 None) message.now.body) }
+        ensures uses { OnOk result ((label : ℕ) → ((fec : ℕ) → fec < length self.old.loopbacks.items → fec ≢ self.old.me.0 → label ≢ label_of self.old.me.0 fec) →
+            use_of self.new.lfib label ≡ use_of self.old.lfib label) }
+        ensures others { OnOk result (self.new ≡ record self.old { sessions = self.new.sessions; lib = self.new.lib; lfib = self.new.lfib }) }
+    {
+        match heard_in(&self.loopbacks, &message.body) {
+            None => Ok(()),
+            Some(heard) => self.hear_meant(alloc, link, from, message, heard, out),
+        }
+    }
+}
+
+/// Tries the messages on a session, in order: the first one that is refused, and why.
+fn first_refusal(session: Session, from: LdpId, messages: &[LdpMessage]) -> Option<SessionBad>
+    ensures { result ≡ first_refusal session from messages.now }
+{
+    let mut tried = session;
+    for message in messages {
+        if let Err(bad) = tried.hear(from, message) {
+            return Some(bad);
+        }
+    }
+    None
+}
+
+impl Parts {
+    /// Hears messages that the session accepts, one after the other.
+    fn hear_all(
+        &mut self,
+        alloc: Global,
+        link: LinkNo,
+        from: LdpId,
+        messages: &[LdpMessage],
+    ) -> Result<Vec<Said>, AllocError>
+        requires stands { Stands self.old }
+        requires there { link.0 < length self.old.view.ends }
+        requires lawful { All (λ message. IsLawful message.body) messages.now }
+        requires accepted { AcceptsAll (slice_index_or (machines_of self.old.sessions.items) link.0 None) from messages.now }
+        ensures stands { OnOk result (Stands self.new) }
+        ensures heard { IfOk result (λ out. record { node = node_in self.new; said = map pdu_of out.items } ≡ after_messages (wiring_in self.old) link.0 (node_in self.old) messages.now) }
+        ensures uses { OnOk result ((label : ℕ) → ((fec : ℕ) → fec < length self.old.loopbacks.items → fec ≢ self.old.me.0 → label ≢ label_of self.old.me.0 fec) →
+            use_of self.new.lfib label ≡ use_of self.old.lfib label) }
+        ensures others { OnOk result (self.new ≡ record self.old { sessions = self.new.sessions; lib = self.new.lib; lfib = self.new.lfib }) }
+    {
+        let mut out = Vec::new(alloc);
+        for message in messages {
+            self.hear(alloc, link, from, message, &mut out)?;
+        }
+        Ok(out)
+    }
+
+    /// Hears the messages of a PDU, where the session accepts them all.
+    pub(crate) fn hear_ldp(
+        &mut self,
+        alloc: Global,
+        link: LinkNo,
+        bytes: &[u8],
+    ) -> Result<Vec<Said>, LsrBad>
+        requires stands { Stands self.old }
+        requires there { link.0 < length self.old.view.ends }
+        requires open { slice_index_or (machines_of self.old.sessions.items) link.0 None ≢ None }
+        ensures stands { OnOk result (Stands self.new) }
+        ensures heard { MatchResult result
+            (λ out. after_pdu (wiring_in self.old) link.0 (node_in self.old) (slice_index_or (machines_of self.old.sessions.items) link.0 None) bytes.now ≡ Ok (record { node = node_in self.new; said = map pdu_of out.items }))
+            (λ bad. bad ≢ LsrBad.NoMemory → after_pdu (wiring_in self.old) link.0 (node_in self.old) (slice_index_or (machines_of self.old.sessions.items) link.0 None) bytes.now ≡ Err bad) }
+        ensures uses { OnOk result ((label : ℕ) → ((fec : ℕ) → fec < length self.old.loopbacks.items → fec ≢ self.old.me.0 → label ≢ label_of self.old.me.0 fec) →
+            use_of self.new.lfib label ≡ use_of self.old.lfib label) }
+        ensures others { OnOk result (self.new ≡ record self.old { sessions = self.new.sessions; lib = self.new.lib; lfib = self.new.lfib }) }
+        ensures unchanged { IfErr result (λ bad. bad ≢ LsrBad.NoMemory → self.new ≡ self.old) }
+    {
+        let pdu = match read_pdu(alloc, bytes) {
+            Ok(pdu) => pdu,
+            Err(WireBad::NoMemory) => return Err(LsrBad::NoMemory),
+            Err(bad) => return Err(LsrBad::Wire(bad)),
+        };
+        let Some(open) = self.session(link) else {
+            unreachable!()
+        };
+        if let Some(bad) = first_refusal(open.session, pdu.from(), pdu.messages()) {
+            return Err(LsrBad::Session(bad));
+        }
+        match self.hear_all(alloc, link, pdu.from(), pdu.messages()) {
+            Ok(out) => Ok(out),
+            Err(_) => Err(LsrBad::NoMemory),
+        }
+    }
+
+    /// The same, by the session as contracts see it.
+    pub(crate) fn hear_bytes(
+        &mut self,
+        alloc: Global,
+        link: LinkNo,
+        bytes: &[u8],
+    ) -> Result<Vec<Said>, LsrBad>
+        requires stands { Stands self.old }
+        requires there { link.0 < length self.old.view.ends }
+        requires open { session_at (node_in self.old) link.0 ≢ None }
+        ensures stands { OnOk result (Stands self.new) }
+        ensures heard { (session : node.Session) → session_at (node_in self.old) link.0 ≡ Some session → MatchResult result
+            (λ out. after_bytes (wiring_in self.old) link.0 (node_in self.old) session bytes.now ≡ Ok (record { node = node_in self.new; said = map pdu_of out.items }))
+            (λ bad. bad ≢ LsrBad.NoMemory → after_bytes (wiring_in self.old) link.0 (node_in self.old) session bytes.now ≡ Err bad) }
+        ensures uses { OnOk result ((label : ℕ) → ((fec : ℕ) → fec < length self.old.loopbacks.items → fec ≢ self.old.me.0 → label ≢ label_of self.old.me.0 fec) →
+            use_of self.new.lfib label ≡ use_of self.old.lfib label) }
+        ensures others { OnOk result (self.new ≡ record self.old { sessions = self.new.sessions; lib = self.new.lib; lfib = self.new.lfib }) }
+        ensures unchanged { IfErr result (λ bad. bad ≢ LsrBad.NoMemory → self.new ≡ self.old) }
+    {
+        self.hear_ldp(alloc, link, bytes)
+    }
+}

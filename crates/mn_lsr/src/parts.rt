@@ -1,0 +1,330 @@
+ghost use Rattle.std.specs.Prelude.{◌≡◌, ◌≢◌, ◌≤◌, ◌<◌, ◌↔◌, ◌++◌, ◌∷◌, [], ℕ, List, None, Some, Err, length, map, slice_index, slice_index_or, slice_set, OnOk, IfOk, true, if◌then◌else◌};
+ghost use Rattle.std.specs.Option.{option_to_list};
+ghost use Rattle.std.specs.List.{flat_map};
+ghost use Rattle.mn_base.specs.Wiring.{is_end, across};
+ghost use Rattle.mn_node.specs.Ldp.{said_on};
+ghost use Rattle.mn_node.specs.Node.{label_of, session_at};
+ghost use Rattle.mn_node.specs.Machine.{loopback_of, Learns, Opens, Closes, changed, said, after_event};
+ghost use Rattle.mn_linkdb.specs.PathTable.{IsTable};
+ghost use Rattle.mn_lib.specs.Bindings.{after_events};
+ghost use Rattle.mn_lib.specs.Bindings as lib;
+ghost use Rattle.mn_lib.specs.Tells.{tells};
+ghost use Rattle.mn_lfib.specs.Uses.{use_of, fec_use};
+ghost use Rattle.mn_ldp_session.specs.Spelling.{pdus};
+ghost use Rattle.mn_lsr.specs.Telling.{said_by_tell};
+ghost use Rattle.mn_lsr.specs.Message.{meaning, NamesNode, HasLabel};
+ghost use Rattle.mn_lsr.specs.Replies.{replied, first_reply, closing_events};
+ghost use Rattle.mn_lsr.specs.Said.{pdu_of};
+ghost use Rattle.mn_lsr.specs.Parts.{wiring_in, node_in, Stands, MayFollow, MaySpeak, hop_events, pdus_by, ends_after};
+
+use crate::message::Message;
+use crate::refusal::LsrBad;
+use crate::said::Said;
+use crate::speaking::{across, say, say_all};
+use crate::ways::use_ways;
+use mn_base::{LdpState, LinkNo, NodeNo};
+use mn_labels::Labels;
+use mn_ldp_session::{Reply, Session};
+use mn_lfib::Lfib;
+use mn_lib::{Lib, LibEvent};
+use mn_linkdb::{LinkDb, Tree, View};
+use mn_spf::tree;
+use std::alloc::{AllocError, Global};
+
+/// The node's end of a session, and how many messages it has said in it.
+#[derive(Clone, Copy)]
+pub struct Open {
+    pub session: Session,
+    pub said: u64,
+}
+
+/// The parts of a node.
+#[derive(Drop)]
+pub struct Parts {
+    pub me: NodeNo,
+    pub loopbacks: Vec<u32>,
+    pub view: View,
+    pub tree: Tree,
+    /// By link.
+    pub sessions: Vec<Option<Open>>,
+    pub lib: Lib,
+    pub labels: Labels,
+    pub lfib: Lfib,
+    /// By site, how often it was attached; none past the end.
+    pub attached: Vec<u32>,
+}
+
+/// The next hop towards each other node, as it is in the tree.
+fn next_hops(
+    alloc: Global,
+    me: NodeNo,
+    tree: &Tree,
+    nodes: u32,
+) -> Result<Vec<LibEvent>, AllocError>
+    requires few { nodes ≤ 256 }
+    requires table { IsTable nodes tree.now }
+    ensures { IfOk result (λ events. events.items ≡ hop_events me.0 tree.now nodes) }
+{
+    let mut events = Vec::new(alloc);
+    for at in 0..nodes {
+        let fec = NodeNo(at as u16);
+        if at != u32::from(me.0) {
+            events.push(LibEvent::Next(fec, tree.next(fec)))?;
+        }
+    }
+    Ok(events)
+}
+
+impl Parts {
+    /// Takes what happened to the bindings as one change, says what must be told, and uses the new ways. A Release brings
+    /// the label that was withdrawn.
+    pub(crate) fn follow(
+        &mut self,
+        alloc: Global,
+        events: &[LibEvent],
+        withdrawn: u32,
+        out: &mut Vec<Said>,
+    ) -> Result<(), AllocError>
+        requires { MayFollow self.old withdrawn events.now }
+        ensures said { OnOk result (map pdu_of out.new.items ≡ map pdu_of out.old.items ++ pdus_by (wiring_in self.old) self.old.me.0 withdrawn self.old.sessions.items
+            (flat_map (said_by_tell (wiring_in self.old) self.old.me.0) (tells self.old.lib events.now))) }
+        ensures counted { OnOk result (self.new.sessions.items ≡ ends_after self.old.sessions.items (flat_map (said_by_tell (wiring_in self.old) self.old.me.0) (tells self.old.lib events.now))) }
+        ensures bindings { OnOk result (self.new.lib ≡ after_events self.old.lib events.now) }
+        ensures ways { OnOk result ((fec : ℕ) → fec < length self.old.loopbacks.items → fec ≢ self.old.me.0 →
+            use_of self.new.lfib (label_of self.old.me.0 fec) ≡ fec_use (lib.usable (after_events self.old.lib events.now) fec)) }
+        ensures uses { OnOk result ((label : ℕ) → ((fec : ℕ) → fec < length self.old.loopbacks.items → fec ≢ self.old.me.0 → label ≢ label_of self.old.me.0 fec) →
+            use_of self.new.lfib label ≡ use_of self.old.lfib label) }
+        ensures others { OnOk result (self.new ≡ record self.old { sessions = self.new.sessions; lib = self.new.lib; lfib = self.new.lfib }) }
+    {
+        let tells = self.lib.apply(events)?;
+        say_all(
+            alloc,
+            self.me,
+            &self.loopbacks,
+            self.view.ends(),
+            withdrawn,
+            &tells,
+            &mut self.sessions,
+            out,
+        )?;
+        use_ways(&mut self.lfib, &self.lib, self.me, self.view.nodes())
+    }
+
+    /// Learns the next change of a link, and says what its offers have become.
+    pub(crate) fn learn(
+        &mut self,
+        alloc: Global,
+        db: &LinkDb,
+        link: LinkNo,
+    ) -> Result<Vec<Said>, LsrBad>
+        requires stands { Stands self.old }
+        requires there { link.0 < length self.old.view.ends }
+        requires same_links { length db.now ≡ length self.old.view.ends }
+        requires not_before { slice_index self.old.view.counts link.0 ≤ slice_index db.now link.0 }
+        ensures stands { OnOk result (Stands self.new) }
+        ensures wiring { OnOk result (wiring_in self.new ≡ wiring_in self.old) }
+        ensures node { OnOk result (node_in self.new ≡ after_event (wiring_in self.old) (node_in self.old) (Learns link.0)) }
+        ensures said { IfOk result (λ out. map pdu_of out.items ≡ pdus (wiring_in self.old) 0 (changed (wiring_in self.old) (node_in self.old) (Learns link.0)) (said (wiring_in self.old) (node_in self.old) (Learns link.0))) }
+        ensures labels { OnOk result (self.new.labels ≡ self.old.labels) }
+        ensures uses { OnOk result ((label : ℕ) → ((fec : ℕ) → fec < length self.old.loopbacks.items → fec ≢ self.old.me.0 → label ≢ label_of self.old.me.0 fec) →
+            use_of self.new.lfib label ≡ use_of self.old.lfib label) }
+        ensures empty { result ≢ Err LsrBad.NoMemory → (result ≡ Err LsrBad.Empty) ↔ (slice_index self.old.view.counts link.0 ≡ slice_index db.now link.0) }
+        ensures unchanged { result ≡ Err LsrBad.Empty → self.new ≡ self.old }
+    {
+        let Ok(()) = self.view.learn(db, link) else {
+            return Err(LsrBad::Empty);
+        };
+        let Ok(tree) = tree(alloc, &self.view, self.me) else {
+            return Err(LsrBad::NoMemory);
+        };
+        let Ok(events) = next_hops(alloc, self.me, &tree, self.view.nodes()) else {
+            return Err(LsrBad::NoMemory);
+        };
+        let mut out = Vec::new(alloc);
+        let Ok(()) = self.follow(alloc, &events, 0, &mut out) else {
+            return Err(LsrBad::NoMemory);
+        };
+        self.tree = tree;
+        Ok(out)
+    }
+
+    /// The same for one event, or for none.
+    pub(crate) fn tell(
+        &mut self,
+        alloc: Global,
+        event: Option<LibEvent>,
+        withdrawn: u32,
+        out: &mut Vec<Said>,
+    ) -> Result<(), AllocError>
+        requires { MayFollow self.old withdrawn (option_to_list event) }
+        ensures said { OnOk result (map pdu_of out.new.items ≡ map pdu_of out.old.items ++ pdus_by (wiring_in self.old) self.old.me.0 withdrawn self.old.sessions.items
+            (flat_map (said_by_tell (wiring_in self.old) self.old.me.0) (tells self.old.lib (option_to_list event)))) }
+        ensures counted { OnOk result (self.new.sessions.items ≡ ends_after self.old.sessions.items (flat_map (said_by_tell (wiring_in self.old) self.old.me.0) (tells self.old.lib (option_to_list event)))) }
+        ensures bindings { OnOk result (self.new.lib ≡ after_events self.old.lib (option_to_list event)) }
+        ensures ways { OnOk result ((fec : ℕ) → fec < length self.old.loopbacks.items → fec ≢ self.old.me.0 →
+            use_of self.new.lfib (label_of self.old.me.0 fec) ≡ fec_use (lib.usable (after_events self.old.lib (option_to_list event)) fec)) }
+        ensures uses { OnOk result ((label : ℕ) → ((fec : ℕ) → fec < length self.old.loopbacks.items → fec ≢ self.old.me.0 → label ≢ label_of self.old.me.0 fec) →
+            use_of self.new.lfib label ≡ use_of self.old.lfib label) }
+        ensures others { OnOk result (self.new ≡ record self.old { sessions = self.new.sessions; lib = self.new.lib; lfib = self.new.lfib }) }
+    {
+        match event {
+            None => Ok(()),
+            Some(event) => self.follow(alloc, &[event], withdrawn, out),
+        }
+    }
+
+    /// The node's end of the session of a link.
+    pub(crate) fn session(&self, link: LinkNo) -> Option<Open>
+        ensures { result ≡ slice_index_or self.now.sessions.items link.0 None }
+    {
+        let at = usize::from(link.0);
+        if at < self.sessions.len() {
+            self.sessions[at]
+        } else {
+            None
+        }
+    }
+
+    /// Sets the node's end of the session of a link.
+    pub(crate) fn set_session(&mut self, link: LinkNo, session: Option<Open>)
+        requires { link.0 < length self.old.sessions.items }
+        ensures set { self.new.sessions.items ≡ slice_set self.old.sessions.items link.0 session }
+        ensures others { self.new ≡ record self.old { sessions = self.new.sessions } }
+    {
+        self.sessions[usize::from(link.0)] = session;
+    }
+
+    /// The neighbour over a link.
+    pub(crate) fn far(&self, link: LinkNo) -> NodeNo
+        requires { link.0 < length self.now.view.ends }
+        ensures { result.0 ≡ across (wiring_in self.now) link.0 self.now.me.0 }
+    {
+        across(&self.view.ends()[usize::from(link.0)], self.me)
+    }
+
+    /// The loopback of a node.
+    fn loopback(&self, node: NodeNo) -> u32
+        requires { node.0 < length self.now.loopbacks.items }
+        ensures { result ≡ loopback_of (wiring_in self.now) node.0 }
+    {
+        self.loopbacks[node.0 as usize]
+    }
+
+    /// Says a message on a link, where this holds.
+    fn say_if(
+        &mut self,
+        alloc: Global,
+        holds: bool,
+        link: LinkNo,
+        message: Message,
+        out: &mut Vec<Said>,
+    ) -> Result<(), AllocError>
+        requires speak { MaySpeak self.old }
+        requires there { link.0 < length self.old.view.ends }
+        requires fec { NamesNode (length self.old.loopbacks.items) message }
+        requires label { HasLabel 0 message }
+        ensures said { OnOk result (map pdu_of out.new.items ≡ map pdu_of out.old.items ++ pdus_by (wiring_in self.old) self.old.me.0 0 self.old.sessions.items
+            (said_on link.0 self.old.me.0 (if holds then meaning message ∷ [] else []))) }
+        ensures counted { OnOk result (self.new.sessions.items ≡ ends_after self.old.sessions.items (said_on link.0 self.old.me.0 (if holds then meaning message ∷ [] else []))) }
+        ensures others { OnOk result (self.new ≡ record self.old { sessions = self.new.sessions }) }
+    {
+        if holds {
+            say(
+                alloc,
+                self.me,
+                &self.loopbacks,
+                self.view.ends(),
+                0,
+                link,
+                message,
+                &mut self.sessions,
+                out,
+            )?;
+        }
+        Ok(())
+    }
+
+    /// Says what the session replies.
+    pub(crate) fn reply(
+        &mut self,
+        alloc: Global,
+        link: LinkNo,
+        reply: Reply,
+        out: &mut Vec<Said>,
+    ) -> Result<(), AllocError>
+        requires speak { MaySpeak self.old }
+        requires there { link.0 < length self.old.view.ends }
+        ensures said { OnOk result (map pdu_of out.new.items ≡ map pdu_of out.old.items ++ pdus_by (wiring_in self.old) self.old.me.0 0 self.old.sessions.items
+            (said_on link.0 self.old.me.0 (replied reply))) }
+        ensures counted { OnOk result (self.new.sessions.items ≡ ends_after self.old.sessions.items (said_on link.0 self.old.me.0 (replied reply))) }
+        ensures others { OnOk result (self.new ≡ record self.old { sessions = self.new.sessions }) }
+    {
+        self.say_if(alloc, reply.say_init, link, Message::Initialization, out)?;
+        self.say_if(alloc, reply.say_keep, link, Message::KeepAlive, out)?;
+        self.say_if(alloc, reply.became_operational, link, Message::Address, out)
+    }
+
+    /// Begins a session on a link. The active end says its Initialization.
+    pub(crate) fn open(&mut self, alloc: Global, link: LinkNo) -> Result<Vec<Said>, AllocError>
+        requires stands { Stands self.old }
+        requires there { link.0 < length self.old.view.ends }
+        requires at_end { is_end (wiring_in self.old) link.0 self.old.me.0 ≡ true }
+        requires closed { session_at (node_in self.old) link.0 ≡ None }
+        ensures stands { OnOk result (Stands self.new) }
+        ensures node { OnOk result (node_in self.new ≡ after_event (wiring_in self.old) (node_in self.old) (Opens link.0)) }
+        ensures said { IfOk result (λ out. map pdu_of out.items ≡ pdus (wiring_in self.old) 0 (changed (wiring_in self.old) (node_in self.old) (Opens link.0)) (said (wiring_in self.old) (node_in self.old) (Opens link.0))) }
+        ensures others { OnOk result (self.new ≡ record self.old { sessions = self.new.sessions }) }
+    {
+        let far = self.far(link);
+        let me = self.loopback(self.me);
+        let peer = self.loopback(far);
+        let session = Session::open(me, peer);
+        self.set_session(link, Some(Open { session, said: 0 }));
+        let mut out = Vec::new(alloc);
+        self.reply(alloc, link, first_reply(session), &mut out)?;
+        Ok(out)
+    }
+
+    /// Ends the session of a link, and says what the node's offers have become.
+    pub(crate) fn close(&mut self, alloc: Global, link: LinkNo) -> Result<Vec<Said>, AllocError>
+        requires stands { Stands self.old }
+        requires there { link.0 < length self.old.view.ends }
+        requires open { session_at (node_in self.old) link.0 ≢ None }
+        ensures stands { OnOk result (Stands self.new) }
+        ensures node { OnOk result (node_in self.new ≡ after_event (wiring_in self.old) (node_in self.old) (Closes link.0)) }
+        ensures said { IfOk result (λ out. map pdu_of out.items ≡ pdus (wiring_in self.old) 0 (changed (wiring_in self.old) (node_in self.old) (Closes link.0)) (said (wiring_in self.old) (node_in self.old) (Closes link.0))) }
+        ensures uses { OnOk result ((label : ℕ) → ((fec : ℕ) → fec < length self.old.loopbacks.items → fec ≢ self.old.me.0 → label ≢ label_of self.old.me.0 fec) →
+            use_of self.new.lfib label ≡ use_of self.old.lfib label) }
+        ensures others { OnOk result (self.new ≡ record self.old { sessions = self.new.sessions; lib = self.new.lib; lfib = self.new.lfib }) }
+    {
+        let event = closing(self.session(link), self.far(link));
+        self.set_session(link, None);
+        let mut out = Vec::new(alloc);
+        self.tell(alloc, event, 0, &mut out)?;
+        Ok(out)
+    }
+}
+
+/// What an end says as its session begins.
+fn first_reply(session: Session) -> Reply
+    ensures { result ≡ first_reply session.state }
+{
+    Reply {
+        say_init: session.state == LdpState::OpenSent,
+        say_keep: false,
+        became_operational: false,
+    }
+}
+
+/// A neighbour whose session was OPERATIONAL is closed.
+fn closing(was: Option<Open>, far: NodeNo) -> Option<LibEvent>
+    ensures { option_to_list result ≡ closing_events was far }
+{
+    match was {
+        None => None,
+        Some(open) => match open.session.state {
+            LdpState::Operational => Some(LibEvent::Closed(far)),
+            _ => None,
+        },
+    }
+}

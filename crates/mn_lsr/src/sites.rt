@@ -1,0 +1,87 @@
+ghost use Rattle.std.specs.Prelude.{◌≡◌, ◌≢◌, ◌≤◌, ◌<◌, ◌+◌, ◌++◌, ◌∷◌, ◌↔◌, [], ℕ, Some, OnOk, OnErr, IfOk, IsErrOf, length, slice_index_or};
+ghost use Rattle.mn_labels.specs.declared.meaning.Bind.TheVariants as bind;
+ghost use Rattle.mn_labels.specs.Labels.{meaning_of};
+ghost use Rattle.mn_lfib.specs.declared.answer.Use.TheVariants as use_kind;
+ghost use Rattle.mn_lfib.specs.Uses.{use_of};
+ghost use Rattle.mn_lsr.specs.Standing.{IsAttachment, attachments};
+ghost use Rattle.mn_lsr.specs.Parts.{Stands};
+
+use crate::parts::Parts;
+use mn_base::SiteNo;
+use mn_labels::{Bind, LabelBad, Labels};
+use std::alloc::AllocError;
+
+/// The least label that isn't reserved (RFC 3032, section 2.1).
+const FIRST: u32 = 16;
+
+/// A label has 20 bits.
+const LABELS: u32 = 1 << 20;
+
+/// The label that is given next, or 2 ^ 20 where none is left.
+fn next_label(labels: &Labels) -> u32
+    ensures next { result ≡ 16 + length labels.now.given }
+    ensures few { length labels.now.given ≤ 1048560 }
+{
+    FIRST + labels.table().len() as u32
+}
+
+/// How often a site was attached, and room to count it once more.
+fn attached_so_far(attached: &mut Vec<u32>, site: SiteNo) -> Result<u32, AllocError>
+    ensures count { IfOk result (λ count. count ≡ slice_index_or attached.old.items site.0 0) }
+    ensures there { OnOk result (site.0 < length attached.new.items) }
+    ensures same { (other : ℕ) → slice_index_or attached.new.items other 0 ≡ slice_index_or attached.old.items other 0 }
+{
+    let at = usize::from(site.0);
+    if attached.len() <= at {
+        attached.resize(at + 1, 0)?;
+    }
+    Ok(attached[at])
+}
+
+impl Parts {
+    /// Gives the next label to a new attachment of a site. A refusal changes nothing.
+    pub(crate) fn attach(&mut self, site: SiteNo) -> Result<u32, LabelBad>
+        requires stands { Stands self.old }
+        ensures stands { Stands self.new }
+        ensures label { IfOk result (λ label. label ≡ 16 + length self.old.labels.given) }
+        ensures given { OnOk result (self.new.labels.given ≡ self.old.labels.given ++ bind.Site site (attachments site.0 self.old.labels.given + 1) ∷ []) }
+        ensures used { IfOk result (λ label. use_of self.new.lfib label ≡ Some (use_kind.Site site)) }
+        ensures others { IfOk result (λ label. (other : ℕ) → other ≢ label → use_of self.new.lfib other ≡ use_of self.old.lfib other) }
+        ensures spent { IsErrOf result LabelBad.Spent ↔ (length self.old.labels.given ≡ 1048560) }
+        ensures unchanged { OnErr result ((self.new.labels.given ≡ self.old.labels.given) × (self.new.lfib ≡ self.old.lfib)) }
+        ensures kept { self.new ≡ record self.old { labels = self.new.labels; lfib = self.new.lfib; attached = self.new.attached } }
+    {
+        let label = next_label(&self.labels);
+        if label == LABELS {
+            return Err(LabelBad::Spent);
+        }
+        let Ok(count) = attached_so_far(&mut self.attached, site) else {
+            return Err(LabelBad::NoMemory);
+        };
+        let Ok(()) = self.labels.reserve(1) else {
+            return Err(LabelBad::NoMemory);
+        };
+        let Ok(()) = self.lfib.set_site(label, Some(site)) else {
+            return Err(LabelBad::NoMemory);
+        };
+        let Ok(label) = self.labels.give(Bind::Site(site, count + 1)) else {
+            unreachable!()
+        };
+        self.attached[usize::from(site.0)] = count + 1;
+        Ok(label)
+    }
+
+    /// Ends the attachment that has a label.
+    pub(crate) fn detach(&mut self, label: u32)
+        requires stands { Stands self.old }
+        requires attachment { IsAttachment (meaning_of self.old.labels.given label) }
+        ensures stands { Stands self.new }
+        ensures ended { use_of self.new.lfib label ≡ Some use_kind.Ended }
+        ensures others { (other : ℕ) → other ≢ label → use_of self.new.lfib other ≡ use_of self.old.lfib other }
+        ensures kept { self.new ≡ record self.old { lfib = self.new.lfib } }
+    {
+        let Ok(()) = self.lfib.set_site(label, None) else {
+            unreachable!()
+        };
+    }
+}

@@ -1,0 +1,149 @@
+ghost use Rattle.std.specs.Prelude.{◌≡◌, ◌≤◌, ◌<◌, ◌+◌, ◌∷◌, ◌++◌, [], ℕ, List, None, length, map, slice_index_or, OnOk};
+ghost use Rattle.std.specs.List.{flat_map};
+ghost use Rattle.mn_base.specs.Wiring.{joining, JoinsNodes};
+ghost use Rattle.mn_ldp_session.specs.Spelling.{pdu};
+ghost use Rattle.mn_node.specs.Ldp.{said_on};
+ghost use Rattle.mn_lsr.specs.Message.{meaning, NamesNode, HasLabel};
+ghost use Rattle.mn_lsr.specs.Telling.{said_by_tell, message_of, MayBring, MayTell, other_end, joins_with};
+ghost use Rattle.mn_lsr.specs.Said.{pdu_of};
+ghost use Rattle.mn_lsr.specs.Parts.{pdus_by, ends_after, said_in, bumped};
+
+use crate::message::{Message, pdu_bytes};
+use crate::parts::Open;
+use crate::said::Said;
+use mn_base::{LinkEnds, LinkNo, NodeNo};
+use mn_lib::{Tell, TellKind};
+use std::alloc::{AllocError, Global};
+
+/// The other end of a link.
+pub(crate) fn across(link: &LinkEnds, me: NodeNo) -> NodeNo
+    ensures { result.0 ≡ other_end link.now me.0 }
+{
+    if link.a == me { link.b } else { link.a }
+}
+
+/// Whether a link joins the node with a neighbour.
+fn joins(link: &LinkEnds, me: NodeNo, to: NodeNo) -> bool
+    ensures { result ≡ joins_with link.now me.0 to.0 }
+{
+    (link.a == me || link.b == me) && across(link, me) == to
+}
+
+/// Says a message on a link, with the next number of the session there, and counts it.
+pub(crate) fn say(
+    alloc: Global,
+    me: NodeNo,
+    loopbacks: &[u32],
+    ends: &[LinkEnds],
+    withdrawn: u32,
+    link: LinkNo,
+    message: Message,
+    sessions: &mut Vec<Option<Open>>,
+    out: &mut Vec<Said>,
+) -> Result<(), AllocError>
+    requires few { length loopbacks.now ≤ 256 }
+    requires me { me.0 < length loopbacks.now }
+    requires joins { JoinsNodes (record { loopbacks = loopbacks.now; ends = ends.now }) }
+    requires there { link.0 < length ends.now }
+    requires one_each { length sessions.old.items ≡ length ends.now }
+    requires fec { NamesNode (length loopbacks.now) message }
+    requires label { HasLabel withdrawn message }
+    ensures said { OnOk result (map pdu_of out.new.items ≡ map pdu_of out.old.items ++ pdu (record { loopbacks = loopbacks.now; ends = ends.now }) link.0 me.0 withdrawn
+        (said_in (slice_index_or sessions.old.items link.0 None) + 1) (meaning message) ∷ []) }
+    ensures counted { OnOk result (sessions.new.items ≡ bumped sessions.old.items link.0) }
+{
+    let at = usize::from(link.0);
+    let far = across(&ends[at], me);
+    let said = match sessions[at] {
+        None => 0,
+        Some(open) => open.said,
+    };
+    // No session lives for 2 ^ 64 messages.
+    let Some(number) = said.checked_add(1) else {
+        return Err(AllocError);
+    };
+    let bytes = pdu_bytes(alloc, me, far, loopbacks, withdrawn, number, message)?;
+    out.push(Said { link, bytes })?;
+    if let Some(open) = &mut sessions[at] {
+        open.said = number;
+    }
+    Ok(())
+}
+
+/// Says a message to a neighbour, on the link that joins it.
+pub(crate) fn say_to(
+    alloc: Global,
+    me: NodeNo,
+    loopbacks: &[u32],
+    ends: &[LinkEnds],
+    withdrawn: u32,
+    to: NodeNo,
+    message: Message,
+    sessions: &mut Vec<Option<Open>>,
+    out: &mut Vec<Said>,
+) -> Result<(), AllocError>
+    requires few { length loopbacks.now ≤ 256 }
+    requires few_links { length ends.now ≤ 1024 }
+    requires me { me.0 < length loopbacks.now }
+    requires joins { JoinsNodes (record { loopbacks = loopbacks.now; ends = ends.now }) }
+    requires one_each { length sessions.old.items ≡ length ends.now }
+    requires fec { NamesNode (length loopbacks.now) message }
+    requires label { HasLabel withdrawn message }
+    ensures said { OnOk result (map pdu_of out.new.items ≡ map pdu_of out.old.items ++ pdus_by (record { loopbacks = loopbacks.now; ends = ends.now }) me.0 withdrawn sessions.old.items
+        (flat_map (λ l. said_on l me.0 (meaning message ∷ [])) (joining (record { loopbacks = loopbacks.now; ends = ends.now }) me.0 to.0))) }
+    ensures counted { OnOk result (sessions.new.items ≡ ends_after sessions.old.items
+        (flat_map (λ l. said_on l me.0 (meaning message ∷ [])) (joining (record { loopbacks = loopbacks.now; ends = ends.now }) me.0 to.0))) }
+{
+    for at in 0..ends.len() {
+        if joins(&ends[at], me, to) {
+            let link = LinkNo(at as u16);
+            say(
+                alloc, me, loopbacks, ends, withdrawn, link, message, sessions, out,
+            )?;
+        }
+    }
+    Ok(())
+}
+
+/// The message that a tell asks for.
+fn message_of(tell: &Tell) -> Message
+    ensures meaning { meaning result ≡ message_of tell.now.kind tell.now.fec.0 }
+    ensures label { (withdrawn : ℕ) → MayBring withdrawn tell.now.kind → HasLabel withdrawn result }
+    ensures fec { (nodes : ℕ) → tell.now.fec.0 < nodes → NamesNode nodes result }
+{
+    match tell.kind {
+        TellKind::Map => Message::Mapping(tell.fec),
+        TellKind::Withdraw => Message::Withdraw(tell.fec),
+        TellKind::Release => Message::Release(tell.fec),
+    }
+}
+
+/// Says what must be told, each tell on the link to its neighbour.
+pub(crate) fn say_all(
+    alloc: Global,
+    me: NodeNo,
+    loopbacks: &[u32],
+    ends: &[LinkEnds],
+    withdrawn: u32,
+    tells: &[Tell],
+    sessions: &mut Vec<Option<Open>>,
+    out: &mut Vec<Said>,
+) -> Result<(), AllocError>
+    requires few { length loopbacks.now ≤ 256 }
+    requires few_links { length ends.now ≤ 1024 }
+    requires me { me.0 < length loopbacks.now }
+    requires joins { JoinsNodes (record { loopbacks = loopbacks.now; ends = ends.now }) }
+    requires one_each { length sessions.old.items ≡ length ends.now }
+    requires may { MayTell (length loopbacks.now) withdrawn tells.now }
+    ensures said { OnOk result (map pdu_of out.new.items ≡ map pdu_of out.old.items ++ pdus_by (record { loopbacks = loopbacks.now; ends = ends.now }) me.0 withdrawn sessions.old.items
+        (flat_map (said_by_tell (record { loopbacks = loopbacks.now; ends = ends.now }) me.0) tells.now)) }
+    ensures counted { OnOk result (sessions.new.items ≡ ends_after sessions.old.items (flat_map (said_by_tell (record { loopbacks = loopbacks.now; ends = ends.now }) me.0) tells.now)) }
+{
+    for tell in tells {
+        let message = message_of(tell);
+        say_to(
+            alloc, me, loopbacks, ends, withdrawn, tell.to, message, sessions, out,
+        )?;
+    }
+    Ok(())
+}

@@ -1,0 +1,6 @@
+pub mod Numbers
+pub mod News
+pub mod Going
+pub mod Counted
+pub mod Moved
+pub mod Steps

@@ -1,0 +1,3 @@
+pub mod Stands
+pub mod Stepped
+pub mod Counted

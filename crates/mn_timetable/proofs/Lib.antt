@@ -1,0 +1,5 @@
+pub mod Taking
+pub mod Keys
+pub mod Made
+pub mod FrameKeys
+pub mod OtherKeys
