@@ -17,7 +17,7 @@ told_same f e [] (suc i) = refl
 told_same f e (h ∷ hs) zero = refl
 told_same f e (h ∷ hs) (suc i) = ap (λ v. v ∷ told (map f (take i hs) ++ drop i hs)) (e h) ∙ ap (λ vs. h.vrf ∷ vs) (told_same f e hs i)
 
-told_map : (f : Holding → Holding) → ((h : Holding) → (f h).vrf ≡ h.vrf) → (hs : List Holding) → told (map f hs) ≡ told hs
+pub told_map : (f : Holding → Holding) → ((h : Holding) → (f h).vrf ≡ h.vrf) → (hs : List Holding) → told (map f hs) ≡ told hs
 told_map f e [] = refl
 told_map f e (h ∷ hs) = ap (λ v. v ∷ told (map f hs)) (e h) ∙ ap (λ vs. h.vrf ∷ vs) (told_map f e hs)
 

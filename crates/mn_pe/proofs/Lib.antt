@@ -14,3 +14,8 @@ pub mod Found
 pub mod Fates
 pub mod AtEntry
 pub mod Read
+pub mod Folds
+pub mod Spreads
+pub mod OneStatic
+pub mod Adding
+pub mod Deleting

@@ -31,7 +31,7 @@ pub all_in : {A : Type 0} (P : A → Type 0) (xs : List A) (x : A) → AllByRecu
 all_in P [] x h i = absurd i
 all_in P (y ∷ ys) x h i = elim i [ inl e ↦ subst P e h.0 | inr j ↦ all_in P ys x h.1 j ]
 
-one_of : {A : Type 0} (before : A → A → Bool) (xs : List A) (x y : A) → Ascends before xs → In xs x → In xs y → ((before x y || before y x) ≡ true) ⊎ (y ≡ x)
+pub one_of : {A : Type 0} (before : A → A → Bool) (xs : List A) (x y : A) → Ascends before xs → In xs x → In xs y → ((before x y || before y x) ≡ true) ⊎ (y ≡ x)
 one_of before [] x y up i j = absurd i
 one_of before (z ∷ zs) x y up i j = elim i [
   | inl e ↦ elim j [

@@ -1,5 +1,5 @@
 -- A change of the VRF at the place of its number is the change of the VRF of that number.
-use Rattle.std.proofs.Common.{ℕ, zero, suc, ◌≡◌, ◌≢◌, ◌<◌, true, cond, List, [], ◌∷◌, length, refl, arith, sym, ◌∙◌, ap, Option, None}
+use Rattle.std.proofs.Common.{ℕ, zero, suc, ◌≡◌, ◌≢◌, ◌<◌, Bool, true, false, cond, List, [], ◌∷◌, map, length, refl, arith, sym, ◌∙◌, ap, Option, None}
 use Rattle.std.specs.Prelude.{Result, Ok, Err, OnOk, OnErr, slice_set, slice_index_or, ◌==◌, if◌then◌else◌}
 use Rattle.std.specs.List.{AllByRecursion}
 use Rattle.std.proofs.lemmas.List.{set-get_or}
@@ -7,6 +7,7 @@ use Rattle.mn_base.specs.Ordered.{Ascends}
 use Rattle.mn_base.proofs.Bools.{none_below, test_same, other_test, less_tells}
 use Rattle.mn_vrf.specs.Vrf.{VrfState, Holding}
 use Rattle.mn_pe.specs.Edge.{on_vrf}
+use Rattle.mn_pe.specs.Changes.{telling}
 use Rattle.mn_pe.specs.Pe.{by_number, found_in, IsAbsent, IsAt}
 use Rattle.mn_pe.specs.Rebuilt.{told}
 
@@ -25,7 +26,7 @@ absent_found v g (h ∷ hs) absent =
     ap (λ b. if b then g h.vrf else found_in v g (told hs)) (other_test h.vrf.number v (absent 0 h (omega arith)))
     ∙ absent_found v g hs (tail_absent v h hs absent)
 
-told_at : (hs : List Holding) (k : ℕ) (d : Holding) → slice_index_or (told hs) k d.vrf ≡ (slice_index_or hs k d).vrf
+pub told_at : (hs : List Holding) (k : ℕ) (d : Holding) → slice_index_or (told hs) k d.vrf ≡ (slice_index_or hs k d).vrf
 told_at [] k d = refl
 told_at (h ∷ hs) zero d = refl
 told_at (h ∷ hs) (suc k) d = told_at hs k d
@@ -63,6 +64,34 @@ changed_at v f (h ∷ hs) zero one new up is one_is e =
 changed_at v f (h ∷ hs) (suc at) one new up is one_is e =
     ap (λ vs. h.vrf ∷ vs) (changed_at v f hs at one new up.1 (tail_at v h hs at is) one_is e)
     ∙ ap (λ b. cond b (f h.vrf) h.vrf ∷ on_vrf v f (told hs)) (sym (other_test h.vrf.number v (not_first v h hs at up (tail_at v h hs at is))))
+
+-- the same of VRFs with what they hold
+pub absent_telling : (v : ℕ) (f : VrfState → VrfState) (hs : List Holding) → IsAbsent v hs → map (telling v f) hs ≡ hs
+absent_telling v f [] absent = refl
+absent_telling v f (h ∷ hs) absent =
+    ap (λ b. cond b (let g : Holding = record h { vrf = f h.vrf } in g) h ∷ map (telling v f) hs) (other_test h.vrf.number v (absent 0 h (omega arith)))
+    ∙ ap (λ gs. h ∷ gs) (absent_telling v f hs (tail_absent v h hs absent))
+
+pub telling_at : (v : ℕ) (f : VrfState → VrfState) (hs : List Holding) (at : ℕ) (one new : Holding) → Ascends by_number (told hs) → IsAt v hs at →
+    one ≡ slice_index_or hs at one → new ≡ record one { vrf = f one.vrf } → slice_set hs at new ≡ map (telling v f) hs
+telling_at v f [] at one new up is one_is e = absurd (none_below at is.there)
+telling_at v f (h ∷ hs) zero one new up is one_is e =
+    ap (λ w. w ∷ hs) (e ∙ ap (λ (x : Holding). let g : Holding = record x { vrf = f x.vrf } in g) one_is)
+    ∙ ap (λ b. cond b (let g : Holding = record h { vrf = f h.vrf } in g) h ∷ hs) (sym (test_same h.vrf.number v (is.is h)))
+    ∙ ap (λ gs. telling v f h ∷ gs) (sym (absent_telling v f hs (others v h hs up (is.is h))))
+telling_at v f (h ∷ hs) (suc at) one new up is one_is e =
+    ap (λ gs. h ∷ gs) (telling_at v f hs at one new up.1 (tail_at v h hs at is) one_is e)
+    ∙ ap (λ b. cond b (let g : Holding = record h { vrf = f h.vrf } in g) h ∷ map (telling v f) hs)
+    (sym (other_test h.vrf.number v (not_first v h hs at up (tail_at v h hs at is))))
+
+pub told_telling : (v : ℕ) (f : VrfState → VrfState) (hs : List Holding) → told (map (telling v f) hs) ≡ on_vrf v f (told hs)
+told_telling v f [] = refl
+told_telling v f (h ∷ hs) = ap (λ w. w ∷ told (map (telling v f) hs)) (split (h.vrf.number == v))
+    ∙ ap (λ ws. cond (h.vrf.number == v) (f h.vrf) h.vrf ∷ ws) (told_telling v f hs)
+  where
+    split : (b : Bool) → (let g : Holding = cond b (record h { vrf = f h.vrf }) h in g.vrf) ≡ cond b (f h.vrf) h.vrf
+    split true = refl
+    split false = refl
 
 pub found_at : {A : Type 0} (v : ℕ) (g : VrfState → Option A) (hs : List Holding) (at : ℕ) (one : Holding) → Ascends by_number (told hs) → IsAt v hs at →
     one ≡ slice_index_or hs at one → found_in v g (told hs) ≡ g one.vrf

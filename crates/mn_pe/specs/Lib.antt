@@ -1,6 +1,7 @@
 pub mod Edge
 pub mod Held
 pub mod Pe
+pub mod Changes
 pub mod Rebuilt
 pub mod Exports
 pub mod Start

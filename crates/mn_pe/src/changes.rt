@@ -1,8 +1,9 @@
 // What the VRF of a number is told.
-ghost use Rattle.std.specs.Prelude.{◌≡◌, ◌≢◌, ◌<◌, ℕ, length, true, OnOk, OnErr, MatchOption, slice_index_or, slice_set, None};
+ghost use Rattle.std.specs.Prelude.{◌≡◌, ◌≢◌, ◌<◌, ℕ, map, length, true, OnOk, OnErr, MatchOption, slice_index_or, slice_set, None};
 ghost use Rattle.mn_base.specs.Ordered.{Ascends};
 ghost use Rattle.mn_targets.specs.Targets.{target_set};
 ghost use Rattle.mn_vrf.specs.Vrf.{VrfState, with_static, without_static, with_imports, with_exports, add_refused, del_refused, set_refused, refusal_of};
+ghost use Rattle.mn_pe.specs.Changes.{telling};
 ghost use Rattle.mn_pe.specs.Edge.{on_vrf};
 ghost use Rattle.mn_pe.specs.Pe.{found_in, by_number, IsAbsent, IsAt, is_want};
 ghost use Rattle.mn_pe.specs.Rebuilt.{told};
@@ -33,7 +34,7 @@ pub(crate) fn set_label(labels: &mut Vec<Option<u32>>, site: SiteNo, label: Opti
 }
 
 /// Where the VRF of a number stands.
-fn place_of(vrfs: &[Vrf], number: VrfNo) -> Option<usize>
+pub(crate) fn place_of(vrfs: &[Vrf], number: VrfNo) -> Option<usize>
     ensures { MatchOption result (IsAbsent number.0 vrfs.now) (IsAt number.0 vrfs.now) }
 {
     for (at, vrf) in vrfs.iter().enumerate() {
@@ -88,7 +89,7 @@ pub(crate) fn add_in(
     site: SiteNo,
 ) -> Result<(), VrfBad>
     requires { Ascends by_number (told vrfs.old.items) }
-    ensures ok { OnOk result (told vrfs.new.items ≡ on_vrf number.0 (with_static (record { prefix = prefix; site = site.0 })) (told vrfs.old.items)) }
+    ensures ok { OnOk result (vrfs.new.items ≡ map (telling number.0 (with_static (record { prefix = prefix; site = site.0 }))) vrfs.old.items) }
     ensures err { OnErr result (vrfs.new.items ≡ vrfs.old.items) }
     ensures refusal { refusal_of result ≡ found_in number.0 (λ (vrf : VrfState). add_refused prefix vrf) (told vrfs.old.items) }
 {
@@ -106,7 +107,7 @@ pub(crate) fn del_in(
     site: SiteNo,
 ) -> Result<(), VrfBad>
     requires { Ascends by_number (told vrfs.old.items) }
-    ensures ok { OnOk result (told vrfs.new.items ≡ on_vrf number.0 (without_static (record { prefix = prefix; site = site.0 })) (told vrfs.old.items)) }
+    ensures ok { OnOk result (vrfs.new.items ≡ map (telling number.0 (without_static (record { prefix = prefix; site = site.0 }))) vrfs.old.items) }
     ensures err { OnErr result (vrfs.new.items ≡ vrfs.old.items) }
     ensures refusal { refusal_of result ≡ found_in number.0 (λ (vrf : VrfState). del_refused prefix site.0 vrf) (told vrfs.old.items) }
 {

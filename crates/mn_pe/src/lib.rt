@@ -22,6 +22,7 @@
 //! - `start`: the edge as the topology has it
 //! - `changes`: what the VRF of a number is told
 //! - `hearing`: what a peer told, taken into the VRFs or out of them
+//! - `spreading`: a static that comes to the VRFs that are to hold it, or goes
 //! - `rebuild`: what VRFs are to hold, made anew
 //! - `look`: what the VRF of a number holds
 //! - `export`: `Export`, a route that the edge tells
@@ -39,6 +40,7 @@ mod look;
 mod pe;
 mod rebuild;
 mod refusal;
+mod spreading;
 mod start;
 #[cfg(test)]
 mod tests;

@@ -19,6 +19,7 @@ use crate::export::{export_of_in, exports_at_in, exports_in, exports_over_in};
 use crate::hearing::{forget_in_all, hear_reached, hear_withdrawn};
 use crate::look::{held_in, lookup_in};
 use crate::rebuild::{hold_all, label_at, loopback_at};
+use crate::spreading::spread_present;
 use crate::start::{loopbacks_of, no_labels, nothing_heard, sites_of, vrfs_of};
 use crate::{Entered, Export, NoMemory};
 use mn_base::{NodeNo, Rt, Rule, SiteNo, VrfNo};
@@ -26,7 +27,7 @@ use mn_bgp_wire::Update;
 use mn_prefix::Prefix;
 use mn_rib_in::RibIn;
 use mn_topo::Topology;
-use mn_vrf::{Source, Vrf, VrfBad};
+use mn_vrf::{Source, StaticRoute, Vrf, VrfBad};
 use std::alloc::{AllocError, Global};
 use std::marker::Model;
 
@@ -242,9 +243,11 @@ impl Pe {
             self.failed = is_want(bad);
             return Err(bad);
         }
-        let Ok(()) = self.refresh() else {
+        let route = StaticRoute::new(prefix, site);
+        let Ok(()) = spread_present(&mut self.vrfs, &self.labels, vrf, route, true) else {
             return Err(VrfBad::NoMemory);
         };
+        self.failed = false;
         Ok(())
     }
 
@@ -265,9 +268,11 @@ impl Pe {
             self.failed = is_want(bad);
             return Err(bad);
         }
-        let Ok(()) = self.refresh() else {
+        let route = StaticRoute::new(prefix, site);
+        let Ok(()) = spread_present(&mut self.vrfs, &self.labels, vrf, route, false) else {
             return Err(VrfBad::NoMemory);
         };
+        self.failed = false;
         Ok(())
     }
 

@@ -1,24 +1,61 @@
-use Rattle.std.proofs.Common.{List, refl, subst, sym}
-use Rattle.mn_base.proofs.Places.{ascends_with}
-use Rattle.mn_vrf.specs.Vrf.{VrfState, static_before, with_static}
-use Rattle.mn_vrf.proofs.Orders.{static_order}
-use Rattle.mn_pe.specs.Edge.{Edge}
-use Rattle.mn_pe.specs.Pe.{InOrder, edge_of}
-use Rattle.mn_pe.proofs.Orderly.{vrf_order}
+use Rattle.std.proofs.Common.{◌≡◌, ℕ, None, List, Option, true, false, ◌∙◌, ap, subst}
+use Rattle.mn_vrf.specs.Vrf.{Static, VrfState, with_static, add_refused}
+use Rattle.mn_pe.specs.Changes.{IsSpread}
+use Rattle.mn_pe.specs.Edge.{Edge, after_vrf}
+use Rattle.mn_pe.specs.Pe.{PeNow, found_in}
+use Rattle.mn_pe.specs.Rebuilt.{told}
+use Rattle.mn_pe.proofs.Adding.{added_edge, added_sound}
 use Rattle.mn_pe.proofs.pe.Pe.add_route.Goals as goal
 
--- the lists stay in their orders
-pub refresh-requires-clause-order : goal.refresh-requires-clause-order
-refresh-requires-clause-order c =
-    subst (λ (vs : List VrfState). let e : Edge = record {
-      vrfs = vs;
-      sites = c.self.inside.sites.items;
-      labels = c.self.inside.labels.items;
-      loopbacks =
-          c.self.inside.loopbacks.items;
-      heard = c.self.inside.heard.items;
-    } in InOrder e) (sym c.in_default.ensures.ok)
-    (vrf_order c.vrf_of-vrf.result.0 (with_static (record { prefix = c.args.prefix; site = c.args.site.0 }))
-    (λ u up. ascends_with static_before (record { prefix = c.args.prefix; site = c.args.site.0 }) u.statics static_order up) (λ u. refl)
-    (edge_of c.self.inside.vrfs.items c.self.inside.sites.items c.self.inside.labels.items c.self.inside.loopbacks.items c.self.inside.heard.items)
-    (c.self.invariant c.if-self.false).order)
+-- each VRF holds what it should with the static
+pub invariant_of-self-2 : goal.invariant_of-self-2
+invariant_of-self-2 c _ =
+    let v : ℕ = c.vrf_of-vrf.result.0 in
+    let fresh : None ≡ found_in v (λ (vrf : VrfState). add_refused c.args.prefix vrf) (told c.self.inside.vrfs.items) = c.in_default.ensures.refusal in
+    let spread : IsSpread c.self.inside.labels.items v true (record {
+      prefix = c.args.prefix;
+      site =
+          c.args.site.0;
+    }) c.add_in.new.vrfs.items c.spread_present.new.vrfs.items =
+    subst (λ (ls : List (Option ℕ)). IsSpread ls v true (record {
+      prefix = c.args.prefix;
+      site =
+          c.args.site.0;
+    }) c.add_in.new.vrfs.items c.spread_present.new.vrfs.items) c.deref.ensures.value
+    (subst (λ (r : Static). IsSpread c.deref.result.now v true r c.add_in.new.vrfs.items c.spread_present.new.vrfs.items) c.new-route.ensures c.in-Ok.ensures)
+    in
+    added_sound v c.args.prefix c.args.site.0 c.self.inside.vrfs.items c.spread_present.new.vrfs.items c.add_in.new.vrfs.items c.self.inside.sites.items
+    c.self.inside.labels.items
+    c.self.inside.loopbacks.items c.self.inside.heard.items c.in_default.ensures.ok spread fresh (c.self.invariant c.if-self.false)
+
+-- and the edge is as after it
+pub returns-clause-ok : goal.returns-clause-ok
+returns-clause-ok c =
+    let v : ℕ = c.vrf_of-vrf.result.0 in
+    let fresh : None ≡ found_in v (λ (vrf : VrfState). add_refused c.args.prefix vrf) (told c.self.inside.vrfs.items) = c.in_default.ensures.refusal in
+    let spread : IsSpread c.self.inside.labels.items v true (record {
+      prefix = c.args.prefix;
+      site =
+          c.args.site.0;
+    }) c.add_in.new.vrfs.items c.spread_present.new.vrfs.items =
+    subst (λ (ls : List (Option ℕ)). IsSpread ls v true (record {
+      prefix = c.args.prefix;
+      site =
+          c.args.site.0;
+    }) c.add_in.new.vrfs.items c.spread_present.new.vrfs.items) c.deref.ensures.value
+    (subst (λ (r : Static). IsSpread c.deref.result.now v true r c.add_in.new.vrfs.items c.spread_present.new.vrfs.items) c.new-route.ensures c.in-Ok.ensures)
+    in
+    ap (λ (e : Edge). let p : PeNow = record { edge = e; failed = false } in p)
+    (added_edge v c.args.prefix c.args.site.0 c.self.inside.vrfs.items c.spread_present.new.vrfs.items c.add_in.new.vrfs.items c.self.inside.sites.items
+    c.self.inside.labels.items
+    c.self.inside.loopbacks.items c.self.inside.heard.items c.in_default.ensures.ok spread fresh (c.self.invariant c.if-self.false))
+    ∙ ap (λ (n : PeNow). let p : PeNow = record {
+      edge = after_vrf n.edge v (with_static (record { prefix = c.args.prefix; site = c.args.site.0 }));
+      failed =
+          false;
+    } in p) c.self.view_is
+    ∙ ap (λ (w : ℕ). let p : PeNow = record {
+      edge = after_vrf c.args.self.now.edge w
+          (with_static (record { prefix = c.args.prefix; site = c.args.site.0 }));
+      failed = false;
+    } in p) c.vrf_of-vrf.ensures
