@@ -1,8 +1,7 @@
 -- How much there is of each as packets move.
-use Rattle.std.proofs.Common.{ℕ, ◌≡◌, ◌+◌, ◌<◌, ◌≤◌, List, [], ◌∷◌, ◌++◌, length, refl, arith, sym, ◌∙◌, ap, Some, None}
+use Rattle.std.proofs.Common.{ℕ, ◌≡◌, ◌+◌, List, [], ◌∷◌, ◌++◌, length, arith, ◌∙◌, ap, Some, None}
 use Rattle.std.specs.Prelude.{slice_set, slice_get}
 use Rattle.std.proofs.lemmas.List.{length-set, length_push}
-use Rattle.mn_base.specs.declared.links.Dir.{Dir}
 use Rattle.mn_flight.specs.declared.Item.{Item}
 use Rattle.mn_flight.specs.Flying.{on_channel, without, IsFlight}
 use Rattle.mn_ledger.specs.declared.verdict.Verdict.{Verdict}

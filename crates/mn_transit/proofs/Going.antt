@@ -1,6 +1,6 @@
 -- What the packets in transit stand for after a whole step.
-use Rattle.std.proofs.Common.{ℕ, ◌≡◌, ◌<◌, ◌∷◌, ◌++◌, [], List, length, refl, arith, sym, ◌∙◌, ap, subst, Some, None, zero, suc, true, false, eq-eqb}
-use Rattle.std.specs.Prelude.{◌==◌, slice_get, slice_set, slice_index_or}
+use Rattle.std.proofs.Common.{ℕ, ◌≡◌, ◌<◌, ◌∷◌, [], List, length, refl, arith, sym, ◌∙◌, ap, subst, Some, None, zero, suc, true, false, eq-eqb}
+use Rattle.std.specs.Prelude.{◌==◌, slice_get, slice_set}
 use Rattle.mn_base.proofs.Bools.{no, none_below}
 use Rattle.mn_base.specs.declared.drops.Rule.TheVariants as rule
 use Rattle.mn_base.specs.declared.links.Dir.{Dir}

@@ -1,5 +1,5 @@
 -- Where all numbers in flight are below a bound, they are below the next once a step has made a frame of this number, or none.
-use Rattle.std.proofs.Common.{ℕ, ◌≡◌, ◌+◌, ◌<◌, Bool, true, false, List, [], ◌∷◌, ◌++◌, arith, sym, subst, get_or}
+use Rattle.std.proofs.Common.{ℕ, ◌+◌, ◌<◌, Bool, true, false, List, arith, sym, subst, get_or}
 use Rattle.std.specs.Prelude.{◌==◌, not, Option}
 use Rattle.std.specs.List.{All}
 use Rattle.std.proofs.lemmas.List.Elements.{All-filter, All-push}

@@ -1,6 +1,6 @@
 -- Of each packet one frame flies at most, and its path has room for the frame's hops.
-use Rattle.std.proofs.Common.{ℕ, ◌≡◌, ◌≢◌, ◌+◌, ◌<◌, ◌≤◌, true, false, not, List, [], ◌∷◌, ◌++◌, length, refl, arith, sym, ◌∙◌, ap, subst, Some, None, inl, inr, get_or, suc}
-use Rattle.std.specs.Prelude.{◌==◌, filter, slice_get, slice_set, Option, IfSome}
+use Rattle.std.proofs.Common.{ℕ, ◌≡◌, ◌≢◌, ◌<◌, true, false, List, [], ◌∷◌, ◌++◌, length, arith, sym, ◌∙◌, subst, Some, None, inl, inr, get_or, suc}
+use Rattle.std.specs.Prelude.{filter, slice_get, slice_set, Option}
 use Rattle.std.specs.List.{All, AllPairs}
 use Rattle.std.proofs.lemmas.List.{get_or-set_other, get_or_append_left}
 use Rattle.std.proofs.lemmas.List.Kept.{AllPairs-filter}

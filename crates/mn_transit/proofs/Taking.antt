@@ -1,12 +1,11 @@
 -- What is on a channel once an item was taken out of flight or put into it, and what holds of what is left.
-use Rattle.std.proofs.Common.{ℕ, zero, suc, ◌≡◌, ◌≢◌, ◌+◌, ◌<◌, ◌≤◌, Bool, true, false, not, cond, List, [], ◌∷◌, ◌++◌, length, refl, arith, sym, ap, subst, Some, None, eqb-true, inl, inr}
-use Rattle.std.specs.Prelude.{◌==◌, filter, slice_get, slice_index_or, Option, IfSome, IsSome}
+use Rattle.std.proofs.Common.{ℕ, zero, suc, ◌≡◌, ◌+◌, ◌<◌, Bool, true, false, not, cond, List, [], ◌∷◌, ◌++◌, length, refl, arith, sym, ap, subst, Some, None, eqb-true}
+use Rattle.std.specs.Prelude.{◌==◌, filter, slice_get, Option, IfSome, IsSome}
 use Rattle.std.specs.List.{All, AllPairs}
 use Rattle.std.proofs.lemmas.Bool.Decides.{nat_tests}
 use Rattle.std.proofs.lemmas.List.Elements.{All-filter, All-get_or}
-use Rattle.std.proofs.lemmas.List.Kept.{AllPairs-filter}
 use Rattle.std.proofs.lemmas.Option.{slice_get_within, get_or_from_slice_get, same_Some}
-use Rattle.mn_base.proofs.Bools.{no, same_test, test_same}
+use Rattle.mn_base.proofs.Bools.{no}
 use Rattle.mn_base.specs.declared.links.Dir.{Dir}
 use Rattle.mn_base.specs.declared.links.Dir.TheVariants.{Forth, Back}
 use Rattle.mn_flight.specs.declared.Item.{Item}

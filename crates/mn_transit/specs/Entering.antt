@@ -1,5 +1,5 @@
 -- What goes with an edge's answer on a packet that enters: the way out, and what the frame has room for.
-use Rattle.std.specs.Prelude.{◌≡◌, ◌<◌, ◌^◌, ℕ, List, length, Option, Some, None, ⊤}
+use Rattle.std.specs.Prelude.{◌≡◌, ◌<◌, ◌^◌, ℕ, length, Option, Some, None, ⊤}
 use Rattle.mn_base.specs.declared.numbers.NodeNo.{NodeNo}
 use Rattle.mn_stack.specs.Labelled.{Labelled}
 use Rattle.mn_topo.specs.Network.{Network}

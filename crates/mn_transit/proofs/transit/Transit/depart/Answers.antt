@@ -1,5 +1,5 @@
 use Rattle.std.proofs.Common.{sym, ◌∙◌}
-use Rattle.mn_transit.proofs.Leaving.{stands_left, stands_unled}
+use Rattle.mn_transit.proofs.Leaving.{stands_left}
 use Rattle.mn_transit.proofs.transit.Transit.depart.Goals as goal
 
 pub returns-clause-stands : goal.returns-clause-stands
