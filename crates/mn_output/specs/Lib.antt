@@ -1,0 +1,5 @@
+pub mod Moments
+pub mod Files
+pub mod Contents
+pub mod Tables
+pub mod Report

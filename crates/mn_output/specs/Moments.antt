@@ -1,0 +1,49 @@
+-- The steps of a journal one after another, each with what came before it.
+use Rattle.std.specs.Prelude.{ℕ, List, [], ◌∷◌, ◌++◌}
+use Rattle.mn_topo.specs.Network.{Network}
+use Rattle.mn_topo.specs.declared.steps.JournalEntry.{JournalEntry}
+use Rattle.mn_ledger.specs.World.{World}
+use Rattle.mn_ledger.specs.Packets.{Packets, packets_after}
+use Rattle.mn_ledger.specs.Ledger.{after, world_of, packets_of, next_of}
+use Rattle.mn_ledger.specs.Items.{Channel, Load, made_in}
+use Rattle.mn_course.specs.Course.{input_before, inputs_of}
+
+pub record Moment : Type 0 where
+  pub before : List JournalEntry
+  pub entry : JournalEntry
+
+abbrev pub moments_from : List JournalEntry → List JournalEntry → List Moment
+moments_from before [] = []
+moments_from before (entry ∷ later) = record { before = before; entry = entry } ∷ moments_from (before ++ entry ∷ []) later
+
+abbrev pub moments_of : List JournalEntry → List Moment
+moments_of entries = moments_from [] entries
+
+-- the journal once the step is done
+abbrev pub journal_then : Moment → List JournalEntry
+journal_then now = now.before ++ now.entry ∷ []
+
+-- the world before the step, and after it
+abbrev pub world_before : Network → Moment → World
+world_before topology now = world_of topology now.before
+
+abbrev pub world_then : Network → Moment → World
+world_then topology now = after topology (world_before topology now) now.entry.step
+
+-- the packets before the step, and after it
+abbrev pub packets_before : Network → List (List ℕ) → Moment → Packets
+packets_before topology capture now = packets_of topology now.before (inputs_of capture now.before)
+
+-- what it injects, if it does
+abbrev pub injected : List (List ℕ) → Moment → List ℕ
+injected capture now = next_of (input_before capture now.entry.step [])
+
+abbrev pub packets_then : Network → List (List ℕ) → Moment → Packets
+packets_then topology capture now =
+    packets_after topology (world_then topology now) (packets_before topology capture now) now.entry.step (injected capture now)
+
+-- what it puts into flight, in order
+abbrev pub made : Network → List (List ℕ) → Moment → List (Channel × Load)
+made topology capture now =
+    made_in topology (world_before topology now) (world_then topology now) (packets_before topology capture now)
+    (packets_then topology capture now) now.entry.step
