@@ -39,7 +39,7 @@ contains_it : (size address : ℕ) → contains (prefix_at size address) address
 contains_it size address = test_same _ _ (sym (mul-div_cancel (address / 2 ^ (32 - size)) (pow_pos (32 - size))))
 
 module _ {T : Type 0} where
-  form_of : (P : AddressBlock → Type 0) (p : AddressBlock) (v : T) (pairs : List (AddressBlock × T)) → AllByRecursion P (keys_of pairs) → value_at p pairs ≡ Some v → P p
+  pub form_of : (P : AddressBlock → Type 0) (p : AddressBlock) (v : T) (pairs : List (AddressBlock × T)) → AllByRecursion P (keys_of pairs) → value_at p pairs ≡ Some v → P p
   form_of P p v [] h e = cc
   form_of P p v (pair ∷ pairs) h e = split (same_prefix p pair.0) refl (form_of P p v pairs h.1) e
     where

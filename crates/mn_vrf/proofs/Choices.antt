@@ -8,7 +8,11 @@ use Rattle.mn_prefix.specs.Prefix.{AddressBlock, contains}
 use Rattle.mn_prefix.specs.Longest.{is_longest}
 use Rattle.mn_prefix.specs.Table.{first_of, longest_match}
 use Rattle.mn_vrf.specs.declared.source.Source.{Source}
-use Rattle.mn_vrf.specs.Routes.{chosen}
+
+-- of the routes so far and one more, the first of the longest prefix that contains the address
+abbrev pub chosen : ℕ → Option (AddressBlock × Source) → AddressBlock × Source → Option (AddressBlock × Source)
+chosen address None route = if contains route.0 address then Some route else None
+chosen address (Some best) route = if contains route.0 address && nat_lt best.0.length route.0.length then Some route else Some best
 
 Route : Type 0
 Route = AddressBlock × Source

@@ -41,6 +41,12 @@ by_keys (Far a d e l) (Own r) = refl
 by_keys (Far a d e l) (Near w r) = refl
 by_keys (Far a d e l) (Far b r f m) = refl
 
+pub source_order : IsOrder source_before
+source_order =
+    order_same source_before (λ (x y : Source). first_by (kind x) (kind y) (first_by (major x) (major y) (nat_lt (minor x) (minor y)))) by_keys
+    (by_number_then kind (λ x y. first_by (major x) (major y) (nat_lt (minor x) (minor y)))
+    (by_number_then major (λ x y. nat_lt (minor x) (minor y)) (by_number minor)))
+
 pub route_order : IsOrder route_before
 route_order =
     by_number_then (λ (x : AddressBlock × Source). x.0.address) (λ x y. first_by x.0.length y.0.length (source_before x.1 y.1))

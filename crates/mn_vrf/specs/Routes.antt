@@ -1,6 +1,6 @@
 -- The routes that a VRF holds: by prefix, and of one prefix by preference. RFC 4364, sections 4.3 and 5; RFC 1812, section 5.2.4.3.
-use Rattle.std.specs.Prelude.{ℕ, ◌&&◌, ◌==◌, nat_lt, Bool, true, false, if◌then◌else◌, Option, Some, None, List}
-use Rattle.mn_prefix.specs.Prefix.{AddressBlock, contains}
+use Rattle.std.specs.Prelude.{◌&&◌, ◌==◌, nat_lt, Bool, true, false, if◌then◌else◌, Option, Some, None, List, [], ◌∷◌, map, filter}
+use Rattle.mn_prefix.specs.Prefix.{AddressBlock, same_prefix}
 use Rattle.mn_base.specs.Ordered.{first_by, one_at, without_one}
 use Rattle.mn_vrf.specs.declared.source.Source.{Source}
 use Rattle.mn_vrf.specs.declared.source.Source.TheVariants.{Own, Near, Far}
@@ -20,11 +20,6 @@ source_before (Far address rd edge label) _ = false
 abbrev pub route_before : AddressBlock × Source → AddressBlock × Source → Bool
 route_before route other = first_by route.0.address other.0.address (first_by route.0.length other.0.length (source_before route.1 other.1))
 
--- of the routes so far and one more, the first of the longest prefix that contains the address
-abbrev pub chosen : ℕ → Option (AddressBlock × Source) → AddressBlock × Source → Option (AddressBlock × Source)
-chosen address None route = if contains route.0 address then Some route else None
-chosen address (Some best) route = if contains route.0 address && nat_lt best.0.length route.0.length then Some route else Some best
-
 abbrev pub same_source : Source → Source → Bool
 same_source (Own s) (Own r) = s.0 == r.0
 same_source (Near v s) (Near w r) = (v.0 == w.0) && (s.0 == r.0)
@@ -43,3 +38,20 @@ is_held route routes = is_that route.1 (one_at route_before route routes)
 -- without the route that equals this one
 abbrev pub without_route : AddressBlock × Source → List (AddressBlock × Source) → List (AddressBlock × Source)
 without_route route routes = if is_held route routes then without_one route_before route routes else routes
+
+-- the sources of a prefix's routes, in the order of the list
+abbrev pub sources_of : AddressBlock → List (AddressBlock × Source) → List Source
+sources_of prefix routes = map (λ route. route.1) (filter (λ (route : AddressBlock × Source). same_prefix prefix route.0) routes)
+
+-- a list that has an element
+abbrev pub unless_empty : {A : Type 0} → List A → Option (List A)
+unless_empty [] = None
+unless_empty (x ∷ xs) = Some (x ∷ xs)
+
+-- the source stands among these, in its place
+abbrev pub is_source : Source → Option Source → Bool
+is_source source None = false
+is_source source (Some other) = same_source source other
+
+abbrev pub has_source : Source → List Source → Bool
+has_source source sources = is_source source (one_at source_before source sources)

@@ -15,15 +15,19 @@
 //! A look-up finds the first of the longest prefix that contains the address (RFC 1812, section 5.2.4.3).
 //!
 //! - `source`: `Source`, where a held route comes from, and which is preferred
-//! - `routes`: `Routes`, held routes in their order
+//! - `sources`: `Sources`, the sources of one prefix in their order
+//! - `routes`: `Routes`, held routes: the sources of each prefix, and the prefixes in order
 //! - `statics`: `Statics`, prefixes over sites
 //! - `vrf`: `Vrf`, all of this together
 //! - `refusal`: why a VRF isn't changed
 #![tactic(auto)]
 
+#[cfg(test)]
+mod plain;
 mod refusal;
 mod routes;
 mod source;
+mod sources;
 mod statics;
 #[cfg(test)]
 mod tests;
@@ -32,5 +36,6 @@ mod vrf;
 pub use refusal::VrfBad;
 pub use routes::Routes;
 pub use source::Source;
+pub use sources::Sources;
 pub use statics::{StaticRoute, Statics};
 pub use vrf::Vrf;

@@ -1,92 +1,84 @@
-// The routes that a VRF holds, by a binary search over a vector.
-ghost use Rattle.std.specs.Prelude.{◌≡◌, ◌<◌, ◌≤◌, ℕ, [], true, false, length, fold, take, None, slice_get, OnOk, OnErr, slice_index_or};
+// The routes that a VRF holds: the sources of each prefix in a table, and the prefixes in order.
+ghost use Rattle.std.specs.Prelude.{◌≡◌, [], Some, IsSome, OnOk, OnErr, slice_get, option_map};
 ghost use Rattle.mn_prefix.specs.Prefix.{AddressBlock};
-ghost use Rattle.mn_prefix.specs.Table.{longest_match};
-ghost use Rattle.mn_base.specs.Ordered.{IsPlaceFor, StandsAt, StandsBehind, with_one, without_one, has_one};
-ghost use Rattle.mn_vrf.specs.declared.source.Source.{Source as From};
-ghost use Rattle.mn_vrf.specs.Routes.{route_before, chosen, is_held};
-ghost use Rattle.mn_vrf.specs.Vrf.{heads, is_again};
+ghost use Rattle.mn_prefix.specs.Table.{longest_match, value_at, ChangesOnly, first_of};
+ghost use Rattle.mn_base.specs.Ordered.{with_one, without_one};
+ghost use Rattle.mn_vrf.specs.Routes.{route_before, is_held, sources_of, unless_empty};
+ghost use Rattle.mn_vrf.specs.Vrf.{heads};
 
-use crate::Source;
-use crate::source::are_same;
-use mn_prefix::Prefix;
+use crate::{Source, Sources};
+use mn_lpm::LengthTable;
+use mn_prefix::{Prefix, PrefixTable};
 use std::alloc::{AllocError, Global};
+use std::collections::BTreeSet;
 use std::marker::Model;
-
-/// Whether the one route stands before the other.
-fn stands_before(route: &(Prefix, Source), other: &(Prefix, Source)) -> bool
-    ensures { result ≡ route_before route.now other.now }
-{
-    if route.0.address() != other.0.address() {
-        return route.0.address() < other.0.address();
-    }
-    if route.0.length() != other.0.length() {
-        return route.0.length() < other.0.length();
-    }
-    route.1.is_before(&other.1)
-}
-
-/// The route that is chosen once one more is looked at.
-fn chosen(
-    address: u32,
-    best: Option<(Prefix, Source)>,
-    route: &(Prefix, Source),
-) -> Option<(Prefix, Source)>
-    ensures { result ≡ chosen address best route.now }
-{
-    if !route.0.contains(address) {
-        return best;
-    }
-    match best {
-        None => Some(*route),
-        Some(found) => {
-            if found.0.length() < route.0.length() {
-                Some(*route)
-            } else {
-                Some(found)
-            }
-        }
-    }
-}
-
-/// Whether the prefix is the one before.
-fn is_again(last: Option<Prefix>, prefix: Prefix) -> bool
-    ensures { result ≡ is_again last prefix }
-{
-    match last {
-        None => false,
-        Some(before) => before.address() == prefix.address() && before.length() == prefix.length(),
-    }
-}
+use std::mem;
 
 /// Held routes, by prefix and of one prefix by preference. Contracts see the list of them, which ascends.
 #[derive(Drop)]
 pub struct Routes {
-    routes: Vec<(Prefix, Source)>,
+    alloc: Global,
+    table: LengthTable<Sources>,
+    prefixes: BTreeSet<Prefix>,
 }
 
 impl Model for Routes {
     ghost use Rattle.std.specs.Prelude.{List};
     ghost use Rattle.mn_prefix.specs.Prefix.{AddressBlock};
     ghost use Rattle.mn_vrf.specs.declared.source.Source.{Source as From};
-    ghost use Rattle.mn_base.specs.Ordered.{Ascends};
-    ghost use Rattle.mn_vrf.specs.Routes.{route_before};
+    ghost use Rattle.mn_vrf.specs.Kept.{in_order, IsKept};
 
     ghost Value = { List (AddressBlock × From) };
 
-    ghost view = { λ r. r.routes.items };
+    ghost view = { λ r. in_order r.table r.prefixes.keys };
 
-    ghost invariant = { λ r. Ascends route_before r.routes.items };
+    ghost invariant = { λ r. IsKept r.table r.prefixes.keys };
+}
+
+/// Puts the sources of a prefix that has some, and answers those. A table takes no memory for a prefix that it holds.
+fn swap(
+    table: &mut LengthTable<Sources>,
+    alloc: Global,
+    prefix: Prefix,
+    sources: Sources,
+) -> Sources
+    requires { IsSome (value_at prefix table.old) }
+    ensures before { Some result ≡ value_at prefix table.old }
+    ensures changed { ChangesOnly table.old table.new prefix (Some sources) }
+{
+    match table.insert(prefix, sources) {
+        Ok(Some(before)) => before,
+        _ => Sources::new(alloc),
+    }
+}
+
+/// The preferred of a prefix's sources.
+fn best_of(prefix: Prefix, sources: &Sources) -> Option<(Prefix, Source)>
+    ensures { result ≡ option_map (λ source. (prefix, source)) (first_of sources.now) }
+{
+    let source = sources.as_slice().first()?;
+    Some((prefix, *source))
 }
 
 impl Routes {
-    /// None.
+    /// None. It takes no memory.
     pub fn new(alloc: Global) -> Routes
         ensures { result ≡ [] }
     {
         Routes {
-            routes: Vec::new(alloc),
+            alloc,
+            table: LengthTable::new(alloc),
+            prefixes: BTreeSet::new(alloc),
         }
+    }
+
+    /// All of them, and holds none. It takes no memory.
+    pub(crate) fn take(&mut self) -> Routes
+        ensures all { result ≡ self.old }
+        ensures left { self.new ≡ [] }
+    {
+        let none = Routes::new(self.alloc);
+        mem::replace(self, none)
     }
 
     /// Holds a route, in place of one of its prefix that is preferred as much.
@@ -94,13 +86,33 @@ impl Routes {
         ensures ok { OnOk result (self.new ≡ with_one route_before (prefix, source) self.old) }
         ensures err { OnErr result (self.new ≡ self.old) }
     {
-        let route = (prefix, source);
-        let at = self.place(&route);
-        if self.is_taken(at, &route) {
-            self.routes[at] = route;
-            return Ok(());
+        if self.table.get(prefix).is_none() {
+            return self.begin(prefix, source);
         }
-        self.routes.insert(at, route)?;
+        let mut sources = swap(
+            &mut self.table,
+            self.alloc,
+            prefix,
+            Sources::new(self.alloc),
+        );
+        let put = sources.put(source);
+        swap(&mut self.table, self.alloc, prefix, sources);
+        put
+    }
+
+    /// Holds the first route of a prefix.
+    fn begin(&mut self, prefix: Prefix, source: Source) -> Result<(), AllocError>
+        requires { sources_of prefix self.old ≡ [] }
+        ensures ok { OnOk result (self.new ≡ with_one route_before (prefix, source) self.old) }
+        ensures err { OnErr result (self.new ≡ self.old) }
+    {
+        let mut sources = Sources::new(self.alloc);
+        sources.put(source)?;
+        self.table.insert(prefix, sources)?;
+        let Ok(_) = self.prefixes.insert(prefix) else {
+            self.table.remove(prefix);
+            return Err(AllocError);
+        };
         Ok(())
     }
 
@@ -108,10 +120,21 @@ impl Routes {
     pub fn retract(&mut self, prefix: Prefix, source: &Source)
         ensures { self.new ≡ without_one route_before (prefix, source.now) self.old }
     {
-        let route = (prefix, *source);
-        let at = self.place(&route);
-        if self.is_taken(at, &route) {
-            self.routes.remove(at);
+        if self.table.get(prefix).is_none() {
+            return;
+        }
+        let mut sources = swap(
+            &mut self.table,
+            self.alloc,
+            prefix,
+            Sources::new(self.alloc),
+        );
+        sources.take(source);
+        if sources.is_empty() {
+            self.table.remove(prefix);
+            self.prefixes.remove(&prefix);
+        } else {
+            swap(&mut self.table, self.alloc, prefix, sources);
         }
     }
 
@@ -119,64 +142,37 @@ impl Routes {
     pub fn lookup(&self, address: u32) -> Option<(Prefix, Source)>
         ensures { result ≡ longest_match address self.now }
     {
-        let mut best = None;
-        for route in &self.routes {
-            best = chosen(address, best, route);
+        match self.table.longest(address) {
+            Some(found) => best_of(found.0, found.1),
+            None => None,
         }
-        best
     }
 
     /// The held prefix of this number, with the best of its routes. It takes no memory.
     pub fn held(&self, k: u32) -> Option<(Prefix, Source)>
         ensures { result ≡ slice_get (heads self.now) k }
     {
-        let mut last = None;
-        let mut left = k;
-        for route in &self.routes {
-            let again = is_again(last, route.0);
-            last = Some(route.0);
-            if !again {
-                if left == 0 {
-                    return Some(*route);
-                }
-                left -= 1;
-            }
+        let prefix = *self.prefixes.iter().nth(k as usize)?;
+        match self.table.get(prefix) {
+            Some(sources) => best_of(prefix, sources),
+            None => None,
         }
-        None
     }
 
     /// Whether the route is held. It takes no memory.
     pub fn has(&self, prefix: Prefix, source: &Source) -> bool
         ensures { result ≡ is_held (prefix, source.now) self.now }
     {
-        let route = (prefix, *source);
-        let at = self.place(&route);
-        self.is_taken(at, &route) && are_same(source, &self.routes[at].1)
-    }
-
-    /// Where a route stands, or would stand.
-    fn place(&self, route: &(Prefix, Source)) -> usize
-        ensures { IsPlaceFor route_before self.now route.now result }
-    {
-        let mut low = 0;
-        let mut high = self.routes.len();
-        while low < high {
-            let middle = low + (high - low) / 2;
-            if stands_before(&self.routes[middle], route) {
-                low = middle + 1;
-            } else {
-                high = middle;
-            }
+        match self.table.get(prefix) {
+            Some(sources) => sources.has(source),
+            None => false,
         }
-        low
     }
 
-    /// Whether one stands at its place.
-    fn is_taken(&self, at: usize, route: &(Prefix, Source)) -> bool
-        requires { IsPlaceFor route_before self.now route.now at }
-        ensures taken { result ≡ true → StandsAt route_before self.now route.now at }
-        ensures free { result ≡ false → StandsBehind route_before self.now route.now at }
+    /// The held prefixes, and no others, each with its sources. It takes no memory.
+    pub fn table(&self) -> &LengthTable<Sources>
+        ensures { (prefix : AddressBlock) → value_at prefix result.now ≡ unless_empty (sources_of prefix self.now) }
     {
-        at < self.routes.len() && !stands_before(route, &self.routes[at])
+        &self.table
     }
 }

@@ -1,8 +1,9 @@
 ghost use Rattle.std.specs.Prelude.{◌≡◌, []};
 
+use crate::plain::PlainRoutes;
 use crate::{Routes, Source, Vrf, VrfBad};
 use mn_base::{NodeNo, Rd, Rt, SiteNo, VrfNo};
-use mn_prefix::Prefix;
+use mn_prefix::{Prefix, PrefixTable};
 use std::alloc::Global;
 use std::test::Fail;
 
@@ -89,7 +90,81 @@ fn of_one_prefix_the_preferred_route_is_found(rt: HostRuntime) -> Result<(), Fai
         vrf.withdraw(net, &source);
     }
     assert_eq!(rt; vrf.held(1), None);
+    let held = vrf.take_held();
+    assert_eq!(rt; vrf.held(0), None);
+    vrf.hold(held);
+    assert_eq!(rt; vrf.held(0), Some((other, far(0xC000_0203, FIRST))));
     vrf.hold(Routes::new(rt.alloc()));
+    assert_eq!(rt; vrf.held(0), None);
+    Ok(())
+}
+
+/// The prefix of change `n`: of few addresses and of lengths at both ends and between, so that prefixes lie within one
+/// another and come again.
+fn prefix_of(n: u32) -> Result<Prefix, Fail> {
+    let lengths = [0u8, 1, 8, 15, 16, 17, 24, 31, 32];
+    let length = lengths[(n / 2 % 9) as usize];
+    let bits = 0x0A02_0000 + n / 3 % 3 * 256 + n / 5 % 2;
+    let host = 32 - length;
+    prefix((u64::from(bits) >> host << host) as u32, length)
+}
+
+/// The source of change `n`: of each kind, and of few ranks.
+fn source_of(n: u32) -> Source {
+    match n % 4 {
+        0 => Source::Own(SiteNo((n % 7) as u16)),
+        1 => Source::Near(VrfNo((n % 3) as u16), SiteNo((n % 5) as u16)),
+        2 => far(0xC000_0202 + n % 3, FIRST),
+        _ => far(0xC000_0202, NINTH),
+    }
+}
+
+/// Sixty changes, of which each third takes a route back.
+#[test]
+fn a_vrf_and_a_sorted_vector_answer_the_same_after_each_of_sixty_changes(
+    rt: HostRuntime,
+) -> Result<(), Fail> {
+    let mut vrf = red(rt.alloc());
+    let mut plain = PlainRoutes::new(rt.alloc());
+    for n in 0..60u32 {
+        let prefix = prefix_of(n)?;
+        let source = source_of(n / 2);
+        if n % 3 == 2 {
+            vrf.withdraw(prefix, &source);
+            plain.withdraw(prefix, &source);
+        } else {
+            vrf.replace(prefix, source)?;
+            plain.replace(prefix, source)?;
+        }
+        for host in 0..4u32 {
+            let address = 0x0A02_0000 + host / 2 * 256 + host;
+            assert_eq!(rt; vrf.lookup(address), plain.lookup(address));
+        }
+        for k in 0..20u32 {
+            assert_eq!(rt; vrf.held(k), plain.held(k));
+        }
+    }
+    Ok(())
+}
+
+/// The table has each held prefix at its length, with its sources.
+#[test]
+fn a_prefix_leaves_the_table_with_its_last_source(rt: HostRuntime) -> Result<(), Fail> {
+    let net = prefix(0x0A02_0000, 16)?;
+    let near = Source::Near(VrfNo(2), SiteNo(1));
+    let mut vrf = red(rt.alloc());
+    vrf.replace(net, near)?;
+    vrf.replace(net, Source::Own(SiteNo(4)))?;
+    let sources = vrf.table().get(net).ok_or("no sources")?;
+    assert_eq!(rt;
+        sources.as_slice(),
+        [Source::Own(SiteNo(4)), near].as_slice()
+    );
+    assert_eq!(rt; vrf.table().level(16).len(), 1);
+    vrf.withdraw(net, &Source::Own(SiteNo(4)));
+    assert_eq!(rt; vrf.lookup(HOST), Some((net, near)));
+    vrf.withdraw(net, &near);
+    assert!(rt; vrf.table().level(16).is_empty());
     assert_eq!(rt; vrf.held(0), None);
     Ok(())
 }

@@ -1,14 +1,15 @@
 // One VRF, as it is told.
 ghost use Rattle.std.specs.Prelude.{◌≡◌, ℕ, [], true, false, None, Some, OnOk, OnErr, IfOk, slice_get, if◌then◌else◌, option_map};
 ghost use Rattle.mn_prefix.specs.Prefix.{AddressBlock};
-ghost use Rattle.mn_prefix.specs.Table.{longest_match};
+ghost use Rattle.mn_prefix.specs.Table.{longest_match, value_at};
 ghost use Rattle.mn_base.specs.Ordered.{with_one, without_one, one_at};
 ghost use Rattle.mn_targets.specs.Targets.{target_set, has_target};
-ghost use Rattle.mn_vrf.specs.Routes.{route_before, without_route};
+ghost use Rattle.mn_vrf.specs.Routes.{route_before, without_route, sources_of, unless_empty};
 ghost use Rattle.mn_vrf.specs.Vrf.{Holding, with_static, without_static, with_imports, with_exports, add_refused, del_refused, set_refused, refusal_of, static_of, heads};
 
-use crate::{Routes, Source, StaticRoute, Statics, VrfBad};
+use crate::{Routes, Source, Sources, StaticRoute, Statics, VrfBad};
 use mn_base::{Rd, Rt, SiteNo, VrfNo};
+use mn_lpm::LengthTable;
 use mn_prefix::Prefix;
 use mn_targets::Targets;
 use std::alloc::{AllocError, Global};
@@ -214,6 +215,13 @@ impl Vrf {
         self.held.held(k)
     }
 
+    /// The held prefixes, and no others, each with its sources. It takes no memory.
+    pub fn table(&self) -> &LengthTable<Sources>
+        ensures { (prefix : AddressBlock) → value_at prefix result.now ≡ unless_empty (sources_of prefix self.now.held) }
+    {
+        self.held.table()
+    }
+
     /// The static of a prefix. It takes no memory.
     pub fn static_of(&self, prefix: Prefix) -> Option<StaticRoute>
         ensures { result ≡ static_of prefix self.now.vrf.statics }
@@ -240,6 +248,15 @@ impl Vrf {
         ensures { self.new ≡ record self.old { held = held } }
     {
         self.held = held;
+    }
+
+    /// The routes that it holds, and holds none: for its owner to change them and give them back by `hold`. It takes no
+    /// memory.
+    pub fn take_held(&mut self) -> Routes
+        ensures all { result ≡ self.old.held }
+        ensures left { self.new ≡ record self.old { held = [] } }
+    {
+        self.held.take()
     }
 
     /// What it imports.

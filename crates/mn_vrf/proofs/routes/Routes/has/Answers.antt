@@ -1,23 +1,18 @@
-use Rattle.std.proofs.Common.{◌≡◌, subst, sym, ◌∙◌, ap}
-use Rattle.std.specs.Prelude.{slice_index_or}
-use Rattle.mn_prefix.specs.Prefix.{AddressBlock}
-use Rattle.mn_base.specs.Ordered.{Ascends}
-use Rattle.mn_base.proofs.Places.{one_absent, one_held}
-use Rattle.mn_vrf.specs.declared.source.Source.{Source as From}
-use Rattle.mn_vrf.specs.Routes.{route_before, same_source, is_that}
-use Rattle.mn_vrf.proofs.Orders.{route_order}
+use Rattle.std.proofs.Common.{◌∙◌, ap, sym, []}
+use Rattle.std.specs.Option.{unwrap_or}
+use Rattle.mn_vrf.specs.Routes.{is_held, has_source}
+use Rattle.mn_vrf.proofs.Finding.{held_is}
 use Rattle.mn_vrf.proofs.routes.Routes.has.Goals as goal
 
--- what stands in its place
-pub returns-then-is_taken : goal.returns-then-is_taken
-returns-then-is_taken c =
-    let found : c.index.result.now ≡ slice_index_or c.args.self.now c.place-at.result c.index.result.now = rw (← c.self.view_is) c.index.ensures in
-    c.are_same.ensures
-    ∙ ap (λ (y : AddressBlock × From). same_source c.args.source.now y.1) found
-    ∙ sym (ap (is_that c.args.source.now) (one_held route_before route_order c.args.self.now (subst (Ascends route_before) c.self.view_is c.self.invariant) (c.args.prefix, c.args.source.now) c.place-at.result c.place-at.ensures c.index.result.now (c.is_taken.ensures.taken c.if-is_taken.true)))
+pub returns-in-Some : goal.returns-in-Some
+returns-in-Some c =
+    c.has.ensures
+    ∙ ap (λ o. has_source c.args.source.now (unwrap_or o [])) c.in-Some.ensures.value
+    ∙ sym (held_is c.self.inside.table c.self.inside.prefixes.keys c.args.prefix c.args.source.now c.self.invariant)
+    ∙ ap (is_held (c.args.prefix, c.args.source.now)) c.self.view_is
 
--- nothing stands there
-pub returns-else-is_taken : goal.returns-else-is_taken
-returns-else-is_taken c =
-    c.if-is_taken.false
-    ∙ sym (ap (is_that c.args.source.now) (one_absent route_before route_order c.args.self.now (subst (Ascends route_before) c.self.view_is c.self.invariant) (c.args.prefix, c.args.source.now) c.place-at.result c.place-at.ensures (c.is_taken.ensures.free c.if-is_taken.false)))
+pub returns-in-None : goal.returns-in-None
+returns-in-None c =
+    ap (λ o. has_source c.args.source.now (unwrap_or o [])) c.in-None.ensures.value
+    ∙ sym (held_is c.self.inside.table c.self.inside.prefixes.keys c.args.prefix c.args.source.now c.self.invariant)
+    ∙ ap (is_held (c.args.prefix, c.args.source.now)) c.self.view_is

@@ -1,12 +1,15 @@
-use Rattle.std.proofs.Common.{◌≤◌, None, length, ◌∙◌, ap, subst}
-use Rattle.std.specs.Prelude.{fold}
-use Rattle.std.proofs.lemmas.List.{take_all}
-use Rattle.mn_vrf.specs.Routes.{chosen}
-use Rattle.mn_vrf.proofs.Choices.{chosen_is}
+use Rattle.std.proofs.Common.{◌∙◌, ap, sym}
+use Rattle.mn_prefix.specs.Table.{longest_match}
+use Rattle.mn_vrf.proofs.Finding.{found_some, found_none}
 use Rattle.mn_vrf.proofs.routes.Routes.lookup.Goals as goal
 
--- the loop has looked at all
-pub returns : goal.returns
-returns c =
-    let all : length c.args.self.now ≤ c.loop-route.route-index = subst (λ xs. length xs ≤ c.loop-route.route-index) (c.deref-route-items.ensures.value ∙ c.self.view_is) c.loop-route-test.false in
-    c.loop-route.invariant ∙ ap (fold (chosen c.args.address) None) (take_all c.loop-route.route-index c.args.self.now all) ∙ chosen_is c.args.address c.args.self.now
+pub returns-in-Some : goal.returns-in-Some
+returns-in-Some c =
+    c.best_of.ensures
+    ∙ found_some c.self.inside.table c.self.inside.prefixes.keys c.self.invariant c.longest.ensures.table c.args.address _ _ (sym c.in-Some.ensures.best)
+    ∙ ap (λ routes. longest_match c.args.address routes) c.self.view_is
+
+pub returns-in-None : goal.returns-in-None
+returns-in-None c =
+    found_none c.self.inside.table c.self.inside.prefixes.keys c.self.invariant c.longest.ensures.table c.args.address (sym c.in-None.ensures.best)
+    ∙ ap (λ routes. longest_match c.args.address routes) c.self.view_is

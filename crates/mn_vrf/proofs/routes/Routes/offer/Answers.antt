@@ -1,29 +1,31 @@
-use Rattle.std.proofs.Common.{subst, sym}
-use Rattle.mn_base.specs.Ordered.{Ascends}
-use Rattle.mn_base.proofs.Places.{ascends_with}
-use Rattle.mn_base.proofs.Changes.{replaced, inserted}
-use Rattle.mn_vrf.specs.Routes.{route_before}
-use Rattle.mn_vrf.proofs.Orders.{route_order}
+use Rattle.std.proofs.Common.{◌∙◌, ap, not}
+use Rattle.mn_vrf.specs.Kept.{AreSources}
+use Rattle.mn_vrf.proofs.Calls.{none_of_it, copied_none, left_are, on_ok, on_err, sources_were, kept_put, put_with, put_back}
 use Rattle.mn_vrf.proofs.routes.Routes.offer.Goals as goal
 
--- the new route takes the old one's place
-pub returns-then-is_taken-clause-ok : goal.returns-then-is_taken-clause-ok
-returns-then-is_taken-clause-ok c =
-    rw c.self.view_is (replaced route_before route_order c.args.self.now (c.args.prefix, c.args.source) c.place-at.result (subst (Ascends route_before) c.self.view_is c.self.invariant) c.place-at.ensures (c.is_taken.ensures.taken c.if-is_taken.true))
+pub begin-requires : goal.begin-requires
+begin-requires c =
+    none_of_it c.self.inside.table c.self.inside.prefixes.keys c.args.self.now c.args.prefix c.self.invariant c.self.view_is
+    (copied_none _ c.get.result _ c.get.ensures.value (c.is_none.ensures ∙ ap not c.if-is_none.true))
 
 pub invariant_of-self : goal.invariant_of-self
 invariant_of-self c =
-    let up = subst (Ascends route_before) c.self.view_is c.self.invariant in
-    rw c.self.view_is (subst (Ascends route_before) (sym (replaced route_before route_order c.args.self.now (c.args.prefix, c.args.source) c.place-at.result up c.place-at.ensures (c.is_taken.ensures.taken c.if-is_taken.true)))
-    (ascends_with route_before (c.args.prefix, c.args.source) c.args.self.now route_order up))
+    let t = c.self.inside.table in
+    let ks = c.self.inside.prefixes.keys in
+    let were : AreSources c.swap-sources.result = sources_were t c.swap-sources.new.table c.swap.new.table ks c.args.self.now c.args.prefix c.args.source c.swap-sources.result c.new.result c.self.invariant c.self.view_is c.swap-sources.ensures.before c.swap-sources.ensures.changed in
+    kept_put t c.swap-sources.new.table c.swap.new.table ks c.args.self.now c.args.prefix c.args.source c.swap-sources.result c.new.result c.self.invariant c.self.view_is c.swap-sources.ensures.before c.swap-sources.ensures.changed
+    c.put-put.new.self c.swap.ensures.changed (left_are c.args.source c.swap-sources.result c.put-put.new.self c.put-put.result were c.put-put.ensures.ok c.put-put.ensures.err)
 
--- it goes between its neighbours
 pub returns-clause-ok : goal.returns-clause-ok
 returns-clause-ok c =
-    rw (c.in_ok-insert.ensures.items, c.self.view_is) (inserted route_before route_order c.args.self.now (c.args.prefix, c.args.source) c.place-at.result (subst (Ascends route_before) c.self.view_is c.self.invariant) c.place-at.ensures (c.is_taken.ensures.free c.if-is_taken.false))
+    on_ok c.put-put.result
+    (λ e. put_with c.self.inside.table c.swap-sources.new.table c.swap.new.table c.self.inside.prefixes.keys c.args.self.now c.args.prefix c.args.source c.swap-sources.result c.new.result c.self.invariant c.self.view_is c.swap-sources.ensures.before c.swap-sources.ensures.changed
+    c.put-put.new.self c.swap.ensures.changed e)
+    c.put-put.ensures.ok
 
-pub invariant_of-self-2 : goal.invariant_of-self-2
-invariant_of-self-2 c =
-    let up = subst (Ascends route_before) c.self.view_is c.self.invariant in
-    rw (c.in_ok-insert.ensures.items, c.self.view_is) (subst (Ascends route_before) (sym (inserted route_before route_order c.args.self.now (c.args.prefix, c.args.source) c.place-at.result up c.place-at.ensures (c.is_taken.ensures.free c.if-is_taken.false)))
-    (ascends_with route_before (c.args.prefix, c.args.source) c.args.self.now route_order up))
+pub returns-clause-err : goal.returns-clause-err
+returns-clause-err c =
+    on_err c.put-put.result
+    (λ e. put_back c.self.inside.table c.swap-sources.new.table c.swap.new.table c.self.inside.prefixes.keys c.args.self.now c.args.prefix c.args.source c.swap-sources.result c.new.result c.self.invariant c.self.view_is c.swap-sources.ensures.before c.swap-sources.ensures.changed
+    c.put-put.new.self c.swap.ensures.changed e)
+    c.put-put.ensures.err

@@ -1,23 +1,34 @@
-use Rattle.std.proofs.Common.{subst, sym, ◌∙◌, ap}
-use Rattle.std.specs.List.{remove}
-use Rattle.mn_base.specs.Ordered.{Ascends}
-use Rattle.mn_base.proofs.Places.{ascends_without}
-use Rattle.mn_base.proofs.Changes.{removed, stays}
-use Rattle.mn_vrf.specs.Routes.{route_before}
-use Rattle.mn_vrf.proofs.Orders.{route_order}
+use Rattle.std.proofs.Common.{◌∙◌, ap, not, refl}
+use Rattle.mn_vrf.specs.Kept.{AreSources}
+use Rattle.mn_vrf.proofs.Calls.{copied_none, nothing_without, nothing_left, some_left, sources_were, kept_gone, gone_without, kept_put, put_without}
 use Rattle.mn_vrf.proofs.routes.Routes.retract.Goals as goal
 
+pub returns-then-is_none : goal.returns-then-is_none
+returns-then-is_none c =
+    nothing_without c.self.inside.table c.self.inside.prefixes.keys c.args.self.now c.args.prefix c.args.source.now c.self.invariant c.self.view_is
+    (copied_none _ c.get.result _ c.get.ensures.value (c.is_none.ensures ∙ ap not c.if-is_none.true))
+
+-- the last source of the prefix goes
 pub invariant_of-self : goal.invariant_of-self
 invariant_of-self c =
-    let up = subst (Ascends route_before) c.self.view_is c.self.invariant in
-    subst (Ascends route_before) (sym (c.remove.ensures.items ∙ ap (λ xs. remove xs c.place-at.result) c.self.view_is ∙ removed route_before route_order c.args.self.now (c.args.prefix, c.args.source.now) c.place-at.result up c.place-at.ensures (c.is_taken.ensures.taken c.if-is_taken.true)))
-    (ascends_without route_before (c.args.prefix, c.args.source.now) c.args.self.now up)
+    kept_gone c.self.inside.table c.swap-sources.new.table c.remove.new.self c.self.inside.prefixes.keys c.args.self.now c.args.prefix c.args.source.now c.swap-sources.result c.new.result c.self.invariant c.self.view_is c.swap-sources.ensures.before c.swap-sources.ensures.changed
+    c.self.inside.prefixes c.remove-then-is_empty.new.self refl c.remove.ensures.removed c.remove-then-is_empty.ensures.ordered c.remove-then-is_empty.ensures.updates
 
-pub returns-then-is_taken : goal.returns-then-is_taken
-returns-then-is_taken c =
-    rw (c.remove.ensures.items, c.self.view_is)
-    (removed route_before route_order c.args.self.now (c.args.prefix, c.args.source.now) c.place-at.result (subst (Ascends route_before) c.self.view_is c.self.invariant) c.place-at.ensures (c.is_taken.ensures.taken c.if-is_taken.true))
+pub returns-then-is_empty : goal.returns-then-is_empty
+returns-then-is_empty c =
+    gone_without c.self.inside.table c.swap-sources.new.table c.remove.new.self c.self.inside.prefixes.keys c.args.self.now c.args.prefix c.args.source.now c.swap-sources.result c.new.result c.self.invariant c.self.view_is c.swap-sources.ensures.before c.swap-sources.ensures.changed
+    c.self.inside.prefixes c.remove-then-is_empty.new.self refl c.remove.ensures.removed c.remove-then-is_empty.ensures.ordered c.remove-then-is_empty.ensures.updates
+    (nothing_left c.take.new.self c.is_empty.result c.is_empty.ensures c.if-is_empty.true ∙ c.take.ensures)
 
-pub returns-else-is_taken : goal.returns-else-is_taken
-returns-else-is_taken c =
-    stays route_before route_order c.args.self.now (c.args.prefix, c.args.source.now) c.place-at.result (subst (Ascends route_before) c.self.view_is c.self.invariant) c.place-at.ensures (c.is_taken.ensures.free c.if-is_taken.false)
+-- others are left
+pub invariant_of-self-else-is_empty : goal.invariant_of-self-else-is_empty
+invariant_of-self-else-is_empty c =
+    let were : AreSources c.swap-sources.result = sources_were c.self.inside.table c.swap-sources.new.table c.swap.new.table c.self.inside.prefixes.keys c.args.self.now c.args.prefix c.args.source.now c.swap-sources.result c.new.result c.self.invariant c.self.view_is c.swap-sources.ensures.before c.swap-sources.ensures.changed in
+    kept_put c.self.inside.table c.swap-sources.new.table c.swap.new.table c.self.inside.prefixes.keys c.args.self.now c.args.prefix c.args.source.now c.swap-sources.result c.new.result c.self.invariant c.self.view_is c.swap-sources.ensures.before c.swap-sources.ensures.changed
+    c.take.new.self c.swap.ensures.changed (some_left c.args.source.now c.swap-sources.result c.take.new.self c.is_empty.result were.ascend c.take.ensures c.is_empty.ensures c.if-is_empty.false)
+
+pub returns-else-is_empty : goal.returns-else-is_empty
+returns-else-is_empty c =
+    let were : AreSources c.swap-sources.result = sources_were c.self.inside.table c.swap-sources.new.table c.swap.new.table c.self.inside.prefixes.keys c.args.self.now c.args.prefix c.args.source.now c.swap-sources.result c.new.result c.self.invariant c.self.view_is c.swap-sources.ensures.before c.swap-sources.ensures.changed in
+    put_without c.self.inside.table c.swap-sources.new.table c.swap.new.table c.self.inside.prefixes.keys c.args.self.now c.args.prefix c.args.source.now c.swap-sources.result c.new.result c.self.invariant c.self.view_is c.swap-sources.ensures.before c.swap-sources.ensures.changed
+    c.take.new.self c.swap.ensures.changed (some_left c.args.source.now c.swap-sources.result c.take.new.self c.is_empty.result were.ascend c.take.ensures c.is_empty.ensures c.if-is_empty.false) c.take.ensures

@@ -1,21 +1,21 @@
 use Rattle.std.proofs.Common.{◌<◌, ◌+◌, ◌-◌, ◌/◌, ℕ, length, subst, arith, sym, ◌∙◌}
 use Rattle.mn_base.specs.Ordered.{Ascends}
 use Rattle.mn_base.proofs.Changes.{lower_half, upper_half}
-use Rattle.mn_vrf.specs.Routes.{route_before}
-use Rattle.mn_vrf.proofs.Orders.{route_order}
-use Rattle.mn_vrf.proofs.routes.Routes.place.Goals as goal
+use Rattle.mn_vrf.specs.Routes.{source_before}
+use Rattle.mn_vrf.proofs.Orders.{source_order}
+use Rattle.mn_vrf.proofs.sources.Sources.place.Goals as goal
 
 -- the middle route stands before the place: so do those below it
-pub loop-low-preserved-then-stands_before : goal.loop-low-preserved-then-stands_before
-loop-low-preserved-then-stands_before c =
+pub loop-low-preserved-then-is_before : goal.loop-low-preserved-then-is_before
+loop-low-preserved-then-is_before c =
     let known = c.loop-low.invariant in
     let middle : ℕ = c.loop-low.low + (c.loop-low.high - c.loop-low.low) / 2 in
     let there : middle < length c.args.self.now = grind (arith, c.loop-low-test.true, known.within) in
     record {
       order = grind (arith, c.loop-low-test.true);
       within = known.within;
-      below = lower_half route_before route_order c.args.self.now c.args.route.now middle (subst (Ascends route_before) c.self.view_is c.self.invariant) there c.index.result.now (rw (← c.self.view_is) c.index.ensures)
-          (sym c.stands_before.ensures ∙ c.if-stands_before.true);
+      below = lower_half source_before source_order c.args.self.now c.args.source.now middle (subst (Ascends source_before) c.self.view_is c.self.invariant) there c.index.result.now (rw (← c.self.view_is) c.index.ensures)
+          (sym c.is_before.ensures ∙ c.if-is_before.true);
       above = known.above;
     }
 
@@ -29,6 +29,6 @@ loop-low-preserved c =
       order = grind (arith, c.loop-low-test.true);
       within = grind (arith, c.loop-low-test.true, known.within);
       below = known.below;
-      above = upper_half route_before route_order c.args.self.now c.args.route.now middle (subst (Ascends route_before) c.self.view_is c.self.invariant) there c.index.result.now (rw (← c.self.view_is) c.index.ensures)
-          (sym c.stands_before.ensures ∙ c.if-stands_before.false);
+      above = upper_half source_before source_order c.args.self.now c.args.source.now middle (subst (Ascends source_before) c.self.view_is c.self.invariant) there c.index.result.now (rw (← c.self.view_is) c.index.ensures)
+          (sym c.is_before.ensures ∙ c.if-is_before.false);
     }
