@@ -19,3 +19,7 @@ pub mod Spreads
 pub mod OneStatic
 pub mod Adding
 pub mod Deleting
+pub mod Alone
+pub mod Turned
+pub mod Importing
+pub mod Exporting

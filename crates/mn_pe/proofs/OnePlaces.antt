@@ -61,7 +61,7 @@ by_prefixes p q s r apart = go (route_before (p, s) (q, r) || route_before (q, r
         let k = first_neither p.length q.length _ _ n.1 in
         absurd (equal 0 0 refl apart n.0 k.0)
 
-two_vrfs : (v w s r : ℕ) (p q : AddressBlock) → v ≢ w → AreApart (p, near_over v s) (q, near_over w r)
+pub two_vrfs : (v w s r : ℕ) (p q : AddressBlock) → v ≢ w → AreApart (p, near_over v s) (q, near_over w r)
 two_vrfs v w s r p q d = by_sources (p, near_over v s) (q, near_over w r) (differ v w d)
   where
     differ : (v w : ℕ) → v ≢ w → (nat_lt v w || nat_lt w v) ≡ true

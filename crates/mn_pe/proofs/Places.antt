@@ -10,6 +10,7 @@ use Rattle.mn_pe.specs.Edge.{on_vrf}
 use Rattle.mn_pe.specs.Changes.{telling}
 use Rattle.mn_pe.specs.Pe.{by_number, found_in, IsAbsent, IsAt}
 use Rattle.mn_pe.specs.Rebuilt.{told}
+use Rattle.mn_pe.specs.Switched.{at_vrf}
 
 tail_absent : (v : ℕ) (h : Holding) (hs : List Holding) → IsAbsent v (h ∷ hs) → IsAbsent v hs
 tail_absent v h hs absent k d lt = absent (suc k) d (omega (arith, lt))
@@ -92,6 +93,32 @@ told_telling v f (h ∷ hs) = ap (λ w. w ∷ told (map (telling v f) hs)) (spli
     split : (b : Bool) → (let g : Holding = cond b (record h { vrf = f h.vrf }) h in g.vrf) ≡ cond b (f h.vrf) h.vrf
     split true = refl
     split false = refl
+
+-- any change of the VRF of a number
+absent_at_vrf : (v : ℕ) (f : Holding → Holding) (hs : List Holding) → IsAbsent v hs → map (at_vrf v f) hs ≡ hs
+absent_at_vrf v f [] absent = refl
+absent_at_vrf v f (h ∷ hs) absent =
+    ap (λ b. cond b (f h) h ∷ map (at_vrf v f) hs) (other_test h.vrf.number v (absent 0 h (omega arith)))
+    ∙ ap (λ gs. h ∷ gs) (absent_at_vrf v f hs (tail_absent v h hs absent))
+
+pub no_change : (v : ℕ) (f : Holding → Holding) (hs : List Holding) → IsAbsent v hs → hs ≡ map (at_vrf v f) hs
+no_change v f hs absent = sym (absent_at_vrf v f hs absent)
+
+pub change_at : (v : ℕ) (f : Holding → Holding) (hs : List Holding) (at : ℕ) (d : Holding) → Ascends by_number (told hs) → IsAt v hs at →
+    slice_set hs at (f (slice_index_or hs at d)) ≡ map (at_vrf v f) hs
+change_at v f [] at d up is = absurd (none_below at is.there)
+change_at v f (h ∷ hs) zero d up is =
+    ap (λ b. cond b (f h) h ∷ hs) (sym (test_same h.vrf.number v (is.is h)))
+    ∙ ap (λ gs. at_vrf v f h ∷ gs) (sym (absent_at_vrf v f hs (others v h hs up (is.is h))))
+change_at v f (h ∷ hs) (suc at) d up is =
+    ap (λ gs. h ∷ gs) (change_at v f hs at d up.1 (tail_at v h hs at is))
+    ∙ ap (λ b. cond b (f h) h ∷ map (at_vrf v f) hs) (sym (other_test h.vrf.number v (not_first v h hs at up (tail_at v h hs at is))))
+
+-- a VRF that is told nothing
+pub told_stays : (hs : List Holding) (at : ℕ) (d g : Holding) → g.vrf ≡ (slice_index_or hs at d).vrf → told (slice_set hs at g) ≡ told hs
+told_stays [] at d g e = refl
+told_stays (h ∷ hs) zero d g e = ap (λ w. w ∷ told hs) e
+told_stays (h ∷ hs) (suc at) d g e = ap (λ ws. h.vrf ∷ ws) (told_stays hs at d g e)
 
 pub found_at : {A : Type 0} (v : ℕ) (g : VrfState → Option A) (hs : List Holding) (at : ℕ) (one : Holding) → Ascends by_number (told hs) → IsAt v hs at →
     one ≡ slice_index_or hs at one → found_in v g (told hs) ≡ g one.vrf

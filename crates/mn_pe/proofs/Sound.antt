@@ -32,7 +32,7 @@ pub all_map : {A : Type 0} {B : Type 0} (f : A → B) (P : A → Type 0) (Q : B 
 all_map f P Q [] h all = tt
 all_map f P Q (x ∷ xs) h all = (h x (inl refl) all.0, all_map f P Q xs (λ y i. h y (inr i)) all.1)
 
-in_vrfs : (hs : List Holding) (h : Holding) → In hs h → In (map (λ (x : Holding). x.vrf) hs) h.vrf
+pub in_vrfs : (hs : List Holding) (h : Holding) → In hs h → In (map (λ (x : Holding). x.vrf) hs) h.vrf
 in_vrfs [] h i = absurd i
 in_vrfs (x ∷ hs) h i = elim i [ inl e ↦ inl (ap (λ (y : Holding). y.vrf) e) | inr j ↦ inr (in_vrfs hs h j) ]
 

@@ -103,12 +103,12 @@ raw_kinds edge vrf z i = elim (in_append (held_own edge vrf) _ z i) [
   ]
 ]
 
-own_to : (edge : Edge) (vrf : VrfState) (z : AddressBlock × Source) → IsOwnRoute edge vrf z → In (raw edge vrf) z
+pub own_to : (edge : Edge) (vrf : VrfState) (z : AddressBlock × Source) → IsOwnRoute edge vrf z → In (raw edge vrf) z
 own_to edge vrf z o =
     in_front (held_own edge vrf) _ z (subst (In (held_own edge vrf)) o.2
     (map_in (λ (x : Exported). (x.prefix, own_over x.site)) (present_with edge vrf []) (made vrf [] o.0 o.1.0) (present_to edge vrf [] o.0 o.1)))
 
-near_to : (edge : Edge) (vrf : VrfState) (z : AddressBlock × Source) → IsNearRoute edge vrf z → In (raw edge vrf) z
+pub near_to : (edge : Edge) (vrf : VrfState) (z : AddressBlock × Source) → IsNearRoute edge vrf z → In (raw edge vrf) z
 near_to edge vrf z n =
     let s : Static = n.4.0 in
     let x : Exported = made n.0 n.0.exports s n.4.1.0 in
@@ -119,7 +119,7 @@ near_to edge vrf z n =
     (flat_map_in (λ u. exports_with edge u u.exports) edge.vrfs n.0 x n.1
     (export_to edge n.0 n.0.exports vrf.imports x n.3 (present_to edge n.0 n.0.exports s n.4.1))) on))))
 
-far_to : (edge : Edge) (vrf : VrfState) (z : AddressBlock × Source) → In (far_list edge.loopbacks edge.heard vrf.imports) z → In (raw edge vrf) z
+pub far_to : (edge : Edge) (vrf : VrfState) (z : AddressBlock × Source) → In (far_list edge.loopbacks edge.heard vrf.imports) z → In (raw edge vrf) z
 unfolding far_list
 far_to edge vrf z i = in_rest (held_own edge vrf) _ z (in_rest (held_near edge vrf) _ z i)
 

@@ -3,6 +3,7 @@ pub mod Held
 pub mod Pe
 pub mod Changes
 pub mod Rebuilt
+pub mod Switched
 pub mod Exports
 pub mod Start
 pub mod Entries

@@ -4,7 +4,6 @@ ghost use Rattle.mn_base.specs.Ordered.{Ascends};
 ghost use Rattle.mn_targets.specs.Targets.{target_set};
 ghost use Rattle.mn_vrf.specs.Vrf.{VrfState, with_static, without_static, with_imports, with_exports, add_refused, del_refused, set_refused, refusal_of};
 ghost use Rattle.mn_pe.specs.Changes.{telling};
-ghost use Rattle.mn_pe.specs.Edge.{on_vrf};
 ghost use Rattle.mn_pe.specs.Pe.{found_in, by_number, IsAbsent, IsAt, is_want};
 ghost use Rattle.mn_pe.specs.Rebuilt.{told};
 
@@ -53,7 +52,7 @@ pub(crate) fn import_in(
     on: bool,
 ) -> Result<(), VrfBad>
     requires { Ascends by_number (told vrfs.old.items) }
-    ensures ok { OnOk result (told vrfs.new.items ≡ on_vrf number.0 (with_imports (target_set target on)) (told vrfs.old.items)) }
+    ensures ok { OnOk result (vrfs.new.items ≡ map (telling number.0 (with_imports (target_set target on))) vrfs.old.items) }
     ensures err { OnErr result (vrfs.new.items ≡ vrfs.old.items) }
     ensures refusal { refusal_of result ≡ found_in number.0 (λ (vrf : VrfState). set_refused target on vrf.imports) (told vrfs.old.items) }
 {
@@ -71,7 +70,7 @@ pub(crate) fn export_in(
     on: bool,
 ) -> Result<(), VrfBad>
     requires { Ascends by_number (told vrfs.old.items) }
-    ensures ok { OnOk result (told vrfs.new.items ≡ on_vrf number.0 (with_exports (target_set target on)) (told vrfs.old.items)) }
+    ensures ok { OnOk result (vrfs.new.items ≡ map (telling number.0 (with_exports (target_set target on))) vrfs.old.items) }
     ensures err { OnErr result (vrfs.new.items ≡ vrfs.old.items) }
     ensures refusal { refusal_of result ≡ found_in number.0 (λ (vrf : VrfState). set_refused target on vrf.exports) (told vrfs.old.items) }
 {

@@ -23,6 +23,7 @@
 //! - `changes`: what the VRF of a number is told
 //! - `hearing`: what a peer told, taken into the VRFs or out of them
 //! - `spreading`: a static that comes to the VRFs that are to hold it, or goes
+//! - `switching`: routes that come to VRFs, or go, as a target comes to a set or leaves it
 //! - `rebuild`: what VRFs are to hold, made anew
 //! - `look`: what the VRF of a number holds
 //! - `export`: `Export`, a route that the edge tells
@@ -42,6 +43,7 @@ mod rebuild;
 mod refusal;
 mod spreading;
 mod start;
+mod switching;
 #[cfg(test)]
 mod tests;
 

@@ -21,6 +21,7 @@ use crate::look::{held_in, lookup_in};
 use crate::rebuild::{hold_all, label_at, loopback_at};
 use crate::spreading::spread_present;
 use crate::start::{loopbacks_of, no_labels, nothing_heard, sites_of, vrfs_of};
+use crate::switching::{switch_export, switch_import};
 use crate::{Entered, Export, NoMemory};
 use mn_base::{NodeNo, Rt, Rule, SiteNo, VrfNo};
 use mn_bgp_wire::Update;
@@ -198,9 +199,18 @@ impl Pe {
             self.failed = is_want(bad);
             return Err(bad);
         }
-        let Ok(()) = self.refresh() else {
+        let Ok(()) = switch_import(
+            &mut self.vrfs,
+            &self.labels,
+            &self.loopbacks,
+            &self.heard,
+            vrf,
+            target,
+            on,
+        ) else {
             return Err(VrfBad::NoMemory);
         };
+        self.failed = false;
         Ok(())
     }
 
@@ -220,9 +230,10 @@ impl Pe {
             self.failed = is_want(bad);
             return Err(bad);
         }
-        let Ok(()) = self.refresh() else {
+        let Ok(()) = switch_export(&mut self.vrfs, &self.labels, vrf, target, on) else {
             return Err(VrfBad::NoMemory);
         };
+        self.failed = false;
         Ok(())
     }
 

@@ -3,12 +3,12 @@ use Rattle.mn_targets.specs.Targets.{target_set}
 use Rattle.mn_vrf.specs.Vrf.{VrfState, Holding, with_imports, set_refused}
 use Rattle.mn_vrf.specs.declared.refusal.VrfBad.{VrfBad}
 use Rattle.mn_pe.specs.Pe.{IsAbsent, IsAt}
-use Rattle.mn_pe.proofs.Places.{absent_on, absent_found, changed_at, found_at, stays_at, on_ok, on_err}
+use Rattle.mn_pe.proofs.Places.{absent_telling, absent_found, telling_at, found_at, stays_at, on_ok, on_err}
 use Rattle.mn_pe.proofs.changes.import_in.Goals as goal
 
 -- no VRF has the number: nothing is changed
 pub returns-in-None-clause-ok : goal.returns-in-None-clause-ok
-returns-in-None-clause-ok c = sym (absent_on c.args.number.0 (with_imports (target_set c.args.target c.args.on)) c.args.vrfs.now.items
+returns-in-None-clause-ok c = sym (absent_telling c.args.number.0 (with_imports (target_set c.args.target c.args.on)) c.args.vrfs.now.items
     (subst (IsAbsent c.args.number.0) c.deref.ensures.value c.in-None.ensures))
 
 pub returns-in-None-clause-refusal : goal.returns-in-None-clause-refusal
@@ -19,10 +19,10 @@ returns-in-None-clause-refusal c = sym (absent_found {A = VrfBad} c.args.number.
 -- the VRF of the number is changed
 pub returns-in-Some-clause-ok : goal.returns-in-Some-clause-ok
 returns-in-Some-clause-ok c =
-    on_ok c.import.result _ _ (λ e. changed_at c.args.number.0
+    on_ok c.import.result _ _ (λ e. telling_at c.args.number.0
     (with_imports (target_set c.args.target c.args.on)) c.args.vrfs.now.items c.in-Some.at c.index_mut.result.now c.import.new.self c.requires
     (subst (λ hs. IsAt c.args.number.0 hs c.in-Some.at) c.deref.ensures.value c.in-Some.ensures) c.index_mut.ensures.value
-    (ap (λ (h : Holding). h.vrf) e)) c.import.ensures.ok
+    e) c.import.ensures.ok
 
 pub returns-in-Some-clause-err : goal.returns-in-Some-clause-err
 returns-in-Some-clause-err c = on_err c.import.result _ _ (λ e. stays_at c.args.vrfs.now.items c.in-Some.at c.index_mut.result.now c.import.new.self
