@@ -30,8 +30,10 @@ use Rattle.mn_timetable.specs.Keys.{Key, Numbering, keys_in, keys_on, with_key, 
 use Rattle.mn_timetable.proofs.OtherKeys.{pair_one}
 use Rattle.mn_net_model.specs.Stands.{Packed, StandsFor}
 use Rattle.mn_net_model.proofs.News.{all_there}
-use Rattle.mn_net_refusal.specs.Alike.{TellsLosses, ComesAlike}
-use Rattle.mn_net_refusal.specs.Coming.{first_key, dir_of, learns_on, hears_on, tells_on, carries_on, is_one, as_coming, news_coming, coming_seen}
+use Rattle.mn_net_tally.specs.Laws.{TellsLosses}
+use Rattle.mn_net_tally.specs.Tallies.{is_one}
+use Rattle.mn_net_refusal.specs.Alike.{ComesAlike}
+use Rattle.mn_net_refusal.specs.Coming.{first_key, dir_of, learns_on, hears_on, tells_on, carries_on, as_coming, news_coming, coming_seen}
 use Rattle.mn_net_refusal.proofs.Firsts.{IsFirst, first_is}
 
 -- 1. Items and their keys

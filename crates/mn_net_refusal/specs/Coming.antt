@@ -1,6 +1,6 @@
 -- What comes next of each kind, by what four flights show.
 use Rattle.std.specs.Prelude.{ℕ, ◌+◌, ◌/◌, ◌%◌, ◌==◌, ◌&&◌, ◌||◌, Bool, false, nat_lt, nat_le, if◌then◌else◌, List, length, filter, find, Option, option_map}
-use Rattle.std.specs.List.{list_all, list_any}
+use Rattle.std.specs.List.{list_all}
 use Rattle.mn_base.specs.declared.links.Dir.{Dir}
 use Rattle.mn_base.specs.declared.links.Dir.TheVariants.{Forth, Back}
 use Rattle.mn_topo.specs.Network.{Network}
@@ -12,6 +12,7 @@ use Rattle.mn_course.specs.declared.coming.Coming.{Coming}
 use Rattle.mn_course.specs.Coming.{earlier}
 use Rattle.mn_timetable.specs.Keys.{Key, keys_in}
 use Rattle.mn_net_model.specs.Stands.{Packed}
+use Rattle.mn_net_tally.specs.Tallies.{is_one}
 
 -- 1. The first of a flight: of those due by the limit the one of least due tick and, among these, of least number
 
@@ -42,9 +43,6 @@ abbrev pub carries_on : ℕ → Step
 carries_on c = Carry (record { 0 = c / 2 }) (dir_of c) 0
 
 -- 3. What comes next, where these are the numbers of the frames that their links lose
-
-abbrev pub is_one : List ℕ → ℕ → Bool
-is_one numbers number = list_any (λ other. other == number) numbers
 
 abbrev pub as_coming : (ℕ → Step) → (ℕ → Bool) → Key → Coming
 as_coming step lossy key = record { due = key.due; number = key.number; step = step key.channel; lossy = lossy key.number }
