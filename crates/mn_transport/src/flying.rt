@@ -1,0 +1,189 @@
+//! Notices and PDUs in flight.
+ghost use Rattle.std.specs.Prelude.{◌≡◌, ◌<◌, ◌≤◌, ◌+◌, ◌*◌, ◌^◌, ◌++◌, ◌∷◌, [], length, map, IfOk, OnOk};
+ghost use Rattle.std.specs.List.{All, AllByRecursion};
+ghost use Rattle.mn_base.specs.Wiring.{nodes_of, link as link_of};
+ghost use Rattle.mn_flight.specs.Flying.{IsFlight};
+ghost use Rattle.mn_lsr.specs.Said.{pdu_of};
+ghost use Rattle.mn_topo.specs.Network.{wiring_of};
+ghost use Rattle.mn_ledger.specs.Packets.{channel};
+ghost use Rattle.mn_timetable.specs.Keys.{channel_from};
+ghost use Rattle.mn_transport_model.specs.Sending.{notices_to, put_pdus, off_link};
+
+use mn_base::{Dir, LinkNo, ListOf, NodeNo};
+use mn_flight::Flight;
+use mn_flight_pool::PoolFlight;
+use mn_lsr::Said;
+use mn_topo::Topology;
+use mn_transport_model::Notice;
+use std::alloc::AllocError;
+
+/// The flight of the notices, with a channel for each link and node. Any `Flight` takes its place here.
+pub type Notices = PoolFlight<Notice>;
+
+/// The flight of the PDUs of LDP, with two channels for each link. Any `Flight` takes its place here.
+pub type Messages = PoolFlight<ListOf<u8>>;
+
+/// When a step is done, and the number of the first item that it makes.
+#[derive(Clone, Copy, Debug, PartialEq, Eq)]
+pub struct Clock {
+    pub tick: u64,
+    pub number: u64,
+}
+
+/// The channel of what an end says on a link.
+fn channel_from(topology: &Topology, link: LinkNo, end: NodeNo) -> u32
+    requires { link.0 < length topology.now.links }
+    ensures { result ≡ channel_from (wiring_of topology.now) link.0 end.0 }
+{
+    let ends = &topology.links()[usize::from(link.0)];
+    if end.0 == ends.a.0 {
+        2 * u32::from(link.0)
+    } else {
+        2 * u32::from(link.0) + 1
+    }
+}
+
+/// The channel of what is said on a link in a direction.
+pub(crate) fn channel_of(link: LinkNo, dir: Dir) -> u32
+    ensures { result ≡ channel link.0 dir }
+{
+    match dir {
+        Dir::Forth => 2 * u32::from(link.0),
+        Dir::Back => 2 * u32::from(link.0) + 1,
+    }
+}
+
+/// The number after this one. There are never so many items.
+fn next_number(number: u64) -> Result<u64, AllocError>
+    ensures { IfOk result (λ next. next ≡ number + 1) }
+{
+    match number.checked_add(1) {
+        Some(next) => Ok(next),
+        None => Err(AllocError),
+    }
+}
+
+/// Puts a notice of a link into flight to a node.
+fn tell(
+    notices: &mut Notices,
+    topology: &Topology,
+    link: LinkNo,
+    node: u32,
+    clock: Clock,
+) -> Result<(), AllocError>
+    requires link { link.0 < length topology.now.links }
+    requires node { node < length topology.now.loopbacks }
+    requires channels { notices.old.channels ≡ length topology.now.links * length topology.now.loopbacks }
+    requires tick { clock.tick ≤ 2 ^ 62 }
+    requires number { All (λ item. item.number < clock.number) notices.old.items }
+    ensures told { OnOk result (notices.new.items ≡ notices.old.items ++ record { channel = link.0 * length topology.now.loopbacks + node; due = clock.tick + topology.now.notice_delay; number = clock.number; item = record {} } ∷ []) }
+    ensures channels { notices.new.channels ≡ notices.old.channels }
+    ensures flight { IsFlight notices.new.channels notices.new.items }
+{
+    topology.laws();
+    let channel = u32::from(link.0) * topology.nodes().len() as u32 + node;
+    let due = clock.tick + u64::from(topology.notice_delay());
+    match notices.push(channel, due, clock.number, Notice {}) {
+        Ok(()) => Ok(()),
+        Err(_) => Err(AllocError),
+    }
+}
+
+/// Puts a notice of a link into flight to each node, in order. It answers the number after the last one's.
+pub(crate) fn tell_all(
+    notices: &mut Notices,
+    topology: &Topology,
+    link: LinkNo,
+    clock: Clock,
+) -> Result<u64, AllocError>
+    requires link { link.0 < length topology.now.links }
+    requires channels { notices.old.channels ≡ length topology.now.links * length topology.now.loopbacks }
+    requires tick { clock.tick ≤ 2 ^ 62 }
+    requires number { All (λ item. item.number < clock.number) notices.old.items }
+    requires flight { IsFlight notices.old.channels notices.old.items }
+    ensures told { OnOk result (notices.new.items ≡ notices.old.items ++ notices_to (link.0 * length topology.now.loopbacks) (clock.tick + topology.now.notice_delay) clock.number (nodes_of (wiring_of topology.now))) }
+    ensures next { IfOk result (λ next. next ≡ clock.number + length topology.now.loopbacks) }
+    ensures number { IfOk result (λ next. All (λ item. item.number < next) notices.new.items) }
+    ensures channels { notices.new.channels ≡ notices.old.channels }
+    ensures flight { IsFlight notices.new.channels notices.new.items }
+{
+    topology.laws();
+    let nodes = topology.nodes().len() as u32;
+    let tick = clock.tick;
+    let mut number = clock.number;
+    for node in 0..nodes {
+        tell(notices, topology, link, node, Clock { tick, number })?;
+        number = next_number(number)?;
+    }
+    Ok(number)
+}
+
+/// How many ticks a message takes over a link.
+fn delay_of(topology: &Topology, link: LinkNo) -> u32
+    requires { link.0 < length topology.now.links }
+    ensures { result ≡ (link_of (wiring_of topology.now) link.0).delay }
+{
+    topology.links()[usize::from(link.0)].delay
+}
+
+/// Puts a PDU of a node into flight.
+fn send_one(
+    messages: &mut Messages,
+    topology: &Topology,
+    node: NodeNo,
+    said: Said,
+    clock: Clock,
+) -> Result<(), AllocError>
+    requires link { said.link.0 < length topology.now.links }
+    requires channels { messages.old.channels ≡ 2 * length topology.now.links }
+    requires tick { clock.tick ≤ 2 ^ 62 }
+    requires number { All (λ item. item.number < clock.number) messages.old.items }
+    ensures sent { OnOk result (messages.new.items ≡ messages.old.items ++ record { channel = channel_from (wiring_of topology.now) said.link.0 node.0; due = clock.tick + (link_of (wiring_of topology.now) said.link.0).delay; number = clock.number; item = said.bytes.items } ∷ []) }
+    ensures channels { messages.new.channels ≡ messages.old.channels }
+    ensures flight { IsFlight messages.new.channels messages.new.items }
+{
+    let channel = channel_from(topology, said.link, node);
+    let due = clock.tick + u64::from(delay_of(topology, said.link));
+    match messages.push(channel, due, clock.number, ListOf::from_vec(said.bytes)) {
+        Ok(()) => Ok(()),
+        Err(_) => Err(AllocError),
+    }
+}
+
+/// Puts what a node says into flight. It answers the number after the last PDU's.
+pub(crate) fn send(
+    messages: &mut Messages,
+    topology: &Topology,
+    node: NodeNo,
+    out: Vec<Said>,
+    clock: Clock,
+) -> Result<u64, AllocError>
+    requires links { AllByRecursion (λ said. said.link.0 < length topology.now.links) out.items }
+    requires channels { messages.old.channels ≡ 2 * length topology.now.links }
+    requires tick { clock.tick ≤ 2 ^ 62 }
+    requires number { All (λ item. item.number < clock.number) messages.old.items }
+    requires flight { IsFlight messages.old.channels messages.old.items }
+    ensures sent { OnOk result (messages.new.items ≡ messages.old.items ++ put_pdus (wiring_of topology.now) node.0 clock.tick clock.number (map pdu_of out.items)) }
+    ensures next { IfOk result (λ next. next ≡ clock.number + length out.items) }
+    ensures channels { messages.new.channels ≡ messages.old.channels }
+    ensures flight { IsFlight messages.new.channels messages.new.items }
+    ensures number { IfOk result (λ next. All (λ item. item.number < next) messages.new.items) }
+{
+    let tick = clock.tick;
+    let mut number = clock.number;
+    for said in out {
+        send_one(messages, topology, node, said, Clock { tick, number })?;
+        number = next_number(number)?;
+    }
+    Ok(number)
+}
+
+/// Takes all that flies on a link out of flight, in both directions.
+pub(crate) fn cut(messages: &mut Messages, link: LinkNo)
+    ensures cut { messages.new.items ≡ off_link link.0 messages.old.items }
+    ensures channels { messages.new.channels ≡ messages.old.channels }
+    ensures flight { IsFlight messages.new.channels messages.new.items }
+{
+    messages.drop_channel(channel_of(link, Dir::Forth));
+    messages.drop_channel(channel_of(link, Dir::Back));
+}

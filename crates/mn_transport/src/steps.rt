@@ -1,0 +1,427 @@
+//! One call for each step of the transport.
+ghost use Rattle.std.specs.Prelude.{◌≡◌, ◌≢◌, ◌<◌, ◌≤◌, ◌+◌, ◌*◌, ◌^◌, ℕ, Bool, true, false, length, slice_get, slice_index, slice_set, IfOk, OnOk, OnErr, IsErr};
+ghost use Rattle.std.specs.List.{All};
+ghost use Rattle.mn_base.specs.Wiring.{link as link_of, sender, receiver, is_end};
+ghost use Rattle.mn_base.specs.declared.links.Dir.TheVariants.{Forth, Back};
+ghost use Rattle.mn_flight.specs.Flying.{IsFlight};
+ghost use Rattle.mn_linkdb.specs.Changes.{is_odd, is_link_up};
+ghost use Rattle.mn_node.specs.Machine.{Event, Learns, Opens, Closes};
+ghost use Rattle.mn_topo.specs.Network.{wiring_of};
+ghost use Rattle.mn_topo.specs.declared.steps.Step.TheVariants as step;
+ghost use Rattle.mn_ledger.specs.Packets.{channel};
+ghost use Rattle.mn_transport_model.specs.Acting.{turned_by, MayAct, MayHear, Acts};
+ghost use Rattle.mn_transport_model.specs.Doing.{TurnsEnds, MayBoth, MayTurn, TurnsLink, MaySwitch, Switches, LearnsNext, CanHear, HearsNext};
+ghost use Rattle.mn_transport_model.specs.Steps.{MayDo, Did};
+
+use crate::flying::{Clock, channel_of, cut, send, tell_all};
+use crate::transport::Transport;
+use mn_base::{Dir, LinkNo, NodeNo};
+use mn_flight::Flight;
+use mn_lsr::LsrBad;
+use mn_topo::Topology;
+use std::alloc::AllocError;
+
+/// The end that receives in a direction of a link.
+fn receiver(topology: &Topology, link: LinkNo, dir: Dir) -> NodeNo
+    requires { link.0 < length topology.now.links }
+    ensures end { result.0 ≡ receiver (wiring_of topology.now) link.0 dir }
+    ensures there { result.0 < length topology.now.loopbacks }
+{
+    topology.laws();
+    let ends = &topology.links()[usize::from(link.0)];
+    match dir {
+        Dir::Forth => ends.b,
+        Dir::Back => ends.a,
+    }
+}
+
+/// The channel of a node's notices of a link.
+fn channel_to(topology: &Topology, link: LinkNo, node: NodeNo) -> u32
+    requires link { link.0 < length topology.now.links }
+    requires node { node.0 < length topology.now.loopbacks }
+    ensures { result ≡ link.0 * length topology.now.loopbacks + node.0 }
+{
+    topology.laws();
+    u32::from(link.0) * topology.nodes().len() as u32 + u32::from(node.0)
+}
+
+impl Transport {
+    /// The session of a link opens at one of its ends. It answers the number after the last item's.
+    fn open(
+        &mut self,
+        topology: &Topology,
+        link: LinkNo,
+        end: NodeNo,
+        clock: Clock,
+    ) -> Result<u64, AllocError>
+        requires tick { clock.tick ≤ 2 ^ 62 }
+        requires number { All (λ item. item.number < clock.number) self.old.messages }
+        requires may { MayAct topology.now self.old end.0 (Opens link.0) }
+        ensures acts { IfOk result (λ next. Acts topology.now clock.tick clock.number end.0 (Opens link.0) self.old self.new next) }
+        ensures number { IfOk result (λ next. All (λ item. item.number < next) self.new.messages) }
+    {
+        let out = self.nodes[usize::from(end.0)].open(link)?;
+        send(&mut self.messages, topology, end, out, clock)
+    }
+
+    /// And it closes there.
+    fn close(
+        &mut self,
+        topology: &Topology,
+        link: LinkNo,
+        end: NodeNo,
+        clock: Clock,
+    ) -> Result<u64, AllocError>
+        requires tick { clock.tick ≤ 2 ^ 62 }
+        requires number { All (λ item. item.number < clock.number) self.old.messages }
+        requires may { MayAct topology.now self.old end.0 (Closes link.0) }
+        ensures acts { IfOk result (λ next. Acts topology.now clock.tick clock.number end.0 (Closes link.0) self.old self.new next) }
+        ensures number { IfOk result (λ next. All (λ item. item.number < next) self.new.messages) }
+    {
+        let out = self.nodes[usize::from(end.0)].close(link)?;
+        send(&mut self.messages, topology, end, out, clock)
+    }
+
+    /// It opens or closes there.
+    fn turn_end(
+        &mut self,
+        topology: &Topology,
+        link: LinkNo,
+        end: NodeNo,
+        opens: bool,
+        clock: Clock,
+    ) -> Result<u64, AllocError>
+        requires tick { clock.tick ≤ 2 ^ 62 }
+        requires number { All (λ item. item.number < clock.number) self.old.messages }
+        requires may { MayAct topology.now self.old end.0 (turned_by opens link.0) }
+        ensures acts { IfOk result (λ next. Acts topology.now clock.tick clock.number end.0 (turned_by opens link.0) self.old self.new next) }
+        ensures number { IfOk result (λ next. All (λ item. item.number < next) self.new.messages) }
+    {
+        if opens {
+            self.open(topology, link, end, clock)
+        } else {
+            self.close(topology, link, end, clock)
+        }
+    }
+
+    /// The session of a link opens or closes, at its end `a` and then at its end `b`.
+    fn turn_session(
+        &mut self,
+        topology: &Topology,
+        link: LinkNo,
+        opens: bool,
+        clock: Clock,
+    ) -> Result<u64, AllocError>
+        requires link { link.0 < length topology.now.links }
+        requires tick { clock.tick ≤ 2 ^ 62 }
+        requires number { All (λ item. item.number < clock.number) self.old.messages }
+        requires both { MayBoth topology.now self.old link.0 (turned_by opens link.0) }
+        ensures number { IfOk result (λ next. All (λ item. item.number < next) self.new.messages) }
+        ensures turns { IfOk result (λ next. TurnsEnds topology.now clock.tick clock.number link.0 (turned_by opens link.0) self.old self.new next) }
+    {
+        topology.laws();
+        let ends = &topology.links()[usize::from(link.0)];
+        let number = self.turn_end(topology, link, ends.a, opens, clock)?;
+        let clock = Clock {
+            tick: clock.tick,
+            number,
+        };
+        self.turn_end(topology, link, ends.b, opens, clock)
+    }
+
+    /// A link's changes are one more.
+    fn change(&mut self, link: LinkNo, up: bool) -> Result<(), AllocError>
+        requires link { link.0 < length self.old.changes }
+        requires turns { is_link_up self.old.changes link.0 ≢ up }
+        ensures { OnOk result (self.new ≡ record self.old { changes = slice_set self.old.changes link.0 (slice_index self.old.changes link.0 + 1) }) }
+    {
+        // No journal is so long.
+        if self.changes.changes(link) == u32::MAX {
+            return Err(AllocError);
+        }
+        match self.changes.change(link, up) {
+            Ok(_) => Ok(()),
+            Err(_) => unreachable!(),
+        }
+    }
+
+    /// A link comes up or goes down. All are told, and where LDP is switched on for it its session opens or closes.
+    fn turn_link(
+        &mut self,
+        topology: &Topology,
+        link: LinkNo,
+        up: bool,
+        clock: Clock,
+    ) -> Result<u64, AllocError>
+        requires tick { clock.tick ≤ 2 ^ 62 }
+        requires notices { All (λ item. item.number < clock.number) self.old.notices }
+        requires messages { All (λ item. item.number < clock.number) self.old.messages }
+        requires may { MayTurn topology.now self.old link.0 up }
+        ensures notices_below { IfOk result (λ next. All (λ item. item.number < next) self.new.notices) }
+        ensures messages_below { IfOk result (λ next. All (λ item. item.number < next) self.new.messages) }
+        ensures turns { IfOk result (λ next. TurnsLink topology.now clock.tick clock.number link.0 up self.old self.new next) }
+    {
+        self.change(link, up)?;
+        let number = tell_all(&mut self.notices, topology, link, clock)?;
+        cut(&mut self.messages, link);
+        if !self.ldp_on(link) {
+            return Ok(number);
+        }
+        let clock = Clock {
+            tick: clock.tick,
+            number,
+        };
+        self.turn_session(topology, link, up, clock)
+    }
+
+    /// LDP is switched on or off for a link. Where the link is up its session opens or closes.
+    fn switch(
+        &mut self,
+        topology: &Topology,
+        link: LinkNo,
+        on: bool,
+        clock: Clock,
+    ) -> Result<u64, AllocError>
+        requires tick { clock.tick ≤ 2 ^ 62 }
+        requires messages { All (λ item. item.number < clock.number) self.old.messages }
+        requires may { MaySwitch topology.now self.old link.0 on }
+        ensures number { IfOk result (λ next. (clock.number ≤ next) × All (λ item. item.number < next) self.new.messages) }
+        ensures switches { IfOk result (λ next. Switches topology.now clock.tick clock.number link.0 on self.old self.new next) }
+    {
+        self.switches[usize::from(link.0)] = on;
+        cut(&mut self.messages, link);
+        if !self.is_link_up(link) {
+            return Ok(clock.number);
+        }
+        self.turn_session(topology, link, on, clock)
+    }
+
+    /// A node learns the next change of a link.
+    fn learn_next(
+        &mut self,
+        topology: &Topology,
+        node: NodeNo,
+        link: LinkNo,
+        clock: Clock,
+    ) -> Result<u64, AllocError>
+        requires node { node.0 < length topology.now.loopbacks }
+        requires tick { clock.tick ≤ 2 ^ 62 }
+        requires messages { All (λ item. item.number < clock.number) self.old.messages }
+        requires may { MayAct topology.now self.old node.0 (Learns link.0) }
+        ensures number { IfOk result (λ next. (clock.number ≤ next) × All (λ item. item.number < next) self.new.messages) }
+        ensures learns { IfOk result (λ next. LearnsNext topology.now clock.tick clock.number node.0 link.0 self.old self.new next) }
+        ensures flight { OnOk result ((channels : ℕ) × IsFlight channels self.old.notices) }
+    {
+        let _ = self.notices.take(channel_to(topology, link, node), 0);
+        let out = match self.nodes[usize::from(node.0)].learn(&self.changes, link) {
+            Ok(out) => out,
+            // There is a change to learn.
+            Err(LsrBad::Empty) => unreachable!(),
+            Err(_) => return Err(AllocError),
+        };
+        send(&mut self.messages, topology, node, out, clock)
+    }
+
+    /// The node at the end of a direction hears the next PDU.
+    fn hear_next(
+        &mut self,
+        topology: &Topology,
+        link: LinkNo,
+        dir: Dir,
+        clock: Clock,
+    ) -> Result<u64, AllocError>
+        requires link { link.0 < length topology.now.links }
+        requires tick { clock.tick ≤ 2 ^ 62 }
+        requires messages { All (λ item. item.number < clock.number) self.old.messages }
+        requires may { CanHear topology.now self.old link.0 dir }
+        ensures flight { OnOk result ((channels : ℕ) × IsFlight channels self.old.messages) }
+        ensures number { IfOk result (λ next. (clock.number ≤ next) × All (λ item. item.number < next) self.new.messages) }
+        ensures hears { (event : Event) → MayHear topology.now self.old link.0 dir event →
+            IfOk result (λ next. HearsNext topology.now clock.tick clock.number link.0 dir event self.old self.new next) }
+    {
+        let node = receiver(topology, link, dir);
+        let Some(pdu) = self.messages.take(channel_of(link, dir), 0) else {
+            unreachable!();
+        };
+        let out = match self.nodes[usize::from(node.0)].hear_ldp(link, pdu.item.as_slice()) {
+            Ok(out) => out,
+            Err(LsrBad::NoMemory) => return Err(AllocError),
+            // What flies is what was said, and comes in turn.
+            Err(_) => unreachable!(),
+        };
+        send(&mut self.messages, topology, node, out, clock)
+    }
+
+    /// A link comes up: each node is to be told, and where LDP is switched on for it its session opens.
+    ///
+    /// It answers how many items that made, of which the first has the clock's number. After want of memory this and each later step
+    /// answer so.
+    pub fn link_up(
+        &mut self,
+        topology: &Topology,
+        link: LinkNo,
+        clock: Clock,
+    ) -> Result<u64, AllocError>
+        requires tick { clock.tick ≤ 2 ^ 62 }
+        requires notices { All (λ item. item.number < clock.number) self.old.notices }
+        requires messages { All (λ item. item.number < clock.number) self.old.messages }
+        requires may { self.old.failed ≡ false → MayDo topology.now (step.LinkUp link) self.old }
+        ensures did { IfOk result (λ made. Did topology.now clock.tick clock.number (step.LinkUp link) self.old self.new made) }
+        ensures fits { IfOk result (λ made. clock.number + made < 2 ^ 64) }
+        ensures notices_below { IfOk result (λ made. All (λ item. item.number < clock.number + made) self.new.notices) }
+        ensures messages_below { IfOk result (λ made. All (λ item. item.number < clock.number + made) self.new.messages) }
+        ensures no_memory { OnErr result (self.new.failed ≡ true) }
+        ensures for_good { self.old.failed ≡ true → IsErr result }
+    {
+        if self.failed {
+            return Err(AllocError);
+        }
+        topology.laws();
+        match self.turn_link(topology, link, true, clock) {
+            Ok(next) => Ok(next - clock.number),
+            Err(_) => {
+                self.failed = true;
+                Err(AllocError)
+            }
+        }
+    }
+
+    /// A link goes down: each node is to be told, nothing flies on it any more, and its session closes.
+    ///
+    /// It answers how many items that made, of which the first has the clock's number. After want of memory this and each later step
+    /// answer so.
+    pub fn link_down(
+        &mut self,
+        topology: &Topology,
+        link: LinkNo,
+        clock: Clock,
+    ) -> Result<u64, AllocError>
+        requires tick { clock.tick ≤ 2 ^ 62 }
+        requires notices { All (λ item. item.number < clock.number) self.old.notices }
+        requires messages { All (λ item. item.number < clock.number) self.old.messages }
+        requires may { self.old.failed ≡ false → MayDo topology.now (step.LinkDown link) self.old }
+        ensures did { IfOk result (λ made. Did topology.now clock.tick clock.number (step.LinkDown link) self.old self.new made) }
+        ensures fits { IfOk result (λ made. clock.number + made < 2 ^ 64) }
+        ensures notices_below { IfOk result (λ made. All (λ item. item.number < clock.number + made) self.new.notices) }
+        ensures messages_below { IfOk result (λ made. All (λ item. item.number < clock.number + made) self.new.messages) }
+        ensures no_memory { OnErr result (self.new.failed ≡ true) }
+        ensures for_good { self.old.failed ≡ true → IsErr result }
+    {
+        if self.failed {
+            return Err(AllocError);
+        }
+        topology.laws();
+        match self.turn_link(topology, link, false, clock) {
+            Ok(next) => Ok(next - clock.number),
+            Err(_) => {
+                self.failed = true;
+                Err(AllocError)
+            }
+        }
+    }
+
+    /// LDP is switched on or off for a link, whose session opens or closes where the link is up.
+    ///
+    /// It answers how many items that made, of which the first has the clock's number. After want of memory this and each later step
+    /// answer so.
+    pub fn ldp_admin(
+        &mut self,
+        topology: &Topology,
+        link: LinkNo,
+        on: bool,
+        clock: Clock,
+    ) -> Result<u64, AllocError>
+        requires tick { clock.tick ≤ 2 ^ 62 }
+        requires notices { All (λ item. item.number < clock.number) self.old.notices }
+        requires messages { All (λ item. item.number < clock.number) self.old.messages }
+        requires may { self.old.failed ≡ false → MayDo topology.now (step.LdpAdmin link on) self.old }
+        ensures did { IfOk result (λ made. Did topology.now clock.tick clock.number (step.LdpAdmin link on) self.old self.new made) }
+        ensures fits { IfOk result (λ made. clock.number + made < 2 ^ 64) }
+        ensures notices_below { IfOk result (λ made. All (λ item. item.number < clock.number + made) self.new.notices) }
+        ensures messages_below { IfOk result (λ made. All (λ item. item.number < clock.number + made) self.new.messages) }
+        ensures no_memory { OnErr result (self.new.failed ≡ true) }
+        ensures for_good { self.old.failed ≡ true → IsErr result }
+    {
+        if self.failed {
+            return Err(AllocError);
+        }
+        topology.laws();
+        match self.switch(topology, link, on, clock) {
+            Ok(next) => Ok(next - clock.number),
+            Err(_) => {
+                self.failed = true;
+                Err(AllocError)
+            }
+        }
+    }
+
+    /// A node learns the next change of a link, and says what its offers have become.
+    ///
+    /// It answers how many items that made, of which the first has the clock's number. After want of memory this and each later step
+    /// answer so.
+    pub fn learn(
+        &mut self,
+        topology: &Topology,
+        node: NodeNo,
+        link: LinkNo,
+        clock: Clock,
+    ) -> Result<u64, AllocError>
+        requires tick { clock.tick ≤ 2 ^ 62 }
+        requires notices { All (λ item. item.number < clock.number) self.old.notices }
+        requires messages { All (λ item. item.number < clock.number) self.old.messages }
+        requires may { self.old.failed ≡ false → MayDo topology.now (step.Learn node link) self.old }
+        ensures did { IfOk result (λ made. Did topology.now clock.tick clock.number (step.Learn node link) self.old self.new made) }
+        ensures fits { IfOk result (λ made. clock.number + made < 2 ^ 64) }
+        ensures notices_below { IfOk result (λ made. All (λ item. item.number < clock.number + made) self.new.notices) }
+        ensures messages_below { IfOk result (λ made. All (λ item. item.number < clock.number + made) self.new.messages) }
+        ensures no_memory { OnErr result (self.new.failed ≡ true) }
+        ensures for_good { self.old.failed ≡ true → IsErr result }
+    {
+        if self.failed {
+            return Err(AllocError);
+        }
+        topology.laws();
+        match self.learn_next(topology, node, link, clock) {
+            Ok(next) => Ok(next - clock.number),
+            Err(_) => {
+                self.failed = true;
+                Err(AllocError)
+            }
+        }
+    }
+
+    /// The end of a link to which a direction leads hears the next PDU there. It is never refused.
+    ///
+    /// It answers how many items that made, of which the first has the clock's number. After want of memory this and each later step
+    /// answer so.
+    pub fn hear_ldp(
+        &mut self,
+        topology: &Topology,
+        link: LinkNo,
+        dir: Dir,
+        clock: Clock,
+    ) -> Result<u64, AllocError>
+        requires tick { clock.tick ≤ 2 ^ 62 }
+        requires notices { All (λ item. item.number < clock.number) self.old.notices }
+        requires messages { All (λ item. item.number < clock.number) self.old.messages }
+        requires may { self.old.failed ≡ false → MayDo topology.now (step.HearLdp link dir) self.old }
+        ensures did { IfOk result (λ made. Did topology.now clock.tick clock.number (step.HearLdp link dir) self.old self.new made) }
+        ensures fits { IfOk result (λ made. clock.number + made < 2 ^ 64) }
+        ensures notices_below { IfOk result (λ made. All (λ item. item.number < clock.number + made) self.new.notices) }
+        ensures messages_below { IfOk result (λ made. All (λ item. item.number < clock.number + made) self.new.messages) }
+        ensures no_memory { OnErr result (self.new.failed ≡ true) }
+        ensures for_good { self.old.failed ≡ true → IsErr result }
+    {
+        if self.failed {
+            return Err(AllocError);
+        }
+        topology.laws();
+        match self.hear_next(topology, link, dir, clock) {
+            Ok(next) => Ok(next - clock.number),
+            Err(_) => {
+                self.failed = true;
+                Err(AllocError)
+            }
+        }
+    }
+}

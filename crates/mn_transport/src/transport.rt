@@ -1,0 +1,126 @@
+//! The transport, and what its nodes and sessions are.
+ghost use Rattle.std.specs.Prelude.{◌≡◌, ◌≢◌, ◌<◌, List, length, slice_get, slice_index, Some};
+ghost use Rattle.mn_linkdb.specs.Changes.{is_link_up};
+ghost use Rattle.mn_topo.specs.declared.steps.JournalEntry.{JournalEntry};
+ghost use Rattle.mn_ledger.specs.Ledger.{world_of};
+ghost use Rattle.mn_frames.specs.Entries.{outer_for};
+ghost use Rattle.mn_frames.specs.Given.{given};
+ghost use Rattle.mn_lsr.specs.Standing.{FitsOuter};
+ghost use Rattle.mn_transport_model.specs.Stands.{IsTransport};
+
+use crate::flying::{Messages, Notices};
+use mn_base::{LinkNo, NodeNo};
+use mn_linkdb::LinkDb;
+use mn_lsr::Lsr;
+use mn_topo::Topology;
+use std::marker::Model;
+
+/// The transport of all nodes.
+///
+/// Contracts see each node, how often each link was changed, the switches of LDP, the labels of the sites, and what is in flight with
+/// numbers and due ticks.
+#[derive(Drop)]
+pub struct Transport {
+    pub(crate) nodes: Vec<Lsr>,
+    pub(crate) changes: LinkDb,
+    /// By link, whether LDP is switched on for it.
+    pub(crate) switches: Vec<bool>,
+    /// By site, the label of its last attachment.
+    pub(crate) labels: Vec<u32>,
+    pub(crate) notices: Notices,
+    pub(crate) messages: Messages,
+    /// It has wanted memory, and its parts may not fit together any more.
+    pub(crate) failed: bool,
+}
+
+impl Model for Transport {
+    ghost use Rattle.mn_transport_model.specs.Carried.{Carried, HasChannels};
+
+    ghost Value = { Carried };
+
+    ghost view = { λ t. record {
+      nodes = t.nodes.items;
+      changes = t.changes;
+      switches = t.switches.items;
+      labels = t.labels.items;
+      notices = t.notices.items;
+      messages = t.messages.items;
+      failed = t.failed;
+    } };
+
+    ghost invariant = { λ t. HasChannels (record {
+      nodes = t.nodes.items;
+      changes = t.changes;
+      switches = t.switches.items;
+      labels = t.labels.items;
+      notices = t.notices.items;
+      messages = t.messages.items;
+      failed = t.failed;
+    }) t.notices.channels t.messages.channels };
+}
+
+impl Transport {
+    /// A node's transport.
+    pub fn node(&self, node: NodeNo) -> &Lsr
+        requires { node.0 < length self.now.nodes }
+        ensures { slice_get self.now.nodes node.0 ≡ Some result.now }
+    {
+        &self.nodes[usize::from(node.0)]
+    }
+
+    /// How often a link came up or went down.
+    pub fn link_changes(&self, link: LinkNo) -> u32
+        requires { link.0 < length self.now.changes }
+        ensures { result ≡ slice_index self.now.changes link.0 }
+    {
+        self.changes.changes(link)
+    }
+
+    /// Whether a link is up.
+    pub fn is_link_up(&self, link: LinkNo) -> bool
+        requires { link.0 < length self.now.changes }
+        ensures { result ≡ is_link_up self.now.changes link.0 }
+    {
+        self.changes.changes(link) % 2 == 1
+    }
+
+    /// Whether LDP is switched on for a link.
+    pub fn ldp_on(&self, link: LinkNo) -> bool
+        requires { link.0 < length self.now.switches }
+        ensures { slice_get self.now.switches link.0 ≡ Some result }
+    {
+        self.switches[usize::from(link.0)]
+    }
+
+    /// The next hop of a node towards another, and the label to be sent there, none for implicit null.
+    pub fn outer(
+        &self,
+        topology: &Topology,
+        node: NodeNo,
+        edge: NodeNo,
+    ) -> Option<(NodeNo, Option<u32>)>
+        requires node { node.0 < length topology.now.loopbacks }
+        requires edge { edge.0 < length topology.now.loopbacks }
+        requires stands { (journal : List JournalEntry) × IsTransport topology.now journal self.now }
+        ensures told { (journal : List JournalEntry) → IsTransport topology.now journal self.now → node.0 ≢ edge.0 →
+            result ≡ outer_for topology.now (given topology.now journal) (world_of topology.now journal) node.0 edge.0 }
+        ensures fits { FitsOuter result }
+    {
+        topology.laws();
+        self.nodes[usize::from(node.0)].outer(edge)
+    }
+
+    /// The notices in flight.
+    pub fn notices(&self) -> &Notices
+        ensures { result.now.items ≡ self.now.notices }
+    {
+        &self.notices
+    }
+
+    /// The PDUs in flight.
+    pub fn messages(&self) -> &Messages
+        ensures { result.now.items ≡ self.now.messages }
+    {
+        &self.messages
+    }
+}

@@ -1,0 +1,227 @@
+-- Both ends of a link act as its session opens or closes.
+use Rattle.std.proofs.Common.{ℕ, ◌≡◌, ◌≢◌, ◌<◌, ◌≤◌, inl, inr, true, false, List, [], ◌∷◌, ◌++◌, length, map, drop, arith, sym, ◌∙◌, ap, subst, Option, None, Some, append-nil, append_assoc}
+use Rattle.std.specs.Prelude.{◌==◌, ◌||◌, slice_get, slice_set}
+use Rattle.std.specs.List.{flat_map}
+use Rattle.std.proofs.Math.ListN.{length-set}
+use Rattle.std.proofs.lemmas.Bool.Decides.{eqb_tells}
+use Rattle.std.proofs.lemmas.List.{length-append, map-append}
+use Rattle.std.proofs.lemmas.Option.{slice_get_within}
+use Rattle.mn_base.proofs.Bools.{other_test}
+use Rattle.mn_base.specs.Wiring.{Wiring, link, is_end, sender, receiver}
+use Rattle.mn_base.specs.declared.links.Dir.{Dir}
+use Rattle.mn_flight.specs.declared.Item.{Item}
+use Rattle.mn_topo.specs.Network.{Network, wiring_of}
+use Rattle.mn_topo.specs.Lawful.{IsLawful}
+use Rattle.mn_topo.specs.declared.steps.Step.{Step}
+use Rattle.mn_topo.specs.declared.steps.JournalEntry.{JournalEntry}
+use Rattle.mn_node.specs.Ldp.{Message, messages_of}
+use Rattle.mn_node.specs.Machine.{Event, after_any, said, said_any, changed}
+use Rattle.mn_ledger.specs.World.{World, Sessions}
+use Rattle.mn_ledger.specs.Transport.{is_transport, anew, counted, with_said}
+use Rattle.mn_ledger.specs.Ledger.{after}
+use Rattle.mn_ledger.specs.Items.{message_of}
+use Rattle.mn_ledger.proofs.Turning.{is_end-a, is_end-b, dir_ends}
+use Rattle.mn_ledger.proofs.GoingBy.{put_here, put_off}
+use Rattle.mn_ledger.proofs.Mentions.{messages-append}
+use Rattle.mn_slice.specs.Slice.{node_at, event_of, acting}
+use Rattle.mn_slice.specs.Steps.{node_says}
+use Rattle.mn_frames.specs.Given.{given}
+use Rattle.mn_lsr.specs.Standing.{Standing}
+use Rattle.mn_transport_model.specs.Carried.{Carried}
+use Rattle.mn_transport_model.specs.Sending.{spelled, off_link}
+use Rattle.mn_transport_model.specs.Doing.{TurnsEnds}
+use Rattle.mn_transport_model.specs.Stands.{IsNode}
+use Rattle.mn_transport_model.specs.Steps.{IsTurn}
+use Rattle.mn_transport_model.proofs.Lists.{get-set_other, Each, each-set}
+use Rattle.mn_transport_model.proofs.Nodes.{node-then, node-still}
+use Rattle.mn_transport_model.proofs.Own.{AllOwn, IsHere, own-event}
+use Rattle.mn_transport_model.proofs.Releases.{IsBrought}
+use Rattle.mn_transport_model.proofs.Spelled.{FliesAs, none-of-mine}
+use Rattle.mn_transport_model.proofs.Channels.{cut-here, cut-off}
+use Rattle.mn_transport_model.proofs.Puts.{Puts, puts-act, puts-both, puts-none, each-own}
+use Rattle.mn_transport_model.proofs.Flown.{nodes-by, sessions-then, acts-flies}
+
+-- 1. A life begins or ends
+
+-- what flies on the link is cut, as nothing was said in the new life
+pub cut-anew : (w : Wiring) (s : Sessions) (l k : ℕ) (dir : Dir) (items : List (Item (List ℕ))) → FliesAs w k dir (s.heard k (receiver w k dir)) (s.said k (sender w k dir)) items
+    → FliesAs w k dir ((anew s l).heard k (receiver w k dir)) ((anew s l).said k (sender w k dir)) (off_link l items)
+cut-anew w s l k dir items flies = elim (eqb_tells k l) [
+  | inl p ↦ subst (λ j. FliesAs w j dir ((anew s l).heard j (receiver w j dir)) ((anew s l).said j (sender w j dir)) (off_link l items)) (sym p.1)
+      (cut-here l dir items
+      ∙ sym (ap (λ f. drop ((anew s l).heard l (receiver w l dir)) (spelled w l (sender w l dir) 1 (f (sender w l dir)))) (put_here s.said l (λ node. []))
+      ∙ ap (λ f. drop (f (receiver w l dir)) (let none : List (List ℕ) = [] in none)) (put_here s.heard l (λ node. 0))))
+  | inr p ↦ cut-off k l dir items p.1 ∙ flies
+      ∙ sym (ap (λ f. drop ((anew s l).heard k (receiver w k dir)) (spelled w k (sender w k dir) 1 (f (sender w k dir)))) (put_off s.said l (λ node. []) k p.1)
+      ∙ ap (λ f. drop (f (receiver w k dir)) (spelled w k (sender w k dir) 1 (s.said k (sender w k dir)))) (put_off s.heard l (λ node. 0) k p.1))
+]
+
+pub heard-anew : (w : Wiring) (s : Sessions) (l k r far : ℕ) → s.heard k r ≤ length (s.said k far) → (anew s l).heard k r ≤ length ((anew s l).said k far)
+heard-anew w s l k r far h = elim (eqb_tells k l) [
+  | inl p ↦ (let none : (anew s l).heard k r ≡ 0 = ap (λ j. (anew s l).heard j r) p.1 ∙ ap (λ f. f r) (put_here s.heard l (λ node. 0)) in omega (arith, none))
+  | inr p ↦ (let a : (anew s l).heard k r ≡ s.heard k r = ap (λ f. f r) (put_off s.heard l (λ node. 0) k p.1) in
+      let b : length ((anew s l).said k far) ≡ length (s.said k far) = ap (λ f. length (f far)) (put_off s.said l (λ node. []) k p.1) in
+      omega (arith, a, b, h))
+]
+
+-- no end has heard more than was said
+pub heard-within : (t : Network) (w : World) (s : Step) (lawful : IsLawful t) → IsTurn t w s → (k : ℕ) (dir : Dir) → k < length t.links
+    → w.sessions.heard k (receiver (wiring_of t) k dir) ≤ length (w.sessions.said k (sender (wiring_of t) k dir))
+heard-within t w s lawful turn k dir h =
+    let ends = dir_ends (wiring_of t) k dir (lawful.ends_differ k h) in
+    subst (λ far. w.sessions.heard k (receiver (wiring_of t) k dir) ≤ length (w.sessions.said k far)) ends.1 (turn.turn.ldp k (receiver (wiring_of t) k dir) h ends.0).heard
+
+end-of : (w : Wiring) (l n : ℕ) → n ≢ (link w l).a.0 → n ≢ (link w l).b.0 → is_end w l n ≡ false
+end-of w l n d e = ap (λ b. b || ((link w l).b.0 == n)) (other_test (link w l).a.0 n (λ q. d (sym q))) ∙ other_test (link w l).b.0 n (λ q. e (sym q))
+
+-- 2. Both ends act
+
+module _ (t : Network) (es : List JournalEntry) (lawful : IsLawful t) (w : World) (s : Step) (turn : IsTurn t w s) (moves : is_transport s ≡ true)
+    (l : ℕ) (there : l < length t.links) (acts_are : acting t s ≡ (link (wiring_of t) l).a.0 ∷ (link (wiring_of t) l).b.0 ∷ []) (counts_are : counted t w.sessions s ≡ anew w.sessions l)
+    (attached : (site : ℕ) → (after t w s).config.attached site ≡ w.config.attached site) where
+  abbrev v : World
+  v = after t w s
+
+  abbrev wi : Wiring
+  wi = wiring_of t
+
+  abbrev end_a : ℕ
+  end_a = (link (wiring_of t) l).a.0
+
+  abbrev end_b : ℕ
+  end_b = (link (wiring_of t) l).b.0
+
+  sessions-are : (after t w s).sessions ≡ with_said (anew w.sessions l) (node_says t w s end_a ++ (node_says t w s end_b ++ []))
+  sessions-are = sessions-then t lawful w s turn moves ∙ ap (λ ms. with_said (counted t w.sessions s) (flat_map (node_says t w s) ms)) acts_are
+      ∙ ap (λ k. with_said k (node_says t w s end_a ++ (node_says t w s end_b ++ []))) counts_are
+
+  flies-by : (k : ℕ) (dir : Dir) (items : List (Item (List ℕ))) (a b : List Message)
+      → messages_of k (sender (wiring_of t) k dir) (node_says t w s end_a) ≡ a → messages_of k (sender (wiring_of t) k dir) (node_says t w s end_b) ≡ b
+      → FliesAs (wiring_of t) k dir ((anew w.sessions l).heard k (receiver (wiring_of t) k dir)) (((anew w.sessions l).said k (sender (wiring_of t) k dir) ++ a) ++ b) items
+      → FliesAs (wiring_of t) k dir ((after t w s).sessions.heard k (receiver (wiring_of t) k dir)) ((after t w s).sessions.said k (sender (wiring_of t) k dir)) items
+  flies-by k dir items a b is_a is_b flies =
+      let me : ℕ = sender (wiring_of t) k dir in
+      let base : List Message = (anew w.sessions l).said k me in
+      let all : base ++ messages_of k me (node_says t w s end_a ++ (node_says t w s end_b ++ [])) ≡ (base ++ a) ++ b =
+      ap (λ ms. base ++ ms) (messages-append k me (node_says t w s end_a) (node_says t w s end_b ++ [])
+      ∙ ap (λ xs. messages_of k me (node_says t w s end_a) ++ messages_of k me xs) (append-nil (node_says t w s end_b))
+      ∙ ap (λ ms. ms ++ messages_of k me (node_says t w s end_b)) is_a ∙ ap (λ ms. a ++ ms) is_b)
+      ∙ sym (append_assoc base a b) in
+      subst (λ (x : Sessions). FliesAs (wiring_of t) k dir (x.heard k (receiver (wiring_of t) k dir)) (x.said k me) items) (sym sessions-are)
+      (subst (λ ms. FliesAs (wiring_of t) k dir ((anew w.sessions l).heard k (receiver (wiring_of t) k dir)) ms items) (sym all) flies)
+
+  -- where nothing happens to either
+  pub quiet-flies : ((n : ℕ) → event_of t w s n ≡ None) → (k : ℕ) (dir : Dir) (items : List (Item (List ℕ)))
+      → FliesAs (wiring_of t) k dir (w.sessions.heard k (receiver (wiring_of t) k dir)) (w.sessions.said k (sender (wiring_of t) k dir)) items
+      → FliesAs (wiring_of t) k dir ((after t w s).sessions.heard k (receiver (wiring_of t) k dir)) ((after t w s).sessions.said k (sender (wiring_of t) k dir)) (off_link l items)
+  quiet-flies none k dir items flies =
+      let me : ℕ = sender (wiring_of t) k dir in
+      flies-by k dir (off_link l items) [] [] (ap (λ e. messages_of k me (said_any (wiring_of t) (node_at t w end_a) e)) (none end_a)) (ap (λ e. messages_of k me (said_any (wiring_of t) (node_at t w end_b) e)) (none end_b))
+      (subst (λ ms. FliesAs (wiring_of t) k dir ((anew w.sessions l).heard k (receiver (wiring_of t) k dir)) ms (off_link l items))
+      (sym (append-nil ((anew w.sessions l).said k me ++ []) ∙ append-nil ((anew w.sessions l).said k me))) (cut-anew (wiring_of t) w.sessions l k dir items flies))
+
+  pub quiet-nodes : ((n : ℕ) → event_of t w s n ≡ None) → (nodes : List Standing) → length nodes ≡ length t.loopbacks
+      → Each (λ n x. IsNode t (given t es) w n x) nodes → Each (λ n x. IsNode t (given t es) (after t w s) n x) nodes
+  quiet-nodes none nodes each are n x is =
+      let below : n < length t.loopbacks = subst (λ k. n < k) each (slice_get_within nodes n x is) in
+      node-still t es lawful w (after t w s) n below attached x (are n x is) ((nodes-by t lawful w s turn moves).each n below ∙ ap (after_any (wiring_of t) (node_at t w n)) (none n))
+
+  pub quiet-puts : ((n : ℕ) → event_of t w s n ≡ None) → (tick number next : ℕ) (old new : List (Item (List ℕ))) → new ≡ old → next ≡ number
+      → Puts t tick number (map message_of (flat_map (node_says t w s) (acting t s))) old new next
+  quiet-puts none tick number next old new same e =
+      subst (λ xs. Puts t tick number xs old new next)
+      (ap (λ o. map message_of (said_any (wiring_of t) (node_at t w end_a) o ++ [])) (sym (none end_a))
+      ∙ ap (λ o. map message_of (node_says t w s end_a ++ (said_any (wiring_of t) (node_at t w end_b) o ++ []))) (sym (none end_b))
+      ∙ ap (λ ms. map message_of (flat_map (node_says t w s) ms)) (sym acts_are))
+      (puts-none t tick number old new next same e)
+
+  -- where the same happens to both
+  module _ (e : Event) (ends : (n : ℕ) → is_end (wiring_of t) l n ≡ true → event_of t w s n ≡ Some e) (others : (n : ℕ) → is_end (wiring_of t) l n ≡ false → event_of t w s n ≡ None)
+      (here : (n : ℕ) → is_end (wiring_of t) l n ≡ true → IsHere (wiring_of t) (node_at t w n) e) (brought : (n : ℕ) → IsBrought (wiring_of t) (node_at t w n) e)
+      (tick number next : ℕ) (old new : Carried) (did : TurnsEnds t tick number l e old new next)
+      (each : length old.nodes ≡ length t.loopbacks) (are : Each (λ n x. IsNode t (given t es) w n x) old.nodes) where
+    differ : end_a ≢ end_b
+    differ = lawful.ends_differ l there
+
+    middle_nodes : did.middle.nodes ≡ slice_set old.nodes end_a did.first.now
+    middle_nodes = ap (λ (c : Carried). c.nodes) did.first.new_is
+
+    -- the second end is still what it was
+    second_there : slice_get old.nodes end_b ≡ Some did.second.was
+    second_there = sym (get-set_other old.nodes end_a end_b did.first.now differ) ∙ ap (λ xs. slice_get xs end_b) (sym middle_nodes) ∙ did.second.there
+
+    first_is : IsNode t (given t es) w end_a did.first.was
+    first_is = are end_a did.first.was did.first.there
+
+    second_is : IsNode t (given t es) w end_b did.second.was
+    second_is = are end_b did.second.was second_there
+
+    goes : (n : ℕ) → n < length t.loopbacks → (o : Option Event) → event_of t w s n ≡ o → node_at t (after t w s) n ≡ after_any (wiring_of t) (node_at t w n) o
+    goes n below o is = (nodes-by t lawful w s turn moves).each n below ∙ ap (after_any (wiring_of t) (node_at t w n)) is
+
+    pub turned-nodes : Each (λ n x. IsNode t (given t es) (after t w s) n x) new.nodes
+    turned-nodes =
+        subst (Each (λ n x. IsNode t (given t es) (after t w s) n x)) (sym (ap (λ (c : Carried). c.nodes) did.second.new_is))
+        (each-set (λ n x. IsNode t (given t es) (after t w s) n x) did.middle.nodes end_b did.second.was did.second.now did.second.there
+        (node-then t es lawful w (after t w s) end_b (lawful.joins_nodes l there).1 attached e did.second.was did.second.now second_is did.second.becomes
+        (goes end_b (lawful.joins_nodes l there).1 (Some e) (ends end_b (is_end-b (wiring_of t) l))))
+        (λ n x apart is. rest n x apart (subst (λ xs. slice_get xs n ≡ Some x) middle_nodes is)))
+      where
+        rest : (n : ℕ) (x : Standing) → n ≢ end_b → slice_get (slice_set old.nodes end_a did.first.now) n ≡ Some x → IsNode t (given t es) (after t w s) n x
+        rest n x apart is =
+            each-set (λ m y. m ≢ end_b → IsNode t (given t es) (after t w s) m y) old.nodes end_a did.first.was did.first.now did.first.there
+            (λ d. node-then t es lawful w (after t w s) end_a (lawful.joins_nodes l there).0 attached e did.first.was did.first.now first_is did.first.becomes
+            (goes end_a (lawful.joins_nodes l there).0 (Some e) (ends end_a (is_end-a (wiring_of t) l))))
+            (λ m y off at d.
+            let below : m < length t.loopbacks = subst (λ k. m < k) each (slice_get_within old.nodes m y at) in
+            node-still t es lawful w (after t w s) m below attached y (are m y at) (goes m below None (others m (end-of (wiring_of t) l m off d))))
+            n x is apart
+
+    pub turned-each : length new.nodes ≡ length t.loopbacks
+    turned-each =
+        ap (λ (c : Carried). length c.nodes) did.second.new_is ∙ length-set did.middle.nodes end_b did.second.now
+        ∙ ap length middle_nodes ∙ length-set old.nodes end_a did.first.now ∙ each
+
+    own_a : AllOwn (wiring_of t) (changed (wiring_of t) (node_at t w end_a) e) end_a (said (wiring_of t) (node_at t w end_a) e)
+    own_a = own-event (wiring_of t) (node_at t w end_a) e (here end_a (is_end-a (wiring_of t) l))
+
+    pub turned-flies : (k : ℕ) (dir : Dir) → k < length t.links
+        → FliesAs (wiring_of t) k dir ((anew w.sessions l).heard k (receiver (wiring_of t) k dir)) ((anew w.sessions l).said k (sender (wiring_of t) k dir)) old.messages
+        → FliesAs (wiring_of t) k dir ((after t w s).sessions.heard k (receiver (wiring_of t) k dir)) ((after t w s).sessions.said k (sender (wiring_of t) k dir)) new.messages
+    turned-flies k dir h flies =
+        let me : ℕ = sender (wiring_of t) k dir in
+        let heard : ℕ = (anew w.sessions l).heard k (receiver (wiring_of t) k dir) in
+        let base : List Message = (anew w.sessions l).said k me in
+        let a : List Message = messages_of k me (said (wiring_of t) (node_at t w end_a) e) in
+        let b : List Message = messages_of k me (said (wiring_of t) (node_at t w end_b) e) in
+        let within : heard ≤ length base = heard-anew (wiring_of t) w.sessions l k (receiver (wiring_of t) k dir) me (heard-within t w s lawful turn k dir h) in
+        let size : (n : ℕ) → me ≡ n → length base ≡ length ((counted t w.sessions s).said k n) =
+        λ n sends. ap (λ m. length ((anew w.sessions l).said k m)) sends ∙ sym (ap (λ (x : Sessions). length (x.said k n)) counts_are) in
+        let one : FliesAs (wiring_of t) k dir heard (base ++ a) did.middle.messages =
+        acts-flies t lawful w s turn moves tick number end_a did.second_number e old did.middle did.first (ends end_a (is_end-a (wiring_of t) l)) first_is.node_is
+        (here end_a (is_end-a (wiring_of t) l)) (brought end_a) k dir heard base h within (size end_a) flies in
+        let two : FliesAs (wiring_of t) k dir heard ((base ++ a) ++ b) new.messages =
+        acts-flies t lawful w s turn moves tick did.second_number end_b next e did.middle new did.second (ends end_b (is_end-b (wiring_of t) l)) second_is.node_is
+        (here end_b (is_end-b (wiring_of t) l)) (brought end_b) k dir heard (base ++ a) h (let longer = length-append base a in omega (arith, within, longer))
+        (λ sends. ap (λ ms. length (base ++ ms)) (none-of-mine (wiring_of t) k me end_a (changed (wiring_of t) (node_at t w end_a) e) (said (wiring_of t) (node_at t w end_a) e) (λ q. differ (sym q ∙ sends)) own_a)
+        ∙ ap length (append-nil base) ∙ size end_b sends) one in
+        flies-by k dir new.messages a b (ap (λ o. messages_of k me (said_any (wiring_of t) (node_at t w end_a) o)) (ends end_a (is_end-a (wiring_of t) l)))
+        (ap (λ o. messages_of k me (said_any (wiring_of t) (node_at t w end_b) o)) (ends end_b (is_end-b (wiring_of t) l))) two
+
+    own_b : AllOwn (wiring_of t) (changed (wiring_of t) (node_at t w end_b) e) end_b (said (wiring_of t) (node_at t w end_b) e)
+    own_b = own-event (wiring_of t) (node_at t w end_b) e (here end_b (is_end-b (wiring_of t) l))
+
+    says-are : map message_of (said (wiring_of t) (node_at t w end_a) e) ++ map message_of (said (wiring_of t) (node_at t w end_b) e) ≡ map message_of (flat_map (node_says t w s) (acting t s))
+    says-are =
+        sym (map-append message_of (said (wiring_of t) (node_at t w end_a) e) (said (wiring_of t) (node_at t w end_b) e))
+        ∙ ap (λ xs. map message_of (said (wiring_of t) (node_at t w end_a) e ++ xs)) (sym (append-nil (said (wiring_of t) (node_at t w end_b) e)))
+        ∙ ap (λ o. map message_of (said_any (wiring_of t) (node_at t w end_a) o ++ (said (wiring_of t) (node_at t w end_b) e ++ []))) (sym (ends end_a (is_end-a (wiring_of t) l)))
+        ∙ ap (λ o. map message_of (node_says t w s end_a ++ (said_any (wiring_of t) (node_at t w end_b) o ++ []))) (sym (ends end_b (is_end-b (wiring_of t) l)))
+        ∙ ap (λ ms. map message_of (flat_map (node_says t w s) ms)) (sym acts_are)
+
+    pub turned-puts : Puts t tick number (map message_of (flat_map (node_says t w s) (acting t s))) old.messages new.messages next
+    turned-puts =
+        subst (λ xs. Puts t tick number xs old.messages new.messages next) says-are
+        (puts-both t tick number did.second_number next (map message_of (said (wiring_of t) (node_at t w end_a) e)) (map message_of (said (wiring_of t) (node_at t w end_b) e)) old.messages did.middle.messages new.messages
+        (puts-act t tick number end_a did.second_number e old did.middle did.first (node_at t w end_a) first_is.node_is (each-own (wiring_of t) (changed (wiring_of t) (node_at t w end_a) e) end_a (said (wiring_of t) (node_at t w end_a) e) own_a))
+        (puts-act t tick did.second_number end_b next e did.middle new did.second (node_at t w end_b) second_is.node_is (each-own (wiring_of t) (changed (wiring_of t) (node_at t w end_b) e) end_b (said (wiring_of t) (node_at t w end_b) e) own_b)))

@@ -1,0 +1,53 @@
+-- The way out of a node is the ledger's.
+use Rattle.std.proofs.Common.{ℕ, ◌≡◌, ◌≢◌, ◌+◌, ◌<◌, Bool, true, false, List, length, refl, arith, sym, ◌∙◌, ap, subst, Option, None, Some, get_or}
+use Rattle.std.specs.Prelude.{◌==◌, option_map, slice_get, if◌then◌else◌}
+use Rattle.std.specs.List.{position_or_len}
+use Rattle.std.proofs.lemmas.Option.{slice_get_read}
+use Rattle.mn_base.proofs.Bools.{other_test}
+use Rattle.mn_base.specs.Wiring.{Wiring}
+use Rattle.mn_base.specs.declared.numbers.NodeNo.{NodeNo}
+use Rattle.mn_topo.specs.Network.{Network, wiring_of}
+use Rattle.mn_topo.specs.Lawful.{IsLawful}
+use Rattle.mn_topo.specs.declared.steps.JournalEntry.{JournalEntry}
+use Rattle.mn_node.specs.Node.{Node}
+use Rattle.mn_ledger.specs.World.{World}
+use Rattle.mn_ledger.specs.Ledger.{world_of}
+use Rattle.mn_ledger.specs.Transport.{usable}
+use Rattle.mn_frames.specs.Given.{Labelling, given, label_in, fec_of, same_bind}
+use Rattle.mn_frames.specs.Tables.{next_over}
+use Rattle.mn_frames.specs.Entries.{outer_over, outer_for}
+use Rattle.mn_lsr.specs.Standing.{Standing, way_to, sent_to, label_sent}
+use Rattle.mn_transport_model.specs.Carried.{Carried}
+use Rattle.mn_transport_model.specs.Stands.{IsNode, IsTransport}
+use Rattle.mn_transport_model.proofs.Tables.{way-is}
+
+over : (g : Labelling) (edge : ℕ) (o : Option (ℕ × ℕ)) → option_map sent_to (next_over g edge o) ≡ outer_over g edge o
+over g edge None = refl
+over g edge (Some hop) = ap (λ label. let o : Option (NodeNo × Option ℕ) = Some (record { 0 = hop.0 }, label) in o) (by (hop.0 == edge))
+  where
+    by : (b : Bool) → label_sent (if b then 3 else label_in (g hop.0) (fec_of edge)) ≡ (if b then None else Some (if b then 3 else label_in (g hop.0) (fec_of edge)))
+    by true = refl
+    by false = ap (λ b. if b then None else Some (label_in (g hop.0) (fec_of edge))) (other_test (16 + position_or_len (same_bind (fec_of edge)) (g hop.0)) 3 (λ e. absurd (omega (arith, e))))
+
+pub outer-is : (t : Network) (es : List JournalEntry) (lawful : IsLawful t) (w : World) (node : ℕ) → node < length t.loopbacks → (s : Standing) → IsNode t (given t es) w node s → (edge : ℕ) → edge < length t.loopbacks → node ≢ edge
+    → option_map sent_to (way_to s.wiring s.node edge) ≡ outer_for t (given t es) w node edge
+outer-is t es lawful w node below s is edge under apart =
+    ap (option_map sent_to) (ap (λ (x : Wiring). way_to x s.node edge) is.wiring ∙ ap (λ (n : Node). way_to (wiring_of t) n edge) is.node_is ∙ way-is t es lawful w node below edge under apart)
+    ∙ over (given t es) edge (usable t w.config w.views w.sessions node edge)
+
+-- Contracts see the transport as `seen`, the code as `old`. The node at this index was read.
+module _ (t : Network) (lawful : IsLawful t) (old seen : Carried) (view_is : old ≡ seen) (node index : ℕ) (below : node < length t.loopbacks) (at : index ≡ node) (es : List JournalEntry) (stands : IsTransport t es seen) where
+  pub node-there : index < length old.nodes
+  node-there = subst (λ k. k < length old.nodes) (sym at) (subst (λ n. node < n) (sym (ap (λ (c : Carried). length c.nodes) view_is ∙ stands.each)) below)
+
+  module _ (x : Standing) (value : x ≡ get_or old.nodes index x) where
+    node-is : IsNode t (given t es) (world_of t es) node x
+    node-is = stands.nodes node x
+        (ap (λ (c : Carried). slice_get c.nodes node) (sym view_is) ∙ ap (slice_get old.nodes) (sym at) ∙ slice_get_read old.nodes (length old.nodes) index x refl node-there value)
+
+    pub edge-there : (edge : ℕ) → edge < length t.loopbacks → edge < length x.wiring.loopbacks
+    edge-there edge under = subst (λ (w : Wiring). edge < length w.loopbacks) (sym node-is.wiring) under
+
+    pub outer-told : (edge : ℕ) → edge < length t.loopbacks → node ≢ edge → (way : Option (NodeNo × Option ℕ)) → (x.failed ≡ false → way ≡ option_map sent_to (way_to x.wiring x.node edge))
+        → way ≡ outer_for t (given t es) (world_of t es) node edge
+    outer-told edge under apart way is = is node-is.works ∙ outer-is t es lawful (world_of t es) node below x node-is edge under apart
