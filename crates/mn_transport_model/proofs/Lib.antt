@@ -1,3 +1,7 @@
+pub mod Attachments
+pub mod Attaching
+pub mod Detaching
+pub mod Starts
 pub mod Putting
 pub mod Own
 pub mod Spelled

@@ -1,5 +1,5 @@
 -- What a public step's private call asks, and what the step ensures from what that does.
-use Rattle.std.proofs.Common.{ℕ, ◌≡◌, ◌+◌, ◌-◌, ◌*◌, ◌<◌, ◌≤◌, Bool, true, false, length, sym, ◌∙◌, ap, subst}
+use Rattle.std.proofs.Common.{ℕ, ◌≡◌, ◌+◌, ◌-◌, ◌*◌, ◌<◌, ◌≤◌, Bool, true, false, length, sym, subst}
 use Rattle.std.specs.Prelude.{nat_lt, slice_get}
 use Rattle.std.specs.List.{All}
 use Rattle.mn_base.proofs.Bools.{less_tells, and_left}
@@ -10,14 +10,13 @@ use Rattle.mn_base.specs.declared.numbers.NodeNo.{NodeNo}
 use Rattle.mn_flight.specs.Flying.{on_channel, IsFlight}
 use Rattle.mn_topo.specs.Network.{Network, wiring_of}
 use Rattle.mn_topo.specs.Lawful.{IsLawful}
-use Rattle.mn_topo.specs.declared.steps.Step.{Step}
 use Rattle.mn_topo.specs.declared.steps.Step.TheVariants as step
 use Rattle.mn_node.specs.Machine.{Event, Learns}
 use Rattle.mn_ledger.specs.Ledger.{world_of}
 use Rattle.mn_frames.specs.Given.{given}
 use Rattle.mn_transport_model.specs.Carried.{Carried}
 use Rattle.mn_transport_model.specs.Acting.{MayAct, MayHear}
-use Rattle.mn_transport_model.specs.Doing.{MayTurn, TurnsLink, MaySwitch, Switches, LearnsNext, noticed, CanHear, HearsNext, taken}
+use Rattle.mn_transport_model.specs.Doing.{MayTurn, MaySwitch, Switches, LearnsNext, noticed, CanHear, HearsNext, taken}
 use Rattle.mn_transport_model.specs.Steps.{MayDo, Did}
 use Rattle.mn_transport_model.proofs.Can.{can-hear}
 use Rattle.mn_transport_model.proofs.Dids.{switch-rest}
