@@ -3,7 +3,7 @@ use Rattle.std.proofs.Common.{ℕ, zero, suc, ◌≡◌, ◌≢◌, ◌+◌, ◌
 use Rattle.std.specs.Prelude.{◌==◌, ◌&&◌, nat_lt, nat_le, slice_get, slice_set, slice_index_or}
 use Rattle.std.specs.List.{Contains, position_or_len, range_with_len}
 use Rattle.std.proofs.lemmas.Bool.Decides.{eqb_tells}
-use Rattle.std.proofs.lemmas.List.{length-append, length-replicate, map-append}
+use Rattle.std.proofs.lemmas.List.{length-append, map-append}
 use Rattle.std.proofs.lemmas.List.Elements.{filter-append}
 use Rattle.std.proofs.lemmas.List.FromFn.{length-map-range_with_len, get_or-map-range_with_len}
 use Rattle.std.proofs.lemmas.Option.{same_Some, slice_get_within}
@@ -12,8 +12,7 @@ use Rattle.mn_base.specs.declared.links.LinkEnds.{LinkEnds}
 use Rattle.mn_base.proofs.Bools.{and_left, and_right, same_test, other_test, less_tells, at_most_tells}
 use Rattle.mn_base.proofs.Members.{in_map, in_filter, in_range}
 use Rattle.mn_flight.specs.declared.Item.{Item}
-use Rattle.mn_flight.specs.Flying.{IsFlight, on_channel}
-use Rattle.mn_flight.proofs.Kept.{none_flies}
+use Rattle.mn_flight.specs.Flying.{on_channel}
 use Rattle.mn_linkdb.specs.Network.{IsLink}
 use Rattle.mn_labels.specs.declared.meaning.Bind.{Bind}
 use Rattle.mn_labels.specs.Labels.{meaning_of}
@@ -35,7 +34,7 @@ use Rattle.mn_frames.proofs.Numbers.{place_behind}
 use Rattle.mn_frames.proofs.Attaching.{site_of}
 use Rattle.mn_frames.proofs.Anew.{gives_to_each, gives_to_no_other}
 use Rattle.mn_lsr.specs.Standing.{Standing, IsWired, TableStands, fecs_given, attachments}
-use Rattle.mn_transport_model.specs.Carried.{Carried, HasChannels}
+use Rattle.mn_transport_model.specs.Carried.{Carried}
 use Rattle.mn_transport_model.specs.declared.notice.Notice.{Notice}
 use Rattle.mn_transport_model.specs.Stands.{IsNode, IsTransport}
 use Rattle.mn_transport_model.specs.Starting.{first_label, sites_among, IsFirst, AreFirst}
@@ -301,16 +300,3 @@ module _ (t : Network) where
     notices = λ l node h below. ap (λ (xs : List (Item Notice)). 0 + length (on_channel (l * length t.loopbacks + node) xs)) notices;
     messages = λ l dir h. ap (λ (xs : List (Item (List ℕ))). map (λ item. item.item) (on_channel (channel l dir) xs)) messages;
   }
-
--- 6. Its flights have a channel for each link and node, and two for each link
-
-pub new-channels : (t : Network) (carried : Carried) (notices messages : ℕ) → length carried.nodes ≡ length t.loopbacks → carried.changes ≡ replicate (length t.links) 0 → carried.notices ≡ [] → carried.messages ≡ [] →
-    notices ≡ length t.links * length t.loopbacks → messages ≡ 2 * length t.links → HasChannels carried notices messages
-new-channels t carried notices messages each changes told said notices_are messages_are =
-    let size : length carried.changes ≡ length t.links = ap length changes ∙ length-replicate (length t.links) 0 in
-    record {
-      notices_are = notices_are ∙ sym (ap (λ k. k * length carried.nodes) size ∙ ap (λ k. length t.links * k) each);
-      messages_are = messages_are ∙ ap (λ k. 2 * k) (sym size);
-      notices_fly = subst (IsFlight notices) (sym told) (none_flies notices);
-      messages_fly = subst (IsFlight messages) (sym said) (none_flies messages);
-    }
