@@ -19,10 +19,14 @@ loop-number-preserved c =
       table = c.in-Ok.ensures.table;
       kept = c.in-Ok.ensures.kept;
     } in
-    let label = first-is t k there c.loop-number.nodes.items c.loop-number.invariant.first c.home_of-home.result.0 c.from.result c.home_of-home.ensures.home c.from.ensures c.home_of-home.ensures.there
+    let label =
+    first-is t k there c.loop-number.nodes.items c.loop-number.invariant.first c.home_of-home.result.0 c.from.result c.home_of-home.ensures.home
+    c.from.ensures c.home_of-home.ensures.there
     c.index_mut.result.now c.attach.new.self c.in-Ok.label c.index_mut.ensures.value did in
     record {
-      first = next-first t k there c.loop-number.nodes.items c.loop-number.invariant.first c.home_of-home.result.0 c.from.result c.home_of-home.ensures.home c.from.ensures c.home_of-home.ensures.there
+      first = next-first t k there c.loop-number.nodes.items c.loop-number.invariant.first c.home_of-home.result.0 c.from.result c.home_of-home.ensures.home
+          c.from.ensures c.home_of-home.ensures.there
           c.index_mut.result.now c.attach.new.self c.in-Ok.label c.index_mut.ensures.value did;
-      labels = c.in_ok-push-in-Ok.ensures.items ∙ ap (λ x. c.loop-number.labels.items ++ x ∷ []) label ∙ map-more (first_label t) c.loop-number.labels.items k c.loop-number.invariant.labels;
+      labels = c.in_ok-push-in-Ok.ensures.items ∙ ap (λ x. c.loop-number.labels.items ++ x ∷ []) label
+          ∙ map-more (first_label t) c.loop-number.labels.items k c.loop-number.invariant.labels;
     }
