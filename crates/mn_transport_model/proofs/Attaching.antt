@@ -1,5 +1,6 @@
 -- A site is attached at its edge: the transport goes on to stand for the journal.
-use Rattle.std.proofs.Common.{ℕ, ◌≡◌, ◌≢◌, ◌+◌, ◌<◌, ◌≤◌, inl, inr, false, List, [], ◌∷◌, ◌++◌, length, refl, arith, sym, ◌∙◌, ap, subst, Option, None, Some, length-set, get_or-set_same, get_or-set_other}
+use Rattle.std.proofs.Common.{ℕ, ◌≡◌, ◌≢◌, ◌+◌, ◌<◌, ◌≤◌, inl, inr, false, List, [], ◌∷◌, ◌++◌, length, refl, arith, sym, ◌∙◌, ap, subst, Option, None}
+use Rattle.std.proofs.Common.{Some, length-set, get_or-set_same, get_or-set_other}
 use Rattle.std.specs.Prelude.{if◌then◌else◌, is_some, slice_get, slice_set, slice_index}
 use Rattle.std.specs.List.{Contains}
 use Rattle.std.proofs.lemmas.Bool.Decides.{eqb_tells}
@@ -79,10 +80,14 @@ module _ (t : Network) (lawful : IsLawful t) (es : List JournalEntry) (tick : �
   extends node = (given_in t node w.config (step.Attach s), gives_more t es (record { tick = tick; step = step.Attach s }) node)
 
   later-home : later home ≡ given t es home ++ attachment_of s.0 number ∷ []
-  later-home = gives_more t es (record { tick = tick; step = step.Attach s }) home ∙ ap (λ b. given t es home ++ (if b then attachment_of s.0 number ∷ [] else [])) (same_test home)
+  later-home =
+      gives_more t es (record { tick = tick; step = step.Attach s }) home ∙ ap (λ b. given t es home ++ (if b then attachment_of s.0 number ∷ [] else []))
+      (same_test home)
 
   later-other : (node : ℕ) → node ≢ home → later node ≡ given t es node
-  later-other node apart = gives_more t es (record { tick = tick; step = step.Attach s }) node ∙ ap (λ b. given t es node ++ (if b then attachment_of s.0 number ∷ [] else [])) (other_test home node (λ e. apart (sym e))) ∙ append-none (given t es node)
+  later-other node apart =
+      gives_more t es (record { tick = tick; step = step.Attach s }) node ∙ ap (λ b. given t es node ++ (if b then attachment_of s.0 number ∷ [] else []))
+      (other_test home node (λ e. apart (sym e))) ∙ append-none (given t es node)
     where
       append-none : (xs : List Bind) → xs ++ [] ≡ xs
       append-none [] = refl
@@ -100,7 +105,8 @@ module _ (t : Network) (lawful : IsLawful t) (es : List JournalEntry) (tick : �
 
   -- 2. The edge
 
-  module _ (there : s.0 < length t.sites) (detached : is_some (w.config.attached s.0) ≡ false) (was now : Standing) (label : ℕ) (is : IsNode t (given t es) w home was) (did : IsAttached s was now label) where
+  module _ (there : s.0 < length t.sites) (detached : is_some (w.config.attached s.0) ≡ false) (was now : Standing) (label : ℕ)
+      (is : IsNode t (given t es) w home was) (did : IsAttached s was now label) where
     label-was : label ≡ 16 + length (given t es home)
     label-was = did.label_is ∙ ap (λ xs. 16 + length xs) is.labels
 
@@ -150,12 +156,15 @@ module _ (t : Network) (lawful : IsLawful t) (es : List JournalEntry) (tick : �
     table = record {
       fecs = λ edge under d.
           ap (λ binds. use_of x.uses (label_in binds (fec_of edge))) (later-other node apart) ∙ is.table.fecs edge under d
-          ∙ ap fec_use (sym (way-is t es lawful w node below edge under (λ e. d (sym e))) ∙ way-is t (pushed es tick (step.Attach s)) lawful v node below edge under (λ e. d (sym e)));
+          ∙ ap fec_use (sym (way-is t es lawful w node below edge under (λ e. d (sym e)))
+          ∙ way-is t (pushed es tick (step.Attach s)) lawful v node below edge under (λ e. d (sym e)));
       sites = λ site attachment there.
-          let was : Contains (given t es node) (attachment_of site attachment) = subst (λ binds. Contains binds (attachment_of site attachment)) (later-other node apart) there in
+          let was : Contains (given t es node) (attachment_of site attachment) =
+          subst (λ binds. Contains binds (attachment_of site attachment)) (later-other node apart) there in
           let off : site ≢ s.0 = λ e. apart (sym (only t es node site attachment was).0 ∙ ap (home_of t) e) in
           ap (λ binds. use_of x.uses (label_in binds (attachment_of site attachment))) (later-other node apart) ∙ is.table.sites site attachment was
-          ∙ sym (ap (λ (o : Option ℕ). let u : Option Use = Some (if is_attachment o attachment then used_for.Site (record { 0 = site }) else used_for.Ended) in u) (attached-other site off));
+          ∙ sym (ap (λ (o : Option ℕ). let u : Option Use =
+          Some (if is_attachment o attachment then used_for.Site (record { 0 = site }) else used_for.Ended) in u) (attached-other site off));
       reserved = is.table.reserved;
       later = λ label high. is.table.later label (subst (λ binds. 16 + length binds ≤ label) (later-other node apart) high);
     };
@@ -167,18 +176,22 @@ module _ (t : Network) (lawful : IsLawful t) (es : List JournalEntry) (tick : �
   abbrev pub with_site : Carried → Standing → ℕ → Carried
   with_site old now label = record old { nodes = slice_set old.nodes home now; labels = slice_set old.labels s.0 label }
 
-  module _ (old : Carried) (was now : Standing) (label : ℕ) (stands : IsTransport t es old) (there : s.0 < length t.sites) (detached : is_some (w.config.attached s.0) ≡ false)
+  module _ (old : Carried) (was now : Standing) (label : ℕ) (stands : IsTransport t es old) (there : s.0 < length t.sites)
+      (detached : is_some (w.config.attached s.0) ≡ false)
       (here : slice_get old.nodes home ≡ Some was) (did : IsAttached s was now label) where
-    sites-then : (site attachment : ℕ) → site < length t.sites → v.config.attached site ≡ Some attachment → slice_index (slice_set old.labels s.0 label) site ≡ label_at later (home_of t site) site attachment
+    sites-then : (site attachment : ℕ) → site < length t.sites → v.config.attached site ≡ Some attachment →
+        slice_index (slice_set old.labels s.0 label) site ≡ label_at later (home_of t site) site attachment
     sites-then site attachment h at = elim (eqb_tells site s.0) [
       | inl q ↦ subst (λ x. slice_index (slice_set old.labels s.0 label) x ≡ label_at later (home_of t x) x attachment) (sym q.1)
           (get_or-set_same old.labels s.0 label 0 (subst (λ n. s.0 < n) (sym stands.each_site) there)
           ∙ label-then there detached was now label (stands.nodes home was here) did
-          ∙ ap (label_at later home s.0) (same_Some number attachment (sym (put_here w.config.attached s.0 (Some number)) ∙ ap v.config.attached (sym q.1) ∙ at)))
+          ∙ ap (label_at later home s.0)
+          (same_Some number attachment (sym (put_here w.config.attached s.0 (Some number)) ∙ ap v.config.attached (sym q.1) ∙ at)))
       | inr q ↦
           (let before : w.config.attached site ≡ Some attachment = sym (attached-other site q.1) ∙ at in
           get_or-set_other old.labels s.0 site label 0 q.1 ∙ stands.sites site attachment h before
-          ∙ sym (label_stays (given t es) later (home_of t site) (attachment_of site attachment) extends (gives_to_each t es site attachment (present t es site attachment h before))))
+          ∙ sym (label_stays (given t es) later (home_of t site) (attachment_of site attachment) extends
+          (gives_to_each t es site attachment (present t es site attachment h before))))
     ]
 
     stands-then : StandsFor t later v (with_site old now label)
@@ -208,7 +221,8 @@ module _ (t : Network) (lawful : IsLawful t) (es : List JournalEntry) (tick : �
 
 -- 5. No label is left
 
-module _ (t : Network) (es : List JournalEntry) (old : Carried) (node : ℕ) (was now : Standing) (stands : IsTransport t es old) (here : slice_get old.nodes node ≡ Some was) (did : IsSpent was now) where
+module _ (t : Network) (es : List JournalEntry) (old : Carried) (node : ℕ) (was now : Standing) (stands : IsTransport t es old)
+    (here : slice_get old.nodes node ≡ Some was) (did : IsSpent was now) where
   node-stays : IsNode t (given t es) (world_of t es) node now
   node-stays =
       let is : IsNode t (given t es) (world_of t es) node was = stands.nodes node was here in

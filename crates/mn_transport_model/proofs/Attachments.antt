@@ -1,5 +1,6 @@
 -- Which attachments have labels, whatever the journal: those of the node's sites, as many of a site as it was attached.
-use Rattle.std.proofs.Common.{ℕ, zero, suc, ◌≡◌, ◌+◌, ◌<◌, ◌≤◌, inl, inr, Bool, true, false, not, cond, List, [], ◌∷◌, ◌++◌, length, map, filter, refl, arith, sym, ◌∙◌, ap, subst, Some}
+use Rattle.std.proofs.Common.{ℕ, zero, suc, ◌≡◌, ◌+◌, ◌<◌, ◌≤◌, inl, inr, Bool, true, false, not, cond, List, [], ◌∷◌, ◌++◌, length, map, filter, refl}
+use Rattle.std.proofs.Common.{arith, sym, ◌∙◌, ap, subst, Some}
 use Rattle.std.specs.Prelude.{◌==◌, if◌then◌else◌}
 use Rattle.std.specs.List.{Contains, range_with_len}
 use Rattle.std.proofs.lemmas.Bool.Decides.{eqb_tells}
@@ -37,7 +38,8 @@ pub of-others : (site : ℕ) (sites : List ℕ) → (In sites site → ⊥) → 
 of-others site [] none = refl
 of-others site (s ∷ sites) none = let other : (s == site) ≡ false = other_test s site (λ e. none (inl e)) in rw other (of-others site sites (λ i. none (inr i)))
 
-of-one : (p : ℕ → Bool) (site n a : ℕ) → p site ≡ true → a ≤ site → site < a + n → attachments site (map (λ s. attachment_of s 1) (filter p (range_with_len a n))) ≡ 1
+of-one : (p : ℕ → Bool) (site n a : ℕ) → p site ≡ true → a ≤ site → site < a + n →
+    attachments site (map (λ s. attachment_of s 1) (filter p (range_with_len a n))) ≡ 1
 of-one p site zero a is h g = absurd (none h g)
   where
     none : a ≤ site → site < a + 0 → ⊥
@@ -60,7 +62,8 @@ of-one p site (suc n) a is h g = elim (eqb_tells a site) [
 
 -- 2. A step, and a journal
 
-in-step : (t : Network) (c : Config) (step : Step) (site : ℕ) → attachments site (given_in t (home_of t site) c step) + c.attaches site ≡ (config_after c step).attaches site
+in-step : (t : Network) (c : Config) (step : Step) (site : ℕ) →
+    attachments site (given_in t (home_of t site) c step) + c.attaches site ≡ (config_after c step).attaches site
 in-step t c (Attach s) site = elim (eqb_tells site s.0) [
   | inl q ↦ (let home : (home_of t s.0 == home_of t site) ≡ true = ap (λ x. home_of t s.0 == home_of t x) q.1 ∙ same_test (home_of t s.0) in
       let one : (s.0 == site) ≡ true = ap (λ x. s.0 == x) q.1 ∙ same_test s.0 in
@@ -87,7 +90,8 @@ in-journal t (e ∷ es) w site =
     omega (arith, one, rest, both)
 
 -- the next attachment's number is one more than there are labels for
-pub counted : (t : Network) (es : List JournalEntry) (site : ℕ) → site < length t.sites → attachments site (given t es (home_of t site)) ≡ (world_of t es).config.attaches site + 1
+pub counted : (t : Network) (es : List JournalEntry) (site : ℕ) → site < length t.sites →
+    attachments site (given t es (home_of t site)) ≡ (world_of t es).config.attaches site + 1
 unfolding given
 counted t es site h =
     let home : ℕ = home_of t site in
@@ -123,7 +127,8 @@ step-only t node c (Attach s) site k i = by (home_of t s.0 == node) refl i
     by true e (inl same) =
         let number : c.attaches s.0 + 2 ≡ k = ap number_of same in
         let now : put c.attaches s.0 (c.attaches s.0 + 1) s.0 ≡ c.attaches s.0 + 1 = (let one : (s.0 == s.0) ≡ true = same_test s.0 in rw one refl) in
-        subst (λ x. (home_of t x ≡ node) × (k ≤ put c.attaches s.0 (c.attaches s.0 + 1) x + 1)) (ap site_of same) (same_numbers (home_of t s.0) node e, omega (arith, number, now))
+        subst (λ x. (home_of t x ≡ node) × (k ≤ put c.attaches s.0 (c.attaches s.0 + 1) x + 1)) (ap site_of same)
+        (same_numbers (home_of t s.0) node e, omega (arith, number, now))
 step-only t node c _ site k i = absurd i
 
 grows : (t : Network) (es : List JournalEntry) (w : World) (site : ℕ) → w.config.attaches site ≤ (world_from t w es).config.attaches site

@@ -70,14 +70,16 @@ module _ (t : Network) (lawful : IsLawful t) (es : List JournalEntry) (tick : �
       sites = λ site attachment there.
           let off : site ≢ s.0 = λ e. apart (sym (only t es node site attachment there).0 ∙ ap (home_of t) e) in
           is.table.sites site attachment there
-          ∙ sym (ap (λ (o : Option ℕ). let u : Option Use = Some (if is_attachment o attachment then used_for.Site (record { 0 = site }) else used_for.Ended) in u) (attached-other site off));
+          ∙ sym (ap (λ (o : Option ℕ). let u : Option Use =
+          Some (if is_attachment o attachment then used_for.Site (record { 0 = site }) else used_for.Ended) in u) (attached-other site off));
       reserved = is.table.reserved;
       later = is.table.later;
     };
     works = is.works;
   }
 
-  module _ (old : Carried) (stands : IsTransport t es old) (there : s.0 < length t.sites) (attached : is_none (w.config.attached s.0) ≡ false) (was : Standing) (here : slice_get old.nodes home ≡ Some was) where
+  module _ (old : Carried) (stands : IsTransport t es old) (there : s.0 < length t.sites) (attached : is_none (w.config.attached s.0) ≡ false)
+      (was : Standing) (here : slice_get old.nodes home ≡ Some was) where
     abbrev number : ℕ
     number = (some_there (w.config.attached s.0) attached).0
 
@@ -94,7 +96,8 @@ module _ (t : Network) (lawful : IsLawful t) (es : List JournalEntry) (tick : �
     pub may-detach : IsAttachment (meaning_of was.given.given (slice_index old.labels s.0))
     may-detach =
         subst IsAttachment
-        (sym (ap (λ binds. meaning_of binds (slice_index old.labels s.0)) (stands.nodes home was here).labels ∙ ap (meaning_of (g home)) label-is ∙ means_one (g home) (attachment_of s.0 number) labelled)) tt
+        (sym (ap (λ binds. meaning_of binds (slice_index old.labels s.0)) (stands.nodes home was here).labels ∙ ap (meaning_of (g home)) label-is
+        ∙ means_one (g home) (attachment_of s.0 number) labelled)) tt
 
     module _ (now : Standing) (did : IsDetached was now (slice_index old.labels s.0)) where
       edge-then : IsNode t g v home now
@@ -141,5 +144,7 @@ module _ (t : Network) (lawful : IsLawful t) (es : List JournalEntry) (tick : �
 
       pub detach-goes : IsTransport t (pushed es tick (step.Detach s)) (record old { nodes = slice_set old.nodes home now })
       detach-goes =
-          subst (λ x. StandsFor t (given t (pushed es tick (step.Detach s))) x (record old { nodes = slice_set old.nodes home now })) (sym (world-then t es tick (step.Detach s)))
-          (subst (λ x. StandsFor t x v (record old { nodes = slice_set old.nodes home now })) (sym (given-same t es tick (step.Detach s) (λ node. refl))) stands-then)
+          subst (λ x. StandsFor t (given t (pushed es tick (step.Detach s))) x (record old { nodes = slice_set old.nodes home now }))
+          (sym (world-then t es tick (step.Detach s)))
+          (subst (λ x. StandsFor t x v (record old { nodes = slice_set old.nodes home now }))
+          (sym (given-same t es tick (step.Detach s) (λ node. refl))) stands-then)

@@ -2,6 +2,7 @@ pub mod Attachments
 pub mod Attaching
 pub mod Detaching
 pub mod Starts
+pub mod Sited
 pub mod Putting
 pub mod Own
 pub mod Spelled

@@ -1,9 +1,10 @@
 -- A new transport stands for the empty journal.
-use Rattle.std.proofs.Common.{ℕ, zero, suc, ◌≡◌, ◌≢◌, ◌+◌, ◌*◌, ◌<◌, ◌≤◌, ◌⊎◌, inl, inr, Bool, true, false, not, cond, List, [], ◌∷◌, ◌++◌, length, map, filter, replicate, refl, arith, sym, ◌∙◌, ap, subst, None, Some, length-set, append_assoc, append-nil, add-one}
+use Rattle.std.proofs.Common.{ℕ, zero, suc, ◌≡◌, ◌≢◌, ◌+◌, ◌*◌, ◌<◌, ◌≤◌, ◌⊎◌, inl, inr, Bool, true, false, not, cond, List, [], ◌∷◌, ◌++◌, length, map}
+use Rattle.std.proofs.Common.{filter, replicate, refl, arith, sym, ◌∙◌, ap, subst, None, Some, length-set, append_assoc, append-nil, add-one}
 use Rattle.std.specs.Prelude.{◌==◌, ◌&&◌, nat_lt, nat_le, slice_get, slice_set, slice_index_or}
 use Rattle.std.specs.List.{Contains, position_or_len, range_with_len}
 use Rattle.std.proofs.lemmas.Bool.Decides.{eqb_tells}
-use Rattle.std.proofs.lemmas.List.{length-append, length-replicate, map-append}
+use Rattle.std.proofs.lemmas.List.{length-append, map-append}
 use Rattle.std.proofs.lemmas.List.Elements.{filter-append}
 use Rattle.std.proofs.lemmas.List.FromFn.{length-map-range_with_len, get_or-map-range_with_len}
 use Rattle.std.proofs.lemmas.Option.{same_Some, slice_get_within}
@@ -12,8 +13,7 @@ use Rattle.mn_base.specs.declared.links.LinkEnds.{LinkEnds}
 use Rattle.mn_base.proofs.Bools.{and_left, and_right, same_test, other_test, less_tells, at_most_tells}
 use Rattle.mn_base.proofs.Members.{in_map, in_filter, in_range}
 use Rattle.mn_flight.specs.declared.Item.{Item}
-use Rattle.mn_flight.specs.Flying.{IsFlight, on_channel}
-use Rattle.mn_flight.proofs.Kept.{none_flies}
+use Rattle.mn_flight.specs.Flying.{on_channel}
 use Rattle.mn_linkdb.specs.Network.{IsLink}
 use Rattle.mn_labels.specs.declared.meaning.Bind.{Bind}
 use Rattle.mn_labels.specs.Labels.{meaning_of}
@@ -35,7 +35,7 @@ use Rattle.mn_frames.proofs.Numbers.{place_behind}
 use Rattle.mn_frames.proofs.Attaching.{site_of}
 use Rattle.mn_frames.proofs.Anew.{gives_to_each, gives_to_no_other}
 use Rattle.mn_lsr.specs.Standing.{Standing, IsWired, TableStands, fecs_given, attachments}
-use Rattle.mn_transport_model.specs.Carried.{Carried, HasChannels}
+use Rattle.mn_transport_model.specs.Carried.{Carried}
 use Rattle.mn_transport_model.specs.declared.notice.Notice.{Notice}
 use Rattle.mn_transport_model.specs.Stands.{IsNode, IsTransport}
 use Rattle.mn_transport_model.specs.Starting.{first_label, sites_among, IsFirst, AreFirst}
@@ -51,7 +51,8 @@ is-link : (nodes : ℕ) (link : LinkEnds) → joins_two_of nodes link ≡ true �
 is-link nodes link joins figures =
     let both = and_left (nat_lt link.a.0 nodes && nat_lt link.b.0 nodes) (not (link.a.0 == link.b.0)) joins in
     let costs = and_left (nat_le 1 link.cost && nat_le link.cost 65535) (nat_le 1 link.delay && nat_le link.delay 1000)
-    (and_left ((nat_le 1 link.cost && nat_le link.cost 65535) && (nat_le 1 link.delay && nat_le link.delay 1000)) (nat_le 0 link.loss && nat_le link.loss 65535) figures) in
+    (and_left ((nat_le 1 link.cost && nat_le link.cost 65535) && (nat_le 1 link.delay && nat_le link.delay 1000))
+    (nat_le 0 link.loss && nat_le link.loss 65535) figures) in
     let least = at_most_tells 1 link.cost (and_left (nat_le 1 link.cost) (nat_le link.cost 65535) costs) in
     let most = at_most_tells link.cost 65535 (and_right (nat_le 1 link.cost) (nat_le link.cost 65535) costs) in
     record {
@@ -67,7 +68,8 @@ wired t lawful = record {
     few_nodes = lawful.few_nodes;
     few_links = lawful.few_links;
     links = λ l d h.
-        is-link (length t.loopbacks) (slice_index_or t.links l d) (passes_at (joins_two_of (length t.loopbacks)) t.links l d lawful.links.joining h) (passes_at has_figures t.links l d lawful.links.figures h);
+        is-link (length t.loopbacks) (slice_index_or t.links l d) (passes_at (joins_two_of (length t.loopbacks)) t.links l d lawful.links.joining h)
+        (passes_at has_figures t.links l d lawful.links.figures h);
   };
   few_links = lawful.few_links;
   joins = lawful.joins_nodes;
@@ -109,7 +111,8 @@ range-more (suc n) a j e = ap (λ xs. a ∷ xs) (range-more n (a + 1) j (omega (
 -- one list element more, of a table by number
 pub map-more : {A : Type 0} (f : ℕ → A) (xs : List A) (k : ℕ) → xs ≡ map f (range_with_len 0 k) → xs ++ f k ∷ [] ≡ map f (range_with_len 0 (k + 1))
 map-more f xs k e =
-    ap (λ ys. ys ++ f k ∷ []) e ∙ sym (ap (λ n. map f (range_with_len 0 n)) (add-one k) ∙ ap (map f) (range-more k 0 k (omega arith)) ∙ map-append f (range_with_len 0 k) (k ∷ []))
+    ap (λ ys. ys ++ f k ∷ []) e
+    ∙ sym (ap (λ n. map f (range_with_len 0 n)) (add-one k) ∙ ap (map f) (range-more k 0 k (omega arith)) ∙ map-append f (range_with_len 0 k) (k ∷ []))
 
 -- 3. The first labels
 
@@ -134,8 +137,10 @@ place-among p site (suc n) (suc m) a e h is =
     past q = omega (arith, q, e)
 
     either : (b : Bool) → (site == a) ≡ false →
-        position_or_len (same_bind (attachment_of site 1)) (map (λ s. attachment_of s 1) (filter p (range_with_len (a + 1) n))) ≡ length (filter p (range_with_len (a + 1) m)) →
-        position_or_len (same_bind (attachment_of site 1)) (map (λ s. attachment_of s 1) (cond b (a ∷ filter p (range_with_len (a + 1) n)) (filter p (range_with_len (a + 1) n))))
+        position_or_len (same_bind (attachment_of site 1)) (map (λ s. attachment_of s 1) (filter p (range_with_len (a + 1) n))) ≡ length
+        (filter p (range_with_len (a + 1) m)) →
+        position_or_len (same_bind (attachment_of site 1))
+        (map (λ s. attachment_of s 1) (cond b (a ∷ filter p (range_with_len (a + 1) n)) (filter p (range_with_len (a + 1) n))))
         ≡ length (cond b (a ∷ filter p (range_with_len (a + 1) m)) (filter p (range_with_len (a + 1) m)))
     either true e rest = rw e (omega (arith, rest))
     either false e rest = rest
@@ -175,9 +180,12 @@ module _ (t : Network) where
   one_bind binds one other there here same = same_Some one other (sym (means_one binds one there) ∙ ap (meaning_of binds) same ∙ means_one binds other here)
 
   -- two sites of a node have two labels
-  labels-apart : (one other : ℕ) → one < length t.sites → other < length t.sites → home_of t one ≡ home_of t other → first_label t one ≡ first_label t other → one ≡ other
+  labels-apart : (one other : ℕ) → one < length t.sites → other < length t.sites → home_of t one ≡ home_of t other →
+      first_label t one ≡ first_label t other → one ≡ other
   labels-apart one other h g home same =
-      ap site_of (one_bind (given t [] (home_of t other)) (attachment_of one 1) (attachment_of other 1) (subst (λ node. Contains (given t [] node) (attachment_of one 1)) home (has-first one h)) (has-first other g)
+      ap site_of
+      (one_bind (given t [] (home_of t other)) (attachment_of one 1) (attachment_of other 1)
+      (subst (λ node. Contains (given t [] node) (attachment_of one 1)) home (has-first one h)) (has-first other g)
       (sym (ap (λ node. label_in (given t [] node) (attachment_of one 1)) home) ∙ same))
 
   none-yet : (k node : ℕ) → attachments k (given_so_far k node) ≡ 0
@@ -204,7 +212,14 @@ module _ (t : Network) where
 
   -- 4. Nodes
 
-  pub first-node : (node : ℕ) (x : Standing) → x ≡ record { wiring = wiring_of t; node = fresh_node (wiring_of t) node; given = x.given; uses = []; failed = false } →
+  pub first-node : (node : ℕ) (x : Standing) → x ≡ record {
+    wiring = wiring_of t;
+    node = fresh_node (wiring_of t) node;
+    given = x.given;
+    uses = [];
+    failed =
+        false;
+  } →
       x.given.given ≡ fecs_given (length t.loopbacks) node → TableStands x → IsFirst t 0 node x
   first-node node x is given_is table = record {
     wiring = ap (λ s. s.wiring) is;
@@ -228,7 +243,8 @@ module _ (t : Network) where
 
     site-now : (site : ℕ) → site < k + 1 → home_of t site ≡ home_of t k → use_of now.uses (first_label t site) ≡ Some (used_for.Site (record { 0 = site }))
     site-now site h home = elim (eqb_tells site k) [
-      | inl q ↦ subst (λ x. use_of now.uses (first_label t x) ≡ Some (used_for.Site (record { 0 = x }))) (sym q.1) (ap (use_of now.uses) (sym label-first) ∙ did.used)
+      | inl q ↦ subst (λ x. use_of now.uses (first_label t x) ≡ Some (used_for.Site (record { 0 = x }))) (sym q.1)
+          (ap (use_of now.uses) (sym label-first) ∙ did.used)
       | inr q ↦
           (let low : site < k = omega (arith, h, q.1) in
           did.others (first_label t site) (λ e. q.1 (labels-apart site k (omega (arith, low, there)) there home (e ∙ label-first))) ∙ is.sites site low home)
@@ -238,10 +254,13 @@ module _ (t : Network) where
     edge-first = record {
       wiring = ap (λ x. x.wiring) did.kept ∙ is.wiring;
       node_is = ap (λ x. x.node) did.kept ∙ is.node_is;
-      labels = did.given_is ∙ ap (λ xs. xs ++ attachment_of k (attachments k xs + 1) ∷ []) is.labels ∙ ap (λ n. given_so_far k (home_of t k) ++ attachment_of k (n + 1) ∷ []) (none-yet k (home_of t k))
-          ∙ append_assoc (fecs_given (length t.loopbacks) (home_of t k)) (map (λ site. attachment_of site 1) (sites_among t k (home_of t k))) (attachment_of k 1 ∷ [])
+      labels = did.given_is ∙ ap (λ xs. xs ++ attachment_of k (attachments k xs + 1) ∷ []) is.labels
+          ∙ ap (λ n. given_so_far k (home_of t k) ++ attachment_of k (n + 1) ∷ []) (none-yet k (home_of t k))
+          ∙ append_assoc (fecs_given (length t.loopbacks) (home_of t k)) (map (λ site. attachment_of site 1) (sites_among t k (home_of t k)))
+          (attachment_of k 1 ∷ [])
           ∙ sym (ap (λ sites. fecs_given (length t.loopbacks) (home_of t k) ++ map (λ site. attachment_of site 1) sites) (among-more k (home_of t k) refl)
-          ∙ ap (λ binds. fecs_given (length t.loopbacks) (home_of t k) ++ binds) (map-append (λ site. attachment_of site 1) (sites_among t k (home_of t k)) (k ∷ [])));
+          ∙ ap (λ binds. fecs_given (length t.loopbacks) (home_of t k) ++ binds)
+          (map-append (λ site. attachment_of site 1) (sites_among t k (home_of t k)) (k ∷ [])));
       table = did.table;
       sites = site-now;
       works = ap (λ x. x.failed) did.kept ∙ is.works;
@@ -251,7 +270,8 @@ module _ (t : Network) where
     other-first node x apart was = record {
       wiring = was.wiring;
       node_is = was.node_is;
-      labels = was.labels ∙ ap (λ sites. fecs_given (length t.loopbacks) node ++ map (λ site. attachment_of site 1) sites) (sym (among-same k node (λ e. apart (sym e))));
+      labels = was.labels ∙ ap (λ sites. fecs_given (length t.loopbacks) node ++ map (λ site. attachment_of site 1) sites)
+          (sym (among-same k node (λ e. apart (sym e))));
       table = was.table;
       sites = λ site h home. was.sites site (below site h (λ e. apart (sym home ∙ ap (home_of t) e))) home;
       works = was.works;
@@ -281,12 +301,15 @@ module _ (t : Network) where
             let at = gives_to_no_other t [] [] node site attachment tt c in
             let one : attachment ≡ 1 = (let a = at.first in let b : attachment ≤ 0 + 1 = at.last in omega (arith, a, b)) in
             subst (λ n. use_of x.uses (label_in (given t [] node) (attachment_of site n)) ≡ Some (site_entry (start t) site n)) (sym one)
-            (subst (λ n. use_of x.uses (label_in (given t [] n) (attachment_of site 1)) ≡ Some (site_entry (start t) site 1)) at.home (first.sites site at.there at.home)));
+            (subst (λ n. use_of x.uses (label_in (given t [] n) (attachment_of site 1)) ≡ Some (site_entry (start t) site 1)) at.home
+            (first.sites site at.there at.home)));
         works = first.works;
       }
 
-  pub starts : IsLawful t → (carried : Carried) → AreFirst t (length t.sites) carried.nodes → carried.labels ≡ map (first_label t) (range_with_len 0 (length t.sites)) →
-      carried.changes ≡ replicate (length t.links) 0 → carried.switches ≡ replicate (length t.links) true → carried.notices ≡ [] → carried.messages ≡ [] → carried.failed ≡ false → IsTransport t [] carried
+  pub starts : IsLawful t →
+      (carried : Carried) → AreFirst t (length t.sites) carried.nodes → carried.labels ≡ map (first_label t) (range_with_len 0 (length t.sites)) →
+      carried.changes ≡ replicate (length t.links) 0 → carried.switches ≡ replicate (length t.links) true → carried.notices ≡ [] → carried.messages ≡ [] →
+      carried.failed ≡ false → IsTransport t [] carried
   starts lawful carried first labels changes switches notices messages works = record {
     works = works;
     each = first.each;
@@ -301,16 +324,3 @@ module _ (t : Network) where
     notices = λ l node h below. ap (λ (xs : List (Item Notice)). 0 + length (on_channel (l * length t.loopbacks + node) xs)) notices;
     messages = λ l dir h. ap (λ (xs : List (Item (List ℕ))). map (λ item. item.item) (on_channel (channel l dir) xs)) messages;
   }
-
--- 6. Its flights have a channel for each link and node, and two for each link
-
-pub new-channels : (t : Network) (carried : Carried) (notices messages : ℕ) → length carried.nodes ≡ length t.loopbacks → carried.changes ≡ replicate (length t.links) 0 → carried.notices ≡ [] → carried.messages ≡ [] →
-    notices ≡ length t.links * length t.loopbacks → messages ≡ 2 * length t.links → HasChannels carried notices messages
-new-channels t carried notices messages each changes told said notices_are messages_are =
-    let size : length carried.changes ≡ length t.links = ap length changes ∙ length-replicate (length t.links) 0 in
-    record {
-      notices_are = notices_are ∙ sym (ap (λ k. k * length carried.nodes) size ∙ ap (λ k. length t.links * k) each);
-      messages_are = messages_are ∙ ap (λ k. 2 * k) (sym size);
-      notices_fly = subst (IsFlight notices) (sym told) (none_flies notices);
-      messages_fly = subst (IsFlight messages) (sym said) (none_flies messages);
-    }

@@ -23,7 +23,8 @@ pub record IsFirst (topology : Network) (count node : ℕ) (standing : Standing)
   pub node_is : standing.node ≡ fresh_node (wiring_of topology) node
   pub labels : standing.given.given ≡ fecs_given (length topology.loopbacks) node ++ map (λ site. attachment_of site 1) (sites_among topology count node)
   pub table : TableStands standing
-  pub sites : (site : ℕ) → site < count → home_of topology site ≡ node → use_of standing.uses (first_label topology site) ≡ Some (used_for.Site (record { 0 = site }))
+  pub sites : (site : ℕ) → site < count → home_of topology site ≡ node →
+      use_of standing.uses (first_label topology site) ≡ Some (used_for.Site (record { 0 = site }))
   pub works : standing.failed ≡ false
 
 -- and so is each node
