@@ -9,7 +9,7 @@ use Rattle.mn_base.specs.Ordered.{Ascends, one_at}
 use Rattle.mn_base.proofs.Bools.{no, two_ways}
 use Rattle.mn_base.proofs.Members.{In, in_map, map_in, in_filter, filter_in, in_flat_map}
 use Rattle.mn_base.proofs.Orders.{first_neither}
-use Rattle.mn_base.proofs.Places.{ascends_without}
+use Rattle.mn_base.proofs.Places.{ascends_without, all_filter}
 use Rattle.mn_prefix.specs.Prefix.{AddressBlock, prefix_before}
 use Rattle.mn_rib_in.specs.Heard.{Heard}
 use Rattle.mn_targets.specs.Targets.{meet}
@@ -97,7 +97,9 @@ module _ (v : ℕ) (p : AddressBlock) (site : ℕ) where
     less = after_vrf e v (without_static old_static)
 
     order_less : InOrder less
-    order_less = vrf_order v (without_static old_static) (λ u up. ascends_without static_before old_static u.statics up) (λ u. refl) e order
+    order_less = vrf_order v (without_static old_static) (λ u up. ascends_without static_before old_static u.statics up) (λ u. refl) e
+        (λ u is h. all_filter (λ (s : Static). (slice_index_or e.sites s.site (record { 0 = 0 })).0 ≡ u.number)
+        (λ y. static_before y old_static || static_before old_static y) u.statics h) order
 
     abbrev came : List Static
     came = present_of (label_of e site) old_static

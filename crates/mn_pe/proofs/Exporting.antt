@@ -204,7 +204,7 @@ module _ (v : ℕ) (t : Rt) (e : Edge) (order : InOrder e) (told_vrf : VrfState)
   like_back u x l = record { number = sym l.number; statics = sym l.statics; others = λ d. sym (l.others (λ h. d (l.number ∙ h))) }
 
   order_later : (on : Bool) → InOrder (later on)
-  order_later on = vrf_order v (with_exports (target_set t on)) (λ u up. up) (λ u. refl) e order
+  order_later on = vrf_order v (with_exports (target_set t on)) (λ u up. up) (λ u. refl) e (λ u is h. h) order
 
   teller_there : (on : Bool) → In (later on).vrfs (teller on)
   teller_there on = subst (In (later on).vrfs) (at_number on told_vrf is) (map_in (new_of on) e.vrfs told_vrf there)
@@ -330,7 +330,7 @@ module _ (v : ℕ) (t : Rt) (on : Bool) (old new one : List Holding) (sites : Li
     all_hold (x ∷ xs) h all = (one_holds x (h x (inl refl)) all.0, all_hold xs (λ y i. h y (inr i)) all.1)
 
     order_after : InOrder after
-    order_after = vrf_order v (with_exports (target_set t on)) (λ u up. up) (λ u. refl) edge sound.order
+    order_after = vrf_order v (with_exports (target_set t on)) (λ u up. up) (λ u. refl) edge (λ u is h. h) sound.order
 
     sound_at : new ≡ map (exporting on t labels teller_now) one → IsSound after new
     sound_at made = record {

@@ -240,7 +240,7 @@ module _ (v : ℕ) (t : Rt) (e : Edge) (order : InOrder e) where
       ++ flat_map (held_far e w) (range_with_len 0 (length e.heard)))) (same_exports on e.vrfs)
 
   order_later : (on : Bool) → InOrder (later on)
-  order_later on = vrf_order v (with_imports (target_set t on)) (λ u up. up) (λ u. refl) e order
+  order_later on = vrf_order v (with_imports (target_set t on)) (λ u up. up) (λ u. refl) e (λ u is h. h) order
 
   one_before : (on : Bool) (w : VrfState) → In e.vrfs w → HasOnePlaces (raw (later on) w)
   one_before on w i = subst HasOnePlaces (sym (raw_same on w)) (one_places e w (kept_of e order) i)

@@ -23,3 +23,4 @@ pub mod Alone
 pub mod Turned
 pub mod Importing
 pub mod Exporting
+pub mod Attaching

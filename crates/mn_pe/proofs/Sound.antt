@@ -46,7 +46,7 @@ labels_at_peer [] k h = tt
 labels_at_peer (x ∷ xs) zero h = h.0
 labels_at_peer (x ∷ xs) (suc k) h = labels_at_peer xs k h.1
 
-all_with : {A : Type 0} (before : A → A → Bool) (P : A → Type 0) (x : A) (xs : List A) → P x → AllByRecursion P xs → AllByRecursion P (with_one before x xs)
+pub all_with : {A : Type 0} (before : A → A → Bool) (P : A → Type 0) (x : A) (xs : List A) → P x → AllByRecursion P xs → AllByRecursion P (with_one before x xs)
 all_with before P x xs h all = all_append P (filter (λ y. before y x) xs) (x ∷ filter (λ y. before x y) xs) (all_filter P (λ y. before y x) xs all)
     (h, all_filter P (λ y. before x y) xs all)
 
@@ -75,6 +75,7 @@ module _ (edge : Edge) (q : ℕ) (below : q < length edge.heard) where
     few = subst (λ n. n ≤ 65536) (sym (set_length edge.heard q heard)) order.few;
     statics = order.statics;
     vrfs = order.vrfs;
+    homes = order.homes;
     heard = all_set (Ascends heard_before) edge.heard q heard up order.heard;
     labels = all_set HaveLabels edge.heard q heard fit order.labels;
     loopbacks = λ j k d h g. order.loopbacks j k d (subst (λ n. j < n) (set_length edge.heard q heard) h)

@@ -1,5 +1,5 @@
 // One edge, whole.
-ghost use Rattle.std.specs.Prelude.{◌≡◌, ◌↔◌, ◌<◌, ℕ, true, false, None, Err, length, OnOk, OnErr, IfOk, IfErr, IsErr, slice_index, slice_index_or, slice_get};
+ghost use Rattle.std.specs.Prelude.{◌≡◌, ◌↔◌, ◌<◌, ℕ, true, false, None, Some, option_map, Err, length, OnOk, OnErr, IfOk, IfErr, IsErr, slice_index, slice_index_or, slice_get};
 ghost use Rattle.mn_prefix.specs.Table.{longest_match};
 ghost use Rattle.mn_targets.specs.Targets.{target_set};
 ghost use Rattle.mn_vrf.specs.Vrf.{VrfState, heads, with_static, without_static, with_imports, with_exports, add_refused, del_refused, set_refused, refusal_of};
@@ -17,11 +17,11 @@ use crate::changes::{add_in, del_in, export_in, import_in, is_want, set_label};
 use crate::entering::{entered_over, head_at_entry};
 use crate::export::{export_of_in, exports_at_in, exports_in, exports_over_in};
 use crate::hearing::{forget_in_all, hear_reached, hear_withdrawn};
-use crate::look::{held_in, lookup_in};
+use crate::look::{held_in, lookup_in, vrf_in};
 use crate::rebuild::{hold_all, label_at, loopback_at};
 use crate::spreading::spread_present;
 use crate::start::{loopbacks_of, no_labels, nothing_heard, sites_of, vrfs_of};
-use crate::switching::{switch_export, switch_import};
+use crate::switching::{switch_export, switch_import, switch_site};
 use crate::{Entered, Export, NoMemory};
 use mn_base::{NodeNo, Rt, Rule, SiteNo, VrfNo};
 use mn_bgp_wire::Update;
@@ -157,9 +157,17 @@ impl Pe {
         if self.failed {
             return Err(NoMemory);
         }
+        if site.0 as usize >= self.labels.len() {
+            return Ok(());
+        }
+        let vrf = self.vrf_of(site);
         self.failed = true;
         set_label(&mut self.labels, site, Some(label));
-        self.refresh()
+        let Ok(()) = switch_site(&mut self.vrfs, vrf, site, true) else {
+            return Err(NoMemory);
+        };
+        self.failed = false;
+        Ok(())
     }
 
     /// A site loses its label.
@@ -171,9 +179,17 @@ impl Pe {
         if self.failed {
             return Err(NoMemory);
         }
+        if self.attached(site).is_none() {
+            return Ok(());
+        }
+        let vrf = self.vrf_of(site);
         self.failed = true;
         set_label(&mut self.labels, site, None);
-        self.refresh()
+        let Ok(()) = switch_site(&mut self.vrfs, vrf, site, false) else {
+            return Err(NoMemory);
+        };
+        self.failed = false;
+        Ok(())
     }
 
     /// The label of a site, none where it isn't attached. It takes no memory.
@@ -342,6 +358,13 @@ impl Pe {
         ensures { self.now.failed ≡ false → result ≡ found_in vrf.0 (λ (state : VrfState). slice_get (heads (held_by self.now.edge state)) k) self.now.edge.vrfs }
     {
         held_in(&self.vrfs, vrf, k)
+    }
+
+    /// A VRF of the edge, with what it was told. It takes no memory.
+    pub fn vrf(&self, number: VrfNo) -> Option<&Vrf>
+        ensures { option_map (λ vrf. vrf.now.vrf) result ≡ found_in number.0 Some self.now.edge.vrfs }
+    {
+        vrf_in(&self.vrfs, number)
     }
 
     /// What becomes of a packet that a site sends. The packet is copied once, cut to its total length.
