@@ -17,14 +17,12 @@ use Rattle.mn_vrf.specs.Vrf.{Static, VrfState, Holding, static_before, with_stat
 use Rattle.mn_vrf.proofs.Orders.{static_order}
 use Rattle.mn_pe.specs.Edge.{Edge, on_vrf, after_vrf}
 use Rattle.mn_pe.specs.Held.{label_of, held_by}
-use Rattle.mn_pe.specs.Pe.{InOrder, AllHold, IsSound, edge_of, found_in, by_number, IsAbsent}
+use Rattle.mn_pe.specs.Pe.{InOrder, AllHold, IsSound, edge_of, found_in, by_number, IsAbsent, told}
 use Rattle.mn_pe.specs.Changes.{Change, changed, with_changes, spread_to, spread_over, spread_by, present_of, telling, IsSpread, NoVrf, OfVrf}
-use Rattle.mn_pe.specs.Rebuilt.{told}
-use Rattle.mn_pe.proofs.Anew.{told_map}
+use Rattle.mn_pe.proofs.Places.{told_map, absent_on, absent_telling, told_telling}
 use Rattle.mn_pe.proofs.Folds.{changed_held}
 use Rattle.mn_pe.proofs.OnePlaces.{one_of, one_places}
 use Rattle.mn_pe.proofs.Orderly.{vrf_order}
-use Rattle.mn_pe.proofs.Places.{absent_on, absent_telling, told_telling}
 use Rattle.mn_pe.proofs.Sound.{kept_of, all_with}
 use Rattle.mn_pe.proofs.Spreads.{IsPresent, AreAlike, Grows, raw, came_changes}
 

@@ -1,36 +1,32 @@
 -- A site gets a label, or loses it: the statics over it come to the VRFs that are to hold them, or go.
-use Rattle.std.proofs.Common.{ℕ, zero, suc, ◌≡◌, ◌≢◌, ◌<◌, ◌≤◌, ◌⊎◌, inl, inr, Bool, true, false, List, [], ◌∷◌, ◌++◌, map, length, refl, arith, sym, ◌∙◌, ap, subst, Option, Some, None}
+use Rattle.std.proofs.Common.{ℕ, zero, suc, ◌≡◌, ◌≢◌, ◌<◌, ◌⊎◌, inl, inr, Bool, true, false, List, [], ◌∷◌, ◌++◌, map, length, refl, arith, sym, ◌∙◌, ap, subst, Option, Some, None}
 use Rattle.std.specs.Prelude.{◌==◌, slice_index_or, slice_set, if◌then◌else◌}
-use Rattle.std.specs.List.{AllByRecursion}
 use Rattle.std.proofs.lemmas.Bool.Decides.{eqb_tells}
-use Rattle.std.proofs.lemmas.List.{get_or-set_same, get_or-set_other, set-get_or}
+use Rattle.std.proofs.lemmas.List.{get_or-set_same, get_or-set_other}
 use Rattle.std.proofs.lemmas.Option.{same_Some}
 use Rattle.mn_base.specs.declared.numbers.VrfNo.{VrfNo}
-use Rattle.mn_base.proofs.Bools.{no, other_test, test_same, two_ways}
-use Rattle.mn_base.proofs.Members.{In, in_append, in_front, in_rest, in_map}
+use Rattle.mn_base.proofs.Bools.{other_test, test_same, two_ways}
+use Rattle.mn_base.proofs.Members.{In, in_front, in_rest}
 use Rattle.mn_prefix.specs.Prefix.{AddressBlock}
 use Rattle.mn_rib_in.specs.Heard.{Heard}
 use Rattle.mn_targets.specs.Targets.{meet}
 use Rattle.mn_vrf.specs.declared.source.Source.{Source}
 use Rattle.mn_vrf.specs.declared.source.Source.TheVariants.{Own, Near, Far}
 use Rattle.mn_vrf.specs.Vrf.{Static, VrfState, Holding}
-use Rattle.mn_pe.specs.Edge.{Edge, after_attach, after_detach, vrf_of_site}
-use Rattle.mn_pe.specs.Held.{label_of, own_over, near_over, held_by}
-use Rattle.mn_pe.specs.Pe.{PeNow, InOrder, AllHold, IsSound, AreAtHome, edge_of, IsAbsent}
-use Rattle.mn_pe.specs.Changes.{change_of, changed}
-use Rattle.mn_pe.specs.Rebuilt.{told}
+use Rattle.mn_pe.specs.Edge.{Edge, vrf_of_site}
+use Rattle.mn_pe.specs.Held.{own_over, near_over, held_by}
+use Rattle.mn_pe.specs.Pe.{InOrder, AllHold, IsSound, AreAtHome, edge_of, IsAbsent, told}
+use Rattle.mn_pe.specs.Changes.{change_of}
 use Rattle.mn_pe.specs.Switched.{turned, source_for, after_over, turning_over, attaching, IsBy, Nobody, ByVrf}
 use Rattle.mn_pe.proofs.Adding.{same_number, in_told, dummy}
-use Rattle.mn_pe.proofs.Anew.{told_map}
-use Rattle.mn_pe.proofs.Folds.{AreChanges, changed_held}
+use Rattle.mn_pe.proofs.Places.{told_map}
+use Rattle.mn_pe.proofs.Folds.{changed_held}
 use Rattle.mn_pe.proofs.Importing.{from_far}
 use Rattle.mn_pe.proofs.Offers.{AreApart, HasOnePlaces}
 use Rattle.mn_pe.proofs.OnePlaces.{all_in, one_places}
 use Rattle.mn_pe.proofs.Orderly.{label_order}
-use Rattle.mn_pe.proofs.Places.{told_at}
 use Rattle.mn_pe.proofs.Sound.{kept_of, in_vrfs}
 use Rattle.mn_pe.proofs.Spreads.{IsPresent, raw, raw_kinds, own_to, near_to, far_to}
-use Rattle.mn_pe.proofs.Walks.{set_beyond}
 use Rattle.mn_pe.proofs.Turned.{all_changed, turned_is, AreMore, come_more, all_go}
 
 -- 1. The routes that come or go
@@ -386,19 +382,3 @@ module _ (site label : ℕ) (old : List Holding) (sites : List VrfNo) (labels : 
         falls = more.falls;
         apart = apart site was (slice_set labels site None) labels others label has sound.order teller there home w i (set_none labels site) one;
       }))
-
--- 4. Where nothing is changed
-
-pub no_such_site : (n : PeNow) (site label : ℕ) → n.failed ≡ false → length n.edge.labels ≤ site →
-    n ≡ record { edge = after_attach n.edge site label; failed = false }
-no_such_site n site label works beyond =
-    ap (λ b. let p : PeNow = record { edge = n.edge; failed = b } in p) works
-    ∙ ap (λ (ls : List (Option ℕ)). let p : PeNow = record { edge = record n.edge { labels = ls }; failed = false } in p)
-    (sym (set_beyond n.edge.labels site (Some label) beyond))
-
-pub not_attached : (n : PeNow) (site : ℕ) → n.failed ≡ false → slice_index_or n.edge.labels site None ≡ None →
-    n ≡ record { edge = after_detach n.edge site; failed = false }
-not_attached n site works none =
-    ap (λ b. let p : PeNow = record { edge = n.edge; failed = b } in p) works
-    ∙ ap (λ (ls : List (Option ℕ)). let p : PeNow = record { edge = record n.edge { labels = ls }; failed = false } in p)
-    (sym (ap (slice_set n.edge.labels site) (sym none) ∙ set-get_or n.edge.labels site None))

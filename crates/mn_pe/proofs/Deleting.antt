@@ -20,9 +20,8 @@ use Rattle.mn_vrf.specs.Vrf.{Static, VrfState, Holding, static_before, without_s
 use Rattle.mn_vrf.proofs.Orders.{static_order}
 use Rattle.mn_pe.specs.Edge.{Edge, on_vrf, after_vrf}
 use Rattle.mn_pe.specs.Held.{label_of, held_by, far_over}
-use Rattle.mn_pe.specs.Pe.{InOrder, AllHold, IsSound, edge_of, found_in, IsAbsent}
+use Rattle.mn_pe.specs.Pe.{InOrder, AllHold, IsSound, edge_of, found_in, IsAbsent, told}
 use Rattle.mn_pe.specs.Changes.{changed, with_changes, spread_over, present_of, telling, IsSpread, NoVrf, OfVrf}
-use Rattle.mn_pe.specs.Rebuilt.{told}
 use Rattle.mn_pe.proofs.Adding.{same_number, in_told, found_there, dummy, told_spread, index_map, length_map}
 use Rattle.mn_pe.proofs.Folds.{changed_held}
 use Rattle.mn_pe.proofs.Offers.{neither_less}

@@ -5,8 +5,6 @@ pub mod Offers
 pub mod Retracts
 pub mod OnePlaces
 pub mod Sound
-pub mod Rebuilding
-pub mod Anew
 pub mod Places
 pub mod Orderly
 pub mod Starting
@@ -24,3 +22,4 @@ pub mod Turned
 pub mod Importing
 pub mod Exporting
 pub mod Attaching
+pub mod AtStart

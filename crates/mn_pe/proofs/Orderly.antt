@@ -53,10 +53,13 @@ module _ (v : ℕ) (f : VrfState → VrfState) (keeps : (u : VrfState) → Ascen
       AllByRecursion (AreAtHome sites) us → AllByRecursion (AreAtHome sites) (map g us)
   unfolding g
   all_at_home sites home [] all = tt
-  all_at_home sites home (u ∷ us) all = (elim (eqb_tells u.number v) [
-    | inl e ↦ subst (λ b. AreAtHome sites (cond b (f u) u)) (sym e.0) (home u e.1 all.0)
-    | inr d ↦ subst (λ b. AreAtHome sites (cond b (f u) u)) (sym d.0) all.0
-  ], all_at_home sites home us all.1)
+  all_at_home sites home (u ∷ us) all = (
+    elim (eqb_tells u.number v) [
+      | inl e ↦ subst (λ b. AreAtHome sites (cond b (f u) u)) (sym e.0) (home u e.1 all.0)
+      | inr d ↦ subst (λ b. AreAtHome sites (cond b (f u) u)) (sym d.0) all.0
+    ],
+    all_at_home sites home us all.1,
+  )
 
   pub vrf_order : (edge : Edge) → ((u : VrfState) → u.number ≡ v → AreAtHome edge.sites u → AreAtHome edge.sites (f u)) → InOrder edge →
       InOrder (after_vrf edge v f)

@@ -15,7 +15,7 @@ use Rattle.mn_targets.specs.Targets.{meet}
 use Rattle.mn_vrf.specs.declared.source.Source.{Source}
 use Rattle.mn_vrf.specs.Routes.{route_before}
 use Rattle.mn_vrf.specs.Vrf.{VrfState, Holding}
-use Rattle.mn_pe.specs.Edge.{Edge, heard_of_peer}
+use Rattle.mn_pe.specs.Edge.{Edge, heard_of_peer, after_withdrawn, after_reached, after_update, after_forget}
 use Rattle.mn_pe.specs.Held.{held_by, in_order}
 use Rattle.mn_pe.proofs.Offers.{far_of, raw_of, with_peer, offered, HasOnePlaces, set_length}
 use Rattle.mn_pe.proofs.Retracts.{retracted, ignored}
@@ -24,7 +24,6 @@ use Rattle.mn_bgp_wire.specs.Says.{Says}
 use Rattle.mn_vpn_nlri.specs.declared.message.VpnRoute.{VpnRoute}
 use Rattle.mn_base.specs.declared.numbers.Rt.{Rt}
 use Rattle.mn_base.specs.declared.numbers.VrfNo.{VrfNo}
-use Rattle.mn_pe.specs.Edge.{after_withdrawn, after_reached, after_update, after_forget}
 use Rattle.mn_pe.specs.Pe.{InOrder, HaveLabels, AreLabelled, AllHold, IsSound, taking, giving, after_giving, after_taking, edge_of, after_forgetting, numbered, found_in}
 
 pub all_map : {A : Type 0} {B : Type 0} (f : A → B) (P : A → Type 0) (Q : B → Type 0) (xs : List A) → ((x : A) → In xs x → P x → Q (f x)) →

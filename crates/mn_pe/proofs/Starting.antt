@@ -79,8 +79,11 @@ module _ (sites : List SiteDef) (node : ℕ) where
 
       split : (b : Bool) → AllByRecursion (AreAtHome (map (λ (def : SiteDef). def.vrf) sites)) (vrfs_from sites node (v + 1) defs)
           → AllByRecursion (AreAtHome (map (λ (def : SiteDef). def.vrf) sites)) ((if b then vrf_at_start sites v def ∷ [] else []) ++ vrfs_from sites node (v + 1) defs)
-      split true more = (sites_home (map (λ (def : SiteDef). def.vrf) sites) v 0 sites []
-          (λ k. ap (home_at (map (λ (def : SiteDef). def.vrf) sites)) (start k)) tt, more)
+      split true more = (
+        sites_home (map (λ (def : SiteDef). def.vrf) sites) v 0 sites []
+            (λ k. ap (home_at (map (λ (def : SiteDef). def.vrf) sites)) (start k)) tt,
+        more,
+      )
       split false more = more
 
   statics_ascend : (v : ℕ) (defs : List VrfDef) → AllByRecursion (λ (vrf : VrfState). Ascends static_before vrf.statics) (vrfs_from sites node v defs)

@@ -1,8 +1,8 @@
 -- Routes that come or go together, as a list of changes, and which they are.
-use Rattle.std.proofs.Common.{ℕ, ◌≡◌, ◌≢◌, ◌⊎◌, inl, inr, Bool, true, false, cond, List, [], ◌∷◌, ◌++◌, map, refl, sym, ◌∙◌, ap, subst, Option, Some, None}
+use Rattle.std.proofs.Common.{ℕ, ◌≡◌, ◌≢◌, ◌⊎◌, inl, inr, Bool, true, false, List, [], ◌∷◌, ◌++◌, map, refl, sym, ◌∙◌, ap, subst, Option, Some, None}
 use Rattle.std.specs.Prelude.{◌==◌, ◌&&◌, not, slice_index_or, if◌then◌else◌}
 use Rattle.mn_base.specs.declared.numbers.Rt.{Rt}
-use Rattle.mn_base.proofs.Bools.{no, and_left, and_right, and_on, not_on, not_true, other_numbers, other_test}
+use Rattle.mn_base.proofs.Bools.{and_left, and_right, and_on, not_on, not_true, other_numbers, other_test}
 use Rattle.mn_base.proofs.Members.{In, in_append, in_front, in_rest, map_in}
 use Rattle.mn_prefix.specs.Prefix.{AddressBlock}
 use Rattle.mn_rib_in.specs.Heard.{Heard}

@@ -96,6 +96,10 @@ found_in v f (vrf ∷ vrfs) = if vrf.number == v then f vrf else found_in v f vr
 abbrev pub by_number : VrfState → VrfState → Bool
 by_number u w = nat_lt u.number w.number
 
+-- what VRFs were told
+abbrev pub told : List Holding → List VrfState
+told holdings = map (λ (holding : Holding). holding.vrf) holdings
+
 -- none of the VRFs has this number
 abbrev pub IsAbsent : ℕ → List Holding → Type 0
 IsAbsent v holdings = (k : ℕ) (d : Holding) → k < length holdings → (slice_index_or holdings k d).vrf.number ≢ v

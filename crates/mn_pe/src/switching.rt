@@ -4,13 +4,12 @@ ghost use Rattle.std.specs.List.{range_with_len};
 ghost use Rattle.mn_base.specs.Ordered.{Ascends};
 ghost use Rattle.mn_targets.specs.Targets.{has_target};
 ghost use Rattle.mn_vrf.specs.Vrf.{Holding};
-ghost use Rattle.mn_pe.specs.Pe.{by_number};
-ghost use Rattle.mn_pe.specs.Rebuilt.{told};
+ghost use Rattle.mn_pe.specs.Pe.{by_number, told};
 ghost use Rattle.mn_pe.specs.Switched.{meet_else, meet_alone, import_alone, turned, turned_if, after_statics, after_vrfs, after_heard, after_all, at_vrf, importing, telling_statics, exporting, source_for, after_over, turning_over, attaching, IsBy};
 
 use crate::changes::place_of;
 use crate::hearing::far_source;
-use crate::rebuild::{label_at, loopback_at};
+use crate::look::{label_at, loopback_at};
 use mn_base::{NodeNo, Rt, SiteNo, VrfNo};
 use mn_prefix::Prefix;
 use mn_rib_in::RibIn;
@@ -271,12 +270,7 @@ fn attach_to(
 }
 
 /// Each VRF holds the statics over a site of the VRF at a place, or no longer.
-fn attach_at(
-    vrfs: &mut Vec<Vrf>,
-    at: usize,
-    site: SiteNo,
-    on: bool,
-) -> Result<(), AllocError>
+fn attach_at(vrfs: &mut Vec<Vrf>, at: usize, site: SiteNo, on: bool) -> Result<(), AllocError>
     requires there { at < length vrfs.old.items }
     ensures { OnOk result ((d : Holding) → vrfs.new.items ≡ map (attaching on site.0 (slice_index_or vrfs.old.items at d).vrf) vrfs.old.items) }
 {

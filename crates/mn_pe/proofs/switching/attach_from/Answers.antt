@@ -4,7 +4,7 @@ use Rattle.std.proofs.lemmas.List.{get_or_default, get_or-set_same, set-set}
 use Rattle.mn_prefix.specs.Prefix.{AddressBlock}
 use Rattle.mn_vrf.specs.declared.source.Source.{Source}
 use Rattle.mn_vrf.specs.Vrf.{Static, VrfState, Holding}
-use Rattle.mn_pe.specs.Rebuilt.{told}
+use Rattle.mn_pe.specs.Pe.{told}
 use Rattle.mn_pe.specs.Switched.{after_over, turning_over}
 use Rattle.mn_pe.proofs.Offers.{set_length}
 use Rattle.mn_pe.proofs.Places.{told_at, told_stays}

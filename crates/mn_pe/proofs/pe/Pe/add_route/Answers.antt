@@ -2,8 +2,7 @@ use Rattle.std.proofs.Common.{◌≡◌, ℕ, None, List, Option, true, false, s
 use Rattle.mn_vrf.specs.Vrf.{Static, VrfState, with_static, add_refused}
 use Rattle.mn_pe.specs.Changes.{IsSpread}
 use Rattle.mn_pe.specs.Edge.{Edge, after_vrf, vrf_of_site}
-use Rattle.mn_pe.specs.Pe.{PeNow, found_in}
-use Rattle.mn_pe.specs.Rebuilt.{told}
+use Rattle.mn_pe.specs.Pe.{PeNow, found_in, told}
 use Rattle.mn_pe.proofs.Adding.{added_edge, added_sound}
 use Rattle.mn_pe.proofs.pe.Pe.add_route.Goals as goal
 

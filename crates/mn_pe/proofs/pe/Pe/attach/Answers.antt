@@ -1,8 +1,8 @@
-use Rattle.std.proofs.Common.{◌≡◌, ◌<◌, ℕ, List, Option, Some, None, true, false, length, arith, sym, ◌∙◌, ap, subst}
-use Rattle.std.specs.Prelude.{slice_set, slice_index_or}
+use Rattle.std.proofs.Common.{◌≡◌, ◌<◌, ℕ, List, Option, Some, true, false, length, arith, sym, ◌∙◌, ap, subst}
+use Rattle.std.specs.Prelude.{slice_set}
 use Rattle.mn_pe.specs.Edge.{Edge, vrf_of_site, after_attach}
 use Rattle.mn_pe.specs.Pe.{PeNow, IsSound, edge_of}
-use Rattle.mn_pe.proofs.Attaching.{no_such_site, attached_are, switched_edge, switched_sound}
+use Rattle.mn_pe.proofs.Attaching.{attached_are, switched_edge, switched_sound}
 use Rattle.mn_pe.proofs.pe.Pe.attach.Goals as goal
 
 -- each VRF holds what it should

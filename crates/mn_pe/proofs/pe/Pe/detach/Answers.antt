@@ -1,9 +1,9 @@
-use Rattle.std.proofs.Common.{◌≡◌, ◌<◌, ℕ, List, Option, Some, None, false, length, arith, sym, ◌∙◌, ap, subst}
+use Rattle.std.proofs.Common.{◌≡◌, ℕ, List, Option, Some, None, false, sym, ◌∙◌, ap, subst}
 use Rattle.std.specs.Prelude.{slice_set, slice_index_or}
 use Rattle.mn_pe.specs.Edge.{Edge, vrf_of_site, after_detach}
 use Rattle.mn_pe.specs.Pe.{PeNow, IsSound, edge_of}
-use Rattle.mn_pe.proofs.Attaching.{not_attached, detached_are, switched_edge, switched_sound}
-use Rattle.mn_pe.proofs.OneStatic.{none_is, some_is}
+use Rattle.mn_pe.proofs.Attaching.{detached_are, switched_edge, switched_sound}
+use Rattle.mn_pe.proofs.OneStatic.{some_is}
 use Rattle.mn_pe.proofs.pe.Pe.detach.Goals as goal
 
 -- each VRF holds what it should
