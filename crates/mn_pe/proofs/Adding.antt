@@ -17,15 +17,13 @@ use Rattle.mn_vrf.specs.Vrf.{Static, VrfState, Holding, static_before, with_stat
 use Rattle.mn_vrf.proofs.Orders.{static_order}
 use Rattle.mn_pe.specs.Edge.{Edge, on_vrf, after_vrf}
 use Rattle.mn_pe.specs.Held.{label_of, held_by}
-use Rattle.mn_pe.specs.Pe.{InOrder, AllHold, IsSound, edge_of, found_in, by_number, IsAbsent}
+use Rattle.mn_pe.specs.Pe.{InOrder, AllHold, IsSound, edge_of, found_in, by_number, IsAbsent, told}
 use Rattle.mn_pe.specs.Changes.{Change, changed, with_changes, spread_to, spread_over, spread_by, present_of, telling, IsSpread, NoVrf, OfVrf}
-use Rattle.mn_pe.specs.Rebuilt.{told}
-use Rattle.mn_pe.proofs.Anew.{told_map}
+use Rattle.mn_pe.proofs.Places.{told_map, absent_on, absent_telling, told_telling}
 use Rattle.mn_pe.proofs.Folds.{changed_held}
 use Rattle.mn_pe.proofs.OnePlaces.{one_of, one_places}
 use Rattle.mn_pe.proofs.Orderly.{vrf_order}
-use Rattle.mn_pe.proofs.Places.{absent_on, absent_telling, told_telling}
-use Rattle.mn_pe.proofs.Sound.{kept_of}
+use Rattle.mn_pe.proofs.Sound.{kept_of, all_with}
 use Rattle.mn_pe.proofs.Spreads.{IsPresent, AreAlike, Grows, raw, came_changes}
 
 -- 1. Of the VRFs of an edge one has a number
@@ -96,12 +94,15 @@ module _ (v : ℕ) (p : AddressBlock) (site : ℕ) where
   ]
 
   module _ (e : Edge) (order : InOrder e) (free : (w : VrfState) → In e.vrfs w → w.number ≡ v → (x : Static) → In w.statics x →
-      (static_before x new_static || static_before new_static x) ≡ true) where
+      (static_before x new_static || static_before new_static x) ≡ true)
+      (home : (slice_index_or e.sites site (record { 0 = 0 })).0 ≡ v) where
     abbrev more : Edge
     more = after_vrf e v (with_static new_static)
 
     order_more : InOrder more
-    order_more = vrf_order v (with_static new_static) (λ u up. ascends_with static_before new_static u.statics static_order up) (λ u. refl) e order
+    order_more = vrf_order v (with_static new_static) (λ u up. ascends_with static_before new_static u.statics static_order up) (λ u. refl) e
+        (λ u is h. all_with static_before (λ (s : Static). (slice_index_or e.sites s.site (record { 0 = 0 })).0 ≡ u.number) new_static u.statics
+        (home ∙ sym is) h) order
 
     abbrev came : List Static
     came = present_of (label_of e site) new_static
@@ -194,7 +195,8 @@ module _ (v : ℕ) (p : AddressBlock) (site : ℕ) (old new one : List Holding) 
     (hs : List (List Heard))
     (one_is : one ≡ map (telling v (with_static (record { prefix = p; site = site }))) old)
     (spread : IsSpread labels v true (record { prefix = p; site = site }) one new)
-    (fresh : None ≡ found_in v (λ (vrf : VrfState). add_refused p vrf) (told old)) (sound : IsSound (edge_of old sites labels lbs hs) old) where
+    (fresh : None ≡ found_in v (λ (vrf : VrfState). add_refused p vrf) (told old)) (sound : IsSound (edge_of old sites labels lbs hs) old)
+    (home : (slice_index_or sites site (record { 0 = 0 })).0 ≡ v) where
   abbrev edge : Edge
   edge = edge_of old sites labels lbs hs
 
@@ -240,7 +242,7 @@ module _ (v : ℕ) (p : AddressBlock) (site : ℕ) (old new one : List Holding) 
     subst (λ (g : Holding). (spread_one_vrf teller g).held ≡ held_by (after_vrf edge v (with_static (new_static v p site))) (spread_one_vrf teller g).vrf)
         (sym (telling_is x))
         (ap (changed (spread_over teller true (present_of (slice_index_or labels site None) (new_static v p site)) (later v p site x.vrf))) all.0
-        ∙ sym (holds v p site edge sound.order free_place teller is there x.vrf (h x (inl refl)))),
+        ∙ sym (holds v p site edge sound.order free_place home teller is there x.vrf (h x (inl refl)))),
     all_hold teller is there xs (λ y i. h y (inr i)) all.1,
   )
 
@@ -259,7 +261,7 @@ module _ (v : ℕ) (p : AddressBlock) (site : ℕ) (old new one : List Holding) 
       let there : In (on_vrf v (with_static (new_static v p site)) (told old)) teller =
       subst (λ vs. In vs teller) told_one (in_told one at (dummy v) is.there) in
       record {
-        order = order_more v p site edge sound.order free_place;
+        order = order_more v p site edge sound.order free_place home;
         held = subst (AllHold (after_vrf edge v (with_static (new_static v p site)))) (sym (made (dummy v) ∙ ap (map (spread_one_vrf teller)) one_is))
             (all_hold teller (is.is (dummy v)) there old (in_told_all old) sound.held);
       }

@@ -9,7 +9,7 @@ use Rattle.mn_base.specs.Ordered.{Ascends, one_at}
 use Rattle.mn_base.proofs.Bools.{no, two_ways}
 use Rattle.mn_base.proofs.Members.{In, in_map, map_in, in_filter, filter_in, in_flat_map}
 use Rattle.mn_base.proofs.Orders.{first_neither}
-use Rattle.mn_base.proofs.Places.{ascends_without}
+use Rattle.mn_base.proofs.Places.{ascends_without, all_filter}
 use Rattle.mn_prefix.specs.Prefix.{AddressBlock, prefix_before}
 use Rattle.mn_rib_in.specs.Heard.{Heard}
 use Rattle.mn_targets.specs.Targets.{meet}
@@ -20,9 +20,8 @@ use Rattle.mn_vrf.specs.Vrf.{Static, VrfState, Holding, static_before, without_s
 use Rattle.mn_vrf.proofs.Orders.{static_order}
 use Rattle.mn_pe.specs.Edge.{Edge, on_vrf, after_vrf}
 use Rattle.mn_pe.specs.Held.{label_of, held_by, far_over}
-use Rattle.mn_pe.specs.Pe.{InOrder, AllHold, IsSound, edge_of, found_in, IsAbsent}
+use Rattle.mn_pe.specs.Pe.{InOrder, AllHold, IsSound, edge_of, found_in, IsAbsent, told}
 use Rattle.mn_pe.specs.Changes.{changed, with_changes, spread_over, present_of, telling, IsSpread, NoVrf, OfVrf}
-use Rattle.mn_pe.specs.Rebuilt.{told}
 use Rattle.mn_pe.proofs.Adding.{same_number, in_told, found_there, dummy, told_spread, index_map, length_map}
 use Rattle.mn_pe.proofs.Folds.{changed_held}
 use Rattle.mn_pe.proofs.Offers.{neither_less}
@@ -97,7 +96,9 @@ module _ (v : ℕ) (p : AddressBlock) (site : ℕ) where
     less = after_vrf e v (without_static old_static)
 
     order_less : InOrder less
-    order_less = vrf_order v (without_static old_static) (λ u up. ascends_without static_before old_static u.statics up) (λ u. refl) e order
+    order_less = vrf_order v (without_static old_static) (λ u up. ascends_without static_before old_static u.statics up) (λ u. refl) e
+        (λ u is h. all_filter (λ (s : Static). (slice_index_or e.sites s.site (record { 0 = 0 })).0 ≡ u.number)
+        (λ y. static_before y old_static || static_before old_static y) u.statics h) order
 
     abbrev came : List Static
     came = present_of (label_of e site) old_static

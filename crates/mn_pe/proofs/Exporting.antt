@@ -1,7 +1,6 @@
 -- A VRF exports one target more or less: others hold its statics, or do no longer, that import it by that target alone.
 use Rattle.std.proofs.Common.{ℕ, ◌≡◌, ◌≢◌, ◌<◌, ◌⊎◌, inl, inr, Bool, true, false, cond, List, [], ◌∷◌, map, length, refl, sym, ◌∙◌, ap, subst, Option, Some, None}
 use Rattle.std.specs.Prelude.{◌==◌, ◌&&◌, not, slice_index_or, if◌then◌else◌}
-use Rattle.std.specs.List.{AllByRecursion}
 use Rattle.std.proofs.lemmas.Bool.Decides.{eqb_tells}
 use Rattle.mn_base.specs.declared.numbers.Rt.{Rt}
 use Rattle.mn_base.specs.declared.numbers.VrfNo.{VrfNo}
@@ -14,19 +13,17 @@ use Rattle.mn_vrf.specs.declared.source.Source.{Source}
 use Rattle.mn_vrf.specs.Vrf.{Static, VrfState, Holding, with_exports, set_refused}
 use Rattle.mn_pe.specs.Edge.{Edge, on_vrf, after_vrf}
 use Rattle.mn_pe.specs.Held.{own_over, near_over, held_by}
-use Rattle.mn_pe.specs.Pe.{InOrder, AllHold, IsSound, edge_of, found_in, IsAbsent}
-use Rattle.mn_pe.specs.Changes.{change_of, changed, telling}
-use Rattle.mn_pe.specs.Rebuilt.{told}
+use Rattle.mn_pe.specs.Pe.{InOrder, AllHold, IsSound, edge_of, found_in, IsAbsent, told}
+use Rattle.mn_pe.specs.Changes.{change_of, telling}
 use Rattle.mn_pe.specs.Switched.{import_alone, after_statics, exporting, IsBy, Nobody, ByVrf}
 use Rattle.mn_pe.proofs.Adding.{same_number, in_told, found_there, dummy, index_map, length_map}
 use Rattle.mn_pe.proofs.Alone.{Differ, export_differs, export_differs_off}
-use Rattle.mn_pe.proofs.Anew.{told_map}
+use Rattle.mn_pe.proofs.Places.{told_map, absent_on, absent_telling, told_telling}
 use Rattle.mn_pe.proofs.Folds.{changed_held}
-use Rattle.mn_pe.proofs.Importing.{fresh_on, fresh_off, IsFarBy, from_far}
+use Rattle.mn_pe.proofs.Importing.{fresh_on, fresh_off, from_far}
 use Rattle.mn_pe.proofs.Offers.{AreApart, HasOnePlaces, far_of}
 use Rattle.mn_pe.proofs.OnePlaces.{one_places, two_vrfs}
 use Rattle.mn_pe.proofs.Orderly.{vrf_order}
-use Rattle.mn_pe.proofs.Places.{absent_on, absent_telling, told_telling}
 use Rattle.mn_pe.proofs.Retracts.{by_sources}
 use Rattle.mn_pe.proofs.Sound.{kept_of, in_vrfs}
 use Rattle.mn_pe.proofs.Spreads.{raw, raw_kinds, own_to, near_to, far_to}
@@ -204,7 +201,7 @@ module _ (v : ℕ) (t : Rt) (e : Edge) (order : InOrder e) (told_vrf : VrfState)
   like_back u x l = record { number = sym l.number; statics = sym l.statics; others = λ d. sym (l.others (λ h. d (l.number ∙ h))) }
 
   order_later : (on : Bool) → InOrder (later on)
-  order_later on = vrf_order v (with_exports (target_set t on)) (λ u up. up) (λ u. refl) e order
+  order_later on = vrf_order v (with_exports (target_set t on)) (λ u up. up) (λ u. refl) e (λ u is h. h) order
 
   teller_there : (on : Bool) → In (later on).vrfs (teller on)
   teller_there on = subst (In (later on).vrfs) (at_number on told_vrf is) (map_in (new_of on) e.vrfs told_vrf there)
@@ -330,7 +327,7 @@ module _ (v : ℕ) (t : Rt) (on : Bool) (old new one : List Holding) (sites : Li
     all_hold (x ∷ xs) h all = (one_holds x (h x (inl refl)) all.0, all_hold xs (λ y i. h y (inr i)) all.1)
 
     order_after : InOrder after
-    order_after = vrf_order v (with_exports (target_set t on)) (λ u up. up) (λ u. refl) edge sound.order
+    order_after = vrf_order v (with_exports (target_set t on)) (λ u up. up) (λ u. refl) edge (λ u is h. h) sound.order
 
     sound_at : new ≡ map (exporting on t labels teller_now) one → IsSound after new
     sound_at made = record {

@@ -1,7 +1,7 @@
 -- A VRF imports one target more or less: what it holds changes by the routes that meet its set by that target alone.
-use Rattle.std.proofs.Common.{ℕ, ◌≡◌, ◌≢◌, ◌<◌, ◌+◌, ◌⊎◌, inl, inr, Bool, true, false, cond, List, [], ◌∷◌, ◌++◌, map, filter, length, refl, arith, sym, ◌∙◌, ap, subst, Option, Some, None}
-use Rattle.std.specs.Prelude.{◌==◌, ◌&&◌, not, nat_lt, nat_le, slice_index_or, if◌then◌else◌}
-use Rattle.std.specs.List.{AllByRecursion, flat_map, range_with_len}
+use Rattle.std.proofs.Common.{ℕ, ◌≡◌, ◌<◌, ◌+◌, ◌⊎◌, inl, inr, Bool, true, false, cond, List, [], ◌∷◌, ◌++◌, map, filter, length, refl, arith, sym, ◌∙◌, ap, subst, Option, Some, None}
+use Rattle.std.specs.Prelude.{◌==◌, ◌&&◌, not, nat_le, slice_index_or, if◌then◌else◌}
+use Rattle.std.specs.List.{flat_map, range_with_len}
 use Rattle.std.proofs.lemmas.Bool.Decides.{eqb_tells}
 use Rattle.mn_base.specs.declared.numbers.Rt.{Rt}
 use Rattle.mn_base.specs.declared.numbers.VrfNo.{VrfNo}
@@ -12,27 +12,24 @@ use Rattle.mn_prefix.specs.Prefix.{AddressBlock}
 use Rattle.mn_rib_in.specs.Heard.{Heard, heard_before}
 use Rattle.mn_targets.specs.Targets.{target_set, has_target, meet}
 use Rattle.mn_vrf.specs.declared.source.Source.{Source}
-use Rattle.mn_vrf.specs.declared.refusal.VrfBad.{VrfBad}
 use Rattle.mn_vrf.specs.declared.refusal.VrfBad.TheVariants.{Unchanged, TargetsFull}
 use Rattle.mn_vrf.specs.Vrf.{Static, VrfState, Holding, with_imports, set_refused}
 use Rattle.mn_pe.specs.Edge.{Edge, heard_of_peer, on_vrf, after_vrf}
-use Rattle.mn_pe.specs.Held.{Exported, label_of, export_at, exports_with, own_over, near_over, far_over, held_own, held_near, held_far, held_by, in_order}
-use Rattle.mn_pe.specs.Pe.{InOrder, AllHold, IsSound, edge_of, found_in, by_number, far_route}
-use Rattle.mn_pe.specs.Changes.{change_of, changed, telling}
-use Rattle.mn_pe.specs.Rebuilt.{told}
+use Rattle.mn_pe.specs.Held.{Exported, label_of, export_at, exports_with, own_over, near_over, far_over, held_own, held_far, held_by, in_order}
+use Rattle.mn_pe.specs.Pe.{InOrder, AllHold, IsSound, edge_of, found_in, by_number, far_route, told}
+use Rattle.mn_pe.specs.Changes.{change_of, telling}
 use Rattle.mn_pe.specs.Switched.{meet_alone, after_vrfs, at_vrf, importing}
 use Rattle.mn_pe.proofs.Adding.{same_number, found_there}
 use Rattle.mn_pe.proofs.Alone.{Differ, import_differs, import_differs_off}
-use Rattle.mn_pe.proofs.Anew.{told_map}
+use Rattle.mn_pe.proofs.Places.{told_map, told_telling}
 use Rattle.mn_pe.proofs.Folds.{changed_held}
 use Rattle.mn_pe.proofs.Offers.{AreApart, HasOnePlaces, far_of}
 use Rattle.mn_pe.proofs.OnePlaces.{IsKept, one_of, one_places, two_vrfs}
 use Rattle.mn_pe.proofs.Orderly.{vrf_order}
-use Rattle.mn_pe.proofs.Places.{told_telling}
 use Rattle.mn_pe.proofs.Retracts.{by_sources, by_addresses, by_places}
 use Rattle.mn_pe.proofs.Sound.{kept_of, in_vrfs}
 use Rattle.mn_pe.proofs.Spreads.{far_list, raw, raw_kinds, own_to, near_to, far_to}
-use Rattle.mn_pe.proofs.Turned.{near_routes, peer_routes, all_changed, all_append, vrfs_are, peers_are, from_vrfs, to_vrfs, IsNearAlone, IsFarAlone, IsPeerAlone, from_peers, to_peers, AreThese, all_come, all_go}
+use Rattle.mn_pe.proofs.Turned.{near_routes, peer_routes, all_changed, all_append, vrfs_are, peers_are, from_vrfs, to_vrfs, IsNearAlone, IsPeerAlone, from_peers, to_peers, AreThese, all_come, all_go}
 
 -- 1. One VRF, with either set
 
@@ -240,7 +237,7 @@ module _ (v : ℕ) (t : Rt) (e : Edge) (order : InOrder e) where
       ++ flat_map (held_far e w) (range_with_len 0 (length e.heard)))) (same_exports on e.vrfs)
 
   order_later : (on : Bool) → InOrder (later on)
-  order_later on = vrf_order v (with_imports (target_set t on)) (λ u up. up) (λ u. refl) e order
+  order_later on = vrf_order v (with_imports (target_set t on)) (λ u up. up) (λ u. refl) e (λ u is h. h) order
 
   one_before : (on : Bool) (w : VrfState) → In e.vrfs w → HasOnePlaces (raw (later on) w)
   one_before on w i = subst HasOnePlaces (sym (raw_same on w)) (one_places e w (kept_of e order) i)

@@ -5,8 +5,6 @@ pub mod Offers
 pub mod Retracts
 pub mod OnePlaces
 pub mod Sound
-pub mod Rebuilding
-pub mod Anew
 pub mod Places
 pub mod Orderly
 pub mod Starting
@@ -23,3 +21,5 @@ pub mod Alone
 pub mod Turned
 pub mod Importing
 pub mod Exporting
+pub mod Attaching
+pub mod AtStart

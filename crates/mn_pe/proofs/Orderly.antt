@@ -1,11 +1,13 @@
 -- An edge's lists stay in their orders.
-use Rattle.std.proofs.Common.{ℕ, ◌≡◌, Bool, true, false, cond, List, [], ◌∷◌, map, ap, ◌∙◌, Option}
+use Rattle.std.proofs.Common.{ℕ, ◌≡◌, inl, inr, Bool, true, false, cond, List, [], ◌∷◌, map, sym, ap, subst, ◌∙◌, Option}
 use Rattle.std.specs.Prelude.{nat_lt, ◌==◌}
 use Rattle.std.specs.List.{AllByRecursion}
+use Rattle.std.proofs.lemmas.Bool.Decides.{eqb_tells}
+use Rattle.mn_base.specs.declared.numbers.VrfNo.{VrfNo}
 use Rattle.mn_base.specs.Ordered.{Ascends}
 use Rattle.mn_vrf.specs.Vrf.{VrfState, static_before}
 use Rattle.mn_pe.specs.Edge.{Edge, after_vrf}
-use Rattle.mn_pe.specs.Pe.{InOrder, by_number}
+use Rattle.mn_pe.specs.Pe.{InOrder, AreAtHome, by_number}
 
 module _ (v : ℕ) (f : VrfState → VrfState) (keeps : (u : VrfState) → Ascends static_before u.statics → Ascends static_before (f u).statics)
     (stays : (u : VrfState) → (f u).number ≡ u.number) where
@@ -47,9 +49,23 @@ module _ (v : ℕ) (f : VrfState → VrfState) (keeps : (u : VrfState) → Ascen
   in_numbers [] up = tt
   in_numbers (u ∷ us) up = (first_same u (map g us) (behind u.number us up.0), in_numbers us up.1)
 
-  pub vrf_order : (edge : Edge) → InOrder edge → InOrder (after_vrf edge v f)
+  all_at_home : (sites : List VrfNo) → ((u : VrfState) → u.number ≡ v → AreAtHome sites u → AreAtHome sites (f u)) → (us : List VrfState) →
+      AllByRecursion (AreAtHome sites) us → AllByRecursion (AreAtHome sites) (map g us)
   unfolding g
-  vrf_order edge order = record {
+  all_at_home sites home [] all = tt
+  all_at_home sites home (u ∷ us) all = (
+    elim (eqb_tells u.number v) [
+      | inl e ↦ subst (λ b. AreAtHome sites (cond b (f u) u)) (sym e.0) (home u e.1 all.0)
+      | inr d ↦ subst (λ b. AreAtHome sites (cond b (f u) u)) (sym d.0) all.0
+    ],
+    all_at_home sites home us all.1,
+  )
+
+  pub vrf_order : (edge : Edge) → ((u : VrfState) → u.number ≡ v → AreAtHome edge.sites u → AreAtHome edge.sites (f u)) → InOrder edge →
+      InOrder (after_vrf edge v f)
+  unfolding g
+  vrf_order edge home order = record {
+    homes = all_at_home edge.sites home edge.vrfs order.homes;
     few = order.few;
     statics = all_keep edge.vrfs order.statics;
     vrfs = in_numbers edge.vrfs order.vrfs;
@@ -60,6 +76,7 @@ module _ (v : ℕ) (f : VrfState → VrfState) (keeps : (u : VrfState) → Ascen
 
 pub label_order : (edge : Edge) (labels : List (Option ℕ)) → InOrder edge → InOrder (record edge { labels = labels })
 label_order edge labels order = record {
+  homes = order.homes;
   few = order.few;
   statics = order.statics;
   vrfs = order.vrfs;

@@ -1,5 +1,5 @@
 -- A change of the VRF at the place of its number is the change of the VRF of that number.
-use Rattle.std.proofs.Common.{ℕ, zero, suc, ◌≡◌, ◌≢◌, ◌<◌, Bool, true, false, cond, List, [], ◌∷◌, map, length, refl, arith, sym, ◌∙◌, ap, Option, None}
+use Rattle.std.proofs.Common.{ℕ, zero, suc, ◌≡◌, ◌≢◌, ◌<◌, Bool, true, false, cond, List, [], ◌∷◌, ◌++◌, map, take, drop, length, refl, arith, sym, ◌∙◌, ap, Option, None}
 use Rattle.std.specs.Prelude.{Result, Ok, Err, OnOk, OnErr, slice_set, slice_index_or, ◌==◌, if◌then◌else◌}
 use Rattle.std.specs.List.{AllByRecursion}
 use Rattle.std.proofs.lemmas.List.{set-get_or}
@@ -8,8 +8,7 @@ use Rattle.mn_base.proofs.Bools.{none_below, test_same, other_test, less_tells}
 use Rattle.mn_vrf.specs.Vrf.{VrfState, Holding}
 use Rattle.mn_pe.specs.Edge.{on_vrf}
 use Rattle.mn_pe.specs.Changes.{telling}
-use Rattle.mn_pe.specs.Pe.{by_number, found_in, IsAbsent, IsAt}
-use Rattle.mn_pe.specs.Rebuilt.{told}
+use Rattle.mn_pe.specs.Pe.{by_number, found_in, IsAbsent, IsAt, told}
 use Rattle.mn_pe.specs.Switched.{at_vrf}
 
 tail_absent : (v : ℕ) (h : Holding) (hs : List Holding) → IsAbsent v (h ∷ hs) → IsAbsent v hs
@@ -139,3 +138,14 @@ on_ok (Err e) P Q f h = h
 pub on_err : {A E : Type 0} (r : Result A E) (P Q : Type 0) → (P → Q) → OnErr r P → OnErr r Q
 on_err (Ok x) P Q f h = h
 on_err (Err e) P Q f h = f h
+
+-- what VRFs were told stays
+pub told_same : (f : Holding → Holding) → ((h : Holding) → (f h).vrf ≡ h.vrf) → (hs : List Holding) (i : ℕ) → told (map f (take i hs) ++ drop i hs) ≡ told hs
+told_same f e [] zero = refl
+told_same f e [] (suc i) = refl
+told_same f e (h ∷ hs) zero = refl
+told_same f e (h ∷ hs) (suc i) = ap (λ v. v ∷ told (map f (take i hs) ++ drop i hs)) (e h) ∙ ap (λ vs. h.vrf ∷ vs) (told_same f e hs i)
+
+pub told_map : (f : Holding → Holding) → ((h : Holding) → (f h).vrf ≡ h.vrf) → (hs : List Holding) → told (map f hs) ≡ told hs
+told_map f e [] = refl
+told_map f e (h ∷ hs) = ap (λ v. v ∷ told (map f hs)) (e h) ∙ ap (λ vs. h.vrf ∷ vs) (told_map f e hs)

@@ -2,10 +2,9 @@
 use Rattle.std.proofs.Common.{ℕ, ◌≡◌, true, Bool, List, [], ◌∷◌, ◌++◌, Option, Some, None}
 use Rattle.std.specs.List.{flat_map, AllByRecursion}
 use Rattle.mn_base.specs.declared.numbers.Rt.{Rt}
-use Rattle.mn_prefix.specs.Prefix.{AddressBlock}
+use Rattle.mn_prefix.specs.Prefix.{AddressBlock, prefix_before}
 use Rattle.mn_base.specs.Ordered.{Ascends}
 use Rattle.mn_base.proofs.Places.{all_append}
-use Rattle.mn_prefix.specs.Prefix.{prefix_before}
 use Rattle.mn_vrf.specs.Vrf.{Static, VrfState, static_before}
 use Rattle.mn_pe.specs.Edge.{Edge}
 use Rattle.mn_pe.specs.Held.{Exported, label_of, export_at}

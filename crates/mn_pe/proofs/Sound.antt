@@ -15,7 +15,7 @@ use Rattle.mn_targets.specs.Targets.{meet}
 use Rattle.mn_vrf.specs.declared.source.Source.{Source}
 use Rattle.mn_vrf.specs.Routes.{route_before}
 use Rattle.mn_vrf.specs.Vrf.{VrfState, Holding}
-use Rattle.mn_pe.specs.Edge.{Edge, heard_of_peer}
+use Rattle.mn_pe.specs.Edge.{Edge, heard_of_peer, after_withdrawn, after_reached, after_update, after_forget}
 use Rattle.mn_pe.specs.Held.{held_by, in_order}
 use Rattle.mn_pe.proofs.Offers.{far_of, raw_of, with_peer, offered, HasOnePlaces, set_length}
 use Rattle.mn_pe.proofs.Retracts.{retracted, ignored}
@@ -24,7 +24,6 @@ use Rattle.mn_bgp_wire.specs.Says.{Says}
 use Rattle.mn_vpn_nlri.specs.declared.message.VpnRoute.{VpnRoute}
 use Rattle.mn_base.specs.declared.numbers.Rt.{Rt}
 use Rattle.mn_base.specs.declared.numbers.VrfNo.{VrfNo}
-use Rattle.mn_pe.specs.Edge.{after_withdrawn, after_reached, after_update, after_forget}
 use Rattle.mn_pe.specs.Pe.{InOrder, HaveLabels, AreLabelled, AllHold, IsSound, taking, giving, after_giving, after_taking, edge_of, after_forgetting, numbered, found_in}
 
 pub all_map : {A : Type 0} {B : Type 0} (f : A → B) (P : A → Type 0) (Q : B → Type 0) (xs : List A) → ((x : A) → In xs x → P x → Q (f x)) →
@@ -46,7 +45,7 @@ labels_at_peer [] k h = tt
 labels_at_peer (x ∷ xs) zero h = h.0
 labels_at_peer (x ∷ xs) (suc k) h = labels_at_peer xs k h.1
 
-all_with : {A : Type 0} (before : A → A → Bool) (P : A → Type 0) (x : A) (xs : List A) → P x → AllByRecursion P xs → AllByRecursion P (with_one before x xs)
+pub all_with : {A : Type 0} (before : A → A → Bool) (P : A → Type 0) (x : A) (xs : List A) → P x → AllByRecursion P xs → AllByRecursion P (with_one before x xs)
 all_with before P x xs h all = all_append P (filter (λ y. before y x) xs) (x ∷ filter (λ y. before x y) xs) (all_filter P (λ y. before y x) xs all)
     (h, all_filter P (λ y. before x y) xs all)
 
@@ -75,6 +74,7 @@ module _ (edge : Edge) (q : ℕ) (below : q < length edge.heard) where
     few = subst (λ n. n ≤ 65536) (sym (set_length edge.heard q heard)) order.few;
     statics = order.statics;
     vrfs = order.vrfs;
+    homes = order.homes;
     heard = all_set (Ascends heard_before) edge.heard q heard up order.heard;
     labels = all_set HaveLabels edge.heard q heard fit order.labels;
     loopbacks = λ j k d h g. order.loopbacks j k d (subst (λ n. j < n) (set_length edge.heard q heard) h)

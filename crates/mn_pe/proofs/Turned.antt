@@ -1,8 +1,8 @@
 -- Routes that come or go together, as a list of changes, and which they are.
-use Rattle.std.proofs.Common.{ℕ, ◌≡◌, ◌≢◌, ◌⊎◌, inl, inr, Bool, true, false, cond, List, [], ◌∷◌, ◌++◌, map, refl, sym, ◌∙◌, ap, subst, Option, Some, None}
+use Rattle.std.proofs.Common.{ℕ, ◌≡◌, ◌≢◌, ◌⊎◌, inl, inr, Bool, true, false, List, [], ◌∷◌, ◌++◌, map, refl, sym, ◌∙◌, ap, subst, Option, Some, None}
 use Rattle.std.specs.Prelude.{◌==◌, ◌&&◌, not, slice_index_or, if◌then◌else◌}
 use Rattle.mn_base.specs.declared.numbers.Rt.{Rt}
-use Rattle.mn_base.proofs.Bools.{no, and_left, and_right, and_on, not_on, not_true, other_numbers, other_test}
+use Rattle.mn_base.proofs.Bools.{and_left, and_right, and_on, not_on, not_true, other_numbers, other_test}
 use Rattle.mn_base.proofs.Members.{In, in_append, in_front, in_rest, map_in}
 use Rattle.mn_prefix.specs.Prefix.{AddressBlock}
 use Rattle.mn_rib_in.specs.Heard.{Heard}
@@ -11,7 +11,7 @@ use Rattle.mn_vrf.specs.Vrf.{Static, VrfState, Holding}
 use Rattle.mn_pe.specs.Held.{near_over}
 use Rattle.mn_pe.specs.Pe.{far_route}
 use Rattle.mn_pe.specs.Changes.{Change, Comes, Goes, change_of, changed}
-use Rattle.mn_pe.specs.Switched.{meet_alone, import_alone, telling_statics, exporting, turned, turned_if, after_statics, after_vrfs, after_heard, after_all}
+use Rattle.mn_pe.specs.Switched.{meet_alone, import_alone, telling_statics, exporting, source_for, turning_over, attaching, turned, turned_if, after_statics, after_vrfs, after_heard, after_all}
 use Rattle.mn_pe.proofs.Offers.{AreApart}
 use Rattle.mn_pe.proofs.Folds.{AreChanges}
 
@@ -45,7 +45,7 @@ peer_routes t loopbacks heard imports (p ∷ ps) =
 abbrev pub all_changed : Bool → List (AddressBlock × Source) → List (AddressBlock × Source) → List (AddressBlock × Source)
 all_changed on routes held = changed (map (change_of on) routes) held
 
-turned_is : (on : Bool) (r : AddressBlock × Source) (cs : List Change) (held : List (AddressBlock × Source)) →
+pub turned_is : (on : Bool) (r : AddressBlock × Source) (cs : List Change) (held : List (AddressBlock × Source)) →
     changed (change_of on r ∷ cs) held ≡ changed cs (turned on r held)
 turned_is true r cs held = refl
 turned_is false r cs held = refl
@@ -117,6 +117,13 @@ exporting_keeps on t labels teller h = split (not (h.vrf.number == teller.number
     split : (b : Bool) → (let g : Holding = if b then telling_statics on labels teller h else h in g.vrf) ≡ h.vrf
     split true = refl
     split false = refl
+
+pub attaching_keeps : (on : Bool) (site : ℕ) (teller : VrfState) (h : Holding) → (attaching on site teller h).vrf ≡ h.vrf
+attaching_keeps on site teller h = split (source_for h.vrf teller site)
+  where
+    split : (o : Option Source) → (turning_over on site teller o h).vrf ≡ h.vrf
+    split None = refl
+    split (Some source) = refl
 
 -- 3. Which they are
 
@@ -282,13 +289,22 @@ pub record AreThese (less more came : List (AddressBlock × Source)) : Type 0 wh
   pub falls : (z : AddressBlock × Source) → In more z → In less z ⊎ In came z
   pub apart : (z r : AddressBlock × Source) → In less z → In came r → AreApart z r
 
-pub all_come : (less more came : List (AddressBlock × Source)) → AreThese less more came → AreChanges less more (map (change_of true) came)
-all_come less more came these = record {
+-- the same of what may be held already
+pub record AreMore (less more came : List (AddressBlock × Source)) : Type 0 where
+  pub rises : (z : AddressBlock × Source) → In less z → In more z
+  pub arrives : (z : AddressBlock × Source) → In came z → In more z
+  pub falls : (z : AddressBlock × Source) → In more z → In less z ⊎ In came z
+
+pub come_more : (less more came : List (AddressBlock × Source)) → AreMore less more came → AreChanges less more (map (change_of true) came)
+come_more less more came these = record {
   comes = λ r i. these.arrives r (in_comes came r i);
   gone = λ z r i j. absurd (none_goes came r j);
   only = λ z i. elim (these.falls z i) [ inl j ↦ inl j | inr k ↦ inr (map_in (change_of true) came z k) ];
   left = λ z i. inl (these.rises z i);
 }
+
+pub all_come : (less more came : List (AddressBlock × Source)) → AreThese less more came → AreChanges less more (map (change_of true) came)
+all_come less more came these = come_more less more came (record { rises = these.rises; arrives = these.arrives; falls = these.falls })
 
 pub all_go : (less more came : List (AddressBlock × Source)) → AreThese less more came → AreChanges more less (map (change_of false) came)
 all_go less more came these = record {

@@ -2,7 +2,6 @@ pub mod Edge
 pub mod Held
 pub mod Pe
 pub mod Changes
-pub mod Rebuilt
 pub mod Switched
 pub mod Exports
 pub mod Start

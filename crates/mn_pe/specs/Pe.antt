@@ -11,7 +11,7 @@ use Rattle.mn_rib_in.specs.Heard.{Heard, heard_before}
 use Rattle.mn_targets.specs.Targets.{meet}
 use Rattle.mn_vrf.specs.declared.source.Source.{Source}
 use Rattle.mn_vrf.specs.Routes.{route_before}
-use Rattle.mn_vrf.specs.Vrf.{VrfState, Holding, static_before}
+use Rattle.mn_vrf.specs.Vrf.{Static, VrfState, Holding, static_before}
 use Rattle.mn_vrf.specs.declared.refusal.VrfBad.{VrfBad}
 use Rattle.mn_vrf.specs.declared.refusal.VrfBad.TheVariants.{NoMemory}
 use Rattle.mn_pe.specs.Edge.{Edge}
@@ -38,11 +38,16 @@ AreLabelled routes = AllByRecursion (λ (route : VpnRoute). route.label < 2 ^ 20
 abbrev pub AllHold : Edge → List Holding → Type 0
 AllHold edge holdings = AllByRecursion (λ (holding : Holding). holding.held ≡ held_by edge holding.vrf) holdings
 
+-- a VRF's statics are over its own sites
+abbrev pub AreAtHome : List VrfNo → VrfState → Type 0
+AreAtHome sites vrf = AllByRecursion (λ (static : Static). (slice_index_or sites static.site (record { 0 = 0 })).0 ≡ vrf.number) vrf.statics
+
 -- the edge's lists stand in their orders, what was heard has labels, and no two nodes have one loopback
 pub record InOrder (edge : Edge) : Type 0 where
   pub few : length edge.heard ≤ 65536  -- nodes are numbered by two bytes
   pub statics : AllByRecursion (λ (vrf : VrfState). Ascends static_before vrf.statics) edge.vrfs
   pub vrfs : Ascends (λ (u w : VrfState). nat_lt u.number w.number) edge.vrfs
+  pub homes : AllByRecursion (AreAtHome edge.sites) edge.vrfs
   pub heard : AllByRecursion (Ascends heard_before) edge.heard
   pub labels : AllByRecursion HaveLabels edge.heard
   pub loopbacks : (j k : ℕ) → j ≢ k → j < length edge.heard → k < length edge.heard → slice_index_or edge.loopbacks j 0 ≢ slice_index_or edge.loopbacks k 0
@@ -90,6 +95,10 @@ found_in v f (vrf ∷ vrfs) = if vrf.number == v then f vrf else found_in v f vr
 -- VRFs stand in the order of their numbers
 abbrev pub by_number : VrfState → VrfState → Bool
 by_number u w = nat_lt u.number w.number
+
+-- what VRFs were told
+abbrev pub told : List Holding → List VrfState
+told holdings = map (λ (holding : Holding). holding.vrf) holdings
 
 -- none of the VRFs has this number
 abbrev pub IsAbsent : ℕ → List Holding → Type 0

@@ -1,5 +1,5 @@
 -- An edge at the start: what the topology says of it, no site attached, and nothing heard.
-use Rattle.std.specs.Prelude.{ℕ, ◌+◌, ◌==◌, true, List, [], ◌∷◌, ◌++◌, map, None, if◌then◌else◌}
+use Rattle.std.specs.Prelude.{ℕ, ◌≡◌, ◌+◌, ◌==◌, true, List, [], ◌∷◌, ◌++◌, map, None, if◌then◌else◌}
 use Rattle.mn_base.specs.declared.numbers.Rt.{Rt}
 use Rattle.mn_base.specs.Ordered.{with_one}
 use Rattle.mn_prefix.specs.Prefix.{AddressBlock}
@@ -7,7 +7,7 @@ use Rattle.mn_topo.specs.Network.{Network}
 use Rattle.mn_topo.specs.declared.vrfs.VrfDef.{VrfDef}
 use Rattle.mn_topo.specs.declared.sites.SiteDef.{SiteDef}
 use Rattle.mn_targets.specs.Targets.{target_set, has_target}
-use Rattle.mn_vrf.specs.Vrf.{Static, VrfState, static_before}
+use Rattle.mn_vrf.specs.Vrf.{Static, VrfState, Holding, static_before}
 use Rattle.mn_pe.specs.Edge.{Edge}
 
 -- a set with a target, once
@@ -45,6 +45,10 @@ vrf_if sites node v def = if def.node.0 == node then vrf_at_start sites v def �
 abbrev pub vrfs_from : List SiteDef → ℕ → ℕ → List VrfDef → List VrfState
 vrfs_from sites node v [] = []
 vrfs_from sites node v (def ∷ defs) = vrf_if sites node v def ++ vrfs_from sites node (v + 1) defs
+
+-- a VRF that holds no route
+abbrev pub HoldsNone : Holding → Type 0
+HoldsNone holding = holding.held ≡ []
 
 abbrev pub edge_at_start : Network → ℕ → Edge
 edge_at_start topology node = record {

@@ -5,11 +5,11 @@ use Rattle.mn_base.specs.declared.numbers.Rt.{Rt}
 use Rattle.mn_prefix.specs.Prefix.{AddressBlock}
 use Rattle.mn_base.specs.Ordered.{with_one, without_one}
 use Rattle.mn_rib_in.specs.Heard.{Heard}
-use Rattle.mn_targets.specs.Targets.{has_target}
+use Rattle.mn_targets.specs.Targets.{has_target, meet}
 use Rattle.mn_vrf.specs.declared.source.Source.{Source}
 use Rattle.mn_vrf.specs.Routes.{route_before}
 use Rattle.mn_vrf.specs.Vrf.{Static, VrfState, Holding}
-use Rattle.mn_pe.specs.Held.{near_over}
+use Rattle.mn_pe.specs.Held.{own_over, near_over}
 use Rattle.mn_pe.specs.Pe.{far_route, IsAbsent, IsAt}
 
 -- one of the targets is imported that is another than this one
@@ -70,6 +70,24 @@ telling_statics on labels teller holding = record holding { held = after_statics
 abbrev pub exporting : Bool → Rt → List (Option ℕ) → VrfState → Holding → Holding
 exporting on target labels teller holding =
     if not (holding.vrf.number == teller.number) && import_alone target teller.exports holding.vrf.imports then telling_statics on labels teller holding else holding
+
+-- where a VRF holds a site's routes from, which are of this VRF: its own, or another's whose targets it imports
+abbrev pub source_for : VrfState → VrfState → ℕ → Option Source
+source_for vrf teller site =
+    if vrf.number == teller.number then Some (own_over site) else if meet teller.exports vrf.imports then Some (near_over teller.number site) else None
+
+-- statics over the site
+abbrev pub after_over : Bool → ℕ → Source → List (AddressBlock × Source) → List Static → List (AddressBlock × Source)
+after_over on site source held [] = held
+after_over on site source held (static ∷ statics) = after_over on site source (if static.site == site then turned on (static.prefix, source) held else held) statics
+
+abbrev pub turning_over : Bool → ℕ → VrfState → Option Source → Holding → Holding
+turning_over on site teller None holding = holding
+turning_over on site teller (Some source) holding = record holding { held = after_over on site source holding.held teller.statics }
+
+-- a VRF as a site of this VRF gets a label, or loses it
+abbrev pub attaching : Bool → ℕ → VrfState → Holding → Holding
+attaching on site teller holding = turning_over on site teller (source_for holding.vrf teller site) holding
 
 -- Each VRF was changed by the VRF of this number; without such a VRF nothing was.
 pub data IsBy (v : ℕ) (change : VrfState → Holding → Holding) (old new : List Holding) : Type 0 where

@@ -4,8 +4,7 @@ ghost use Rattle.mn_base.specs.Ordered.{Ascends};
 ghost use Rattle.mn_targets.specs.Targets.{target_set};
 ghost use Rattle.mn_vrf.specs.Vrf.{VrfState, with_static, without_static, with_imports, with_exports, add_refused, del_refused, set_refused, refusal_of};
 ghost use Rattle.mn_pe.specs.Changes.{telling};
-ghost use Rattle.mn_pe.specs.Pe.{found_in, by_number, IsAbsent, IsAt, is_want};
-ghost use Rattle.mn_pe.specs.Rebuilt.{told};
+ghost use Rattle.mn_pe.specs.Pe.{found_in, by_number, IsAbsent, IsAt, is_want, told};
 
 use mn_base::{Rt, SiteNo, VrfNo};
 use mn_prefix::Prefix;

@@ -4,10 +4,9 @@ ghost use Rattle.std.specs.List.{flat_map};
 ghost use Rattle.mn_vrf.specs.Vrf.{VrfState, Static, static_of};
 ghost use Rattle.mn_pe.specs.Held.{export_at};
 ghost use Rattle.mn_pe.specs.Exports.{export_over, exports_by_over, exports_by, exports_among, exports_at_among, exports_over_among, export_by};
-ghost use Rattle.mn_pe.specs.Pe.{found_in};
-ghost use Rattle.mn_pe.specs.Rebuilt.{told};
+ghost use Rattle.mn_pe.specs.Pe.{found_in, told};
 
-use crate::rebuild::label_at;
+use crate::look::label_at;
 use mn_base::{Rd, Rt, SiteNo, VrfNo};
 use mn_prefix::Prefix;
 use mn_vrf::{StaticRoute, Vrf};

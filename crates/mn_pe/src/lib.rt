@@ -24,8 +24,7 @@
 //! - `hearing`: what a peer told, taken into the VRFs or out of them
 //! - `spreading`: a static that comes to the VRFs that are to hold it, or goes
 //! - `switching`: routes that come to VRFs, or go, as a target comes to a set or leaves it
-//! - `rebuild`: what VRFs are to hold, made anew
-//! - `look`: what the VRF of a number holds
+//! - `look`: what the VRF of a number holds, a site's label, and a node's loopback
 //! - `export`: `Export`, a route that the edge tells
 //! - `entering`: `Entered`, what becomes of a packet that a site sends
 //! - `laws`: what is read can be heard
@@ -39,7 +38,6 @@ mod hearing;
 mod laws;
 mod look;
 mod pe;
-mod rebuild;
 mod refusal;
 mod spreading;
 mod start;

@@ -1,10 +1,10 @@
-// What the VRF of a number holds.
-ghost use Rattle.std.specs.Prelude.{◌≡◌, drop, slice_get, Some, option_map};
+// What the VRF of a number holds, a site's label, and a node's loopback.
+ghost use Rattle.std.specs.Prelude.{◌≡◌, drop, slice_get, slice_index_or, None, Some, option_map};
 ghost use Rattle.mn_prefix.specs.Table.{longest_match};
 ghost use Rattle.mn_vrf.specs.Vrf.{Holding, heads};
 ghost use Rattle.mn_pe.specs.Pe.{numbered};
 
-use mn_base::VrfNo;
+use mn_base::{NodeNo, SiteNo, VrfNo};
 use mn_prefix::Prefix;
 use mn_vrf::{Source, Vrf};
 
@@ -42,4 +42,24 @@ pub(crate) fn vrf_in(vrfs: &[Vrf], number: VrfNo) -> Option<&Vrf>
         }
     }
     None
+}
+
+/// The label of a site's present attachment.
+pub(crate) fn label_at(labels: &[Option<u32>], site: SiteNo) -> Option<u32>
+    ensures { result ≡ slice_index_or labels.now site.0 None }
+{
+    match labels.get(site.0 as usize) {
+        Some(label) => *label,
+        None => None,
+    }
+}
+
+/// A node's loopback.
+pub(crate) fn loopback_at(loopbacks: &[u32], node: NodeNo) -> u32
+    ensures { result ≡ slice_index_or loopbacks.now node.0 0 }
+{
+    match loopbacks.get(node.0 as usize) {
+        Some(address) => *address,
+        None => 0,
+    }
 }

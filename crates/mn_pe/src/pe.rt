@@ -8,7 +8,7 @@ ghost use Rattle.mn_pe.specs.Held.{held_by, exports_of};
 ghost use Rattle.mn_pe.specs.Exports.{exports_at, exports_over, export_of};
 ghost use Rattle.mn_pe.specs.Start.{edge_at_start};
 ghost use Rattle.mn_pe.specs.Entries.{entered_at, StandsAtEntry, IsItsFate};
-ghost use Rattle.mn_pe.specs.Pe.{PeNow, InOrder, AreLabelled, found_in, is_want};
+ghost use Rattle.mn_pe.specs.Pe.{PeNow, AreLabelled, found_in, is_want};
 ghost use Rattle.mn_topo.specs.Network.{Network};
 ghost use Rattle.mn_ledger.specs.World.{World};
 ghost use Rattle.mn_frames.specs.Given.{Labelling};
@@ -17,11 +17,10 @@ use crate::changes::{add_in, del_in, export_in, import_in, is_want, set_label};
 use crate::entering::{entered_over, head_at_entry};
 use crate::export::{export_of_in, exports_at_in, exports_in, exports_over_in};
 use crate::hearing::{forget_in_all, hear_reached, hear_withdrawn};
-use crate::look::{held_in, lookup_in, vrf_in};
-use crate::rebuild::{hold_all, label_at, loopback_at};
+use crate::look::{held_in, label_at, lookup_in, loopback_at, vrf_in};
 use crate::spreading::spread_present;
 use crate::start::{loopbacks_of, no_labels, nothing_heard, sites_of, vrfs_of};
-use crate::switching::{switch_export, switch_import};
+use crate::switching::{switch_export, switch_import, switch_site};
 use crate::{Entered, Export, NoMemory};
 use mn_base::{NodeNo, Rt, Rule, SiteNo, VrfNo};
 use mn_bgp_wire::Update;
@@ -61,19 +60,15 @@ impl Pe {
     pub fn new(alloc: Global, topology: &Topology, node: NodeNo) -> Result<Pe, NoMemory>
         ensures { IfOk result (λ pe. pe ≡ record { edge = edge_at_start topology.now node.0; failed = false }) }
     {
-        topology.laws();
-        let Ok(mut pe) = Pe::laid(alloc, topology, node) else {
-            return Err(NoMemory);
-        };
-        let Ok(()) = pe.refresh() else {
+        let Ok(pe) = Pe::laid(alloc, topology, node) else {
             return Err(NoMemory);
         };
         Ok(pe)
     }
 
-    /// The edge of a node, whose VRFs hold nothing yet.
+    /// Where nothing is attached or heard, VRFs hold nothing.
     fn laid(alloc: Global, topology: &Topology, node: NodeNo) -> Result<Pe, AllocError>
-        ensures { IfOk result (λ pe. pe ≡ record { edge = edge_at_start topology.now node.0; failed = true }) }
+        ensures { IfOk result (λ pe. pe ≡ record { edge = edge_at_start topology.now node.0; failed = false }) }
     {
         topology.laws();
         let vrfs = vrfs_of(alloc, topology.vrfs(), topology.sites(), node)?;
@@ -88,7 +83,7 @@ impl Pe {
             labels,
             loopbacks,
             heard,
-            failed: true,
+            failed: false,
         })
     }
 
@@ -157,9 +152,17 @@ impl Pe {
         if self.failed {
             return Err(NoMemory);
         }
+        if site.0 as usize >= self.labels.len() {
+            return Ok(());
+        }
+        let vrf = self.vrf_of(site);
         self.failed = true;
         set_label(&mut self.labels, site, Some(label));
-        self.refresh()
+        let Ok(()) = switch_site(&mut self.vrfs, vrf, site, true) else {
+            return Err(NoMemory);
+        };
+        self.failed = false;
+        Ok(())
     }
 
     /// A site loses its label.
@@ -171,9 +174,17 @@ impl Pe {
         if self.failed {
             return Err(NoMemory);
         }
+        if self.attached(site).is_none() {
+            return Ok(());
+        }
+        let vrf = self.vrf_of(site);
         self.failed = true;
         set_label(&mut self.labels, site, None);
-        self.refresh()
+        let Ok(()) = switch_site(&mut self.vrfs, vrf, site, false) else {
+            return Err(NoMemory);
+        };
+        self.failed = false;
+        Ok(())
     }
 
     /// The label of a site, none where it isn't attached. It takes no memory.
@@ -382,26 +393,6 @@ impl Pe {
             return Err(NoMemory);
         };
         Ok(entered)
-    }
-
-    /// Each VRF holds what it is to hold now.
-    fn refresh(&mut self) -> Result<(), NoMemory>
-        requires under_way { self.old.failed ≡ true }
-        requires order { InOrder self.old.edge }
-        ensures ok { OnOk result (self.new ≡ record { edge = self.old.edge; failed = false }) }
-        ensures err { OnErr result (self.new.failed ≡ true) }
-    {
-        let Ok(()) = hold_all(
-            self.alloc,
-            &mut self.vrfs,
-            &self.labels,
-            &self.loopbacks,
-            &self.heard,
-        ) else {
-            return Err(NoMemory);
-        };
-        self.failed = false;
-        Ok(())
     }
 
     /// The VRF of a site.

@@ -4,7 +4,7 @@ ghost use Rattle.mn_vrf.specs.Vrf.{Holding};
 ghost use Rattle.mn_pe.specs.Changes.{change_of, with_changes, spread_by, spread_over, present_of, spreading, IsSpread};
 
 use crate::changes::place_of;
-use crate::rebuild::label_at;
+use crate::look::label_at;
 use mn_base::VrfNo;
 use mn_prefix::Prefix;
 use mn_vrf::{Source, StaticRoute, Vrf};

@@ -1,8 +1,9 @@
 // An edge as the topology has it.
 ghost use Rattle.std.specs.Prelude.{◌≡◌, ◌≤◌, ◌<◌, ◌++◌, ℕ, [], map, drop, length, None, OnOk, IfOk};
 ghost use Rattle.mn_topo.specs.declared.sites.SiteDef.{SiteDef as Site};
-ghost use Rattle.mn_pe.specs.Start.{with_target, after_targets, after_prefixes, after_sites, vrf_at_start, vrf_if, vrfs_from};
-ghost use Rattle.mn_pe.specs.Rebuilt.{told};
+ghost use Rattle.mn_pe.specs.Start.{with_target, after_targets, after_prefixes, after_sites, vrf_at_start, vrf_if, vrfs_from, HoldsNone};
+ghost use Rattle.std.specs.List.{AllByRecursion};
+ghost use Rattle.mn_pe.specs.Pe.{told};
 
 use mn_base::{NodeNo, Rt, SiteNo, VrfNo};
 use mn_prefix::Prefix;
@@ -61,7 +62,8 @@ fn statics_of(alloc: Global, sites: &[SiteDef], number: VrfNo) -> Result<Statics
 /// A VRF as the topology has it.
 fn vrf_of(alloc: Global, sites: &[SiteDef], number: VrfNo, def: &VrfDef) -> Result<Vrf, AllocError>
     requires { length sites.now ≤ 65536 }
-    ensures { IfOk result (λ vrf. vrf.vrf ≡ vrf_at_start sites.now number.0 def.now) }
+    ensures told { IfOk result (λ vrf. vrf.vrf ≡ vrf_at_start sites.now number.0 def.now) }
+    ensures held { IfOk result (λ vrf. vrf.held ≡ []) }
 {
     let statics = statics_of(alloc, sites, number)?;
     let imports = set_of(alloc, def.import.as_slice())?;
@@ -79,7 +81,8 @@ fn put_if_of(
     def: &VrfDef,
 ) -> Result<(), AllocError>
     requires { length sites.now ≤ 65536 }
-    ensures { OnOk result (told out.new.items ≡ told out.old.items ++ vrf_if sites.now node.0 number.0 def.now) }
+    ensures told { OnOk result (told out.new.items ≡ told out.old.items ++ vrf_if sites.now node.0 number.0 def.now) }
+    ensures held { AllByRecursion HoldsNone out.old.items → OnOk result (AllByRecursion HoldsNone out.new.items) }
 {
     if def.node.0 != node.0 {
         return Ok(());
@@ -98,7 +101,8 @@ pub(crate) fn vrfs_of(
 ) -> Result<Vec<Vrf>, AllocError>
     requires sites { length sites.now ≤ 65536 }
     requires vrfs { length vrfs.now ≤ 65536 }
-    ensures { IfOk result (λ out. told out.items ≡ vrfs_from sites.now node.0 0 vrfs.now) }
+    ensures told { IfOk result (λ out. told out.items ≡ vrfs_from sites.now node.0 0 vrfs.now) }
+    ensures held { IfOk result (λ out. AllByRecursion HoldsNone out.items) }
 {
     let mut out = Vec::new(alloc);
     for (at, def) in vrfs.iter().enumerate() {

@@ -1,17 +1,16 @@
 // Routes that come to VRFs, or go, as a target comes to a set or leaves it.
-ghost use Rattle.std.specs.Prelude.{◌≡◌, ◌<◌, ◌≤◌, ◌==◌, ◌&&◌, not, map, length, OnOk, slice_index_or, slice_set};
+ghost use Rattle.std.specs.Prelude.{◌≡◌, ◌<◌, ◌≤◌, ◌==◌, ◌&&◌, not, map, length, Some, OnOk, slice_index_or, slice_set};
 ghost use Rattle.std.specs.List.{range_with_len};
 ghost use Rattle.mn_base.specs.Ordered.{Ascends};
 ghost use Rattle.mn_targets.specs.Targets.{has_target};
 ghost use Rattle.mn_vrf.specs.Vrf.{Holding};
-ghost use Rattle.mn_pe.specs.Pe.{by_number};
-ghost use Rattle.mn_pe.specs.Rebuilt.{told};
-ghost use Rattle.mn_pe.specs.Switched.{meet_else, meet_alone, import_alone, turned, turned_if, after_statics, after_vrfs, after_heard, after_all, at_vrf, importing, telling_statics, exporting, IsBy};
+ghost use Rattle.mn_pe.specs.Pe.{by_number, told};
+ghost use Rattle.mn_pe.specs.Switched.{meet_else, meet_alone, import_alone, turned, turned_if, after_statics, after_vrfs, after_heard, after_all, at_vrf, importing, telling_statics, exporting, source_for, after_over, turning_over, attaching, IsBy};
 
 use crate::changes::place_of;
 use crate::hearing::far_source;
-use crate::rebuild::{label_at, loopback_at};
-use mn_base::{NodeNo, Rt, VrfNo};
+use crate::look::{label_at, loopback_at};
+use mn_base::{NodeNo, Rt, SiteNo, VrfNo};
 use mn_prefix::Prefix;
 use mn_rib_in::RibIn;
 use mn_targets::Targets;
@@ -199,6 +198,100 @@ pub(crate) fn switch_import(
     match place_of(vrfs, number) {
         None => Ok(()),
         Some(at) => import_at(vrfs, labels, loopbacks, heard, at, target, on),
+    }
+}
+
+/// Where a VRF holds a site's routes from, which are of the other VRF: its own, or another's whose targets it imports.
+fn source_for(vrf: &Vrf, teller: &Vrf, site: SiteNo) -> Option<Source>
+    ensures { result ≡ source_for vrf.now.vrf teller.now.vrf site.0 }
+{
+    if vrf.number().0 == teller.number().0 {
+        return Some(Source::Own(site));
+    }
+    if vrf.imports().meets(teller.exports().as_slice()) {
+        return Some(Source::Near(teller.number(), site));
+    }
+    None
+}
+
+/// Statics over a site.
+fn turn_over(
+    held: &mut Routes,
+    statics: &[StaticRoute],
+    site: SiteNo,
+    source: Source,
+    on: bool,
+) -> Result<(), AllocError>
+    ensures { OnOk result (held.new ≡ after_over on site.0 source held.old statics.now) }
+{
+    for route in statics {
+        if route.site().0 == site.0 {
+            turn(held, route.prefix(), source, on)?;
+        }
+    }
+    Ok(())
+}
+
+/// The statics of the one VRF over the site come to the other, or go.
+fn attach_from(
+    vrfs: &mut Vec<Vrf>,
+    at: usize,
+    to: usize,
+    site: SiteNo,
+    source: Source,
+    on: bool,
+) -> Result<(), AllocError>
+    requires there { at < length vrfs.old.items }
+    requires here { to < length vrfs.old.items }
+    ensures { OnOk result ((d : Holding) → vrfs.new.items ≡ slice_set vrfs.old.items to (turning_over on site.0 (slice_index_or vrfs.old.items at d).vrf (Some source) (slice_index_or vrfs.old.items to d))) }
+{
+    let mut held = vrfs[to].take_held();
+    turn_over(&mut held, vrfs[at].statics(), site, source, on)?;
+    vrfs[to].hold(held);
+    Ok(())
+}
+
+/// The same, if it is to hold them.
+fn attach_to(
+    vrfs: &mut Vec<Vrf>,
+    at: usize,
+    to: usize,
+    site: SiteNo,
+    on: bool,
+) -> Result<(), AllocError>
+    requires there { at < length vrfs.old.items }
+    requires here { to < length vrfs.old.items }
+    ensures { OnOk result ((d : Holding) → vrfs.new.items ≡ slice_set vrfs.old.items to (attaching on site.0 (slice_index_or vrfs.old.items at d).vrf (slice_index_or vrfs.old.items to d))) }
+{
+    match source_for(&vrfs[to], &vrfs[at], site) {
+        None => Ok(()),
+        Some(source) => attach_from(vrfs, at, to, site, source, on),
+    }
+}
+
+/// Each VRF holds the statics over a site of the VRF at a place, or no longer.
+fn attach_at(vrfs: &mut Vec<Vrf>, at: usize, site: SiteNo, on: bool) -> Result<(), AllocError>
+    requires there { at < length vrfs.old.items }
+    ensures { OnOk result ((d : Holding) → vrfs.new.items ≡ map (attaching on site.0 (slice_index_or vrfs.old.items at d).vrf) vrfs.old.items) }
+{
+    for to in 0..vrfs.len() {
+        attach_to(vrfs, at, to, site, on)?;
+    }
+    Ok(())
+}
+
+/// The same of the VRF of a number, whose site has got a label or lost it.
+pub(crate) fn switch_site(
+    vrfs: &mut Vec<Vrf>,
+    number: VrfNo,
+    site: SiteNo,
+    on: bool,
+) -> Result<(), AllocError>
+    ensures { OnOk result (IsBy number.0 (attaching on site.0) vrfs.old.items vrfs.new.items) }
+{
+    match place_of(vrfs, number) {
+        None => Ok(()),
+        Some(at) => attach_at(vrfs, at, site, on),
     }
 }
 

@@ -1,6 +1,6 @@
-use Rattle.std.proofs.Common.{sym, ◌∙◌, ap, subst}
+use Rattle.std.proofs.Common.{sym, ◌∙◌, subst}
 use Rattle.mn_targets.specs.Targets.{target_set}
-use Rattle.mn_vrf.specs.Vrf.{VrfState, Holding, with_exports, set_refused}
+use Rattle.mn_vrf.specs.Vrf.{VrfState, with_exports, set_refused}
 use Rattle.mn_vrf.specs.declared.refusal.VrfBad.{VrfBad}
 use Rattle.mn_pe.specs.Pe.{IsAbsent, IsAt}
 use Rattle.mn_pe.proofs.Places.{absent_telling, absent_found, telling_at, found_at, stays_at, on_ok, on_err}

@@ -1,8 +1,7 @@
 use Rattle.std.proofs.Common.{◌≡◌, drop}
 use Rattle.mn_vrf.specs.Vrf.{VrfState, static_of}
 use Rattle.mn_pe.specs.Exports.{export_by}
-use Rattle.mn_pe.specs.Pe.{found_in}
-use Rattle.mn_pe.specs.Rebuilt.{told}
+use Rattle.mn_pe.specs.Pe.{found_in, told}
 use Rattle.mn_pe.proofs.export.export_of_in.Given as goal
 
 -- it is none of those so far

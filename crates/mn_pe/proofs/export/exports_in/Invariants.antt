@@ -1,6 +1,6 @@
 use Rattle.std.proofs.Common.{◌≡◌, ◌++◌, drop}
 use Rattle.mn_pe.specs.Exports.{exports_among}
-use Rattle.mn_pe.specs.Rebuilt.{told}
+use Rattle.mn_pe.specs.Pe.{told}
 use Rattle.mn_pe.proofs.export.exports_in.Given as goal
 
 -- the VRFs to come end it

@@ -6,10 +6,9 @@ use Rattle.mn_base.specs.declared.numbers.VrfNo.{VrfNo}
 use Rattle.mn_targets.specs.Targets.{meet}
 use Rattle.mn_vrf.specs.Vrf.{VrfState, Holding}
 use Rattle.mn_pe.specs.Changes.{with_changes, spread_by, spreading}
-use Rattle.mn_pe.specs.Rebuilt.{told}
-use Rattle.mn_pe.proofs.Anew.{told_same}
+use Rattle.mn_pe.specs.Pe.{told}
+use Rattle.mn_pe.proofs.Places.{told_same, told_at}
 use Rattle.mn_pe.proofs.Offers.{set_length}
-use Rattle.mn_pe.proofs.Places.{told_at}
 use Rattle.mn_pe.proofs.Walks.{next}
 use Rattle.mn_pe.proofs.spreading.spread.Goals as goal
 

@@ -1,12 +1,11 @@
 use Rattle.std.proofs.Common.{◌≡◌, ◌<◌, ◌≤◌, ◌++◌, ℕ, List, length, map, take, drop, arith, sym, ◌∙◌, ap}
 use Rattle.std.specs.Prelude.{slice_set, slice_index_or}
 use Rattle.mn_vrf.specs.Vrf.{VrfState, Holding}
-use Rattle.mn_pe.specs.Rebuilt.{told}
+use Rattle.mn_pe.specs.Pe.{told}
 use Rattle.mn_pe.specs.Switched.{exporting}
 use Rattle.mn_pe.proofs.Adding.{dummy}
-use Rattle.mn_pe.proofs.Anew.{told_same}
+use Rattle.mn_pe.proofs.Places.{told_same, told_at}
 use Rattle.mn_pe.proofs.Offers.{set_length}
-use Rattle.mn_pe.proofs.Places.{told_at}
 use Rattle.mn_pe.proofs.Turned.{exporting_keeps}
 use Rattle.mn_pe.proofs.Walks.{next, all_done}
 use Rattle.mn_pe.proofs.switching.export_at.Goals as goal

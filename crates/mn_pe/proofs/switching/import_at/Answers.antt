@@ -1,4 +1,4 @@
-use Rattle.std.proofs.Common.{◌≡◌, ◌<◌, ℕ, [], List, length, map, sym, ◌∙◌, ap, subst}
+use Rattle.std.proofs.Common.{◌≡◌, ℕ, [], List, length, ◌∙◌, ap}
 use Rattle.std.specs.Prelude.{slice_set, slice_index_or}
 use Rattle.std.specs.List.{range_with_len}
 use Rattle.std.proofs.lemmas.List.{get_or_default, get_or-set_same, set-set}
@@ -7,9 +7,8 @@ use Rattle.mn_base.specs.declared.numbers.VrfNo.{VrfNo}
 use Rattle.mn_prefix.specs.Prefix.{AddressBlock}
 use Rattle.mn_vrf.specs.declared.source.Source.{Source}
 use Rattle.mn_vrf.specs.Vrf.{VrfState, Holding}
-use Rattle.mn_pe.specs.Rebuilt.{told}
+use Rattle.mn_pe.specs.Pe.{told}
 use Rattle.mn_pe.specs.Switched.{after_vrfs, after_all, importing}
-use Rattle.mn_pe.proofs.Offers.{set_length}
 use Rattle.mn_pe.proofs.Places.{told_stays}
 use Rattle.mn_pe.proofs.switching.import_at.Goals as goal
 

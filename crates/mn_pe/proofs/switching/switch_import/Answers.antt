@@ -1,6 +1,5 @@
 use Rattle.std.proofs.Common.{subst, ◌∙◌}
-use Rattle.mn_pe.specs.Pe.{IsAbsent, IsAt}
-use Rattle.mn_pe.specs.Rebuilt.{told}
+use Rattle.mn_pe.specs.Pe.{IsAbsent, IsAt, told}
 use Rattle.mn_pe.specs.Switched.{importing}
 use Rattle.mn_pe.proofs.Adding.{dummy}
 use Rattle.mn_pe.proofs.Places.{no_change, change_at, on_ok}

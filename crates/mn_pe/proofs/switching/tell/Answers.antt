@@ -5,7 +5,7 @@ use Rattle.mn_base.specs.declared.numbers.VrfNo.{VrfNo}
 use Rattle.mn_prefix.specs.Prefix.{AddressBlock}
 use Rattle.mn_vrf.specs.declared.source.Source.{Source}
 use Rattle.mn_vrf.specs.Vrf.{Static, VrfState, Holding}
-use Rattle.mn_pe.specs.Rebuilt.{told}
+use Rattle.mn_pe.specs.Pe.{told}
 use Rattle.mn_pe.specs.Switched.{after_statics, telling_statics}
 use Rattle.mn_pe.proofs.Offers.{set_length}
 use Rattle.mn_pe.proofs.Places.{told_at, told_stays}

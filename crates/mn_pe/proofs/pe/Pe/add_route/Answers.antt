@@ -1,9 +1,8 @@
-use Rattle.std.proofs.Common.{◌≡◌, ℕ, None, List, Option, true, false, ◌∙◌, ap, subst}
+use Rattle.std.proofs.Common.{◌≡◌, ℕ, None, List, Option, true, false, sym, ◌∙◌, ap, subst}
 use Rattle.mn_vrf.specs.Vrf.{Static, VrfState, with_static, add_refused}
 use Rattle.mn_pe.specs.Changes.{IsSpread}
-use Rattle.mn_pe.specs.Edge.{Edge, after_vrf}
-use Rattle.mn_pe.specs.Pe.{PeNow, found_in}
-use Rattle.mn_pe.specs.Rebuilt.{told}
+use Rattle.mn_pe.specs.Edge.{Edge, after_vrf, vrf_of_site}
+use Rattle.mn_pe.specs.Pe.{PeNow, found_in, told}
 use Rattle.mn_pe.proofs.Adding.{added_edge, added_sound}
 use Rattle.mn_pe.proofs.pe.Pe.add_route.Goals as goal
 
@@ -27,6 +26,7 @@ invariant_of-self-2 c _ =
     added_sound v c.args.prefix c.args.site.0 c.self.inside.vrfs.items c.spread_present.new.vrfs.items c.add_in.new.vrfs.items c.self.inside.sites.items
     c.self.inside.labels.items
     c.self.inside.loopbacks.items c.self.inside.heard.items c.in_default.ensures.ok spread fresh (c.self.invariant c.if-self.false)
+    (ap (λ (n : PeNow). vrf_of_site n.edge c.args.site.0) c.self.view_is ∙ sym c.vrf_of-vrf.ensures)
 
 -- and the edge is as after it
 pub returns-clause-ok : goal.returns-clause-ok
@@ -48,7 +48,8 @@ returns-clause-ok c =
     ap (λ (e : Edge). let p : PeNow = record { edge = e; failed = false } in p)
     (added_edge v c.args.prefix c.args.site.0 c.self.inside.vrfs.items c.spread_present.new.vrfs.items c.add_in.new.vrfs.items c.self.inside.sites.items
     c.self.inside.labels.items
-    c.self.inside.loopbacks.items c.self.inside.heard.items c.in_default.ensures.ok spread fresh (c.self.invariant c.if-self.false))
+    c.self.inside.loopbacks.items c.self.inside.heard.items c.in_default.ensures.ok spread fresh (c.self.invariant c.if-self.false)
+    (ap (λ (n : PeNow). vrf_of_site n.edge c.args.site.0) c.self.view_is ∙ sym c.vrf_of-vrf.ensures))
     ∙ ap (λ (n : PeNow). let p : PeNow = record {
       edge = after_vrf n.edge v (with_static (record { prefix = c.args.prefix; site = c.args.site.0 }));
       failed =

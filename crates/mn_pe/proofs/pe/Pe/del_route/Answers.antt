@@ -2,8 +2,7 @@ use Rattle.std.proofs.Common.{◌≡◌, ℕ, None, List, Option, false, ◌∙�
 use Rattle.mn_vrf.specs.Vrf.{Static, VrfState, without_static, del_refused}
 use Rattle.mn_pe.specs.Changes.{IsSpread}
 use Rattle.mn_pe.specs.Edge.{Edge, after_vrf}
-use Rattle.mn_pe.specs.Pe.{PeNow, found_in}
-use Rattle.mn_pe.specs.Rebuilt.{told}
+use Rattle.mn_pe.specs.Pe.{PeNow, found_in, told}
 use Rattle.mn_pe.proofs.Deleting.{deleted_edge, deleted_sound}
 use Rattle.mn_pe.proofs.pe.Pe.del_route.Goals as goal
 

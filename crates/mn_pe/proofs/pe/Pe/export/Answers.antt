@@ -2,8 +2,7 @@ use Rattle.std.proofs.Common.{◌≡◌, ℕ, None, List, Option, false, ◌∙�
 use Rattle.mn_targets.specs.Targets.{target_set}
 use Rattle.mn_vrf.specs.Vrf.{VrfState, with_exports, set_refused}
 use Rattle.mn_pe.specs.Edge.{Edge, after_vrf}
-use Rattle.mn_pe.specs.Pe.{PeNow, found_in}
-use Rattle.mn_pe.specs.Rebuilt.{told}
+use Rattle.mn_pe.specs.Pe.{PeNow, found_in, told}
 use Rattle.mn_pe.specs.Switched.{exporting, IsBy}
 use Rattle.mn_pe.proofs.Exporting.{exported_edge, exported_sound}
 use Rattle.mn_pe.proofs.pe.Pe.export.Goals as goal

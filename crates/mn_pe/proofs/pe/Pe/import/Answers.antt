@@ -3,8 +3,7 @@ use Rattle.mn_rib_in.specs.Heard.{Heard}
 use Rattle.mn_targets.specs.Targets.{target_set}
 use Rattle.mn_vrf.specs.Vrf.{VrfState, Holding, with_imports, set_refused}
 use Rattle.mn_pe.specs.Edge.{Edge, after_vrf}
-use Rattle.mn_pe.specs.Pe.{PeNow, found_in}
-use Rattle.mn_pe.specs.Rebuilt.{told}
+use Rattle.mn_pe.specs.Pe.{PeNow, found_in, told}
 use Rattle.mn_pe.specs.Switched.{at_vrf, importing}
 use Rattle.mn_pe.proofs.Importing.{told_order, imported_edge, imported_sound}
 use Rattle.mn_pe.proofs.pe.Pe.import.Goals as goal

@@ -1,4 +1,4 @@
-use Rattle.std.proofs.Common.{◌≡◌, ◌∙◌, ap, Some}
+use Rattle.std.proofs.Common.{◌∙◌, ap, Some}
 use Rattle.mn_vrf.specs.Vrf.{Holding, VrfState}
 use Rattle.mn_pe.specs.Pe.{PeNow, numbered, found_in}
 use Rattle.mn_pe.proofs.Sound.{by_vrfs}
