@@ -1,5 +1,6 @@
 -- The calls of held routes, as their answers cite it.
-use Rattle.std.proofs.Common.{◌≡◌, ◌<◌, Bool, true, false, cond, List, [], ◌∷◌, ◌++◌, length, filter, Option, Some, None, Result, Ok, Err, refl, arith, sym, ◌∙◌, ap, subst}
+use Rattle.std.proofs.Common.{◌≡◌, ◌<◌, Bool, true, false, cond, List, [], ◌∷◌, ◌++◌, length, filter, Option, Some, None, Result, Ok, Err, refl, arith, sym}
+use Rattle.std.proofs.Common.{◌∙◌, ap, subst}
 use Rattle.std.specs.Prelude.{OnOk, OnErr, ◌||◌, ◌==◌}
 use Rattle.std.specs.declared.alloc.AllocError.{AllocError}
 use Rattle.std.specs.Option.{is_some, IsSome, unwrap_or, option_map}
@@ -16,7 +17,8 @@ use Rattle.mn_vrf.specs.declared.source.Source.{Source}
 use Rattle.mn_vrf.specs.Routes.{source_before, route_before, sources_of, unless_empty}
 use Rattle.mn_vrf.specs.Kept.{those, in_order, AreSources, IsKept}
 use Rattle.mn_vrf.proofs.Orders.{source_order}
-use Rattle.mn_vrf.proofs.Keeping.{alike_prefix, sorted_ascends, with_source, without_source, same_view, kept_changed, kept_same, changes_twice, changed_back, same_keys}
+use Rattle.mn_vrf.proofs.Keeping.{alike_prefix, sorted_ascends, with_source, without_source, same_view, kept_changed, kept_same, changes_twice}
+use Rattle.mn_vrf.proofs.Keeping.{changed_back, same_keys}
 use Rattle.mn_vrf.proofs.Finding.{table_is, sources_are}
 
 abbrev Table : Type 0
@@ -38,7 +40,8 @@ any_alike : (q : AddressBlock) (ks : List AddressBlock) → list_any (is_at (by_
 any_alike q [] = refl
 any_alike q (k ∷ ks) = ap (λ b. b || list_any (is_at (by_address_then_length q)) ks) (alike_prefix q k) ∙ ap (λ b. same_prefix q k || b) (any_alike q ks)
 
-keys_updated : (old new : BTreeSet AddressBlock) (p : AddressBlock) (b : Bool) → Updates by_address_then_length old new p b → (q : AddressBlock) → list_any (same_prefix q) new.keys ≡ cond (same_prefix p q) b (list_any (same_prefix q) old.keys)
+keys_updated : (old new : BTreeSet AddressBlock) (p : AddressBlock) (b : Bool) → Updates by_address_then_length old new p b →
+    (q : AddressBlock) → list_any (same_prefix q) new.keys ≡ cond (same_prefix p q) b (list_any (same_prefix q) old.keys)
 keys_updated old new p b u q =
     sym (any_alike q new.keys) ∙ u.0 q
     ∙ ap (λ c. cond c b (list_any (is_at (by_address_then_length q)) old.keys)) (alike_prefix p q)
@@ -64,7 +67,8 @@ module _ (t t1 t2 : Table) (ks : List AddressBlock) (view : List (AddressBlock �
       kept_changed t t2 ks ks p (Some left) kept (changes_twice t t1 t2 p (Some blank) (Some left) first second)
       (same_keys t ks p kept (ap is_some (sym before))) kept.ascend (λ ss e. subst AreSources (same_Some left ss e) are)
 
-  pub put_with : (left : List Source) (second : ChangesOnly t1 t2 p (Some left)) → left ≡ with_one source_before s was → in_order t2 ks ≡ with_one route_before (p, s) view
+  pub put_with : (left : List Source) (second : ChangesOnly t1 t2 p (Some left)) → left ≡ with_one source_before s was →
+      in_order t2 ks ≡ with_one route_before (p, s) view
   put_with left second e =
       subst (λ v. in_order t2 ks ≡ with_one route_before (p, s) v) is
       (with_source t t2 ks ks kept (kept_put left second (subst AreSources (sym e) (are_with s was (kept.each p was (sym before)).ascend))) p s
@@ -73,9 +77,12 @@ module _ (t t1 t2 : Table) (ks : List AddressBlock) (view : List (AddressBlock �
 
   pub put_back : (left : List Source) → ChangesOnly t1 t2 p (Some left) → left ≡ was → in_order t2 ks ≡ view
   put_back left second e =
-      same_view t t2 ks (changed_back t t2 p (subst (ChangesOnly t t2 p) (ap (λ ss. Some ss) e ∙ before) (changes_twice t t1 t2 p (Some blank) (Some left) first second))) ∙ is
+      same_view t t2 ks
+      (changed_back t t2 p (subst (ChangesOnly t t2 p) (ap (λ ss. Some ss) e ∙ before) (changes_twice t t1 t2 p (Some blank) (Some left) first second)))
+      ∙ is
 
-  pub put_without : (left : List Source) (second : ChangesOnly t1 t2 p (Some left)) → AreSources left → left ≡ without_one source_before s was → in_order t2 ks ≡ without_one route_before (p, s) view
+  pub put_without : (left : List Source) (second : ChangesOnly t1 t2 p (Some left)) → AreSources left → left ≡ without_one source_before s was →
+      in_order t2 ks ≡ without_one route_before (p, s) view
   put_without left second are e =
       subst (λ v. in_order t2 ks ≡ without_one route_before (p, s) v) is
       (without_source t t2 ks ks kept (kept_put left second are) p s
@@ -83,7 +90,8 @@ module _ (t t1 t2 : Table) (ks : List AddressBlock) (view : List (AddressBlock �
       (ap (λ o. unwrap_or o []) second.changed ∙ e ∙ ap (λ ss. without_one source_before s ss) (sym (ap (λ o. unwrap_or o []) (sym before)))))
 
   -- its last source goes, and the prefix with it
-  module _ (old new : BTreeSet AddressBlock) (had : old.keys ≡ ks) (second : ChangesOnly t1 t2 p None) (sorted : IsOrdered by_address_then_length new) (keys : Updates by_address_then_length old new p false) where
+  module _ (old new : BTreeSet AddressBlock) (had : old.keys ≡ ks) (second : ChangesOnly t1 t2 p None) (sorted : IsOrdered by_address_then_length new)
+      (keys : Updates by_address_then_length old new p false) where
     pub kept_gone : IsKept t2 new.keys
     kept_gone =
         kept_changed t t2 ks new.keys p None kept (changes_twice t t1 t2 p (Some blank) None first second)
@@ -101,20 +109,24 @@ module _ (t t1 t2 : Table) (ks : List AddressBlock) (view : List (AddressBlock �
         (ap (λ o. unwrap_or o []) second.changed ∙ e ∙ ap (λ ss. without_one source_before s ss) (sym (ap (λ o. unwrap_or o []) (sym before)))))
 
 -- 4. A prefix that has none
-pub none_was : (t : Table) (ks : List AddressBlock) (view : List (AddressBlock × Source)) (p : AddressBlock) → IsKept t ks → in_order t ks ≡ view → sources_of p view ≡ [] → value_at p t ≡ None
+pub none_was : (t : Table) (ks : List AddressBlock) (view : List (AddressBlock × Source)) (p : AddressBlock) → IsKept t ks → in_order t ks ≡ view →
+    sources_of p view ≡ [] → value_at p t ≡ None
 none_was t ks view p kept is none = table_is t ks p kept ∙ ap unless_empty (ap (sources_of p) is ∙ none)
 
-pub none_of_it : (t : Table) (ks : List AddressBlock) (view : List (AddressBlock × Source)) (p : AddressBlock) → IsKept t ks → in_order t ks ≡ view → value_at p t ≡ None → sources_of p view ≡ []
+pub none_of_it : (t : Table) (ks : List AddressBlock) (view : List (AddressBlock × Source)) (p : AddressBlock) → IsKept t ks → in_order t ks ≡ view →
+    value_at p t ≡ None → sources_of p view ≡ []
 none_of_it t ks view p kept is none = ap (sources_of p) (sym is) ∙ sources_are t ks p kept ∙ ap (λ o. unwrap_or o []) none
 
-pub nothing_without : (t : Table) (ks : List AddressBlock) (view : List (AddressBlock × Source)) (p : AddressBlock) (s : Source) → IsKept t ks → in_order t ks ≡ view → value_at p t ≡ None → view ≡ without_one route_before (p, s) view
+pub nothing_without : (t : Table) (ks : List AddressBlock) (view : List (AddressBlock × Source)) (p : AddressBlock) (s : Source) → IsKept t ks →
+    in_order t ks ≡ view → value_at p t ≡ None → view ≡ without_one route_before (p, s) view
 nothing_without t ks view p s kept is none =
     subst (λ v. v ≡ without_one route_before (p, s) v) is
     (without_source t t ks ks kept kept p s (λ q apart. refl) (subst (λ ss. ss ≡ without_one source_before s ss) (sym (ap (λ o. unwrap_or o []) none)) refl))
 
 module _ (t t1 : Table) (ks : List AddressBlock) (view : List (AddressBlock × Source)) (p : AddressBlock) (s : Source) (sources : List Source)
     (kept : IsKept t ks) (is : in_order t ks ≡ view) (none : sources_of p view ≡ []) (made : sources ≡ s ∷ []) (first : ChangesOnly t t1 p (Some sources)) where
-  module _ (old new : BTreeSet AddressBlock) (had : old.keys ≡ ks) (sorted : IsOrdered by_address_then_length new) (keys : Updates by_address_then_length old new p true) where
+  module _ (old new : BTreeSet AddressBlock) (had : old.keys ≡ ks) (sorted : IsOrdered by_address_then_length new)
+      (keys : Updates by_address_then_length old new p true) where
     pub kept_begun : IsKept t1 new.keys
     kept_begun =
         kept_changed t t1 ks new.keys p (Some sources) kept first
@@ -125,7 +137,8 @@ module _ (t t1 : Table) (ks : List AddressBlock) (view : List (AddressBlock × S
     begun_with =
         subst (λ v. in_order t1 new.keys ≡ with_one route_before (p, s) v) is
         (with_source t t1 ks new.keys kept kept_begun p s (λ q apart. ap (λ o. unwrap_or o []) (first.others q apart))
-        (ap (λ o. unwrap_or o []) first.changed ∙ made ∙ ap (λ ss. with_one source_before s ss) (sym (ap (λ o. unwrap_or o []) (none_was t ks view p kept is none)))))
+        (ap (λ o. unwrap_or o []) first.changed ∙ made
+        ∙ ap (λ ss. with_one source_before s ss) (sym (ap (λ o. unwrap_or o []) (none_was t ks view p kept is none)))))
 
   module _ (t2 : Table) (js : List AddressBlock) (had : js ≡ ks) (second : ChangesOnly t1 t2 p None) where
     same : (q : AddressBlock) → value_at q t2 ≡ value_at q t
@@ -142,7 +155,8 @@ pub copied_none : {B : Type 0} (f : B → List Source) (o : Option B) (v : Optio
 copied_none f None v e h = sym e
 copied_none f (Some x) v e h = absurd (no (sym h))
 
-pub left_are : (s : Source) (was left : List Source) (r : Result (Unit {0}) AllocError) → AreSources was → OnOk r (left ≡ with_one source_before s was) → OnErr r (left ≡ was) → AreSources left
+pub left_are : (s : Source) (was left : List Source) (r : Result (Unit {0}) AllocError) → AreSources was → OnOk r (left ≡ with_one source_before s was) →
+    OnErr r (left ≡ was) → AreSources left
 left_are s was left (Ok x) are ok err = subst AreSources (sym ok) (are_with s was are.ascend)
 left_are s was left (Err x) are ok err = subst AreSources (sym err) are
 
@@ -158,7 +172,8 @@ pub nothing_left : (ss : List Source) (b : Bool) → b ≡ (length ss == 0) → 
 nothing_left [] b e h = refl
 nothing_left (s ∷ ss) b e h = absurd (no (sym (other_test (length (s ∷ ss)) 0 (λ z. none_below (length ss) (omega (arith, z)))) ∙ sym e ∙ h))
 
-pub some_left : (s : Source) (was left : List Source) (b : Bool) → Ascends source_before was → left ≡ without_one source_before s was → b ≡ (length left == 0) → b ≡ false → AreSources left
+pub some_left : (s : Source) (was left : List Source) (b : Bool) → Ascends source_before was → left ≡ without_one source_before s was →
+    b ≡ (length left == 0) → b ≡ false → AreSources left
 some_left s was left b up made e h = record {
   some = more left (sym e ∙ h);
   ascend = subst (Ascends source_before) (sym made) (ascends_without source_before s was up);

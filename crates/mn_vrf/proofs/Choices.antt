@@ -65,11 +65,16 @@ is_picked best (route ∷ found) = split (nat_lt best.0.length route.0.length) r
     with_three : (x : AddressBlock × Source) → Bool
     with_three x = nat_le best.0.length x.0.length && (nat_le route.0.length x.0.length && all_of x)
 
-    split : (b : Bool) → nat_lt best.0.length route.0.length ≡ b → first_longest (best ∷ found) ≡ Some (picked best found) → first_longest (route ∷ found) ≡ Some (picked route found)
+    split : (b : Bool) → nat_lt best.0.length route.0.length ≡ b → first_longest (best ∷ found) ≡ Some (picked best found) →
+        first_longest (route ∷ found) ≡ Some (picked route found)
         → first_longest (best ∷ route ∷ found) ≡ Some (picked (if b then route else best) found)
     split true e _ more =
-        ap (λ b. first_of (cond b (best ∷ filter with_three (route ∷ found)) (filter with_three (route ∷ found)))) (and_off (nat_le best.0.length best.0.length) (nat_le route.0.length best.0.length) (all_of best) (not_longest best.0.length route.0.length e))
-        ∙ ap first_of (filter_alike with_three (λ x. nat_le route.0.length x.0.length && all_of x) (route ∷ found) (λ x. and_wider (nat_le best.0.length x.0.length) (nat_le route.0.length x.0.length && all_of x) (λ h. less_then best.0.length route.0.length x.0.length e (and_left (nat_le route.0.length x.0.length) (all_of x) h))))
+        ap (λ b. first_of (cond b (best ∷ filter with_three (route ∷ found)) (filter with_three (route ∷ found))))
+        (and_off (nat_le best.0.length best.0.length) (nat_le route.0.length best.0.length) (all_of best) (not_longest best.0.length route.0.length e))
+        ∙ ap first_of
+        (filter_alike with_three (λ x. nat_le route.0.length x.0.length && all_of x) (route ∷ found)
+        (λ x. and_wider (nat_le best.0.length x.0.length) (nat_le route.0.length x.0.length && all_of x)
+        (λ h. less_then best.0.length route.0.length x.0.length e (and_left (nat_le route.0.length x.0.length) (all_of x) h))))
         ∙ more
     split false e more _ =
         ap first_of (filter_alike with_three two (best ∷ route ∷ found) alike)
@@ -86,7 +91,9 @@ is_picked best (route ∷ found) = split (nat_lt best.0.length route.0.length) r
             by_best true f = ap (λ c. c && all_of x) (not_less_then best.0.length route.0.length x.0.length e f)
             by_best false f = refl
 
-        without_middle : (b r : Bool) → two best ≡ b → two route ≡ r → first_of (cond b (best ∷ cond r (route ∷ filter two found) (filter two found)) (cond r (route ∷ filter two found) (filter two found))) ≡ first_of (cond b (best ∷ filter two found) (filter two found))
+        without_middle : (b r : Bool) → two best ≡ b → two route ≡ r →
+            first_of (cond b (best ∷ cond r (route ∷ filter two found) (filter two found)) (cond r (route ∷ filter two found) (filter two found))) ≡
+            first_of (cond b (best ∷ filter two found) (filter two found))
         without_middle true r f g = refl
         without_middle false false f g = refl
         without_middle false true f g = absurd (no (sym f ∙ ap (λ c. c && all_of best) (itself best.0.length) ∙ every_one))
@@ -94,22 +101,29 @@ is_picked best (route ∷ found) = split (nat_lt best.0.length route.0.length) r
             every_one : all_of best ≡ true
             every_one = shorter found (and_right (nat_le best.0.length route.0.length) (all_of route) g)
               where
-                shorter : (xs : List (AddressBlock × Source)) → list_all (λ (other : AddressBlock × Source). nat_le other.0.length route.0.length) xs ≡ true → list_all (λ (other : AddressBlock × Source). nat_le other.0.length best.0.length) xs ≡ true
+                shorter : (xs : List (AddressBlock × Source)) →
+                    list_all (λ (other : AddressBlock × Source). nat_le other.0.length route.0.length) xs ≡ true →
+                    list_all (λ (other : AddressBlock × Source). nat_le other.0.length best.0.length) xs ≡ true
                 shorter [] h = refl
-                shorter (y ∷ ys) h = ap (λ c. c && list_all (λ (other : AddressBlock × Source). nat_le other.0.length best.0.length) ys) (not_above (and_left (nat_le y.0.length route.0.length) _ h)) ∙ shorter ys (and_right (nat_le y.0.length route.0.length) _ h)
+                shorter (y ∷ ys) h =
+                    ap (λ c. c && list_all (λ (other : AddressBlock × Source). nat_le other.0.length best.0.length) ys)
+                    (not_above (and_left (nat_le y.0.length route.0.length) _ h)) ∙ shorter ys (and_right (nat_le y.0.length route.0.length) _ h)
                   where
                     not_above : nat_le y.0.length route.0.length ≡ true → nat_le y.0.length best.0.length ≡ true
                     not_above k = grind (arith, nat_tests, e, k)
 
-chosen_on : (address : ℕ) (best : AddressBlock × Source) (routes : List (AddressBlock × Source)) → fold (chosen address) (Some best) routes ≡ Some (picked best (filter (λ (pair : AddressBlock × Source). contains pair.0 address) routes))
+chosen_on : (address : ℕ) (best : AddressBlock × Source) (routes : List (AddressBlock × Source)) →
+    fold (chosen address) (Some best) routes ≡ Some (picked best (filter (λ (pair : AddressBlock × Source). contains pair.0 address) routes))
 unfolding picked longer
 chosen_on address best [] = refl
-chosen_on address best (route ∷ routes) = split (contains route.0 address) (nat_lt best.0.length route.0.length) refl (chosen_on address best routes) (chosen_on address route routes)
+chosen_on address best (route ∷ routes) =
+    split (contains route.0 address) (nat_lt best.0.length route.0.length) refl (chosen_on address best routes) (chosen_on address route routes)
   where
     rest : List (AddressBlock × Source)
     rest = filter (λ (pair : AddressBlock × Source). contains pair.0 address) routes
 
-    split : (b c : Bool) → nat_lt best.0.length route.0.length ≡ c → fold (chosen address) (Some best) routes ≡ Some (picked best rest) → fold (chosen address) (Some route) routes ≡ Some (picked route rest)
+    split : (b c : Bool) → nat_lt best.0.length route.0.length ≡ c → fold (chosen address) (Some best) routes ≡ Some (picked best rest) →
+        fold (chosen address) (Some route) routes ≡ Some (picked route rest)
         → fold (chosen address) (if b && c then Some route else Some best) routes ≡ Some (picked best (cond b (route ∷ rest) rest))
     split false c e same other = same
     split true true e same other = other ∙ ap (λ b. Some (picked (if b then route else best) rest)) (sym e)
@@ -123,6 +137,7 @@ chosen_is address (route ∷ routes) = split (contains route.0 address) (chosen_
     rest : List (AddressBlock × Source)
     rest = filter (λ (pair : AddressBlock × Source). contains pair.0 address) routes
 
-    split : (b : Bool) → fold (chosen address) None routes ≡ first_longest rest → fold (chosen address) (if b then Some route else None) routes ≡ first_longest (cond b (route ∷ rest) rest)
+    split : (b : Bool) → fold (chosen address) None routes ≡ first_longest rest →
+        fold (chosen address) (if b then Some route else None) routes ≡ first_longest (cond b (route ∷ rest) rest)
     split true more = chosen_on address route routes ∙ sym (is_picked route rest)
     split false more = more

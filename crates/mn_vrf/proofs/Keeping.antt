@@ -49,19 +49,22 @@ of_one p s r = first_same p.address p.address (first_by p.length p.length (sourc
 pub of_two : (p q : AddressBlock) (s r : Source) → prefix_before p q ≡ true → route_before (p, s) (q, r) ≡ true
 of_two p q s r h = elim (first_tells p.address q.address (nat_lt p.length q.length) h) [
   | inl less ↦ first_less p.address q.address (first_by p.length q.length (source_before s r)) less
-  | inr both ↦ first_same p.address q.address (first_by p.length q.length (source_before s r)) both.0 ∙ ap (λ b. b || ((p.length == q.length) && source_before s r)) both.1
+  | inr both ↦ first_same p.address q.address (first_by p.length q.length (source_before s r)) both.0
+      ∙ ap (λ b. b || ((p.length == q.length) && source_before s r)) both.1
 ]
 
 -- of routes of two prefixes one comes before the other
 pub apart_routes : (p q : AddressBlock) (s r : Source) → same_prefix p q ≡ false → (route_before (q, r) (p, s) || route_before (p, s) (q, r)) ≡ true
 apart_routes p q s r apart = split (two_ways (route_before (q, r) (p, s) || route_before (p, s) (q, r)))
   where
-    split : ((route_before (q, r) (p, s) || route_before (p, s) (q, r)) ≡ true) ⊎ ((route_before (q, r) (p, s) || route_before (p, s) (q, r)) ≡ false) → (route_before (q, r) (p, s) || route_before (p, s) (q, r)) ≡ true
+    split : ((route_before (q, r) (p, s) || route_before (p, s) (q, r)) ≡ true) ⊎ ((route_before (q, r) (p, s) || route_before (p, s) (q, r)) ≡ false) →
+        (route_before (q, r) (p, s) || route_before (p, s) (q, r)) ≡ true
     split (inl h) = h
     split (inr h) =
         let addresses = first_neither q.address p.address (first_by q.length p.length (source_before r s)) (first_by p.length q.length (source_before s r)) h in
         let lengths = first_neither q.length p.length (source_before r s) (source_before s r) addresses.1 in
-        absurd (no (sym apart ∙ and_on (p.address == q.address) (p.length == q.length) (test_same p.address q.address (sym addresses.0)) (test_same p.length q.length (sym lengths.0))))
+        absurd (no (sym apart ∙ and_on (p.address == q.address) (p.length == q.length) (test_same p.address q.address (sym addresses.0))
+        (test_same p.length q.length (sym lengths.0))))
 
 -- as an ordered set has it
 pub alike_prefix : (p q : AddressBlock) → is_eq (by_address_then_length p q) ≡ same_prefix p q
@@ -73,7 +76,11 @@ below_prefix p q h = grind (arith, nat_tests, h)
 pub sorted_ascends : (ks : List AddressBlock) → IsStrictlySortedBy by_address_then_length ks → Ascends prefix_before ks
 unfolding IsStrictlySortedBy
 sorted_ascends [] h = tt
-sorted_ascends (k ∷ ks) h = (all_in (λ q. prefix_before k q ≡ true) ks (λ q i. below_prefix k q (in_all (λ q. by_address_then_length k q ≡ Less) ks q h.0 i)), sorted_ascends ks h.1)
+sorted_ascends (k ∷ ks) h = (
+  all_in (λ q. prefix_before k q ≡ true) ks (λ q i. below_prefix k q (in_all (λ q. by_address_then_length k q ≡ Less) ks q h.0 i)),
+  sorted_ascends ks
+      h.1,
+)
 
 pub before_apart : (p q : AddressBlock) → prefix_before p q ≡ true → same_prefix p q ≡ false
 before_apart p q h = grind (arith, nat_tests, h)
@@ -86,13 +93,15 @@ in_those p s table i = by (value_at p table) i
     by None j = absurd j
     by (Some ss) j = refl
 
-pub in_view : (table : List (AddressBlock × List Source)) (ks : List AddressBlock) (route : AddressBlock × Source) → In (in_order table ks) route → In ks route.0 × In (those route.0 table) route.1
+pub in_view : (table : List (AddressBlock × List Source)) (ks : List AddressBlock) (route : AddressBlock × Source) → In (in_order table ks) route →
+    In ks route.0 × In (those route.0 table) route.1
 in_view table ks route i =
     let there = in_flat_map (routes_at table) ks route i in
     let source = in_map (λ s. (there.0, s)) (those there.0 table) route there.2 in
     subst (λ (r : AddressBlock × Source). In ks r.0 × In (those r.0 table) r.1) source.2 (there.1, source.1)
 
-pub view_in : (table : List (AddressBlock × List Source)) (ks : List AddressBlock) (p : AddressBlock) (s : Source) → IsKept table ks → In (those p table) s → In (in_order table ks) (p, s)
+pub view_in : (table : List (AddressBlock × List Source)) (ks : List AddressBlock) (p : AddressBlock) (s : Source) → IsKept table ks →
+    In (those p table) s → In (in_order table ks) (p, s)
 view_in table ks p s kept i =
     flat_map_in (routes_at table) ks p (p, s) (any_in p ks (sym (kept.same p) ∙ in_those p s table i)) (map_in (λ s. (p, s)) (those p table) s i)
 
@@ -119,13 +128,15 @@ view_ascends table ks kept = go ks kept.ascend
     go [] h = tt
     go (k ∷ ks) h =
         ascends_append route_before (routes_at table k) (in_order table ks) (of_prefix k (those k table) (ascend_those k table _ kept)) (go ks h.1)
-        (all_in (λ x. AllByRecursion (λ y. route_before x y ≡ true) (in_order table ks)) (routes_at table k) (λ x i. all_in (λ y. route_before x y ≡ true) (in_order table ks) (λ y j.
+        (all_in (λ x. AllByRecursion (λ y. route_before x y ≡ true) (in_order table ks)) (routes_at table k)
+        (λ x i. all_in (λ y. route_before x y ≡ true) (in_order table ks) (λ y j.
         let here = in_map (λ s. (k, s)) (those k table) x i in
         let there = in_view table ks y j in
         subst (λ x. route_before x y ≡ true) here.2 (of_two k y.0 here.0 y.1 (in_all (λ q. prefix_before k q ≡ true) ks y.0 h.0 there.0)))))
 
 -- 4. Changes
-module _ (old new : List (AddressBlock × List Source)) (ks js : List AddressBlock) (was : IsKept old ks) (is : IsKept new js) (p : AddressBlock) (s : Source) (others : (q : AddressBlock) → same_prefix p q ≡ false → those q new ≡ those q old) where
+module _ (old new : List (AddressBlock × List Source)) (ks js : List AddressBlock) (was : IsKept old ks) (is : IsKept new js) (p : AddressBlock)
+    (s : Source) (others : (q : AddressBlock) → same_prefix p q ≡ false → those q new ≡ those q old) where
   x : AddressBlock × Source
   x = (p, s)
 
@@ -136,7 +147,8 @@ module _ (old new : List (AddressBlock × List Source)) (ks js : List AddressBlo
   other_stays : (q : AddressBlock) (r : Source) → same_prefix p q ≡ false → In (in_order old ks) (q, r) → In (in_order new js) (q, r)
   other_stays q r apart i = view_in new js q r is (subst (λ ss. In ss r) (sym (others q apart)) (in_view old ks (q, r) i).1)
 
-  other_was : (q : AddressBlock) (r : Source) → same_prefix p q ≡ false → In (in_order new js) (q, r) → In (in_order old ks) (q, r) × ((route_before (q, r) (p, s) || route_before (p, s) (q, r)) ≡ true)
+  other_was : (q : AddressBlock) (r : Source) → same_prefix p q ≡ false → In (in_order new js) (q, r) →
+      In (in_order old ks) (q, r) × ((route_before (q, r) (p, s) || route_before (p, s) (q, r)) ≡ true)
   other_was q r apart i = (view_in old ks q r was (subst (λ ss. In ss r) (others q apart) (in_view new js (q, r) i).1), apart_routes p q s r apart)
 
   same_apart : (r : Source) → (source_before r s || source_before s r) ≡ (route_before (p, r) (p, s) || route_before (p, s) (p, r))
@@ -149,21 +161,25 @@ module _ (old new : List (AddressBlock × List Source)) (ks js : List AddressBlo
       (λ z i apart. onward z i apart (same_now z.0))
       (λ z i. back z i (same_now z.0))
     where
-      onward : (z : AddressBlock × Source) → In (in_order old ks) z → (route_before z (p, s) || route_before (p, s) z) ≡ true → (same_prefix p z.0 ≡ true) ⊎ (same_prefix p z.0 ≡ false) → In (in_order new js) z
+      onward : (z : AddressBlock × Source) → In (in_order old ks) z → (route_before z (p, s) || route_before (p, s) z) ≡ true →
+          (same_prefix p z.0 ≡ true) ⊎ (same_prefix p z.0 ≡ false) → In (in_order new js) z
       onward z i apart (inr other) = other_stays z.0 z.1 other i
       onward z i apart (inl same) =
           let here : p ≡ z.0 = same_exact p z.0 same in
           subst (λ q. In (in_order new js) (q, z.1)) here
           (view_in new js p z.1 is (subst (λ ss. In ss z.1) (sym h)
-          (in_with source_before s (those p old) z.1 (subst (λ q. In (those q old) z.1) (sym here) (in_view old ks z i).1) (same_apart z.1 ∙ subst (λ q. (route_before (q, z.1) (p, s) || route_before (p, s) (q, z.1)) ≡ true) (sym here) apart))))
+          (in_with source_before s (those p old) z.1 (subst (λ q. In (those q old) z.1) (sym here) (in_view old ks z i).1)
+          (same_apart z.1 ∙ subst (λ q. (route_before (q, z.1) (p, s) || route_before (p, s) (q, z.1)) ≡ true) (sym here) apart))))
 
-      back : (z : AddressBlock × Source) → In (in_order new js) z → (same_prefix p z.0 ≡ true) ⊎ (same_prefix p z.0 ≡ false) → ((p, s) ≡ z) ⊎ (In (in_order old ks) z × ((route_before z (p, s) || route_before (p, s) z) ≡ true))
+      back : (z : AddressBlock × Source) → In (in_order new js) z → (same_prefix p z.0 ≡ true) ⊎ (same_prefix p z.0 ≡ false) →
+          ((p, s) ≡ z) ⊎ (In (in_order old ks) z × ((route_before z (p, s) || route_before (p, s) z) ≡ true))
       back z i (inr other) = inr (other_was z.0 z.1 other i)
       back z i (inl same) =
           let here : p ≡ z.0 = same_exact p z.0 same in
           elim (with_in source_before s (those p old) z.1 (subst (λ ss. In ss z.1) h (subst (λ q. In (those q new) z.1) (sym here) (in_view new js z i).1))) [
             | inl e ↦ inl (ap (λ q. (q, s)) here ∙ ap (λ r. (z.0, r)) e)
-            | inr m ↦ inr (subst (λ q. In (in_order old ks) (q, z.1) × ((route_before (q, z.1) (p, s) || route_before (p, s) (q, z.1)) ≡ true)) here (view_in old ks p z.1 was m.0, sym (same_apart z.1) ∙ m.1))
+            | inr m ↦ inr (subst (λ q. In (in_order old ks) (q, z.1) × ((route_before (q, z.1) (p, s) || route_before (p, s) (q, z.1)) ≡ true)) here
+                (view_in old ks p z.1 was m.0, sym (same_apart z.1) ∙ m.1))
           ]
 
   pub without_source : those p new ≡ without_one source_before s (those p old) → in_order new js ≡ without_one route_before (p, s) (in_order old ks)
@@ -172,29 +188,38 @@ module _ (old new : List (AddressBlock × List Source)) (ks js : List AddressBlo
       (λ z i apart. onward z i apart (same_now z.0))
       (λ z i. back z i (same_now z.0))
     where
-      onward : (z : AddressBlock × Source) → In (in_order old ks) z → (route_before z (p, s) || route_before (p, s) z) ≡ true → (same_prefix p z.0 ≡ true) ⊎ (same_prefix p z.0 ≡ false) → In (in_order new js) z
+      onward : (z : AddressBlock × Source) → In (in_order old ks) z → (route_before z (p, s) || route_before (p, s) z) ≡ true →
+          (same_prefix p z.0 ≡ true) ⊎ (same_prefix p z.0 ≡ false) → In (in_order new js) z
       onward z i apart (inr other) = other_stays z.0 z.1 other i
       onward z i apart (inl same) =
           let here : p ≡ z.0 = same_exact p z.0 same in
           subst (λ q. In (in_order new js) (q, z.1)) here
           (view_in new js p z.1 is (subst (λ ss. In ss z.1) (sym h)
-          (filter_in (λ r. source_before r s || source_before s r) (those p old) z.1 (subst (λ q. In (those q old) z.1) (sym here) (in_view old ks z i).1) (same_apart z.1 ∙ subst (λ q. (route_before (q, z.1) (p, s) || route_before (p, s) (q, z.1)) ≡ true) (sym here) apart))))
+          (filter_in (λ r. source_before r s || source_before s r) (those p old) z.1 (subst (λ q. In (those q old) z.1) (sym here) (in_view old ks z i).1)
+          (same_apart z.1 ∙ subst (λ q. (route_before (q, z.1) (p, s) || route_before (p, s) (q, z.1)) ≡ true) (sym here) apart))))
 
-      back : (z : AddressBlock × Source) → In (in_order new js) z → (same_prefix p z.0 ≡ true) ⊎ (same_prefix p z.0 ≡ false) → In (in_order old ks) z × ((route_before z (p, s) || route_before (p, s) z) ≡ true)
+      back : (z : AddressBlock × Source) → In (in_order new js) z →
+          (same_prefix p z.0 ≡ true) ⊎ (same_prefix p z.0 ≡ false) → In (in_order old ks) z × ((route_before z (p, s) || route_before (p, s) z) ≡ true)
       back z i (inr other) = other_was z.0 z.1 other i
       back z i (inl same) =
           let here : p ≡ z.0 = same_exact p z.0 same in
-          let m = in_filter (λ r. source_before r s || source_before s r) (those p old) z.1 (subst (λ ss. In ss z.1) h (subst (λ q. In (those q new) z.1) (sym here) (in_view new js z i).1)) in
-          subst (λ q. In (in_order old ks) (q, z.1) × ((route_before (q, z.1) (p, s) || route_before (p, s) (q, z.1)) ≡ true)) here (view_in old ks p z.1 was m.0, sym (same_apart z.1) ∙ m.1)
+          let m = in_filter (λ r. source_before r s || source_before s r) (those p old) z.1
+          (subst (λ ss. In ss z.1) h (subst (λ q. In (those q new) z.1) (sym here) (in_view new js z i).1)) in
+          subst (λ q. In (in_order old ks) (q, z.1) × ((route_before (q, z.1) (p, s) || route_before (p, s) (q, z.1)) ≡ true)) here
+          (view_in old ks p z.1 was m.0, sym (same_apart z.1) ∙ m.1)
 
 -- a table that has the same of each prefix
-pub same_view : (old new : List (AddressBlock × List Source)) (ks : List AddressBlock) → ((q : AddressBlock) → value_at q new ≡ value_at q old) → in_order new ks ≡ in_order old ks
+pub same_view : (old new : List (AddressBlock × List Source)) (ks : List AddressBlock) →
+    ((q : AddressBlock) → value_at q new ≡ value_at q old) → in_order new ks ≡ in_order old ks
 same_view old new [] h = refl
-same_view old new (k ∷ ks) h = ap (λ o. map (λ s. (k, s)) (unwrap_or o []) ++ in_order new ks) (h k) ∙ ap (λ rest. routes_at old k ++ rest) (same_view old new ks h)
+same_view old new (k ∷ ks) h =
+    ap (λ o. map (λ s. (k, s)) (unwrap_or o []) ++ in_order new ks) (h k) ∙ ap (λ rest. routes_at old k ++ rest) (same_view old new ks h)
 
 -- what one change leaves of a table is kept
-pub kept_changed : (old new : List (AddressBlock × List Source)) (ks js : List AddressBlock) (p : AddressBlock) (value : Option (List Source)) → IsKept old ks → ChangesOnly old new p value
-    → ((q : AddressBlock) → list_any (same_prefix q) js ≡ cond (same_prefix p q) (is_some value) (list_any (same_prefix q) ks)) → Ascends prefix_before js → ((ss : List Source) → value ≡ Some ss → AreSources ss) → IsKept new js
+pub kept_changed : (old new : List (AddressBlock × List Source)) (ks js : List AddressBlock) (p : AddressBlock) (value : Option (List Source)) →
+    IsKept old ks → ChangesOnly old new p value
+    → ((q : AddressBlock) → list_any (same_prefix q) js ≡ cond (same_prefix p q) (is_some value) (list_any (same_prefix q) ks)) → Ascends prefix_before js →
+    ((ss : List Source) → value ≡ Some ss → AreSources ss) → IsKept new js
 kept_changed old new ks js p value kept change keys ascend sources = record {
   ascend = ascend;
   same = λ q. by_prefix q (two_ways (same_prefix p q));
@@ -202,32 +227,41 @@ kept_changed old new ks js p value kept change keys ascend sources = record {
 }
   where
     by_prefix : (q : AddressBlock) → (same_prefix p q ≡ true) ⊎ (same_prefix p q ≡ false) → is_some (value_at q new) ≡ list_any (same_prefix q) js
-    by_prefix q (inl same) = ap (λ r. is_some (value_at r new)) (sym (same_exact p q same)) ∙ ap is_some change.changed ∙ sym (keys q ∙ ap (λ b. cond b (is_some value) (list_any (same_prefix q) ks)) same)
-    by_prefix q (inr other) = ap is_some (change.others q other) ∙ kept.same q ∙ sym (keys q ∙ ap (λ b. cond b (is_some value) (list_any (same_prefix q) ks)) other)
+    by_prefix q (inl same) =
+        ap (λ r. is_some (value_at r new)) (sym (same_exact p q same)) ∙ ap is_some change.changed
+        ∙ sym (keys q ∙ ap (λ b. cond b (is_some value) (list_any (same_prefix q) ks)) same)
+    by_prefix q (inr other) =
+        ap is_some (change.others q other) ∙ kept.same q ∙ sym (keys q ∙ ap (λ b. cond b (is_some value) (list_any (same_prefix q) ks)) other)
 
     source_ways : (q : AddressBlock) (ss : List Source) → value_at q new ≡ Some ss → (same_prefix p q ≡ true) ⊎ (same_prefix p q ≡ false) → AreSources ss
     source_ways q ss e (inl same) = sources ss (sym change.changed ∙ ap (λ r. value_at r new) (same_exact p q same) ∙ e)
     source_ways q ss e (inr other) = kept.each q ss (sym (change.others q other) ∙ e)
 
-pub changes_twice : (a b c : List (AddressBlock × List Source)) (p : AddressBlock) (v w : Option (List Source)) → ChangesOnly a b p v → ChangesOnly b c p w → ChangesOnly a c p w
+pub changes_twice : (a b c : List (AddressBlock × List Source)) (p : AddressBlock) (v w : Option (List Source)) → ChangesOnly a b p v →
+    ChangesOnly b c p w → ChangesOnly a c p w
 changes_twice a b c p v w first second = record { changed = second.changed; others = λ q apart. second.others q apart ∙ first.others q apart }
 
 -- as it was
-pub changed_back : (old new : List (AddressBlock × List Source)) (p : AddressBlock) → ChangesOnly old new p (value_at p old) → (q : AddressBlock) → value_at q new ≡ value_at q old
+pub changed_back : (old new : List (AddressBlock × List Source)) (p : AddressBlock) → ChangesOnly old new p (value_at p old) →
+    (q : AddressBlock) → value_at q new ≡ value_at q old
 changed_back old new p change q = by (two_ways (same_prefix p q))
   where
     by : (same_prefix p q ≡ true) ⊎ (same_prefix p q ≡ false) → value_at q new ≡ value_at q old
     by (inl same) = subst (λ r. value_at r new ≡ value_at r old) (same_exact p q same) change.changed
     by (inr other) = change.others q other
 
-pub same_keys : (table : List (AddressBlock × List Source)) (ks : List AddressBlock) (p : AddressBlock) → IsKept table ks → IsSome (value_at p table) → (q : AddressBlock) → list_any (same_prefix q) ks ≡ cond (same_prefix p q) true (list_any (same_prefix q) ks)
+pub same_keys : (table : List (AddressBlock × List Source)) (ks : List AddressBlock) (p : AddressBlock) → IsKept table ks → IsSome (value_at p table) →
+    (q : AddressBlock) → list_any (same_prefix q) ks ≡ cond (same_prefix p q) true (list_any (same_prefix q) ks)
 same_keys table ks p kept there q = by (two_ways (same_prefix p q))
   where
     by : (same_prefix p q ≡ true) ⊎ (same_prefix p q ≡ false) → list_any (same_prefix q) ks ≡ cond (same_prefix p q) true (list_any (same_prefix q) ks)
-    by (inl same) = subst (λ r. list_any (same_prefix r) ks ≡ true) (same_exact p q same) (sym (kept.same p) ∙ there) ∙ sym (ap (λ b. cond b true (list_any (same_prefix q) ks)) same)
+    by (inl same) =
+        subst (λ r. list_any (same_prefix r) ks ≡ true) (same_exact p q same) (sym (kept.same p) ∙ there)
+        ∙ sym (ap (λ b. cond b true (list_any (same_prefix q) ks)) same)
     by (inr other) = sym (ap (λ b. cond b true (list_any (same_prefix q) ks)) other)
 
-pub kept_same : (old new : List (AddressBlock × List Source)) (ks : List AddressBlock) → IsKept old ks → ((q : AddressBlock) → value_at q new ≡ value_at q old) → IsKept new ks
+pub kept_same : (old new : List (AddressBlock × List Source)) (ks : List AddressBlock) → IsKept old ks →
+    ((q : AddressBlock) → value_at q new ≡ value_at q old) → IsKept new ks
 kept_same old new ks kept h = record {
   ascend = kept.ascend;
   same = λ q. ap is_some (h q) ∙ kept.same q;

@@ -51,9 +51,11 @@ pub route_order : IsOrder route_before
 route_order =
     by_number_then (λ (x : AddressBlock × Source). x.0.address) (λ x y. first_by x.0.length y.0.length (source_before x.1 y.1))
     (by_number_then (λ (x : AddressBlock × Source). x.0.length) (λ x y. source_before x.1 y.1)
-    (order_same (λ (x y : AddressBlock × Source). source_before x.1 y.1) (λ x y. first_by (kind x.1) (kind y.1) (first_by (major x.1) (major y.1) (nat_lt (minor x.1) (minor y.1)))) (λ x y. by_keys x.1 y.1)
+    (order_same (λ (x y : AddressBlock × Source). source_before x.1 y.1)
+    (λ x y. first_by (kind x.1) (kind y.1) (first_by (major x.1) (major y.1) (nat_lt (minor x.1) (minor y.1)))) (λ x y. by_keys x.1 y.1)
     (by_number_then (λ (x : AddressBlock × Source). kind x.1) (λ x y. first_by (major x.1) (major y.1) (nat_lt (minor x.1) (minor y.1)))
-    (by_number_then (λ (x : AddressBlock × Source). major x.1) (λ x y. nat_lt (minor x.1) (minor y.1)) (by_number (λ (x : AddressBlock × Source). minor x.1))))))
+    (by_number_then (λ (x : AddressBlock × Source). major x.1) (λ x y. nat_lt (minor x.1) (minor y.1))
+    (by_number (λ (x : AddressBlock × Source). minor x.1))))))
 
 pub static_order : IsOrder static_before
 static_order = by_number_then (λ (x : Static). x.prefix.address) (λ x y. nat_lt x.prefix.length y.prefix.length) (by_number (λ (x : Static). x.prefix.length))

@@ -23,7 +23,8 @@ route_before route other = first_by route.0.address other.0.address (first_by ro
 abbrev pub same_source : Source → Source → Bool
 same_source (Own s) (Own r) = s.0 == r.0
 same_source (Near v s) (Near w r) = (v.0 == w.0) && (s.0 == r.0)
-same_source (Far address rd edge label) (Far other other_rd other_edge other_label) = (address == other) && ((rd.0 == other_rd.0) && ((edge.0 == other_edge.0) && (label == other_label)))
+same_source (Far address rd edge label) (Far other other_rd other_edge other_label) =
+    (address == other) && ((rd.0 == other_rd.0) && ((edge.0 == other_edge.0) && (label == other_label)))
 same_source _ _ = false
 
 -- what stands in the place of a source is the source

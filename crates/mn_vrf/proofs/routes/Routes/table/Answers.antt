@@ -4,4 +4,6 @@ use Rattle.mn_vrf.proofs.Finding.{table_is}
 use Rattle.mn_vrf.proofs.routes.Routes.table.Goals as goal
 
 pub returns : goal.returns
-returns c = λ prefix. table_is c.self.inside.table c.self.inside.prefixes.keys prefix c.self.invariant ∙ ap (λ routes. unless_empty (sources_of prefix routes)) c.self.view_is
+returns c =
+    λ prefix. table_is c.self.inside.table c.self.inside.prefixes.keys prefix c.self.invariant
+    ∙ ap (λ routes. unless_empty (sources_of prefix routes)) c.self.view_is

@@ -14,7 +14,8 @@ loop-low-preserved-then-is_before c =
     record {
       order = grind (arith, c.loop-low-test.true);
       within = known.within;
-      below = lower_half source_before source_order c.args.self.now c.args.source.now middle (subst (Ascends source_before) c.self.view_is c.self.invariant) there c.index.result.now (rw (← c.self.view_is) c.index.ensures)
+      below = lower_half source_before source_order c.args.self.now c.args.source.now middle
+          (subst (Ascends source_before) c.self.view_is c.self.invariant) there c.index.result.now (rw (← c.self.view_is) c.index.ensures)
           (sym c.is_before.ensures ∙ c.if-is_before.true);
       above = known.above;
     }
@@ -29,6 +30,7 @@ loop-low-preserved c =
       order = grind (arith, c.loop-low-test.true);
       within = grind (arith, c.loop-low-test.true, known.within);
       below = known.below;
-      above = upper_half source_before source_order c.args.self.now c.args.source.now middle (subst (Ascends source_before) c.self.view_is c.self.invariant) there c.index.result.now (rw (← c.self.view_is) c.index.ensures)
+      above = upper_half source_before source_order c.args.self.now c.args.source.now middle
+          (subst (Ascends source_before) c.self.view_is c.self.invariant) there c.index.result.now (rw (← c.self.view_is) c.index.ensures)
           (sym c.is_before.ensures ∙ c.if-is_before.false);
     }

@@ -9,11 +9,13 @@ use Rattle.mn_vrf.proofs.statics.Statics.of_prefix.Goals as goal
 pub returns-then-is_taken : goal.returns-then-is_taken
 returns-then-is_taken c =
     ap Some (rw (← c.self.view_is) c.index.ensures)
-    ∙ sym (one_held static_before static_order c.args.self.now (subst (Ascends static_before) c.self.view_is c.self.invariant) c.new-route.result c.place-at.result c.place-at.ensures c.index.result.now (c.is_taken.ensures.taken c.if-is_taken.true))
+    ∙ sym (one_held static_before static_order c.args.self.now (subst (Ascends static_before) c.self.view_is c.self.invariant) c.new-route.result
+    c.place-at.result c.place-at.ensures c.index.result.now (c.is_taken.ensures.taken c.if-is_taken.true))
     ∙ ap (λ x. one_at static_before x c.args.self.now) c.new-route.ensures
 
 -- nothing stands there
 pub returns : goal.returns
 returns c =
-    sym (one_absent static_before static_order c.args.self.now (subst (Ascends static_before) c.self.view_is c.self.invariant) c.new-route.result c.place-at.result c.place-at.ensures (c.is_taken.ensures.free c.if-is_taken.false))
+    sym (one_absent static_before static_order c.args.self.now (subst (Ascends static_before) c.self.view_is c.self.invariant) c.new-route.result
+    c.place-at.result c.place-at.ensures (c.is_taken.ensures.free c.if-is_taken.false))
     ∙ ap (λ x. one_at static_before x c.args.self.now) c.new-route.ensures
