@@ -1,9 +1,10 @@
 # make test   the whole gate: proofs from nothing, must-fail edits, tests, programs
 # make build  proves and builds the program, and prints where it is
 # make demo   runs the first example, in seconds, and says whether what ran was the proved build
+# make tools  tests the tools, the schema, the man page and the completions, in seconds
 # make clean  removes what was built
 
-.PHONY: test build demo clean
+.PHONY: test build demo tools clean
 
 PROGRAM = crates/mplsnet/out/mplsnet
 
@@ -15,6 +16,9 @@ build:
 
 demo:
 	@sh scripts/demo
+
+tools:
+	@python3 -m unittest discover -q -s tools/tests
 
 clean:
 	rm -rf crates/*/out demo

@@ -1,0 +1,97 @@
+"""The man page says the statuses of docs/FORMATS.md and is well formed; the completions know what there is."""
+
+import re
+import shutil
+import subprocess
+import sys
+import unittest
+from pathlib import Path
+
+ROOT = Path(__file__).resolve().parents[2]
+PAGE = ROOT / "man/mplsnet.1"
+BASH = ROOT / "completions/mplsnet.bash"
+ZSH = ROOT / "completions/_mplsnet"
+FORMATS = (ROOT / "docs/FORMATS.md").read_text()
+
+# What bash would do at the end of the line, in a folder.
+COMPLETE = """
+source "$1"; cd "$2"; shift 2
+COMP_WORDS=("$@"); COMP_CWORD=$((${#COMP_WORDS[@]} - 1))
+function=$(complete -p "$1"); function=${function#*-F }; "${function%% *}"
+printf '%s\\n' "${COMPREPLY[@]}"
+"""
+
+
+def section(name):
+    """The lines of a section of the man page."""
+    return PAGE.read_text().split(f".SH {name}\n")[1].split("\n.SH ")[0]
+
+
+def commands():
+    """The first words of the command lines that docs/FORMATS.md says something is done for."""
+    table = FORMATS.split("## Command line")[1].split("##")[0]
+    return set(re.findall(r"^\| `(\w+) [A-Z ]+` \|", table, re.M))
+
+
+class Page(unittest.TestCase):
+    def test_has_its_sections(self):
+        found = re.findall(r"^\.SH (.*)", PAGE.read_text(), re.M)
+        self.assertEqual(["NAME", "SYNOPSIS", "DESCRIPTION", "FILES", "EXIT STATUS", "EXAMPLES", "SEE ALSO"], found)
+
+    def test_has_the_statuses_of_the_formats(self):
+        wanted = re.findall(r"^\| (\d+) \| \w+ \|", FORMATS, re.M)
+        self.assertEqual(wanted, re.findall(r"^\.B (\d+)$", section("EXIT STATUS"), re.M))
+
+    def test_has_the_commands_of_the_formats(self):
+        self.assertEqual(commands(), set(re.findall(r"^\.B mplsnet (\w+)", section("SYNOPSIS"), re.M)))
+
+    def test_shows_the_report_of_the_first_example(self):
+        for line in (ROOT / "examples/first/expected/report.txt").read_text().splitlines():
+            self.assertIn(line, section("EXAMPLES"))
+
+    @unittest.skipUnless(shutil.which("groff"), "groff isn't installed")
+    def test_is_set_without_a_warning(self):
+        ran = subprocess.run(["groff", "-man", "-Tutf8", "-wall", PAGE], capture_output=True, text=True)
+        self.assertEqual((0, ""), (ran.returncode, ran.stderr))
+
+
+class Bash(unittest.TestCase):
+    def completed(self, folder, *words):
+        ran = subprocess.run(["bash", "-c", COMPLETE, "bash", BASH, ROOT / folder, *words], capture_output=True, text=True)
+        self.assertEqual((0, ""), (ran.returncode, ran.stderr))
+        return set(ran.stdout.split())
+
+    def test_commands(self):
+        self.assertEqual(commands(), self.completed("examples/first", "mplsnet", ""))
+        self.assertEqual({"check"}, self.completed("examples/first", "mplsnet", "c"))
+
+    def test_files_by_their_place(self):
+        first = "examples/first"
+        self.assertEqual({"topology.toml", "expected"}, self.completed(first, "mplsnet", "check", ""))
+        self.assertEqual({"topology.toml", "expected"}, self.completed(first, "mplsnet", "run", ""))
+        self.assertIn("script.txt", self.completed(first, "mplsnet", "run", "topology.toml", ""))
+        self.assertEqual({"capture.pcap", "expected"}, self.completed(first, "mplsnet", "run", "topology.toml", "script.txt", ""))
+        self.assertEqual({"expected"}, self.completed(first, "mplsnet", "run", "topology.toml", "script.txt", "capture.pcap", ""))
+        self.assertEqual(set(), self.completed(first, "mplsnet", "check", "topology.toml", ""))
+
+    def test_options_of_the_drawing_are_those_of_its_help(self):
+        said = subprocess.run([sys.executable, ROOT / "tools/mplsnet-draw", "--help"], capture_output=True, text=True).stdout
+        options = set(re.findall(r"^  (?:-\w, )?(--[a-z]+)", said, re.M))
+        self.assertEqual(options, self.completed("examples", "mplsnet-draw", "-"))
+        for option in options:
+            self.assertIn(option, ZSH.read_text())
+        self.assertEqual({"neato"}, self.completed("examples", "mplsnet-draw", "--layout", "n"))
+
+
+class Zsh(unittest.TestCase):
+    def test_has_the_commands(self):
+        self.assertEqual(commands(), set(re.findall(r"^        '(\w+):", ZSH.read_text(), re.M)))
+
+    @unittest.skipUnless(shutil.which("zsh"), "zsh isn't installed")
+    def test_is_read_by_zsh(self):
+        ran = subprocess.run(["zsh", "-n", ZSH], capture_output=True, text=True)
+        self.assertEqual((0, ""), (ran.returncode, ran.stderr))
+
+
+if __name__ == "__main__":
+    unittest.main()
