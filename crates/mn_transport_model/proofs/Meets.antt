@@ -55,16 +55,19 @@ module _ (t : Network) (lawful : IsLawful t) (old : Carried) (works : old.failed
     meets-learn node l may flight learns = did-learn t lawful tick number next old new node l flight.0 flight.1 (may works) learns
 
     pub meets-hear : (l : LinkNo) (dir : Dir) → (old.failed ≡ false → MayDo t (step.HearLdp l dir) old) → (channels : ℕ) × IsFlight channels old.messages
-        → ((event : Event) → MayHear t old l.0 dir event → HearsNext t tick number l.0 dir event old new next) → Did t tick number (step.HearLdp l dir) old new (next - number)
+        → ((event : Event) → MayHear t old l.0 dir event → HearsNext t tick number l.0 dir event old new next) →
+        Did t tick number (step.HearLdp l dir) old new (next - number)
     meets-hear l dir may flight hears = did-hear t lawful tick number next old new l dir flight.0 flight.1 hears (may works)
 
     -- the notices that stay have the numbers that they had
-    pub notices-switch : (l : LinkNo) (on : Bool) → number ≤ next → Switches t tick number l.0 on old new next → All (λ item. item.number < number) old.notices → All (λ item. item.number < number + (next - number)) new.notices
+    pub notices-switch : (l : LinkNo) (on : Bool) → number ≤ next → Switches t tick number l.0 on old new next →
+        All (λ item. item.number < number) old.notices → All (λ item. item.number < number + (next - number)) new.notices
     notices-switch l on more turns below =
         below-made new.notices number next more (below-more new.notices number next more
         (subst (All (λ item. item.number < number)) (sym (switch-rest t lawful tick number next old new l.0 on turns).notices) below))
 
-    pub notices-learn : (node : NodeNo) (l : LinkNo) → number ≤ next → LearnsNext t tick number node.0 l.0 old new next → All (λ item. item.number < number) old.notices → All (λ item. item.number < number + (next - number)) new.notices
+    pub notices-learn : (node : NodeNo) (l : LinkNo) → number ≤ next → LearnsNext t tick number node.0 l.0 old new next →
+        All (λ item. item.number < number) old.notices → All (λ item. item.number < number + (next - number)) new.notices
     notices-learn node l more learns below =
         below-made new.notices number next more (below-more new.notices number next more
         (subst (All (λ item. item.number < number)) (sym (act-rest t tick number node.0 (Learns l.0) (noticed t node.0 l.0 old) new next learns).notices)
@@ -76,4 +79,5 @@ module _ (t : Network) (lawful : IsLawful t) (old : Carried) (works : old.failed
     notices-hear l dir more may hears below =
         let can = can-hear-next l dir may in
         below-made new.notices number next more (below-more new.notices number next more
-        (subst (All (λ item. item.number < number)) (sym (act-rest t tick number (receiver (wiring_of t) l.0 dir) can.event (taken l.0 dir old) new next (hears can.event can.may)).notices) below))
+        (subst (All (λ item. item.number < number))
+        (sym (act-rest t tick number (receiver (wiring_of t) l.0 dir) can.event (taken l.0 dir old) new next (hears can.event can.may)).notices) below))
