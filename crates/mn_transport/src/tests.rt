@@ -81,11 +81,17 @@ fn a_site_that_is_attached_anew_has_the_next_label(rt: HostRuntime) -> Result<()
     assert_eq!(rt; at_start.means(18), Some(Bind::Site(A, 1)));
     assert_eq!(rt; at_start.means(19), Some(Bind::Site(B, 1)));
     assert_eq!(rt; at_start.means(20), None);
-    assert_eq!(rt; transport.node(PE2).labels().means(18), Some(Bind::Site(C, 1)));
+    assert_eq!(rt;
+        transport.node(PE2).labels().means(18),
+        Some(Bind::Site(C, 1))
+    );
 
     transport.detach(&topology, A);
     let label = transport.attach(&topology, A)?;
     assert_eq!(rt; label, 20);
-    assert_eq!(rt; transport.node(PE1).labels().means(20), Some(Bind::Site(A, 2)));
+    assert_eq!(rt;
+        transport.node(PE1).labels().means(20),
+        Some(Bind::Site(A, 2))
+    );
     Ok(())
 }

@@ -2,10 +2,8 @@ use Rattle.std.proofs.Common.{rules, ◌<◌, [], length, arith}
 use Rattle.std.proofs.lemmas.Option.{slice_get_within}
 use Rattle.mn_base.specs.declared.numbers.SiteNo.{SiteNo}
 use Rattle.mn_topo.specs.declared.steps.Step.TheVariants as step
-use Rattle.mn_ledger.specs.Ledger.{world_of}
 use Rattle.mn_timetable.specs.Steps.{pushed}
 use Rattle.mn_transport_model.specs.Stands.{IsTransport}
-use Rattle.mn_transport_model.specs.Steps.{IsTurn}
 use Rattle.mn_transport_model.proofs.Witnesses.{may-be-detached, may-be-attached}
 use Rattle.mn_transport.proofs.tests.a_site_that_is_attached_anew_has_the_next_label.Goals as goal
 
