@@ -1,5 +1,6 @@
 -- A site gets a label, or loses it: the statics over it come to the VRFs that are to hold them, or go.
-use Rattle.std.proofs.Common.{ℕ, zero, suc, ◌≡◌, ◌≢◌, ◌<◌, ◌⊎◌, inl, inr, Bool, true, false, List, [], ◌∷◌, ◌++◌, map, length, refl, arith, sym, ◌∙◌, ap, subst, Option, Some, None}
+use Rattle.std.proofs.Common.{ℕ, zero, suc, ◌≡◌, ◌≢◌, ◌<◌, ◌⊎◌, inl, inr, Bool, true, false, List, [], ◌∷◌, ◌++◌, map, length, refl, arith, sym, ◌∙◌, ap}
+use Rattle.std.proofs.Common.{subst, Option, Some, None}
 use Rattle.std.specs.Prelude.{◌==◌, slice_index_or, slice_set, if◌then◌else◌}
 use Rattle.std.proofs.lemmas.Bool.Decides.{eqb_tells}
 use Rattle.std.proofs.lemmas.List.{get_or-set_same, get_or-set_other}
@@ -125,7 +126,8 @@ module _ (site : ℕ) (e : Edge) (ll lm : List (Option ℕ)) (others : (k : ℕ)
       (subst (In (over_routes site (own_over site) teller.statics))
       (ap (λ k. let r : AddressBlock × Source = (s.prefix, own_over k) in r) (sym h) ∙ is) (to_over site (own_over site) teller.statics s i h))
 
-  near_comes : (s : Static) (z : AddressBlock × Source) → In teller.statics s → s.site ≡ site → w.number ≢ teller.number → meet teller.exports w.imports ≡ true →
+  near_comes : (s : Static) (z : AddressBlock × Source) → In teller.statics s → s.site ≡ site → w.number ≢ teller.number →
+      meet teller.exports w.imports ≡ true →
       ((let r : AddressBlock × Source = (s.prefix, near_over teller.number s.site) in r) ≡ z) → In routes z
   near_comes s z i h d meets is =
       subst (λ b. In (site_routes (if b then Some (own_over site) else if meet teller.exports w.imports then Some (near_over teller.number site) else None)

@@ -1,5 +1,6 @@
 -- A VRF has one static less: no VRF holds its route.
-use Rattle.std.proofs.Common.{ℕ, ◌≡◌, ◌≢◌, ◌<◌, ◌⊎◌, inl, inr, Bool, true, false, cond, List, [], ◌∷◌, map, filter, length, refl, arith, sym, ◌∙◌, ap, subst, Option, Some, None}
+use Rattle.std.proofs.Common.{ℕ, ◌≡◌, ◌≢◌, ◌<◌, ◌⊎◌, inl, inr, Bool, true, false, cond, List, [], ◌∷◌, map, filter, length, refl, arith, sym, ◌∙◌, ap}
+use Rattle.std.proofs.Common.{subst, Option, Some, None}
 use Rattle.std.specs.Prelude.{◌==◌, ◌||◌, nat_lt, slice_index_or, if◌then◌else◌}
 use Rattle.std.specs.List.{range_with_len}
 use Rattle.std.proofs.lemmas.Bool.Decides.{eqb_tells}
@@ -264,7 +265,8 @@ module _ (v : ℕ) (p : AddressBlock) (site : ℕ) (old new one : List Holding) 
   all_hold teller first first_in first_is is [] h all = tt
   all_hold teller first first_in first_is is (x ∷ xs) h all = (
     subst (λ (g : Holding). (spread_one_vrf teller g).held ≡ held_by (after_vrf edge v goes) (spread_one_vrf teller g).vrf) (sym (telling_is x))
-        (ap (changed (spread_over teller false (present_of (slice_index_or labels site None) (record { prefix = p; site = site })) (later v p site x.vrf))) all.0
+        (ap (changed (spread_over teller false (present_of (slice_index_or labels site None) (record { prefix = p; site = site })) (later v p site x.vrf)))
+        all.0
         ∙ sym (holds v p site edge sound.order there teller first first_in first_is is x.vrf (h x (inl refl)))),
     all_hold teller first first_in first_is is xs (λ y i. h y (inr i)) all.1,
   )

@@ -1,5 +1,6 @@
 -- A VRF exports one target more or less: others hold its statics, or do no longer, that import it by that target alone.
-use Rattle.std.proofs.Common.{ℕ, ◌≡◌, ◌≢◌, ◌<◌, ◌⊎◌, inl, inr, Bool, true, false, cond, List, [], ◌∷◌, map, length, refl, sym, ◌∙◌, ap, subst, Option, Some, None}
+use Rattle.std.proofs.Common.{ℕ, ◌≡◌, ◌≢◌, ◌<◌, ◌⊎◌, inl, inr, Bool, true, false, cond, List, [], ◌∷◌, map, length, refl, sym, ◌∙◌, ap, subst, Option, Some}
+use Rattle.std.proofs.Common.{None}
 use Rattle.std.specs.Prelude.{◌==◌, ◌&&◌, not, slice_index_or, if◌then◌else◌}
 use Rattle.std.proofs.lemmas.Bool.Decides.{eqb_tells}
 use Rattle.mn_base.specs.declared.numbers.Rt.{Rt}
@@ -233,7 +234,8 @@ module _ (v : ℕ) (t : Rt) (e : Edge) (order : InOrder e) (told_vrf : VrfState)
       ≡ all_changed on (told_routes (not (w.number == told_vrf.number) && import_alone t (target_set t on told_vrf.exports) w.imports) (teller on) e.labels)
       (held_by e w)
   held_then true w xs i h fresh =
-      let routes : List (AddressBlock × Source) = told_routes (not (w.number == told_vrf.number) && import_alone t (target_set t true told_vrf.exports) w.imports)
+      let routes : List (AddressBlock × Source) =
+      told_routes (not (w.number == told_vrf.number) && import_alone t (target_set t true told_vrf.exports) w.imports)
       (teller true) e.labels in
       changed_held (raw e w) (raw (later true) (record w { exports = xs })) (map (change_of true) routes) (one_before w i) (one_after true w xs i h)
       (all_come (raw e w) (raw (later true) (record w { exports = xs })) routes
@@ -241,7 +243,8 @@ module _ (v : ℕ) (t : Rt) (e : Edge) (order : InOrder e) (told_vrf : VrfState)
       w w.exports xs (import_alone t (target_set t true told_vrf.exports) w.imports)
       (export_differs t w.imports told_vrf.exports (fresh_on t told_vrf.exports fresh))))
   held_then false w xs i h fresh =
-      let routes : List (AddressBlock × Source) = told_routes (not (w.number == told_vrf.number) && import_alone t (target_set t false told_vrf.exports) w.imports)
+      let routes : List (AddressBlock × Source) =
+      told_routes (not (w.number == told_vrf.number) && import_alone t (target_set t false told_vrf.exports) w.imports)
       (teller false) e.labels in
       changed_held (raw e w) (raw (later false) (record w { exports = xs })) (map (change_of false) routes) (one_before w i) (one_after false w xs i h)
       (all_go (raw (later false) (record w { exports = xs })) (raw e w) routes

@@ -1,5 +1,6 @@
 -- A VRF imports one target more or less: what it holds changes by the routes that meet its set by that target alone.
-use Rattle.std.proofs.Common.{ℕ, ◌≡◌, ◌<◌, ◌+◌, ◌⊎◌, inl, inr, Bool, true, false, cond, List, [], ◌∷◌, ◌++◌, map, filter, length, refl, arith, sym, ◌∙◌, ap, subst, Option, Some, None}
+use Rattle.std.proofs.Common.{ℕ, ◌≡◌, ◌<◌, ◌+◌, ◌⊎◌, inl, inr, Bool, true, false, cond, List, [], ◌∷◌, ◌++◌, map, filter, length, refl, arith, sym, ◌∙◌, ap}
+use Rattle.std.proofs.Common.{subst, Option, Some, None}
 use Rattle.std.specs.Prelude.{◌==◌, ◌&&◌, not, nat_le, slice_index_or, if◌then◌else◌}
 use Rattle.std.specs.List.{flat_map, range_with_len}
 use Rattle.std.proofs.lemmas.Bool.Decides.{eqb_tells}
@@ -29,13 +30,15 @@ use Rattle.mn_pe.proofs.Orderly.{vrf_order}
 use Rattle.mn_pe.proofs.Retracts.{by_sources, by_addresses, by_places}
 use Rattle.mn_pe.proofs.Sound.{kept_of, in_vrfs}
 use Rattle.mn_pe.proofs.Spreads.{far_list, raw, raw_kinds, own_to, near_to, far_to}
-use Rattle.mn_pe.proofs.Turned.{near_routes, peer_routes, all_changed, all_append, vrfs_are, peers_are, from_vrfs, to_vrfs, IsNearAlone, IsPeerAlone, from_peers, to_peers, AreThese, all_come, all_go}
+use Rattle.mn_pe.proofs.Turned.{near_routes, peer_routes, all_changed, all_append, vrfs_are, peers_are, from_vrfs, to_vrfs, IsNearAlone, IsPeerAlone}
+use Rattle.mn_pe.proofs.Turned.{from_peers, to_peers, AreThese, all_come, all_go}
 
 -- 1. One VRF, with either set
 
 -- what a VRF imports by the target alone
 abbrev pub came : Edge → Rt → ℕ → List Rt → List (AddressBlock × Source)
-came edge t number imports = near_routes t edge.labels number imports edge.vrfs ++ peer_routes t edge.loopbacks edge.heard imports (range_with_len 0 (length edge.heard))
+came edge t number imports =
+    near_routes t edge.labels number imports edge.vrfs ++ peer_routes t edge.loopbacks edge.heard imports (range_with_len 0 (length edge.heard))
 
 -- a peer's route that the set meets
 abbrev pub IsFarBy : List ℕ → List (List Heard) → List Rt → AddressBlock × Source → Type 0
@@ -309,7 +312,8 @@ module _ (v : ℕ) (t : Rt) (on : Bool) (old new one : List Holding) (sites : Li
       let fars : List (AddressBlock × Source) = peer_routes t lbs hs (target_set t on x.vrf.imports) (range_with_len 0 (length hs)) in
       peers_are on t lbs hs (target_set t on x.vrf.imports) (range_with_len 0 (length hs))
       (after_vrfs on t labels x.vrf.number (target_set t on x.vrf.imports) x.held (on_vrf v (with_imports (target_set t on)) (told old)))
-      ∙ ap (all_changed on fars) (vrfs_are on t labels x.vrf.number (target_set t on x.vrf.imports) (on_vrf v (with_imports (target_set t on)) (told old)) x.held)
+      ∙ ap (all_changed on fars)
+      (vrfs_are on t labels x.vrf.number (target_set t on x.vrf.imports) (on_vrf v (with_imports (target_set t on)) (told old)) x.held)
       ∙ sym (all_append on nears fars x.held)
       ∙ ap (all_changed on (nears ++ fars)) all
       ∙ sym (held_here v t edge sound.order on x.vrf i is

@@ -1,5 +1,6 @@
 -- A change of the VRF at the place of its number is the change of the VRF of that number.
-use Rattle.std.proofs.Common.{ℕ, zero, suc, ◌≡◌, ◌≢◌, ◌<◌, Bool, true, false, cond, List, [], ◌∷◌, ◌++◌, map, take, drop, length, refl, arith, sym, ◌∙◌, ap, Option, None}
+use Rattle.std.proofs.Common.{ℕ, zero, suc, ◌≡◌, ◌≢◌, ◌<◌, Bool, true, false, cond, List, [], ◌∷◌, ◌++◌, map, take, drop, length, refl, arith, sym, ◌∙◌, ap}
+use Rattle.std.proofs.Common.{Option, None}
 use Rattle.std.specs.Prelude.{Result, Ok, Err, OnOk, OnErr, slice_set, slice_index_or, ◌==◌, if◌then◌else◌}
 use Rattle.std.specs.List.{AllByRecursion}
 use Rattle.std.proofs.lemmas.List.{set-get_or}

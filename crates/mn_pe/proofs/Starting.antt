@@ -43,7 +43,8 @@ home_at all site = (slice_index_or all site (record { 0 = 0 })).0
 
 module _ (all : List VrfNo) (v : ℕ) where
   prefixes_home : (site : ℕ) (prefixes : List AddressBlock) (statics : List Static) → home_at all site ≡ v →
-      AllByRecursion (λ (s : Static). home_at all s.site ≡ v) statics → AllByRecursion (λ (s : Static). home_at all s.site ≡ v) (after_prefixes site statics prefixes)
+      AllByRecursion (λ (s : Static). home_at all s.site ≡ v) statics →
+      AllByRecursion (λ (s : Static). home_at all s.site ≡ v) (after_prefixes site statics prefixes)
   prefixes_home site [] statics home h = h
   prefixes_home site (p ∷ ps) statics home h =
       prefixes_home site ps (with_one static_before (record { prefix = p; site = site }) statics) home
@@ -51,15 +52,18 @@ module _ (all : List VrfNo) (v : ℕ) where
 
   sites_home : (site : ℕ) (defs : List SiteDef) (statics : List Static) →
       ((k : ℕ) → home_at all (site + k) ≡ home_at (map (λ (def : SiteDef). def.vrf) defs) k) →
-      AllByRecursion (λ (s : Static). home_at all s.site ≡ v) statics → AllByRecursion (λ (s : Static). home_at all s.site ≡ v) (after_sites v site statics defs)
+      AllByRecursion (λ (s : Static). home_at all s.site ≡ v) statics →
+      AllByRecursion (λ (s : Static). home_at all s.site ≡ v) (after_sites v site statics defs)
   unfolding home_at
   sites_home site [] statics same h = h
   sites_home site (def ∷ defs) statics same h =
       sites_home (site + 1) defs (if def.vrf.0 == v then after_prefixes site statics def.prefixes else statics)
       (λ k. ap (home_at all) (moved site k) ∙ same (suc k)) (elim (eqb_tells def.vrf.0 v) [
-        | inl e ↦ subst (λ b. AllByRecursion (λ (s : Static). home_at all s.site ≡ v) (if b then after_prefixes site statics def.prefixes else statics)) (sym e.0)
+        | inl e ↦ subst (λ b. AllByRecursion (λ (s : Static). home_at all s.site ≡ v) (if b then after_prefixes site statics def.prefixes else statics))
+            (sym e.0)
             (prefixes_home site def.prefixes statics (ap (home_at all) (here site) ∙ same 0 ∙ e.1) h)
-        | inr d ↦ subst (λ b. AllByRecursion (λ (s : Static). home_at all s.site ≡ v) (if b then after_prefixes site statics def.prefixes else statics)) (sym d.0) h
+        | inr d ↦ subst (λ b. AllByRecursion (λ (s : Static). home_at all s.site ≡ v) (if b then after_prefixes site statics def.prefixes else statics))
+            (sym d.0) h
       ])
     where
       moved : (m n : ℕ) → m + 1 + n ≡ m + suc n
@@ -78,7 +82,8 @@ module _ (sites : List SiteDef) (node : ℕ) where
       start k = omega arith
 
       split : (b : Bool) → AllByRecursion (AreAtHome (map (λ (def : SiteDef). def.vrf) sites)) (vrfs_from sites node (v + 1) defs)
-          → AllByRecursion (AreAtHome (map (λ (def : SiteDef). def.vrf) sites)) ((if b then vrf_at_start sites v def ∷ [] else []) ++ vrfs_from sites node (v + 1) defs)
+          → AllByRecursion (AreAtHome (map (λ (def : SiteDef). def.vrf) sites))
+          ((if b then vrf_at_start sites v def ∷ [] else []) ++ vrfs_from sites node (v + 1) defs)
       split true more = (
         sites_home (map (λ (def : SiteDef). def.vrf) sites) v 0 sites []
             (λ k. ap (home_at (map (λ (def : SiteDef). def.vrf) sites)) (start k)) tt,

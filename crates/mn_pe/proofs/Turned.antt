@@ -11,7 +11,8 @@ use Rattle.mn_vrf.specs.Vrf.{Static, VrfState, Holding}
 use Rattle.mn_pe.specs.Held.{near_over}
 use Rattle.mn_pe.specs.Pe.{far_route}
 use Rattle.mn_pe.specs.Changes.{Change, Comes, Goes, change_of, changed}
-use Rattle.mn_pe.specs.Switched.{meet_alone, import_alone, telling_statics, exporting, source_for, turning_over, attaching, turned, turned_if, after_statics, after_vrfs, after_heard, after_all}
+use Rattle.mn_pe.specs.Switched.{meet_alone, import_alone, telling_statics, exporting, source_for, turning_over, attaching, turned, turned_if}
+use Rattle.mn_pe.specs.Switched.{after_statics, after_vrfs, after_heard, after_all}
 use Rattle.mn_pe.proofs.Offers.{AreApart}
 use Rattle.mn_pe.proofs.Folds.{AreChanges}
 
@@ -28,7 +29,8 @@ static_routes teller labels (s ∷ ss) = route_if (slice_index_or labels s.site 
 abbrev pub near_routes : Rt → List (Option ℕ) → ℕ → List Rt → List VrfState → List (AddressBlock × Source)
 near_routes t labels number imports [] = []
 near_routes t labels number imports (u ∷ us) =
-    (if not (u.number == number) && meet_alone t u.exports imports then static_routes u.number labels u.statics else []) ++ near_routes t labels number imports us
+    (if not (u.number == number) && meet_alone t u.exports imports then static_routes u.number labels u.statics else []) ++ near_routes t labels number
+    imports us
 
 abbrev pub far_routes : Rt → ℕ → ℕ → List Rt → List Heard → List (AddressBlock × Source)
 far_routes t loopback peer imports [] = []

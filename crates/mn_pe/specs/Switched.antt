@@ -37,21 +37,28 @@ turned_if on (Some label) route held = turned on route held
 -- statics of a VRF
 abbrev pub after_statics : Bool → ℕ → List (Option ℕ) → List (AddressBlock × Source) → List Static → List (AddressBlock × Source)
 after_statics on teller labels held [] = held
-after_statics on teller labels held (static ∷ statics) = after_statics on teller labels (turned_if on (slice_index_or labels static.site None) (static.prefix, near_over teller static.site) held) statics
+after_statics on teller labels held (static ∷ statics) =
+    after_statics on teller labels (turned_if on (slice_index_or labels static.site None) (static.prefix, near_over teller static.site) held) statics
 
 -- those of other VRFs whose targets are imported by this one alone
 abbrev pub after_vrfs : Bool → Rt → List (Option ℕ) → ℕ → List Rt → List (AddressBlock × Source) → List VrfState → List (AddressBlock × Source)
 after_vrfs on target labels number imports held [] = held
-after_vrfs on target labels number imports held (vrf ∷ vrfs) = after_vrfs on target labels number imports (if not (vrf.number == number) && meet_alone target vrf.exports imports then after_statics on vrf.number labels held vrf.statics else held) vrfs
+after_vrfs on target labels number imports held (vrf ∷ vrfs) =
+    after_vrfs on target labels number imports
+    (if not (vrf.number == number) && meet_alone target vrf.exports imports then after_statics on vrf.number labels held vrf.statics else held) vrfs
 
 -- those heard of a peer, and of all peers
 abbrev pub after_heard : Bool → Rt → ℕ → ℕ → List Rt → List (AddressBlock × Source) → List Heard → List (AddressBlock × Source)
 after_heard on target loopback peer imports held [] = held
-after_heard on target loopback peer imports held (route ∷ routes) = after_heard on target loopback peer imports (if meet_alone target route.targets imports then turned on (far_route loopback peer route.rd route.prefix route.label) held else held) routes
+after_heard on target loopback peer imports held (route ∷ routes) =
+    after_heard on target loopback peer imports
+    (if meet_alone target route.targets imports then turned on (far_route loopback peer route.rd route.prefix route.label) held else held) routes
 
 abbrev pub after_all : Bool → Rt → List ℕ → List (List Heard) → List Rt → List (AddressBlock × Source) → List ℕ → List (AddressBlock × Source)
 after_all on target loopbacks heard imports held [] = held
-after_all on target loopbacks heard imports held (peer ∷ peers) = after_all on target loopbacks heard imports (after_heard on target (slice_index_or loopbacks peer 0) peer imports held (slice_index_or heard peer [])) peers
+after_all on target loopbacks heard imports held (peer ∷ peers) =
+    after_all on target loopbacks heard imports (after_heard on target (slice_index_or loopbacks peer 0) peer imports held (slice_index_or heard peer []))
+    peers
 
 -- the VRF of a number is changed
 abbrev pub at_vrf : ℕ → (Holding → Holding) → Holding → Holding
@@ -60,7 +67,8 @@ at_vrf v change holding = cond (holding.vrf.number == v) (change holding) holdin
 -- a VRF as it imports the target, or no longer, at an edge with these VRFs
 abbrev pub importing : Bool → Rt → List (Option ℕ) → List ℕ → List (List Heard) → List VrfState → Holding → Holding
 importing on target labels loopbacks heard vrfs holding = record holding {
-  held = after_all on target loopbacks heard holding.vrf.imports (after_vrfs on target labels holding.vrf.number holding.vrf.imports holding.held vrfs) (range_with_len 0 (length heard));
+  held = after_all on target loopbacks heard holding.vrf.imports (after_vrfs on target labels holding.vrf.number holding.vrf.imports holding.held vrfs)
+      (range_with_len 0 (length heard));
 }
 
 -- and as another VRF exports it, or no longer
@@ -69,7 +77,8 @@ telling_statics on labels teller holding = record holding { held = after_statics
 
 abbrev pub exporting : Bool → Rt → List (Option ℕ) → VrfState → Holding → Holding
 exporting on target labels teller holding =
-    if not (holding.vrf.number == teller.number) && import_alone target teller.exports holding.vrf.imports then telling_statics on labels teller holding else holding
+    if not (holding.vrf.number == teller.number) && import_alone target teller.exports holding.vrf.imports then telling_statics on labels teller holding
+    else holding
 
 -- where a VRF holds a site's routes from, which are of this VRF: its own, or another's whose targets it imports
 abbrev pub source_for : VrfState → VrfState → ℕ → Option Source
@@ -79,7 +88,8 @@ source_for vrf teller site =
 -- statics over the site
 abbrev pub after_over : Bool → ℕ → Source → List (AddressBlock × Source) → List Static → List (AddressBlock × Source)
 after_over on site source held [] = held
-after_over on site source held (static ∷ statics) = after_over on site source (if static.site == site then turned on (static.prefix, source) held else held) statics
+after_over on site source held (static ∷ statics) =
+    after_over on site source (if static.site == site then turned on (static.prefix, source) held else held) statics
 
 abbrev pub turning_over : Bool → ℕ → VrfState → Option Source → Holding → Holding
 turning_over on site teller None holding = holding

@@ -1,4 +1,4 @@
-// Routes that come to VRFs, or go, as a target comes to a set or leaves it.
+// Routes that come to VRFs, or go, as a target comes to a set or leaves it, and as a site gets a label or loses it.
 ghost use Rattle.std.specs.Prelude.{◌≡◌, ◌<◌, ◌≤◌, ◌==◌, ◌&&◌, not, map, length, Some, OnOk, slice_index_or, slice_set};
 ghost use Rattle.std.specs.List.{range_with_len};
 ghost use Rattle.mn_base.specs.Ordered.{Ascends};
@@ -201,6 +201,92 @@ pub(crate) fn switch_import(
     }
 }
 
+/// Whether routes with this target are imported by it alone.
+fn import_alone(target: Rt, targets: &[Rt], imports: &Targets) -> bool
+    ensures { result ≡ import_alone target targets.now imports.now }
+{
+    imports.has(target) && !meet_else(target, targets, imports)
+}
+
+/// Whether a VRF imports what another exports by this target alone.
+fn is_told(vrf: &Vrf, teller: &Vrf, target: Rt) -> bool
+    ensures { result ≡ (not (vrf.now.vrf.number == teller.now.vrf.number) && import_alone target teller.now.vrf.exports vrf.now.vrf.imports) }
+{
+    vrf.number().0 != teller.number().0
+        && import_alone(target, teller.exports().as_slice(), vrf.imports())
+}
+
+/// The statics of the one VRF come to the other, or go.
+fn tell(
+    vrfs: &mut Vec<Vrf>,
+    labels: &[Option<u32>],
+    at: usize,
+    to: usize,
+    on: bool,
+) -> Result<(), AllocError>
+    requires there { at < length vrfs.old.items }
+    requires here { to < length vrfs.old.items }
+    ensures { OnOk result ((d : Holding) → vrfs.new.items ≡ slice_set vrfs.old.items to (telling_statics on labels.now (slice_index_or vrfs.old.items at d).vrf (slice_index_or vrfs.old.items to d))) }
+{
+    let mut held = vrfs[to].take_held();
+    let teller = vrfs[at].number();
+    turn_statics(&mut held, labels, vrfs[at].statics(), teller, on)?;
+    vrfs[to].hold(held);
+    Ok(())
+}
+
+/// The same, if that one imports them by this target alone.
+fn tell_if(
+    vrfs: &mut Vec<Vrf>,
+    labels: &[Option<u32>],
+    at: usize,
+    to: usize,
+    target: Rt,
+    on: bool,
+) -> Result<(), AllocError>
+    requires there { at < length vrfs.old.items }
+    requires here { to < length vrfs.old.items }
+    ensures { OnOk result ((d : Holding) → vrfs.new.items ≡ slice_set vrfs.old.items to (exporting on target labels.now (slice_index_or vrfs.old.items at d).vrf (slice_index_or vrfs.old.items to d))) }
+{
+    if !is_told(&vrfs[to], &vrfs[at], target) {
+        return Ok(());
+    }
+    tell(vrfs, labels, at, to, on)
+}
+
+/// Each VRF holds what the VRF at a place exports more by this target, or no longer what it imported of that by it alone.
+fn export_at(
+    vrfs: &mut Vec<Vrf>,
+    labels: &[Option<u32>],
+    at: usize,
+    target: Rt,
+    on: bool,
+) -> Result<(), AllocError>
+    requires there { at < length vrfs.old.items }
+    ensures { OnOk result ((d : Holding) → vrfs.new.items ≡ map (exporting on target labels.now (slice_index_or vrfs.old.items at d).vrf) vrfs.old.items) }
+{
+    for to in 0..vrfs.len() {
+        tell_if(vrfs, labels, at, to, target, on)?;
+    }
+    Ok(())
+}
+
+/// The same of the VRF of a number, whose export set has changed.
+pub(crate) fn switch_export(
+    vrfs: &mut Vec<Vrf>,
+    labels: &[Option<u32>],
+    number: VrfNo,
+    target: Rt,
+    on: bool,
+) -> Result<(), AllocError>
+    ensures { OnOk result (IsBy number.0 (exporting on target labels.now) vrfs.old.items vrfs.new.items) }
+{
+    match place_of(vrfs, number) {
+        None => Ok(()),
+        Some(at) => export_at(vrfs, labels, at, target, on),
+    }
+}
+
 /// Where a VRF holds a site's routes from, which are of the other VRF: its own, or another's whose targets it imports.
 fn source_for(vrf: &Vrf, teller: &Vrf, site: SiteNo) -> Option<Source>
     ensures { result ≡ source_for vrf.now.vrf teller.now.vrf site.0 }
@@ -292,91 +378,5 @@ pub(crate) fn switch_site(
     match place_of(vrfs, number) {
         None => Ok(()),
         Some(at) => attach_at(vrfs, at, site, on),
-    }
-}
-
-/// Whether routes with this target are imported by it alone.
-fn import_alone(target: Rt, targets: &[Rt], imports: &Targets) -> bool
-    ensures { result ≡ import_alone target targets.now imports.now }
-{
-    imports.has(target) && !meet_else(target, targets, imports)
-}
-
-/// Whether a VRF imports what another exports by this target alone.
-fn is_told(vrf: &Vrf, teller: &Vrf, target: Rt) -> bool
-    ensures { result ≡ (not (vrf.now.vrf.number == teller.now.vrf.number) && import_alone target teller.now.vrf.exports vrf.now.vrf.imports) }
-{
-    vrf.number().0 != teller.number().0
-        && import_alone(target, teller.exports().as_slice(), vrf.imports())
-}
-
-/// The statics of the one VRF come to the other, or go.
-fn tell(
-    vrfs: &mut Vec<Vrf>,
-    labels: &[Option<u32>],
-    at: usize,
-    to: usize,
-    on: bool,
-) -> Result<(), AllocError>
-    requires there { at < length vrfs.old.items }
-    requires here { to < length vrfs.old.items }
-    ensures { OnOk result ((d : Holding) → vrfs.new.items ≡ slice_set vrfs.old.items to (telling_statics on labels.now (slice_index_or vrfs.old.items at d).vrf (slice_index_or vrfs.old.items to d))) }
-{
-    let mut held = vrfs[to].take_held();
-    let teller = vrfs[at].number();
-    turn_statics(&mut held, labels, vrfs[at].statics(), teller, on)?;
-    vrfs[to].hold(held);
-    Ok(())
-}
-
-/// The same, if that one imports them by this target alone.
-fn tell_if(
-    vrfs: &mut Vec<Vrf>,
-    labels: &[Option<u32>],
-    at: usize,
-    to: usize,
-    target: Rt,
-    on: bool,
-) -> Result<(), AllocError>
-    requires there { at < length vrfs.old.items }
-    requires here { to < length vrfs.old.items }
-    ensures { OnOk result ((d : Holding) → vrfs.new.items ≡ slice_set vrfs.old.items to (exporting on target labels.now (slice_index_or vrfs.old.items at d).vrf (slice_index_or vrfs.old.items to d))) }
-{
-    if !is_told(&vrfs[to], &vrfs[at], target) {
-        return Ok(());
-    }
-    tell(vrfs, labels, at, to, on)
-}
-
-/// Each VRF holds what the VRF at a place exports more by this target, or no longer what it imported of that by it alone.
-fn export_at(
-    vrfs: &mut Vec<Vrf>,
-    labels: &[Option<u32>],
-    at: usize,
-    target: Rt,
-    on: bool,
-) -> Result<(), AllocError>
-    requires there { at < length vrfs.old.items }
-    ensures { OnOk result ((d : Holding) → vrfs.new.items ≡ map (exporting on target labels.now (slice_index_or vrfs.old.items at d).vrf) vrfs.old.items) }
-{
-    for to in 0..vrfs.len() {
-        tell_if(vrfs, labels, at, to, target, on)?;
-    }
-    Ok(())
-}
-
-/// The same of the VRF of a number, whose export set has changed.
-pub(crate) fn switch_export(
-    vrfs: &mut Vec<Vrf>,
-    labels: &[Option<u32>],
-    number: VrfNo,
-    target: Rt,
-    on: bool,
-) -> Result<(), AllocError>
-    ensures { OnOk result (IsBy number.0 (exporting on target labels.now) vrfs.old.items vrfs.new.items) }
-{
-    match place_of(vrfs, number) {
-        None => Ok(()),
-        Some(at) => export_at(vrfs, labels, at, target, on),
     }
 }

@@ -4,4 +4,5 @@ use Rattle.mn_pe.proofs.switching.turn_statics.Given as goal
 
 -- the routes to come end it
 abbrev pub invariant-loop-route : goal.invariant-loop-route
-invariant-loop-route l = after_statics l.on l.teller.0 l.labels l.held (drop l.route-index l.statics) ≡ after_statics l.on l.teller.0 l.labels l.fn.held l.statics
+invariant-loop-route l =
+    after_statics l.on l.teller.0 l.labels l.held (drop l.route-index l.statics) ≡ after_statics l.on l.teller.0 l.labels l.fn.held l.statics

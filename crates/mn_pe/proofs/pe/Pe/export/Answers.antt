@@ -31,5 +31,6 @@ returns-clause-ok c =
     (exported_edge c.args.vrf.0 c.args.target c.args.on c.self.inside.vrfs.items c.switch_export.new.vrfs.items c.export_in.new.vrfs.items
     c.self.inside.sites.items c.self.inside.labels.items c.self.inside.loopbacks.items c.self.inside.heard.items c.in_default.ensures.ok by fresh
     (c.self.invariant c.if-self.false))
-    ∙ ap (λ (n : PeNow). let p : PeNow = record { edge = after_vrf n.edge c.args.vrf.0 (with_exports (target_set c.args.target c.args.on)); failed = false } in p)
+    ∙ ap (λ (n : PeNow). let p : PeNow =
+    record { edge = after_vrf n.edge c.args.vrf.0 (with_exports (target_set c.args.target c.args.on)); failed = false } in p)
     c.self.view_is

@@ -49,5 +49,6 @@ returns-clause-ok c =
     (imported_edge c.args.vrf.0 c.args.target c.args.on c.self.inside.vrfs.items c.switch_import.new.vrfs.items one c.self.inside.sites.items
     c.self.inside.labels.items c.self.inside.loopbacks.items c.self.inside.heard.items c.in_default.ensures.ok new_is fresh
     (c.self.invariant c.if-self.false))
-    ∙ ap (λ (n : PeNow). let p : PeNow = record { edge = after_vrf n.edge c.args.vrf.0 (with_imports (target_set c.args.target c.args.on)); failed = false } in p)
+    ∙ ap (λ (n : PeNow). let p : PeNow =
+    record { edge = after_vrf n.edge c.args.vrf.0 (with_imports (target_set c.args.target c.args.on)); failed = false } in p)
     c.self.view_is
