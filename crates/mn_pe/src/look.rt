@@ -1,5 +1,5 @@
 // What the VRF of a number holds.
-ghost use Rattle.std.specs.Prelude.{◌≡◌, drop, slice_get};
+ghost use Rattle.std.specs.Prelude.{◌≡◌, drop, slice_get, Some, option_map};
 ghost use Rattle.mn_prefix.specs.Table.{longest_match};
 ghost use Rattle.mn_vrf.specs.Vrf.{Holding, heads};
 ghost use Rattle.mn_pe.specs.Pe.{numbered};
@@ -27,6 +27,18 @@ pub(crate) fn held_in(vrfs: &[Vrf], number: VrfNo, k: u32) -> Option<(Prefix, So
     for vrf in vrfs {
         if vrf.number().0 == number.0 {
             return vrf.held(k);
+        }
+    }
+    None
+}
+
+/// The VRF of this number.
+pub(crate) fn vrf_in(vrfs: &[Vrf], number: VrfNo) -> Option<&Vrf>
+    ensures { option_map (λ vrf. vrf.now.vrf) result ≡ numbered number.0 (λ (holding : Holding). Some holding.vrf) vrfs.now }
+{
+    for vrf in vrfs {
+        if vrf.number().0 == number.0 {
+            return Some(vrf);
         }
     }
     None

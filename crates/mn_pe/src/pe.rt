@@ -1,5 +1,5 @@
 // One edge, whole.
-ghost use Rattle.std.specs.Prelude.{◌≡◌, ◌↔◌, ◌<◌, ℕ, true, false, None, Err, length, OnOk, OnErr, IfOk, IfErr, IsErr, slice_index, slice_index_or, slice_get};
+ghost use Rattle.std.specs.Prelude.{◌≡◌, ◌↔◌, ◌<◌, ℕ, true, false, None, Some, option_map, Err, length, OnOk, OnErr, IfOk, IfErr, IsErr, slice_index, slice_index_or, slice_get};
 ghost use Rattle.mn_prefix.specs.Table.{longest_match};
 ghost use Rattle.mn_targets.specs.Targets.{target_set};
 ghost use Rattle.mn_vrf.specs.Vrf.{VrfState, heads, with_static, without_static, with_imports, with_exports, add_refused, del_refused, set_refused, refusal_of};
@@ -17,7 +17,7 @@ use crate::changes::{add_in, del_in, export_in, import_in, is_want, set_label};
 use crate::entering::{entered_over, head_at_entry};
 use crate::export::{export_of_in, exports_at_in, exports_in, exports_over_in};
 use crate::hearing::{forget_in_all, hear_reached, hear_withdrawn};
-use crate::look::{held_in, lookup_in};
+use crate::look::{held_in, lookup_in, vrf_in};
 use crate::rebuild::{hold_all, label_at, loopback_at};
 use crate::spreading::spread_present;
 use crate::start::{loopbacks_of, no_labels, nothing_heard, sites_of, vrfs_of};
@@ -331,6 +331,13 @@ impl Pe {
         ensures { self.now.failed ≡ false → result ≡ found_in vrf.0 (λ (state : VrfState). slice_get (heads (held_by self.now.edge state)) k) self.now.edge.vrfs }
     {
         held_in(&self.vrfs, vrf, k)
+    }
+
+    /// A VRF of the edge, with what it was told. It takes no memory.
+    pub fn vrf(&self, number: VrfNo) -> Option<&Vrf>
+        ensures { option_map (λ vrf. vrf.now.vrf) result ≡ found_in number.0 Some self.now.edge.vrfs }
+    {
+        vrf_in(&self.vrfs, number)
     }
 
     /// What becomes of a packet that a site sends. The packet is copied once, cut to its total length.

@@ -1,0 +1,9 @@
+pub mod OnChannels
+pub mod Nothing
+pub mod Vrfs
+pub mod Already
+pub mod Statics
+pub mod OfFrames
+pub mod Rows
+pub mod Firsts
+pub mod Comes

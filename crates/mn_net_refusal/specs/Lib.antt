@@ -1,0 +1,4 @@
+pub mod Seen
+pub mod Refusal
+pub mod Coming
+pub mod Alike

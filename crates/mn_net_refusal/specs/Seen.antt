@@ -1,0 +1,33 @@
+-- What a network's parts show, by which it refuses steps; and when that is what the ledger says.
+use Rattle.std.specs.Prelude.{◌≡◌, ◌<◌, ◌*◌, ℕ, Bool, List, length, map, slice_index}
+use Rattle.mn_base.specs.Wiring.{links_of}
+use Rattle.mn_linkdb.specs.Changes.{is_odd}
+use Rattle.mn_topo.specs.Network.{Network, wiring_of}
+use Rattle.mn_topo.specs.declared.steps.JournalEntry.{JournalEntry}
+use Rattle.mn_ledger.specs.World.{World}
+use Rattle.mn_ledger.specs.Ledger.{world_of}
+use Rattle.mn_frames.specs.Given.{given}
+use Rattle.mn_routing.specs.Whole.{RoutesNow}
+use Rattle.mn_routing.specs.Steps.{routes_of}
+use Rattle.mn_net_model.specs.Stands.{Packed, StandsFor}
+
+pub record Seen : Type 0 where
+  pub changes : List ℕ  -- by link, how often it came up or went down
+  pub switches : List Bool  -- by link, whether LDP is switched on for it
+  pub given : List ℕ  -- by node, for how much it has given labels
+  pub routes : RoutesNow  -- edges and sessions
+  pub statics : ℕ  -- how many static routes VRFs have, those over detached sites too
+  pub packed : Packed  -- what is in flight
+  pub steps : ℕ  -- how many steps were done
+
+-- with these packets it is what the ledger says of the journal
+pub record Shows (topology : Network) (journal : List JournalEntry) (inputs : List (List ℕ)) (seen : Seen) : Type 0 where
+  pub changes : seen.changes ≡ map (world_of topology journal).views.changes (links_of (wiring_of topology))
+  pub up : (l : ℕ) → l < length topology.links → is_odd ((world_of topology journal).views.changes l) ≡ (world_of topology journal).config.is_up l
+  pub switches : seen.switches ≡ map (world_of topology journal).config.ldp_on (links_of (wiring_of topology))
+  pub given : (node : ℕ) → node < length topology.loopbacks → slice_index seen.given node ≡ length (given topology journal node)
+  pub routes : seen.routes ≡ routes_of topology journal
+  pub statics : seen.statics ≡ length (world_of topology journal).config.statics
+  pub packed : StandsFor topology journal seen.packed inputs
+  pub channels : seen.packed.moving.channels ≡ 2 * length topology.links
+  pub steps : seen.steps ≡ length journal
