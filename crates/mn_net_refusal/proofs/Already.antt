@@ -15,8 +15,8 @@ use Rattle.mn_ledger.specs.World.{World}
 use Rattle.mn_ledger.specs.Ledger.{world_of}
 use Rattle.mn_ledger.specs.Refusal.{agree, is_unchanged}
 use Rattle.mn_frames.specs.Numbers.{labels_of}
-use Rattle.mn_routing.specs.Whole.{RoutesNow, routes_in}
-use Rattle.mn_routing.proofs.Tables.{map_numbers_at}
+use Rattle.mn_routing_model.specs.Whole.{RoutesNow, routes_in}
+use Rattle.mn_routing_model.proofs.Tables.{map_numbers_at}
 use Rattle.mn_timetable.proofs.OtherKeys.{edge-below}
 use Rattle.mn_net_refusal.specs.Seen.{Seen, Shows}
 use Rattle.mn_net_refusal.specs.Refusal.{session_at, imports_it, exports_it, site_label, is_so}

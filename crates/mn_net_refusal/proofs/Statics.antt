@@ -15,8 +15,8 @@ use Rattle.mn_ledger.specs.Refusal.{taken_by}
 use Rattle.mn_ledger.proofs.Statics.{SameStatic, HasStatics}
 use Rattle.mn_vrf.specs.Vrf.{Static, static_before}
 use Rattle.mn_vrf.specs.Vrf as vrf
-use Rattle.mn_routing.specs.Standing.{static_of, statics_in}
-use Rattle.mn_routing.proofs.Removing.{same_place, two_prefixes}
+use Rattle.mn_routing_model.specs.Standing.{static_of, statics_in}
+use Rattle.mn_routing_model.proofs.Removing.{same_place, two_prefixes}
 use Rattle.mn_net_refusal.specs.Refusal.{is_site}
 
 -- 1. What stands in a place

@@ -23,9 +23,9 @@ use Rattle.mn_pe.specs.Held.{label_of}
 use Rattle.mn_pe.specs.Pe.{found_in}
 use Rattle.mn_bgp_spelling.specs.Spelling.{Labels, as_targets, session_in}
 use Rattle.mn_bgp_session.specs.declared.session.BgpSession.{BgpSession}
-use Rattle.mn_routing.specs.Standing.{vrf_in, label_in, edge_in}
-use Rattle.mn_routing.specs.Whole.{RoutesNow, routes_in, edge_or_none, session_or_none}
-use Rattle.mn_routing.proofs.Tables.{map_numbers_at}
+use Rattle.mn_routing_model.specs.Standing.{vrf_in, label_in, edge_in}
+use Rattle.mn_routing_model.specs.Whole.{RoutesNow, routes_in, edge_or_none, session_or_none}
+use Rattle.mn_routing_model.proofs.Tables.{map_numbers_at}
 use Rattle.mn_net_refusal.specs.Refusal.{session_at, asked, of_edge, of_vrf, imports_it, exports_it, site_label}
 
 -- 1. Sessions

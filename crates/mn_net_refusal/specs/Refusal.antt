@@ -17,7 +17,7 @@ use Rattle.mn_pe.specs.Edge.{Edge}
 use Rattle.mn_pe.specs.Held.{label_of}
 use Rattle.mn_pe.specs.Pe.{found_in}
 use Rattle.mn_bgp_session.specs.declared.session.BgpSession.{BgpSession}
-use Rattle.mn_routing.specs.Whole.{RoutesNow}
+use Rattle.mn_routing_model.specs.Whole.{RoutesNow}
 use Rattle.mn_transit.specs.Moving.{bytes_in}
 use Rattle.mn_timetable.specs.Keys.{Key, keys_in, keys_by}
 use Rattle.mn_net_model.specs.Stands.{Packed}

@@ -7,8 +7,8 @@ use Rattle.mn_topo.specs.declared.steps.JournalEntry.{JournalEntry}
 use Rattle.mn_ledger.specs.World.{World}
 use Rattle.mn_ledger.specs.Ledger.{world_of}
 use Rattle.mn_frames.specs.Given.{given}
-use Rattle.mn_routing.specs.Whole.{RoutesNow}
-use Rattle.mn_routing.specs.Steps.{routes_of}
+use Rattle.mn_routing_model.specs.Whole.{RoutesNow}
+use Rattle.mn_routing_model.specs.Changes.{routes_of}
 use Rattle.mn_net_model.specs.Stands.{Packed, StandsFor}
 
 pub record Seen : Type 0 where

@@ -4,3 +4,4 @@ pub mod Counting
 pub mod Rising
 pub mod Few
 pub mod AtStart
+pub mod Frame

@@ -1,10 +1,12 @@
 -- What a network counts beside its parts, and when that is what the ledger says.
-use Rattle.std.specs.Prelude.{◌≡◌, ◌<◌, ◌+◌, ◌*◌, ◌/◌, ◌==◌, ℕ, Bool, List, [], ◌∷◌, ◌++◌, length, map, filter, find, slice_index, slice_set, if◌then◌else◌, Option, Some, None, option_map}
+use Rattle.std.specs.Prelude.{◌≡◌, ◌<◌, ◌+◌, ◌-◌, ◌*◌, ◌/◌, ◌==◌, ℕ, Bool, List, [], ◌∷◌, ◌++◌, length, map, filter, find, slice_index, slice_set, if◌then◌else◌, Option, Some, None, option_map, ⊤}
 use Rattle.std.specs.List.{list_any}
 use Rattle.mn_base.specs.declared.links.Dir.{Dir}
 use Rattle.mn_base.specs.Wiring.{link}
 use Rattle.mn_flight.specs.declared.Item.{Item}
 use Rattle.mn_topo.specs.Network.{Network, wiring_of}
+use Rattle.mn_topo.specs.declared.steps.Step.{Step}
+use Rattle.mn_topo.specs.declared.steps.Step.TheVariants.{AddRoute, DelRoute}
 use Rattle.mn_topo.specs.declared.steps.JournalEntry.{JournalEntry}
 use Rattle.mn_ledger.specs.Packets.{channel}
 use Rattle.mn_ledger.specs.Ledger.{world_of}
@@ -16,6 +18,7 @@ pub record Tally : Type 0 where
   pub statics : ℕ  -- how many static routes VRFs have, those over detached sites too
   pub sent : List ℕ  -- by link and direction, how many frames were sent
   pub lossy : List ℕ  -- the numbers of the frames sent that their links lose, in the order of sending
+  pub spare : ℕ  -- how many more of these there is memory for
 
 -- of all items that were made, the numbers of the frames that their links lose
 abbrev pub lost_numbers : Network → List JournalEntry → List (List ℕ) → List ℕ
@@ -34,8 +37,7 @@ is_one numbers number = list_any (λ other. other == number) numbers
 
 -- with one frame more of this number, in a direction of a link that loses each so many
 abbrev pub with_frame : ℕ → ℕ → ℕ → Tally → Tally
-with_frame loss c number tally = record {
-  statics = tally.statics;
+with_frame loss c number tally = record tally {
   sent = slice_set tally.sent c (slice_index tally.sent c + 1);
   lossy = if is_each loss (slice_index tally.sent c + 1) then tally.lossy ++ number ∷ [] else tally.lossy;
 }
@@ -47,3 +49,15 @@ frame_of number flying = option_map (λ item. (item.channel, item.number)) (find
 abbrev pub after_frame : Network → Option (ℕ × ℕ) → Tally → Tally
 after_frame topology None tally = tally
 after_frame topology (Some frame) tally = with_frame (link (wiring_of topology) (frame.0 / 2)).loss frame.0 frame.1 tally
+
+-- the step brings a static route, or takes one away
+abbrev pub after_static : Step → Tally → Tally
+after_static (AddRoute site prefix) tally = record tally { statics = tally.statics + 1 }
+after_static (DelRoute site prefix) tally = record tally { statics = tally.statics - 1 }
+after_static _ tally = tally
+
+-- there is room for it, or one to take
+abbrev pub HasStatic : Step → Tally → Type 0
+HasStatic (AddRoute site prefix) tally = tally.statics < 65536
+HasStatic (DelRoute site prefix) tally = 0 < tally.statics
+HasStatic _ tally = ⊤

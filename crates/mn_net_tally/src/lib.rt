@@ -9,8 +9,12 @@
 //! - `proofs/Sent`: the frames among what a step made; `proofs/Statics`, `Counting`: each step
 #![tactic(auto)]
 
+mod count;
 mod laws;
 mod tally;
+#[cfg(test)]
+mod tests;
 
+pub use count::{count_frame, count_static};
 pub use laws::{a_tally_goes_on, a_tally_tells_losses};
 pub use tally::Tally;

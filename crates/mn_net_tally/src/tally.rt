@@ -20,6 +20,8 @@ pub struct Tally {
 }
 
 impl Model for Tally {
+    ghost use Rattle.std.specs.Prelude.{◌-◌, vec_len};
+    ghost use Rattle.std.specs.Vec.{vec_capacity};
     ghost use Rattle.mn_net_tally.specs.Tallies.{Tally as Counts};
 
     ghost Value = { Counts };
@@ -28,6 +30,7 @@ impl Model for Tally {
       statics = t.statics;
       sent = t.sent.items;
       lossy = t.lossy.items;
+      spare = vec_capacity t.lossy - vec_len t.lossy;
     } };
 }
 
@@ -92,18 +95,26 @@ impl Tally {
         self.statics -= 1;
     }
 
+    /// Makes room for one more frame, so that `send` needs no memory.
+    pub fn reserve(&mut self) -> Result<(), AllocError>
+        ensures room { OnOk result (0 < self.new.spare) }
+        ensures kept { self.new ≡ record self.old { spare = self.new.spare } }
+    {
+        self.lossy.reserve(1)
+    }
+
     /// A frame of this number was sent in a direction of a link, by the direction's number and the link's loss.
-    pub fn send(&mut self, loss: u32, channel: u32, number: u64) -> Result<(), AllocError>
+    pub fn send(&mut self, loss: u32, channel: u32, number: u64)
+        requires room { 0 < self.old.spare }
         requires there { channel < length self.old.sent }
         requires few { slice_index self.old.sent channel < 4000000 }
-        ensures { OnOk result (self.new ≡ with_frame loss channel number self.old) }
+        ensures { self.new ≡ record (with_frame loss channel number self.old) { spare = self.new.spare } }
     {
         let count = self.sent[channel as usize] + 1;
-        if is_each(loss, count) {
-            self.lossy.push(number)?;
-        }
         self.sent[channel as usize] = count;
-        Ok(())
+        if is_each(loss, count) {
+            self.lossy.push_reserved(number);
+        }
     }
 
     /// The frame of this number is one that its link loses.

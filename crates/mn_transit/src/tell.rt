@@ -2,7 +2,7 @@
 ghost use Rattle.std.specs.Prelude.{◌≡◌, ◌<◌, ◌*◌, ◌^◌, ◌==◌, [], length, map, find, option_map, slice_index_or};
 ghost use Rattle.std.specs.Option.{option_copied};
 ghost use Rattle.mn_flight.specs.Earliest.{earliest};
-ghost use Rattle.mn_flight.specs.Flying.{on_channel};
+ghost use Rattle.mn_flight.specs.Flying.{IsFlight, on_channel};
 ghost use Rattle.mn_topo.specs.Network.{Network};
 ghost use Rattle.mn_ledger.specs.Packets.{channel, Packets, flying_on};
 ghost use Rattle.mn_ledger.specs.Refusal.{bytes_flying};
@@ -92,6 +92,13 @@ impl Transit {
         ensures { option_copied result ≡ earliest limit self.now.flying }
     {
         self.frames.earliest(limit)
+    }
+
+    /// What holds of every one: its frames fly on its channels, by numbers that ascend.
+    pub fn laws(&self)
+        ensures flight { IsFlight self.now.channels self.now.flying }
+    {
+        let _ = &self.bytes;
     }
 
     /// The frame of a number; `None` where it isn't in flight.

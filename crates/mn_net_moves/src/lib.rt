@@ -1,0 +1,17 @@
+//! What the steps of a network come to, from what its parts say of them: lemmas, over which `mn_net` is built.
+//!
+//! - `proofs/Moves`: the steps that move packets
+//! - `proofs/Turns`: the steps of links, LDP, BGP, routes and targets; `proofs/Sites`: a site is attached or detached
+//! - `proofs/Starts`: the start; `proofs/Refused`: a refusal
+//! - `proofs/Told`, `proofs/Means`: what is told of nodes, and what labels mean
+#![tactic(auto)]
+
+ghost use Rattle.std.specs.Prelude.{ℕ, List};
+ghost use Rattle.mn_net_now.specs.Now.{NetNow, StandsFor};
+ghost use Rattle.mn_net_now.specs.Labels.{LabelsMean};
+
+/// In a network that stands for the ledger labels mean what the ledger's world says: those that a node gave, those that it
+/// keeps from its neighbours, those in flight, those of VPN routes, the entries of its table, and those of flying frames.
+pub fn labels_mean_one_thing()
+    ensures { (net : NetNow) (inputs : List (List ℕ)) → StandsFor net inputs → LabelsMean net inputs }
+{}

@@ -1,0 +1,54 @@
+-- A step of a network.
+use Rattle.std.specs.Prelude.{◌≡◌, ◌≤◌, ◌<◌, ℕ, true, false, List, length, Option, Some, None, Result, Ok, Err, ⊤}
+use Rattle.mn_topo.specs.Steps.{fits}
+use Rattle.mn_topo.specs.declared.steps.Step.{Step}
+use Rattle.mn_ledger.specs.declared.refused.Refused.{Refused}
+use Rattle.mn_ledger.specs.declared.refused.Refused.TheVariants.{NoMemory}
+use Rattle.mn_ledger.specs.OneMore.{with_packet}
+use Rattle.mn_ledger.specs.Refusal.{refusal}
+use Rattle.mn_timetable.specs.Steps.{pushed}
+use Rattle.mn_net_now.specs.Now.{NetNow, StandsFor}
+
+-- done exactly where nothing refuses the step, and else the first cause; want of memory is free
+abbrev pub Answers : {T : Type 0} → Option Refused → Result T Refused → Type 0
+Answers cause (Ok done) = cause ≡ None
+Answers cause (Err NoMemory) = ⊤
+Answers cause (Err why) = cause ≡ Some why
+
+-- refused by the first cause and no other, where that is told without memory
+abbrev pub Refuses : {T : Type 0} → Option Refused → Result T Refused → Type 0
+Refuses cause (Ok done) = cause ≡ None
+Refuses cause (Err why) = cause ≡ Some why
+
+-- one entry more, at the present tick
+pub record IsLonger (old new : NetNow) (step : Step) : Type 0 where
+  pub topology : new.topology ≡ old.topology
+  pub journal : new.journal ≡ pushed old.journal old.tick step
+  pub tick : new.tick ≡ old.tick
+  pub room : length old.journal < 4000000
+  pub made : old.made ≤ new.made
+
+-- after want of memory: the journal, verdicts and paths as before it
+pub record HasFailed (old new : NetNow) : Type 0 where
+  pub topology : new.topology ≡ old.topology
+  pub journal : new.journal ≡ old.journal
+  pub tick : new.tick ≡ old.tick
+  pub failed : new.failed ≡ true
+  pub verdicts : new.moving.verdicts ≡ old.moving.verdicts
+  pub paths : new.moving.paths ≡ old.moving.paths
+
+abbrev pub Leaves : {T : Type 0} → NetNow → NetNow → Result T Refused → Type 0
+Leaves old new (Ok done) = ⊤
+Leaves old new (Err NoMemory) = HasFailed old new
+Leaves old new (Err why) = new ≡ old
+
+-- the network works, and for all packets that it stands for nothing refuses the step
+pub record MayBeDone (net : NetNow) (step : Step) (bytes : List ℕ) : Type 0 where
+  pub works : net.failed ≡ false
+  pub fitting : fits net.topology step ≡ true
+  pub unrefused : (inputs : List (List ℕ)) → StandsFor net inputs → refusal net.topology net.journal inputs step bytes ≡ None
+
+-- the step is done: it stands for the packets that it stood for, and the one that the step injects
+pub record IsDone (old new : NetNow) (step : Step) (bytes : List ℕ) : Type 0 where
+  pub longer : IsLonger old new step
+  pub stands : (inputs : List (List ℕ)) → StandsFor old inputs → StandsFor new (with_packet step bytes inputs)

@@ -1,0 +1,3 @@
+pub mod Now
+pub mod Done
+pub mod Labels

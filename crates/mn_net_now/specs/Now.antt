@@ -1,0 +1,56 @@
+-- What contracts see of a network, what holds of it, and when it stands for the ledger.
+use Rattle.std.specs.Prelude.{◌≡◌, ◌≤◌, ◌*◌, ◌^◌, ℕ, Bool, false, List, length}
+use Rattle.mn_topo.specs.Network.{Network}
+use Rattle.mn_topo.specs.declared.steps.JournalEntry.{JournalEntry}
+use Rattle.mn_ledger.specs.OneMore.{tick_from}
+use Rattle.mn_transit.specs.Moving.{Moving, bytes_in}
+use Rattle.mn_transport_model.specs.Carried.{Carried}
+use Rattle.mn_transport_model.specs.Stands.{IsTransport}
+use Rattle.mn_routing_model.specs.Routed.{Routed, IsRoutes}
+use Rattle.mn_timetable.specs.Keys.{keys_in}
+use Rattle.mn_net_model.specs.Stands.{Packed}
+use Rattle.mn_net_model.specs.Stands as model
+use Rattle.mn_net_tally.specs.Tallies.{Tally, Tallies}
+
+pub record NetNow : Type 0 where
+  pub topology : Network
+  pub journal : List JournalEntry
+  pub tick : ℕ  -- the clock
+  pub made : ℕ  -- how many items were made
+  pub failed : Bool  -- whether memory was wanted
+  pub transport : Carried
+  pub routes : Routed
+  pub moving : Moving
+  pub tally : Tally  -- what is counted beside the parts
+
+-- what of it depends on the packets that were injected
+abbrev pub packed_in : NetNow → Packed
+packed_in net = record {
+  moving = net.moving;
+  notices = keys_in net.transport.notices;
+  messages = keys_in net.transport.messages;
+  routes = keys_in net.routes.messages;
+  made = net.made;
+}
+
+-- it works, and with these packets it is what the ledger says of its journal
+pub record StandsFor (net : NetNow) (inputs : List (List ℕ)) : Type 0 where
+  pub works : net.failed ≡ false
+  pub transport : IsTransport net.topology net.journal net.transport
+  pub routes : IsRoutes net.topology net.journal net.routes
+  pub stands : model.StandsFor net.topology net.journal (packed_in net) inputs
+  pub tally : Tallies net.topology net.journal inputs net.tally
+
+-- What holds of a network that works: it stands for some packets, its clock isn't behind its journal, and its counts are bounded.
+pub record IsNet (net : NetNow) : Type 0 where
+  pub inputs : List (List ℕ)
+  pub stands : StandsFor net inputs
+  pub channels : net.moving.channels ≡ 2 * length net.topology.links
+  pub late : tick_from 0 net.journal ≤ net.tick
+  pub within : net.tick ≤ 2 ^ 62
+  pub bytes : bytes_in net.moving.flying ≤ 268435456
+  pub copies : net.moving.copies ≤ length net.journal
+  pub verdicts : length net.moving.verdicts ≤ length net.journal
+
+abbrev pub WorksAsNet : NetNow → Type 0
+WorksAsNet net = net.failed ≡ false → IsNet net

@@ -1,0 +1,108 @@
+-- Where a packet enters its site's edge stands for the ledger.
+use Rattle.std.proofs.Common.{ℕ, ◌≡◌, ◌≢◌, ◌+◌, ◌<◌, Bool, true, false, List, [], ◌∷◌, map, filter, length, refl, sym, ◌∙◌, ap, subst, Option, Some, None}
+use Rattle.std.proofs.Common.{inl, inr}
+use Rattle.std.specs.Prelude.{◌==◌, is_none, option_map, slice_index, slice_index_or, if◌then◌else◌, not}
+use Rattle.std.specs.List.{Contains, list_any, range_with_len}
+use Rattle.std.proofs.lemmas.Option.{same_Some}
+use Rattle.mn_base.proofs.Bools.{same_test}
+use Rattle.mn_base.proofs.Members.{In, in_filter, contained_in}
+use Rattle.mn_prefix.specs.Prefix.{AddressBlock, contains}
+use Rattle.mn_prefix.specs.Table.{longest_match}
+use Rattle.mn_ipv4.specs.Header.{destination_of}
+use Rattle.mn_topo.specs.Network.{Network}
+use Rattle.mn_topo.specs.Lawful.{IsLawful}
+use Rattle.mn_topo.specs.declared.steps.JournalEntry.{JournalEntry}
+use Rattle.mn_ledger.specs.Places.{home_of, edge_of, vrf_of}
+use Rattle.mn_ledger.specs.World.{World}
+use Rattle.mn_ledger.specs.Vpn.{HeldRoute, held, best, first_of, unbeaten, matching, is_better}
+use Rattle.mn_ledger.specs.Vpn as vpn
+use Rattle.mn_ledger.specs.Ledger.{world_of}
+use Rattle.mn_ledger.specs.Lawful.{IsLawfulJournal}
+use Rattle.mn_laws.proofs.There.{vrf_there}
+use Rattle.mn_frames.specs.Given.{given, label_at, attachment_of}
+use Rattle.mn_frames.specs.Numbers.{labels_of}
+use Rattle.mn_frames.proofs.Anew.{by_table, gives_to_no_other}
+use Rattle.mn_frames.proofs.Named.{all_have_labels, leaves_sound}
+use Rattle.mn_bgp_spelling.specs.Spelling.{Labels}
+use Rattle.mn_vrf.specs.declared.source.Source.{Source}
+use Rattle.mn_vrf.specs.Vrf.{VrfState}
+use Rattle.mn_pe.specs.Edge.{Edge, vrf_of_site}
+use Rattle.mn_pe.specs.Held.{label_of, held_by, far_over}
+use Rattle.mn_pe.specs.Entries as entry
+use Rattle.mn_pe.specs.Entries.{StandsAtEntry, route_for}
+use Rattle.mn_pe.specs.Pe.{found_in}
+use Rattle.mn_routing_model.specs.Sources.{as_held, source_from}
+use Rattle.mn_routing_model.specs.Standing.{vrf_in, label_in, edge_in}
+use Rattle.mn_routing_model.proofs.Tables.{map_numbers_at}
+use Rattle.mn_routing_model.proofs.Lawful.{finds_best}
+use Rattle.mn_routing_model.proofs.News.{vrf_of_site_is}
+use Rattle.mn_routing_model.proofs.Refusing.{found}
+
+no_none : {A B : Type 0} (f : A → B) (o : Option A) → is_none (option_map f o) ≡ is_none o
+no_none f None = refl
+no_none f (Some x) = refl
+
+first_in : (xs : List HeldRoute) (x : HeldRoute) → first_of xs ≡ Some x → In xs x
+first_in [] x h = absurd (let none : None ≡ Some x → ⊥ = (λ e. cc) in none h)
+first_in (y ∷ ys) x h = inl (same_Some y x h)
+
+-- the best route is held
+best_in : (xs : List HeldRoute) (address : ℕ) (x : HeldRoute) → best xs address ≡ Some x → In xs x
+best_in xs address x h =
+    let f = in_filter (λ route. not (list_any (λ other. is_better other route) (matching address xs))) (matching address xs) x
+    (first_in (unbeaten (matching address xs)) x h) in
+    (in_filter (λ (route : HeldRoute). contains route.prefix address) xs x f.0).0
+
+-- its label is the one that its edge gave
+label_same : (g : ℕ) (l : ℕ) (route : HeldRoute) → (source : vpn.Source) → l ≡ g → (let a : Source = far_over 0 0 route.edge l in a) ≡ far_over 0 0 route.edge g
+label_same g l route source e = ap (far_over 0 0 route.edge) e
+
+module _ (t : Network) (lawful : IsLawful t) (es : List JournalEntry) (ps : List (List ℕ)) (journal : IsLawfulJournal t es ps) where
+  abbrev w : World
+  w = world_of t es
+
+  abbrev l : Labels
+  l = labels_of t es
+
+  held_as : (route : HeldRoute) → l route.site route.attachment ≡ label_at (given t es) route.edge route.site route.attachment →
+      as_held l route ≡ entry.as_held (given t es) route
+  held_as route e = ap (λ (s : Source). let pair : AddressBlock × Source = (route.prefix, s) in pair) (by route.source)
+    where
+      by : (source : vpn.Source) → source_from l route.edge route.site route.attachment source ≡ entry.source_of (given t es) route source
+      by vpn.Own = refl
+      by (vpn.Near v) = refl
+      by (vpn.Far address rd) = ap (far_over address rd route.edge) e
+
+  label_is : (v : ℕ) (route : HeldRoute) → v < length t.vrfs → In (held t w.config w.peerings (edge_of t v) v) route →
+      l route.site route.attachment ≡ label_at (given t es) route.edge route.site route.attachment
+  label_is v route below i =
+      let there = (all_have_labels t es ps lawful journal).held v route below (contained_in (held t w.config w.peerings (edge_of t v) v) route i) in
+      let at = gives_to_no_other t es ps route.edge route.site route.attachment journal there in
+      sym (ap (λ e. label_at (given t es) e route.site route.attachment) (sym at.home)
+      ∙ by_table t es ps route.site route.attachment lawful journal
+      (subst (λ e. Contains (given t es e) (attachment_of route.site route.attachment)) (sym at.home) there))
+
+  best_as : (v address : ℕ) → v < length t.vrfs → (o : Option HeldRoute) → best (held t w.config w.peerings (edge_of t v) v) address ≡ o →
+      option_map (as_held l) o ≡ option_map (entry.as_held (given t es)) o
+  best_as v address below None e = refl
+  best_as v address below (Some route) e =
+      ap (λ x. Some x) (held_as route (label_is v route below (best_in (held t w.config w.peerings (edge_of t v) v) address route e)))
+
+  pub stands_at_entry : (site : ℕ) (bytes : List ℕ) → site < length t.sites → ((i : ℕ) → slice_index bytes i < 256)
+      → StandsAtEntry (edge_in t l w.config w.peerings (home_of t site)) t (given t es) w site bytes
+  stands_at_entry site bytes there small =
+      let v : ℕ = vrf_of t site in
+      let below = vrf_there t site lawful there in
+      record {
+        attached = ap is_none (map_numbers_at (label_in t l w.config (home_of t site)) (length t.sites) site None there
+            ∙ ap (λ b. if b then option_map (l site) (w.config.attached site) else None) (same_test (home_of t site)))
+            ∙ no_none (l site) (w.config.attached site);
+        route = ap
+            (λ n. found_in n (λ (vrf : VrfState). longest_match (destination_of bytes) (held_by (edge_in t l w.config w.peerings (home_of t site)) vrf))
+            (edge_in t l w.config w.peerings (home_of t site)).vrfs) (vrf_of_site_is t l w.config w.peerings (home_of t site) site)
+            ∙ found t l w.config w.peerings v
+            (λ (vrf : VrfState). longest_match (destination_of bytes) (held_by (edge_in t l w.config w.peerings (home_of t site)) vrf)) below
+            ∙ finds_best t l es ps (home_of t site) v (destination_of bytes) lawful journal refl
+            ∙ best_as v (destination_of bytes) below (best (held t w.config w.peerings (edge_of t v) v) (destination_of bytes)) refl;
+        sound = λ route leaves. leaves_sound t es ps site bytes route lawful journal there small leaves;
+      }

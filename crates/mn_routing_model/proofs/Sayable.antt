@@ -1,0 +1,249 @@
+-- What an edge tells can be said: sets of targets ascend and are of their form, 16 at most, and labels have 20 bits.
+use Rattle.std.proofs.Common.{ℕ, zero, suc, ◌≡◌, ◌≢◌, ◌+◌, ◌-◌, ◌*◌, ◌<◌, ◌≤◌, ◌^◌, inl, inr, Bool, true, false, cond, not, List, [], ◌∷◌, ◌++◌, map}
+use Rattle.std.proofs.Common.{filter, length, fold, refl, arith, sym, ◌∙◌, ap, subst, Option, Some, None}
+use Rattle.std.specs.Prelude.{◌==◌, ◌&&◌, nat_lt, nat_le, slice_index_or, option_map, if◌then◌else◌}
+use Rattle.std.specs.List.{AllByRecursion, list_all, range_with_len}
+use Rattle.std.proofs.lemmas.Bool.Decides.{nat_tests, eqb_tells}
+use Rattle.std.proofs.lemmas.Bool.{and_parts}
+use Rattle.std.proofs.lemmas.Option.{same_Some}
+use Rattle.mn_base.specs.Numbers.{has_rt_form, has_rd_form}
+use Rattle.mn_base.specs.Ordered.{IsAscending}
+use Rattle.mn_base.specs.declared.numbers.Rt.{Rt}
+use Rattle.mn_base.proofs.Bools.{and_left, and_right, not_at_most_tells}
+use Rattle.mn_base.proofs.Members.{In, in_map, in_filter, in_flat_map, in_range}
+use Rattle.mn_base.proofs.Places.{all_filter}
+use Rattle.mn_topo.specs.Network.{Network}
+use Rattle.mn_topo.specs.Lawful.{IsLawful, is_vrf_of, AreTargets}
+use Rattle.mn_topo.specs.Steps.{fits, has_vrf}
+use Rattle.mn_topo.specs.declared.vrfs.VrfDef.{VrfDef}
+use Rattle.mn_topo.specs.declared.steps.Step.{Step}
+use Rattle.mn_topo.specs.declared.steps.Step.TheVariants as step
+use Rattle.mn_topo.specs.declared.steps.JournalEntry.{JournalEntry}
+use Rattle.mn_vpn_nlri.specs.Grammar.{AllTargets}
+use Rattle.mn_ledger.specs.Tables.{put, put_pair}
+use Rattle.mn_ledger.specs.Places.{vrf_at, vrfs_at, edge_of, home_of}
+use Rattle.mn_ledger.specs.World.{Config, Peerings, World}
+use Rattle.mn_ledger.specs.Packets.{Packets, packets_after}
+use Rattle.mn_ledger.specs.Ledger.{with_target, ascending, config_after, after, start, first_config, no_packets, next_of, left_by, world_from, world_of}
+use Rattle.mn_ledger.specs.Lawful.{IsLawfulFrom, IsLawfulJournal}
+use Rattle.mn_ledger.specs.Refusal.{is_targets_full, is_spent, labels_given}
+use Rattle.mn_ledger.proofs.GoingBy.{pair_here, pair_off}
+use Rattle.mn_ledger.proofs.Order.{EachBefore, pairs}
+use Rattle.mn_ledger.proofs.Refusals.{free}
+use Rattle.mn_ledger.proofs.Tidy.{Rise}
+use Rattle.mn_laws.proofs.There.{at_all}
+use Rattle.mn_frames.specs.Numbers.{first_labels, labels_after, labels_from, labels_of, sites_before}
+use Rattle.mn_bgp_spelling.specs.Spelling.{Labels, as_targets}
+use Rattle.mn_bgp_spelling.specs.Laws.{AreLabels}
+use Rattle.mn_vrf.specs.Vrf.{Static, VrfState}
+use Rattle.mn_pe.specs.Edge.{Edge}
+use Rattle.mn_pe.specs.Held.{Exported, label_of, export_at, present_with, exports_with, exports_of}
+use Rattle.mn_routing_model.specs.Standing.{vrf_in, label_in, edge_in}
+use Rattle.mn_routing_model.specs.Doing.{IsSayable, AreSayable}
+
+-- 1. Sets of targets
+
+abbrev pub AreFormed : List ℕ → Type 0
+AreFormed targets = AllByRecursion (λ target. has_rt_form target ≡ true) targets
+
+-- 16 at most, and of their form
+abbrev pub IsFewAndFormed : List ℕ → Type 0
+IsFewAndFormed targets = (length targets ≤ 16) × AreFormed targets
+
+abbrev pub AreFewAndFormed : Config → Type 0
+AreFewAndFormed c = (v : ℕ) → IsFewAndFormed (c.exports v)
+
+one_more : (x : ℕ) (xs : List ℕ) → length (with_target x true xs) ≡ suc (length xs)
+one_more x [] = refl
+one_more x (y ∷ ys) = split (nat_lt x y) (one_more x ys)
+  where
+    split : (b : Bool) → length (with_target x true ys) ≡ suc (length ys) → length (cond b (x ∷ y ∷ ys) (y ∷ with_target x true ys)) ≡ suc (suc (length ys))
+    split true more = refl
+    split false more = ap suc more
+
+formed_with : (x : ℕ) (xs : List ℕ) → has_rt_form x ≡ true → AreFormed xs → AreFormed (with_target x true xs)
+formed_with x [] h all = (h, tt)
+formed_with x (y ∷ ys) h all = split (nat_lt x y) (formed_with x ys h all.1)
+  where
+    split : (b : Bool) → AreFormed (with_target x true ys) → AreFormed (cond b (x ∷ y ∷ ys) (y ∷ with_target x true ys))
+    split true more = (h, all)
+    split false more = (all.0, more)
+
+pub no_longer : {A : Type 0} (p : A → Bool) (xs : List A) → length (filter p xs) ≤ length xs
+no_longer p [] = omega arith
+no_longer p (x ∷ xs) = split (p x) (no_longer p xs)
+  where
+    split : (b : Bool) → length (filter p xs) ≤ length xs → length (cond b (x ∷ filter p xs) (filter p xs)) ≤ suc (length xs)
+    split true more = omega (arith, more)
+    split false more = omega (arith, more)
+
+room : (n : ℕ) → nat_le 16 n ≡ false → suc n ≤ 16
+room n h = grind (arith, nat_tests, h)
+
+put_sets : (f : ℕ → List ℕ) (k : ℕ) (xs : List ℕ) → ((v : ℕ) → IsFewAndFormed (f v)) → IsFewAndFormed xs → (v : ℕ) → IsFewAndFormed (put f k xs v)
+put_sets f k xs h g v = split (v == k)
+  where
+    split : (b : Bool) → IsFewAndFormed (cond b xs (f v))
+    split true = g
+    split false = h v
+
+pub sets_go : (t : Network) (c : Config) (s : Step) → fits t s ≡ true → is_targets_full c s ≡ false → AreFewAndFormed c → AreFewAndFormed (config_after c s)
+sets_go t c (step.Export v x true) fit full h =
+    put_sets c.exports v.0 (with_target x.0 true (c.exports v.0)) h
+    (let more : length (with_target x.0 true (c.exports v.0)) ≡ suc (length (c.exports v.0)) = one_more x.0 (c.exports v.0) in
+    let free_place : suc (length (c.exports v.0)) ≤ 16 = room (length (c.exports v.0)) full in
+    (omega (arith, more, free_place), formed_with x.0 (c.exports v.0) (and_right (has_vrf t v) (has_rt_form x.0) fit) (h v.0).1))
+sets_go t c (step.Export v x false) fit full h =
+    put_sets c.exports v.0 (with_target x.0 false (c.exports v.0)) h
+    (let fewer : length (filter (λ other. not (x.0 == other)) (c.exports v.0)) ≤ length (c.exports v.0) =
+    no_longer (λ other. not (x.0 == other)) (c.exports v.0) in
+    let few : length (c.exports v.0) ≤ 16 = (h v.0).0 in
+    (omega (arith, fewer, few), all_filter (λ target. has_rt_form target ≡ true) (λ other. not (x.0 == other)) (c.exports v.0) (h v.0).1))
+sets_go t c _ fit full h = h
+
+sorted_set : (xs : List Rt) (set : List ℕ) → length set + length xs ≤ 16 → AreFormed set → list_all (λ (target : Rt). has_rt_form target.0) xs ≡ true →
+    IsFewAndFormed (fold (λ set target. with_target target.0 true set) set xs)
+sorted_set [] set few formed all = (omega (arith, few), formed)
+sorted_set (x ∷ xs) set few formed all =
+    sorted_set xs (with_target x.0 true set) (let more : length (with_target x.0 true set) ≡ suc (length set) = one_more x.0 set in omega (arith, few, more))
+    (formed_with x.0 set (and_left (has_rt_form x.0) (list_all (λ (target : Rt). has_rt_form target.0) xs) all) formed)
+    (and_right (has_rt_form x.0) (list_all (λ (target : Rt). has_rt_form target.0) xs) all)
+
+abbrev HasSets : VrfDef → Type 0
+HasSets vrf = AreTargets vrf.«import» × AreTargets vrf.export
+
+first_sets : (t : Network) → IsLawful t → AreFewAndFormed (start t).config
+first_sets t lawful v = by_index t.vrfs v lawful.vrfs.targets
+  where
+    by_index : (vrfs : List VrfDef) (v : ℕ) → AllByRecursion HasSets vrfs →
+        IsFewAndFormed (ascending (slice_index_or vrfs v (record { node = record { 0 = 0 }; rd = record { 0 = 0 }; «import» = []; export = [] })).export)
+    by_index [] v all = (omega arith, tt)
+    by_index (vrf ∷ vrfs) zero all = let few : length vrf.export ≤ 16 = all.0.1.few in sorted_set vrf.export [] (omega (arith, few)) tt all.0.1.formed
+    by_index (vrf ∷ vrfs) (suc v) all = by_index vrfs v all.1
+
+-- 2. Labels
+
+below_or : (f : Labels) (a b x : ℕ) → AreLabels f → x < 2 ^ 20 → AreLabels (put_pair f a b x)
+below_or f a b x h g site attachment = elim (eqb_tells site a) [
+  | inr p ↦ subst (λ n. n < 2 ^ 20) (sym (pair_off f a b x site attachment (inl p.1))) (h site attachment)
+  | inl p ↦ elim (eqb_tells attachment b) [
+    | inr q ↦ subst (λ n. n < 2 ^ 20) (sym (pair_off f a b x site attachment (inr q.1))) (h site attachment)
+    | inl q ↦ subst (λ n. n < 2 ^ 20) (sym (ap (λ k. put_pair f a b x k attachment) p.1 ∙ ap (put_pair f a b x a) q.1 ∙ pair_here f a b x)) g
+  ]
+]
+
+pub labels_go : (t : Network) (c : Config) (l : Labels) (s : Step) → is_spent t c s ≡ false → AreLabels l → AreLabels (labels_after t c l s)
+labels_go t c l (step.Attach s) spent h =
+    below_or l s.0 (c.attaches s.0 + 2) (16 + labels_given t c (home_of t s.0)) h
+    (let few : labels_given t c (home_of t s.0) < 1048560 = not_at_most_tells 1048560 (labels_given t c (home_of t s.0)) spent in omega (arith, few))
+labels_go t c l _ spent h = h
+
+length_numbers : (from size : ℕ) → length (range_with_len from size) ≡ size
+length_numbers from zero = refl
+length_numbers from (suc size) = ap suc (length_numbers (from + 1) size)
+
+first_labels_fit : (t : Network) → IsLawful t → AreLabels (first_labels t)
+first_labels_fit t lawful site attachment =
+    let fewer : sites_before t site ≤ length (range_with_len 0 (length t.sites)) =
+    no_longer (λ s. (home_of t s == home_of t site) && nat_lt s site) (range_with_len 0 (length t.sites)) in
+    let few : length (range_with_len 0 (length t.sites)) ≡ length t.sites = length_numbers 0 (length t.sites) in
+    let sites : length t.sites ≤ 4096 = lawful.few_sites in
+    let nodes : length t.loopbacks ≤ 256 = lawful.few_nodes in
+    omega (arith, fewer, few, sites, nodes)
+
+pub record Fits (c : Config) (l : Labels) : Type 0 where
+  pub sets : AreFewAndFormed c
+  pub labels : AreLabels l
+
+fits_from : (t : Network) (es : List JournalEntry) (tick : ℕ) (w : World) (k : Packets) (n : ℕ) (ps : List (List ℕ)) (l : Labels) →
+    IsLawfulFrom t tick w k n es ps → Fits w.config l
+    → Fits (world_from t w es).config (labels_from t w.config l es)
+fits_from t [] tick w k n ps l lawful h = h
+fits_from t (e ∷ es) tick w k n ps l lawful h =
+    let ok = free t w k n e.step (next_of ps) lawful.2 in
+    fits_from t es e.tick (after t w e.step) (packets_after t (after t w e.step) k e.step (next_of ps)) (n + 1) (left_by e.step ps)
+    (labels_after t w.config l e.step) lawful.3
+    (record { sets = sets_go t w.config e.step lawful.0 ok.targets h.sets; labels = labels_go t w.config l e.step ok.labels h.labels })
+
+-- after a lawful journal
+pub all_fits : (t : Network) (es : List JournalEntry) (ps : List (List ℕ)) → IsLawful t → IsLawfulJournal t es ps → Fits (world_of t es).config (labels_of t es)
+unfolding labels_of
+all_fits t es ps lawful journal =
+    fits_from t es 0 (start t) no_packets 0 ps (first_labels t) journal (record { sets = first_sets t lawful; labels = first_labels_fit t lawful })
+
+-- 3. An edge's exports
+
+rise_each : (low : ℕ) (xs : List ℕ) → Rise low xs → EachBefore (λ (x y : Rt). x.0 < y.0) (as_targets xs)
+rise_each low [] h = tt
+rise_each low (x ∷ xs) h = (
+  (λ y i. let m = in_map (λ target. let r : Rt = record { 0 = target } in r) xs y i in
+      subst (λ (z : Rt). x < z.0) m.2 (least (suc x) xs m.0 h.1 m.1)),
+  rise_each (suc x) xs h.1,
+)
+  where
+    least : (low : ℕ) (xs : List ℕ) (y : ℕ) → Rise low xs → In xs y → low ≤ y
+    least low [] y h i = absurd i
+    least low (x ∷ xs) y h i = elim i [
+      | inl e ↦ subst (λ n. low ≤ n) e h.0
+      | inr j ↦ (let more : suc x ≤ y = least (suc x) xs y h.1 j in let first : low ≤ x = h.0 in omega (arith, more, first))
+    ]
+
+as_many : (xs : List ℕ) → length (as_targets xs) ≡ length xs
+as_many [] = refl
+as_many (x ∷ xs) = ap suc (as_many xs)
+
+formed_targets : (xs : List ℕ) → AreFormed xs → AllTargets (as_targets xs)
+formed_targets [] h = tt
+formed_targets (x ∷ xs) h = (h.0, formed_targets xs h.1)
+
+index_in : {B : Type 0} (f : ℕ → Option B) (xs : List ℕ) (k : ℕ) (y : B) → slice_index_or (map f xs) k None ≡ Some y → (x : ℕ) × (f x ≡ Some y)
+index_in f [] k y h = absurd (let none : None ≡ Some y → ⊥ = (λ e. cc) in none h)
+index_in f (x ∷ xs) zero y h = (x, h)
+index_in f (x ∷ xs) (suc k) y h = index_in f xs k y h
+
+at_label : (vrf : VrfState) (ts : List Rt) (static : Static) (o : Option ℕ) (x : Exported) → In (export_at vrf ts static o) x →
+    (k : ℕ) × (o ≡ Some k) × (record { vrf = vrf.number; rd = vrf.rd; prefix = static.prefix; label = k; site = static.site; targets = ts } ≡ x)
+at_label vrf ts static None x i = absurd i
+at_label vrf ts static (Some k) x i = elim i [ inl e ↦ (k, refl, e) | inr n ↦ absurd n ]
+
+in_present : (edge : Edge) (vrf : VrfState) (ts : List Rt) (x : Exported) → In (exports_with edge vrf ts) x → In (present_with edge vrf ts) x
+in_present edge vrf [] x i = absurd i
+in_present edge vrf (t ∷ ts) x i = i
+
+all_say : (xs : List Exported) → ((x : Exported) → In xs x → IsSayable x) → AreSayable xs
+all_say [] h = tt
+all_say (x ∷ xs) h = (h x (inl refl), all_say xs (λ y i. h y (inr i)))
+
+module _ (t : Network) (l : Labels) (c : Config) (p : Peerings) (e : ℕ) (lawful : IsLawful t) (ok : Fits c l) (rise : (v : ℕ) → Rise 0 (c.exports v)) where
+  label_fits : (site k : ℕ) → label_of (edge_in t l c p e) site ≡ Some k → k < 2 ^ 20
+  label_fits site k h = let f = index_in (label_in t l c e) (range_with_len 0 (length t.sites)) site k h in by f.0 (home_of t f.0 == e) (c.attached f.0) f.1
+    where
+      by : (s : ℕ) (b : Bool) (o : Option ℕ) → (if b then option_map (l s) o else None) ≡ Some k → k < 2 ^ 20
+      by s true None q = absurd (let none : None ≡ Some k → ⊥ = (λ e. cc) in none q)
+      by s true (Some n) q = subst (λ m. m < 2 ^ 20) (same_Some (l s n) k q) (ok.labels s n)
+      by s false o q = absurd (let none : None ≡ Some k → ⊥ = (λ e. cc) in none q)
+
+  pub all_sayable : AreSayable (exports_of (edge_in t l c p e))
+  all_sayable = all_say (exports_of (edge_in t l c p e)) (λ x i.
+      let f = in_flat_map (λ vrf. exports_with (edge_in t l c p e) vrf vrf.exports) (edge_in t l c p e).vrfs x i in
+      let m = in_map (vrf_in t c) (vrfs_at t e) f.0 f.1 in
+      let g = in_present (edge_in t l c p e) f.0 f.0.exports x f.2 in
+      let s = in_flat_map (λ static. export_at f.0 f.0.exports static (label_of (edge_in t l c p e) static.site)) f.0.statics x g in
+      let k = at_label f.0 f.0.exports s.0 (label_of (edge_in t l c p e) s.0.site) x s.2 in
+      let r = in_filter (λ v. edge_of t v == e) (range_with_len 0 (length t.vrfs)) m.0 m.1 in
+      let below = (in_range 0 (length t.vrfs) m.0 r.0).1 in
+      subst IsSayable k.2 (record {
+        distinguisher = ap (λ (u : VrfState). has_rd_form u.rd.0) (sym m.2) ∙ rd_formed m.0 (omega (arith, below));
+        label = label_fits s.0.site k.0 k.1;
+        ascending =
+            subst (λ (u : VrfState). IsAscending u.exports) m.2
+            (pairs (λ (x y : Rt). x.0 < y.0) (as_targets (c.exports m.0)) (rise_each 0 (c.exports m.0) (rise m.0)));
+        targets = subst (λ (u : VrfState). AllTargets u.exports) m.2 (formed_targets (c.exports m.0) (ok.sets m.0).1);
+        few = subst (λ (u : VrfState). length u.exports ≤ 16) m.2 (let few : length (c.exports m.0) ≤ 16 =
+            (ok.sets m.0).0 in omega (arith, few, as_many (c.exports m.0)));
+      }))
+    where
+      rd_formed : (v : ℕ) → v < length t.vrfs → has_rd_form (vrf_at t v).rd.0 ≡ true
+      rd_formed v h =
+          (and_parts (nat_lt (edge_of t v) (length t.loopbacks)) (has_rd_form (vrf_at t v).rd.0)
+          (at_all (is_vrf_of (length t.loopbacks)) t.vrfs v _ lawful.vrfs.formed h)).1

@@ -1,0 +1,10 @@
+pub mod Standing
+pub mod Sources
+pub mod Touched
+pub mod Whole
+pub mod Changes
+pub mod Laws
+pub mod Routed
+pub mod Steps
+pub mod Sending
+pub mod Doing
