@@ -1,0 +1,24 @@
+use Rattle.std.proofs.Common.{◌≡◌, ◌+◌, ◌*◌, ◌∙◌, ap, length}
+use Rattle.mn_pe.specs.Held.{Exported}
+use Rattle.mn_routing_model.specs.Sending.{spelled_in}
+use Rattle.mn_routing_model.proofs.Putting.{told_next, told_count}
+use Rattle.mn_routing.proofs.flying.tell.Goals as goal
+
+pub loop-export-preserved : goal.loop-export-preserved
+loop-export-preserved c =
+    let at = c.loop-export in
+    let t = c.args.topology.now in
+    let first = c.args.edge.0 * length t.loopbacks in
+    let spelled = c.deref.ensures.value ∙ c.in_ok-bytes.ensures ∙ ap (spelled_in t c.args.edge.0 c.args.comes) c.export-item.is in
+    record {
+      sent = told_next (c.args.clock.tick + t.bgp_delay) at.number c.in_ok-number.number first at.export-index at.messages.items
+          c.send_each.new.messages.items _ c.args.peers.now (spelled_in t c.args.edge.0 c.args.comes) c.args.exports.now c.export-item.result
+          c.deref.result.now c.loop-export-test.true
+          spelled c.in_ok-number.ensures.next c.in_ok-number.ensures.sent at.invariant.sent;
+      count = told_count at.number c.in_ok-number.number _ first at.export-index c.args.peers.now
+          (spelled_in t c.args.edge.0 c.args.comes) c.args.exports.now c.export-item.result c.loop-export-test.true c.in_ok-number.ensures.next
+          at.invariant.count;
+      below = c.in_ok-number.ensures.number;
+      channels = c.send_each.ensures.channels ∙ at.invariant.channels;
+      flight = c.send_each.ensures.flight;
+    }

@@ -1,0 +1,228 @@
+//! BGP messages in flight.
+ghost use Rattle.std.specs.Prelude.{◌≡◌, ◌<◌, ◌≤◌, ◌+◌, ◌*◌, ◌^◌, ◌++◌, ◌∷◌, [], Bool, length, map, IfOk, OnOk, if◌then◌else◌};
+ghost use Rattle.std.specs.List.{All, AllByRecursion};
+ghost use Rattle.mn_base.specs.declared.numbers.NodeNo.{NodeNo as NodeNumber};
+ghost use Rattle.mn_flight.specs.Flying.{IsFlight, off_channel};
+ghost use Rattle.mn_ledger.specs.Places.{loopback};
+ghost use Rattle.mn_routing_model.specs.Sending.{put_all, to_each, news_to, spelled_in, is_steady, is_established, peers_from};
+ghost use Rattle.mn_routing_model.specs.Doing.{IsSayable, AreSayable};
+
+use mn_base::{BgpState, ListOf, NodeNo};
+use mn_bgp_session::BgpSession;
+use mn_bgp_wire::{write_reach, write_unreach};
+use mn_flight::Flight;
+use mn_flight_pool::PoolFlight;
+use mn_pe::Export;
+use mn_topo::Topology;
+use mn_vpn_nlri::VpnRoute;
+use std::alloc::{AllocError, Global};
+
+/// The flight of BGP's messages, with a channel for each two nodes. Any `Flight` takes its place here.
+pub type Messages = PoolFlight<ListOf<u8>>;
+
+/// When a step is done, and the number of the first message that it makes.
+#[derive(Clone, Copy, Debug, PartialEq, Eq)]
+pub struct Clock {
+    pub tick: u64,
+    pub number: u64,
+}
+
+/// The address of a node.
+pub(crate) fn loopback_of(topology: &Topology, node: NodeNo) -> u32
+    requires { node.0 < length topology.now.loopbacks }
+    ensures { result ≡ loopback topology.now node.0 }
+{
+    topology.nodes()[usize::from(node.0)].loopback
+}
+
+/// The channel from an edge to a peer.
+pub(crate) fn channel_to(topology: &Topology, edge: NodeNo, peer: NodeNo) -> u32
+    requires edge { edge.0 < length topology.now.loopbacks }
+    requires peer { peer.0 < length topology.now.loopbacks }
+    ensures { result ≡ edge.0 * length topology.now.loopbacks + peer.0 }
+{
+    topology.laws();
+    u32::from(edge.0) * topology.nodes().len() as u32 + u32::from(peer.0)
+}
+
+/// The number after this one. There are never so many messages.
+fn next_number(number: u64) -> Result<u64, AllocError>
+    ensures { IfOk result (λ next. next ≡ number + 1) }
+{
+    match number.checked_add(1) {
+        Some(next) => Ok(next),
+        None => Err(AllocError),
+    }
+}
+
+/// Puts a message of an edge to a peer into flight. It answers the number after it.
+pub(crate) fn send(
+    messages: &mut Messages,
+    topology: &Topology,
+    edge: NodeNo,
+    peer: NodeNo,
+    bytes: Vec<u8>,
+    clock: Clock,
+) -> Result<u64, AllocError>
+    requires edge { edge.0 < length topology.now.loopbacks }
+    requires peer { peer.0 < length topology.now.loopbacks }
+    requires channels { messages.old.channels ≡ length topology.now.loopbacks * length topology.now.loopbacks }
+    requires tick { clock.tick ≤ 2 ^ 62 }
+    requires number { All (λ item. item.number < clock.number) messages.old.items }
+    ensures sent { OnOk result (messages.new.items ≡ messages.old.items ++ record { channel = edge.0 * length topology.now.loopbacks + peer.0; due = clock.tick + topology.now.bgp_delay; number = clock.number; item = bytes.items } ∷ []) }
+    ensures next { IfOk result (λ next. next ≡ clock.number + 1) }
+    ensures channels { messages.new.channels ≡ messages.old.channels }
+    ensures flight { IsFlight messages.new.channels messages.new.items }
+{
+    let channel = channel_to(topology, edge, peer);
+    let due = clock.tick + u64::from(topology.bgp_delay());
+    match messages.push(channel, due, clock.number, ListOf::from_vec(bytes)) {
+        Ok(()) => next_number(clock.number),
+        Err(_) => Err(AllocError),
+    }
+}
+
+/// Puts a message of an edge to each of these peers into flight. It answers the number after the last one's.
+fn send_each(
+    messages: &mut Messages,
+    alloc: Global,
+    topology: &Topology,
+    edge: NodeNo,
+    peers: &[NodeNo],
+    bytes: &[u8],
+    clock: Clock,
+) -> Result<u64, AllocError>
+    requires edge { edge.0 < length topology.now.loopbacks }
+    requires peers { AllByRecursion (λ (peer : NodeNumber). peer.0 < length topology.now.loopbacks) peers.now }
+    requires channels { messages.old.channels ≡ length topology.now.loopbacks * length topology.now.loopbacks }
+    requires tick { clock.tick ≤ 2 ^ 62 }
+    requires number { All (λ item. item.number < clock.number) messages.old.items }
+    requires flight { IsFlight messages.old.channels messages.old.items }
+    ensures sent { OnOk result (messages.new.items ≡ messages.old.items ++ put_all (clock.tick + topology.now.bgp_delay) clock.number (to_each (edge.0 * length topology.now.loopbacks) peers.now bytes.now)) }
+    ensures next { IfOk result (λ next. next ≡ clock.number + length peers.now) }
+    ensures number { IfOk result (λ next. All (λ item. item.number < next) messages.new.items) }
+    ensures channels { messages.new.channels ≡ messages.old.channels }
+    ensures flight { IsFlight messages.new.channels messages.new.items }
+{
+    let tick = clock.tick;
+    let mut number = clock.number;
+    for peer in peers {
+        let copy = Vec::from_slice(alloc, bytes)?;
+        number = send(
+            messages,
+            topology,
+            edge,
+            *peer,
+            copy,
+            Clock { tick, number },
+        )?;
+    }
+    Ok(number)
+}
+
+/// An export as it is announced, or as it is withdrawn.
+fn spell(
+    alloc: Global,
+    topology: &Topology,
+    edge: NodeNo,
+    export: &Export,
+    comes: bool,
+) -> Result<Vec<u8>, AllocError>
+    requires edge { edge.0 < length topology.now.loopbacks }
+    requires sayable { IsSayable export.now }
+    ensures { IfOk result (λ bytes. bytes.items ≡ spelled_in topology.now edge.0 comes export.now) }
+{
+    if !comes {
+        return write_unreach(alloc, export.rd(), export.prefix());
+    }
+    let route = VpnRoute {
+        rd: export.rd(),
+        prefix: export.prefix(),
+        label: export.label(),
+    };
+    write_reach(alloc, loopback_of(topology, edge), &route, export.targets())
+}
+
+/// Tells these peers of an edge's exports that come or go. It answers the number after the last message's.
+pub(crate) fn tell(
+    messages: &mut Messages,
+    alloc: Global,
+    topology: &Topology,
+    edge: NodeNo,
+    peers: &[NodeNo],
+    exports: &[Export],
+    comes: bool,
+    clock: Clock,
+) -> Result<u64, AllocError>
+    requires edge { edge.0 < length topology.now.loopbacks }
+    requires peers { AllByRecursion (λ (peer : NodeNumber). peer.0 < length topology.now.loopbacks) peers.now }
+    requires exports { AreSayable exports.now }
+    requires channels { messages.old.channels ≡ length topology.now.loopbacks * length topology.now.loopbacks }
+    requires tick { clock.tick ≤ 2 ^ 62 }
+    requires number { All (λ item. item.number < clock.number) messages.old.items }
+    requires flight { IsFlight messages.old.channels messages.old.items }
+    ensures told { OnOk result (messages.new.items ≡ messages.old.items ++ put_all (clock.tick + topology.now.bgp_delay) clock.number (news_to topology.now edge.0 peers.now comes exports.now)) }
+    ensures next { IfOk result (λ next. next ≡ clock.number + length (news_to topology.now edge.0 peers.now comes exports.now)) }
+    ensures channels { messages.new.channels ≡ messages.old.channels }
+    ensures flight { IsFlight messages.new.channels messages.new.items }
+{
+    let tick = clock.tick;
+    let mut number = clock.number;
+    for export in exports {
+        let bytes = spell(alloc, topology, edge, export, comes)?;
+        let clock = Clock { tick, number };
+        number = send_each(messages, alloc, topology, edge, peers, &bytes, clock)?;
+    }
+    Ok(number)
+}
+
+/// Whether a session is there and Established.
+fn is_steady(end: &Option<BgpSession>) -> bool
+    ensures { result ≡ is_steady end.now }
+{
+    match end {
+        None => false,
+        Some(session) => match session.state() {
+            BgpState::Established => true,
+            _ => false,
+        },
+    }
+}
+
+/// Puts a peer behind others, if its session is Established.
+fn put_if(peers: &mut Vec<NodeNo>, steady: bool, peer: NodeNo) -> Result<(), AllocError>
+    ensures { OnOk result (peers.new.items ≡ peers.old.items ++ (if steady then peer ∷ [] else [])) }
+{
+    if steady {
+        peers.push(peer)?;
+    }
+    Ok(())
+}
+
+/// The peers with which an edge's session is Established, by its ends.
+pub(crate) fn steady_peers(
+    alloc: Global,
+    ends: &[Option<BgpSession>],
+) -> Result<Vec<NodeNo>, AllocError>
+    requires { length ends.now ≤ 65536 }
+    ensures peers { IfOk result (λ peers. peers.items ≡ peers_from 0 ends.now) }
+{
+    let mut peers = Vec::new(alloc);
+    for peer in 0..ends.len() {
+        let steady = is_steady(&ends[peer]);
+        put_if(&mut peers, steady, NodeNo(peer as u16))?;
+    }
+    Ok(peers)
+}
+
+/// Takes all that flies between two edges out of flight.
+pub(crate) fn cut(messages: &mut Messages, topology: &Topology, a: NodeNo, b: NodeNo)
+    requires a { a.0 < length topology.now.loopbacks }
+    requires b { b.0 < length topology.now.loopbacks }
+    ensures cut { messages.new.items ≡ off_channel (b.0 * length topology.now.loopbacks + a.0) (off_channel (a.0 * length topology.now.loopbacks + b.0) messages.old.items) }
+    ensures channels { messages.new.channels ≡ messages.old.channels }
+    ensures flight { IsFlight messages.new.channels messages.new.items }
+{
+    messages.drop_channel(channel_to(topology, a, b));
+    messages.drop_channel(channel_to(topology, b, a));
+}
