@@ -18,6 +18,8 @@
 mod flying;
 mod sites;
 mod steps;
+#[cfg(test)]
+mod tests;
 mod transport;
 
 pub use flying::{Clock, Messages, Notices};
