@@ -10,12 +10,16 @@
 //! - `flying`: notices and PDUs in flight
 //! - `transport`: `Transport`, and what its nodes and sessions are
 //! - `steps`: one call for each step
+//! - `sites`: labels of attachments, and the start
 //!
 //! RFC 5036 (LDP), in downstream unsolicited mode with ordered control and liberal retention.
 #![tactic(auto)]
 
 mod flying;
+mod sites;
 mod steps;
+#[cfg(test)]
+mod tests;
 mod transport;
 
 pub use flying::{Clock, Messages, Notices};

@@ -44,7 +44,8 @@ here-of t old node (Hears l message label) may = (
 )
 
 -- from what a call of the node's ensures
-pub becomes-open : (event : Event) (was now : Standing) → now ≡ record was { node = after_event was.wiring was.node event } → TableStands now → Becomes event was now
+pub becomes-open : (event : Event) (was now : Standing) → now ≡ record was { node = after_event was.wiring was.node event } → TableStands now →
+    Becomes event was now
 becomes-open event was now after stands = record {
   wiring = ap (λ (x : Standing). x.wiring) after;
   node_is = ap (λ (x : Standing). x.node) after;
@@ -54,7 +55,8 @@ becomes-open event was now after stands = record {
   sites = λ label there. ap (λ (x : Standing). use_of x.uses label) after;
 }
 
-pub becomes-by : (event : Event) (was now : Standing) → now ≡ record was { node = after_event was.wiring was.node event; uses = now.uses } → TableStands now → SitesKeep was now → Becomes event was now
+pub becomes-by : (event : Event) (was now : Standing) → now ≡ record was { node = after_event was.wiring was.node event; uses = now.uses } →
+    TableStands now → SitesKeep was now → Becomes event was now
 becomes-by event was now after stands keeps = record {
   wiring = ap (λ (x : Standing). x.wiring) after;
   node_is = ap (λ (x : Standing). x.node) after;
@@ -83,7 +85,8 @@ module _ (t : Network) (old seen : Carried) (view_is : old ≡ seen) (node : ℕ
   pub out-on-links : (out : List Said) → map pdu_of out ≡ pdus_in was.wiring was.node event → AllByRecursion (λ (x : Said). x.link.0 < length t.links) out
   out-on-links out says =
       subst (λ (w : Wiring). AllByRecursion (λ (x : Said). x.link.0 < length w.ends) out) wiring
-      (links-out was.wiring (changed was.wiring was.node event) (changed was.wiring was.node event) (released_by event) was.node.me (said was.wiring was.node event) out
+      (links-out was.wiring (changed was.wiring was.node event) (changed was.wiring was.node event) (released_by event) was.node.me
+      (said was.wiring was.node event) out
       (own-event was.wiring was.node event (subst (λ (x : Standing). IsHere x.wiring x.node event) same (here-of t seen node event may))) says)
 
   -- and with that in flight it has acted
@@ -101,14 +104,26 @@ module _ (t : Network) (old seen : Carried) (view_is : old ≡ seen) (node : ℕ
         now = now;
         there = there;
         becomes = becomes;
-        new_is = ap (λ ms. let c : Carried = record old { nodes = slice_set old.nodes index now; messages = ms } in c) (sent ∙ ap (λ ps. old.messages ++ put_pdus (wiring_of t) node tick number ps) spoken)
-            ∙ ap (λ k. let c : Carried = record old { nodes = slice_set old.nodes k now; messages = old.messages ++ put_pdus (wiring_of t) node tick number (pdus_in (wiring_of t) was.node event) } in c) at
-            ∙ ap (λ (o : Carried). let c : Carried = record o { nodes = slice_set o.nodes node now; messages = o.messages ++ put_pdus (wiring_of t) node tick number (pdus_in (wiring_of t) was.node event) } in c) view_is;
+        new_is = ap (λ ms. let c : Carried = record old { nodes = slice_set old.nodes index now; messages = ms } in
+            c) (sent ∙ ap (λ ps. old.messages ++ put_pdus (wiring_of t) node tick number ps) spoken)
+            ∙ ap (λ k. let c : Carried =
+            record old {
+              nodes = slice_set old.nodes k now;
+              messages =
+                  old.messages ++ put_pdus (wiring_of t) node tick number (pdus_in (wiring_of t) was.node event);
+            } in c) at
+            ∙ ap (λ (o : Carried). let c : Carried =
+            record o {
+              nodes = slice_set o.nodes node now;
+              messages =
+                  o.messages ++ put_pdus (wiring_of t) node tick number (pdus_in (wiring_of t) was.node event);
+            } in c) view_is;
         next_is = counted ∙ ap (λ n. number + n) (sym (length-map out pdu_of) ∙ ap length spoken);
       }
 
 -- what else is in the transport doesn't matter to a node that may open or close a session
-pub may-turn : (t : Network) (old new : Carried) (node l : ℕ) (opens : Bool) → new.nodes ≡ old.nodes → length new.changes ≡ length old.changes → MayAct t old node (turned_by opens l) → MayAct t new node (turned_by opens l)
+pub may-turn : (t : Network) (old new : Carried) (node l : ℕ) (opens : Bool) → new.nodes ≡ old.nodes → length new.changes ≡ length old.changes →
+    MayAct t old node (turned_by opens l) → MayAct t new node (turned_by opens l)
 may-turn t old new node l opens same links may = record {
   was = may.was;
   there = ap (λ ns. slice_get ns node) same ∙ may.there;
@@ -126,7 +141,8 @@ may-turn t old new node l opens same links may = record {
     ready false n h = h
 
 -- one end's act leaves the other end as it was
-pub may-second : (t : Network) (tick number a b l : ℕ) (opens : Bool) (old middle : Carried) (next : ℕ) → a ≢ b → Acts t tick number a (turned_by opens l) old middle next
+pub may-second : (t : Network) (tick number a b l : ℕ) (opens : Bool) (old middle : Carried) (next : ℕ) → a ≢ b →
+    Acts t tick number a (turned_by opens l) old middle next
     → MayAct t old b (turned_by opens l) → MayAct t middle b (turned_by opens l)
 may-second t tick number a b l opens old middle next apart acts may =
     subst (λ (c : Carried). MayAct t c b (turned_by opens l)) (sym acts.new_is)
@@ -143,28 +159,58 @@ may-second t tick number a b l opens old middle next apart acts may =
     })
 
 -- what a node learns and hears is out of flight first
-pub noticed-is : (t : Network) (old seen : Carried) (node l channel : ℕ) (notices : List (Item Notice)) (taken : Option (Item Notice)) → old ≡ seen → channel ≡ l * length t.loopbacks + node
-    → taken ≡ slice_get (on_channel channel old.notices) 0 → notices ≡ without taken old.notices → (let c : Carried = record old { notices = notices } in c) ≡ noticed t node l seen
+pub noticed-is : (t : Network) (old seen : Carried) (node l channel : ℕ) (notices : List (Item Notice)) (taken : Option (Item Notice)) → old ≡ seen →
+    channel ≡ l * length t.loopbacks + node
+    → taken ≡ slice_get (on_channel channel old.notices) 0 → notices ≡ without taken old.notices →
+    (let c : Carried = record old { notices = notices } in c) ≡ noticed t node l seen
 noticed-is t old seen node l channel notices flown view_is at first left =
-    ap (λ ns. let c : Carried = record old { notices = ns } in c) (left ∙ ap (λ o. without o old.notices) (first ∙ ap (λ k. slice_get (on_channel k old.notices) 0) at)) ∙ ap (noticed t node l) view_is
+    ap (λ ns. let c : Carried = record old { notices = ns } in
+    c) (left ∙ ap (λ o. without o old.notices) (first ∙ ap (λ k. slice_get (on_channel k old.notices) 0) at)) ∙ ap (noticed t node l) view_is
 
 pub taken-is : (old seen : Carried) (l at : ℕ) (dir : Dir) (messages : List (Item (List ℕ))) (flown : Option (Item (List ℕ))) → old ≡ seen → at ≡ channel l dir
-    → flown ≡ slice_get (on_channel at old.messages) 0 → messages ≡ without flown old.messages → (let c : Carried = record old { messages = messages } in c) ≡ taken l dir seen
+    → flown ≡ slice_get (on_channel at old.messages) 0 → messages ≡ without flown old.messages →
+    (let c : Carried = record old { messages = messages } in c) ≡ taken l dir seen
 taken-is old seen l at dir messages flown view_is is first left =
-    ap (λ ms. let c : Carried = record old { messages = ms } in c) (left ∙ ap (λ o. without o old.messages) (first ∙ ap (λ k. slice_get (on_channel k old.messages) 0) is)) ∙ ap (taken l dir) view_is
+    ap (λ ms. let c : Carried = record old { messages = ms } in
+    c) (left ∙ ap (λ o. without o old.messages) (first ∙ ap (λ k. slice_get (on_channel k old.messages) 0) is)) ∙ ap (taken l dir) view_is
 
 pub may-noticed : (t : Network) (old : Carried) (node l k : ℕ) → MayAct t old node (Learns l) → MayAct t (noticed t node k old) node (Learns l)
-may-noticed t old node l k may = record { was = may.was; there = may.there; wiring = may.wiring; me = may.me; links = may.links; sessions = may.sessions; link = may.link; at_end = may.at_end; ready = may.ready }
+may-noticed t old node l k may =
+    record {
+      was = may.was;
+      there = may.there;
+      wiring = may.wiring;
+      me = may.me;
+      links = may.links;
+      sessions = may.sessions;
+      link = may.link;
+      at_end =
+          may.at_end;
+      ready = may.ready;
+    }
 
 pub may-taken : (t : Network) (old : Carried) (node l : ℕ) (dir : Dir) (event : Event) → MayAct t old node event → MayAct t (taken l dir old) node event
-may-taken t old node l dir event may = record { was = may.was; there = may.there; wiring = may.wiring; me = may.me; links = may.links; sessions = may.sessions; link = may.link; at_end = may.at_end; ready = may.ready }
+may-taken t old node l dir event may =
+    record {
+      was = may.was;
+      there = may.there;
+      wiring = may.wiring;
+      me = may.me;
+      links = may.links;
+      sessions = may.sessions;
+      link = may.link;
+      at_end =
+          may.at_end;
+      ready = may.ready;
+    }
 
 -- the node at this index hears the PDU as one change
 module _ (t : Network) (old seen : Carried) (view_is : old ≡ seen) (l : ℕ) (dir : Dir) (event : Event) (may : MayHear t seen l dir event)
     (index : ℕ) (at : index ≡ receiver (wiring_of t) l dir) (was : Standing) (value : was ≡ get_or old.nodes index was) where
   hearer : may.may.was ≡ was
   hearer =
-      sym (get_or_from_slice_get old.nodes (receiver (wiring_of t) l dir) may.may.was was (ap (λ (c : Carried). slice_get c.nodes (receiver (wiring_of t) l dir)) view_is ∙ may.may.there))
+      sym (get_or_from_slice_get old.nodes (receiver (wiring_of t) l dir) may.may.was was
+      (ap (λ (c : Carried). slice_get c.nodes (receiver (wiring_of t) l dir)) view_is ∙ may.may.there))
       ∙ sym (value ∙ ap (λ k. get_or old.nodes k was) at)
 
   pub session-lives : session_at was.node l ≡ Some may.session
@@ -172,17 +218,32 @@ module _ (t : Network) (old seen : Carried) (view_is : old ≡ seen) (l : ℕ) (
 
   -- something flies
   pub flies-next : (on : ℕ) (flown : Option (Item (List ℕ))) → on ≡ channel l dir → flown ≡ slice_get (on_channel on old.messages) 0 → flown ≡ Some may.pdu
-  flies-next on flown is first = first ∙ ap (λ k. slice_get (on_channel k old.messages) 0) is ∙ ap (λ (c : Carried). slice_get (on_channel (channel l dir) c.messages) 0) view_is ∙ may.flies
+  flies-next on flown is first =
+      first ∙ ap (λ k. slice_get (on_channel k old.messages) 0) is ∙ ap (λ (c : Carried). slice_get (on_channel (channel l dir) c.messages) 0) view_is
+      ∙ may.flies
 
   pub heard-so : (pdu : Item (List ℕ)) (bytes : List ℕ) → Some pdu ≡ Some may.pdu → bytes ≡ pdu.item
-      → after_bytes was.wiring l was.node may.session bytes ≡ Ok (record { node = after_event was.wiring was.node event; said = pdus_in was.wiring was.node event })
+      → after_bytes was.wiring l was.node may.session bytes ≡ Ok (record {
+        node = after_event was.wiring was.node event;
+        said =
+            pdus_in was.wiring was.node event;
+      })
   heard-so pdu bytes next is =
-      subst (λ (x : Standing). after_bytes x.wiring l x.node may.session bytes ≡ Ok (record { node = after_event x.wiring x.node event; said = pdus_in x.wiring x.node event })) hearer
+      subst (λ (x : Standing). after_bytes x.wiring l x.node may.session bytes ≡ Ok (record {
+        node = after_event x.wiring x.node event;
+        said =
+            pdus_in x.wiring x.node event;
+      })) hearer
       (ap (after_bytes may.may.was.wiring l may.may.was.node may.session) (is ∙ ap (λ (x : Item (List ℕ)). x.item) (same_Some pdu may.pdu next)) ∙ may.heard)
 
   spoken : (pdu : Item (List ℕ)) (bytes : List ℕ) (now : Standing) (out : List Said) → Some pdu ≡ Some may.pdu → bytes ≡ pdu.item
-      → ((session : Session) → session_at was.node l ≡ Some session → after_bytes was.wiring l was.node session bytes ≡ Ok (record { node = now.node; said = map pdu_of out }))
-      → (let h : Heard = record { node = now.node; said = map pdu_of out } in h) ≡ record { node = after_event was.wiring was.node event; said = pdus_in was.wiring was.node event }
+      → ((session : Session) → session_at was.node l ≡ Some session →
+      after_bytes was.wiring l was.node session bytes ≡ Ok (record { node = now.node; said = map pdu_of out }))
+      → (let h : Heard = record { node = now.node; said = map pdu_of out } in h) ≡ record {
+        node = after_event was.wiring was.node event;
+        said =
+            pdus_in was.wiring was.node event;
+      }
   spoken pdu bytes now out next is hears = one_result _ _ _ (hears may.session session-lives) (heard-so pdu bytes next is)
     where
       one_result : (a b : Heard) (r : Result Heard LsrBad) → r ≡ Ok a → r ≡ Ok b → a ≡ b
@@ -190,9 +251,15 @@ module _ (t : Network) (old seen : Carried) (view_is : old ≡ seen) (l : ℕ) (
 
   -- what is left in flight, what was taken, and what the node has become and says
   module _ (on : ℕ) (flown : Option (Item (List ℕ))) (left : List (Item (List ℕ))) (pdu : Item (List ℕ)) (bytes : List ℕ) (now : Standing) (out : List Said)
-      (on_is : on ≡ channel l dir) (first : flown ≡ slice_get (on_channel on old.messages) 0) (left_is : left ≡ without flown old.messages) (flown_is : flown ≡ Some pdu) (bytes_are : bytes ≡ pdu.item)
-      (hears : (session : Session) → session_at was.node l ≡ Some session → after_bytes was.wiring l was.node session bytes ≡ Ok (record { node = now.node; said = map pdu_of out })) where
-    change : (let h : Heard = record { node = now.node; said = map pdu_of out } in h) ≡ record { node = after_event was.wiring was.node event; said = pdus_in was.wiring was.node event }
+      (on_is : on ≡ channel l dir) (first : flown ≡ slice_get (on_channel on old.messages) 0) (left_is : left ≡ without flown old.messages)
+      (flown_is : flown ≡ Some pdu) (bytes_are : bytes ≡ pdu.item)
+      (hears : (session : Session) → session_at was.node l ≡ Some session →
+      after_bytes was.wiring l was.node session bytes ≡ Ok (record { node = now.node; said = map pdu_of out })) where
+    change : (let h : Heard = record { node = now.node; said = map pdu_of out } in h) ≡ record {
+      node = after_event was.wiring was.node event;
+      said =
+          pdus_in was.wiring was.node event;
+    }
     change = spoken pdu bytes now out (sym flown_is ∙ flies-next on flown on_is first) bytes_are hears
 
     says : map pdu_of out ≡ pdus_in was.wiring was.node event
@@ -204,9 +271,14 @@ module _ (t : Network) (old seen : Carried) (view_is : old ≡ seen) (l : ℕ) (
     pub hears-acts : {E : Type 0} (tick number me : ℕ) (items : List (Item (List ℕ))) (r : Result ℕ E) → me ≡ receiver (wiring_of t) l dir
         → now ≡ record was { node = now.node; uses = now.uses } → TableStands now → SitesKeep was now
         → OnOk r (items ≡ left ++ put_pdus (wiring_of t) me tick number (map pdu_of out)) → IfOk r (λ next. next ≡ number + length out)
-        → IfOk r (λ next. Acts t tick number (receiver (wiring_of t) l dir) event (taken l dir seen) (record old { nodes = slice_set old.nodes index now; messages = items }) next)
+        → IfOk r (λ next. Acts t tick number (receiver (wiring_of t) l dir) event (taken l dir seen) (record old {
+          nodes =
+              slice_set old.nodes index now;
+          messages = items;
+        }) next)
     hears-acts tick number me items r me_is after stands keeps sent counted =
-        acted t (record old { messages = left }) (taken l dir seen) (taken-is old seen l on dir left flown view_is on_is first left_is) (receiver (wiring_of t) l dir) event
+        acted t (record old { messages = left }) (taken l dir seen) (taken-is old seen l on dir left flown view_is on_is first left_is)
+        (receiver (wiring_of t) l dir) event
         (may-taken t seen (receiver (wiring_of t) l dir) l dir event may.may) index at was value tick number now out items r
         (becomes-by event was now (after ∙ ap (λ (h : Heard). let s : Standing = record was { node = h.node; uses = now.uses } in s) change) stands keeps) says
         (subst (λ n. OnOk r (items ≡ left ++ put_pdus (wiring_of t) n tick number (map pdu_of out))) me_is sent) counted

@@ -43,7 +43,8 @@ in_session true true e f s = refl
 in_session true false e f s = cc
 in_session false c e f s = cc
 
-module _ (t : Network) (lawful : IsLawful t) (g : Labelling) (w : World) (carried : Carried) (stands : StandsFor t g w carried) (l : LinkNo) (dir : Dir) (turn : IsTurn t w (step.HearLdp l dir)) where
+module _ (t : Network) (lawful : IsLawful t) (g : Labelling) (w : World) (carried : Carried) (stands : StandsFor t g w carried) (l : LinkNo) (dir : Dir)
+    (turn : IsTurn t w (step.HearLdp l dir)) where
   abbrev r : ℕ
   r = receiver (wiring_of t) l.0 dir
 
@@ -66,11 +67,14 @@ module _ (t : Network) (lawful : IsLawful t) (g : Labelling) (w : World) (carrie
   was_on false q = cc
 
   alive : lives w.config l.0 ≡ true
-  alive = was_on (lives w.config l.0) (or_off (not (lives w.config l.0)) (nat_le (length (w.sessions.said l.0 (sender (wiring_of t) l.0 dir))) (w.sessions.heard l.0 (receiver (wiring_of t) l.0 dir))) turn.there).0
+  alive = was_on (lives w.config l.0)
+      (or_off (not (lives w.config l.0))
+      (nat_le (length (w.sessions.said l.0 (sender (wiring_of t) l.0 dir))) (w.sessions.heard l.0 (receiver (wiring_of t) l.0 dir))) turn.there).0
 
   more : w.sessions.heard l.0 (receiver (wiring_of t) l.0 dir) < length (w.sessions.said l.0 (sender (wiring_of t) l.0 dir))
   more = not_at_most_tells (length (w.sessions.said l.0 (sender (wiring_of t) l.0 dir))) (w.sessions.heard l.0 (receiver (wiring_of t) l.0 dir))
-      (or_off (not (lives w.config l.0)) (nat_le (length (w.sessions.said l.0 (sender (wiring_of t) l.0 dir))) (w.sessions.heard l.0 (receiver (wiring_of t) l.0 dir))) turn.there).1
+      (or_off (not (lives w.config l.0))
+      (nat_le (length (w.sessions.said l.0 (sender (wiring_of t) l.0 dir))) (w.sessions.heard l.0 (receiver (wiring_of t) l.0 dir))) turn.there).1
 
   at_end : is_end (wiring_of t) l.0 (receiver (wiring_of t) l.0 dir) ≡ true
   at_end = (dir_ends (wiring_of t) l.0 dir (lawful.ends_differ l.0 below)).0
@@ -86,20 +90,27 @@ module _ (t : Network) (lawful : IsLawful t) (g : Labelling) (w : World) (carrie
 
   -- in the words of the slice
   next-is : hears_next t w l.0 (receiver (wiring_of t) l.0 dir) ≡ Hears l.0 message (label_brought (sender (wiring_of t) l.0 dir) message)
-  next-is = ap (λ n. let m : Message = slice_index_or (w.sessions.said l.0 n) (w.sessions.heard l.0 (receiver (wiring_of t) l.0 dir)) Address in Hears l.0 m (label_brought n m)) far
+  next-is = ap (λ n. let m : Message = slice_index_or (w.sessions.said l.0 n) (w.sessions.heard l.0 (receiver (wiring_of t) l.0 dir)) Address in
+      Hears l.0 m (label_brought n m)) far
 
   named : NamesANode t message
-  named = turn.named l.0 (sender (wiring_of t) l.0 dir) message (Contains-get_or (w.sessions.said l.0 (sender (wiring_of t) l.0 dir)) (w.sessions.heard l.0 (receiver (wiring_of t) l.0 dir)) Address more)
+  named = turn.named l.0 (sender (wiring_of t) l.0 dir) message
+      (Contains-get_or (w.sessions.said l.0 (sender (wiring_of t) l.0 dir)) (w.sessions.heard l.0 (receiver (wiring_of t) l.0 dir)) Address more)
 
   row : has_ldp_row (state_of t w.sessions l.0 (receiver (wiring_of t) l.0 dir)) message ≡ true
-  row = subst (λ n. has_ldp_row (state_of t w.sessions l.0 (receiver (wiring_of t) l.0 dir)) (slice_index_or (w.sessions.said l.0 n) (w.sessions.heard l.0 (receiver (wiring_of t) l.0 dir)) Address) ≡ true) far
-      ((rows t w lawful turn.turn).ldp l.0 (receiver (wiring_of t) l.0 dir) below at_end alive (subst (λ n. w.sessions.heard l.0 (receiver (wiring_of t) l.0 dir) < length (w.sessions.said l.0 n)) (sym far) more))
+  row = subst
+      (λ n. has_ldp_row (state_of t w.sessions l.0 (receiver (wiring_of t) l.0 dir))
+      (slice_index_or (w.sessions.said l.0 n) (w.sessions.heard l.0 (receiver (wiring_of t) l.0 dir)) Address) ≡ true) far
+      ((rows t w lawful turn.turn).ldp l.0 (receiver (wiring_of t) l.0 dir) below at_end alive
+      (subst (λ n. w.sessions.heard l.0 (receiver (wiring_of t) l.0 dir) < length (w.sessions.said l.0 n)) (sym far) more))
 
   abbrev session : Session
   session = record {
     state = state_of t w.sessions l.0 (receiver (wiring_of t) l.0 dir);
     said = length (w.sessions.said l.0 (receiver (wiring_of t) l.0 dir));
-    labels = map (label_heard (across (wiring_of t) l.0 (receiver (wiring_of t) l.0 dir)) (heard_by (wiring_of t) w.sessions l.0 (receiver (wiring_of t) l.0 dir))) (nodes_of (wiring_of t));
+    labels = map
+        (label_heard (across (wiring_of t) l.0 (receiver (wiring_of t) l.0 dir)) (heard_by (wiring_of t) w.sessions l.0 (receiver (wiring_of t) l.0 dir)))
+        (nodes_of (wiring_of t));
   }
 
   session-is : session_at (node_at t w (receiver (wiring_of t) l.0 dir)) l.0 ≡ Some session
@@ -110,9 +121,11 @@ module _ (t : Network) (lawful : IsLawful t) (g : Labelling) (w : World) (carrie
   bytes = (pdu_in_network (wiring_of t) l.0 (sender (wiring_of t) l.0 dir) (1 + w.sessions.heard l.0 (receiver (wiring_of t) l.0 dir)) message).bytes
 
   flying : map (λ item. item.item) (on_channel (channel l.0 dir) carried.messages)
-      ≡ bytes ∷ drop (w.sessions.heard l.0 (receiver (wiring_of t) l.0 dir) + 1) (spelled (wiring_of t) l.0 (sender (wiring_of t) l.0 dir) 1 (w.sessions.said l.0 (sender (wiring_of t) l.0 dir)))
+      ≡ bytes ∷ drop (w.sessions.heard l.0 (receiver (wiring_of t) l.0 dir) + 1)
+      (spelled (wiring_of t) l.0 (sender (wiring_of t) l.0 dir) 1 (w.sessions.said l.0 (sender (wiring_of t) l.0 dir)))
   flying = stands.messages l.0 dir below
-      ∙ next-spelled (wiring_of t) l.0 (sender (wiring_of t) l.0 dir) 1 (w.sessions.heard l.0 (receiver (wiring_of t) l.0 dir)) (w.sessions.said l.0 (sender (wiring_of t) l.0 dir)) more
+      ∙ next-spelled (wiring_of t) l.0 (sender (wiring_of t) l.0 dir) 1 (w.sessions.heard l.0 (receiver (wiring_of t) l.0 dir))
+      (w.sessions.said l.0 (sender (wiring_of t) l.0 dir)) more
 
   pub may-hear : MayHear t carried l.0 dir (hears_next t w l.0 (receiver (wiring_of t) l.0 dir))
   may-hear =
@@ -133,13 +146,38 @@ module _ (t : Network) (lawful : IsLawful t) (g : Labelling) (w : World) (carrie
     where
       hears : (x : Standing) (pdu : Item (List ℕ)) → IsNode t g w (receiver (wiring_of t) l.0 dir) x → pdu.item ≡ bytes
           → after_bytes x.wiring l.0 x.node session pdu.item
-          ≡ Ok (record { node = after_event x.wiring x.node (hears_next t w l.0 (receiver (wiring_of t) l.0 dir)); said = pdus_in x.wiring x.node (hears_next t w l.0 (receiver (wiring_of t) l.0 dir)) })
+          ≡ Ok (record {
+            node = after_event x.wiring x.node (hears_next t w l.0 (receiver (wiring_of t) l.0 dir));
+            said =
+                pdus_in x.wiring x.node (hears_next t w l.0 (receiver (wiring_of t) l.0 dir));
+          })
       hears x pdu is spells =
-          subst (λ (wi : Wiring). after_bytes wi l.0 x.node session pdu.item ≡ Ok (record { node = after_event wi x.node (hears_next t w l.0 (receiver (wiring_of t) l.0 dir)); said = pdus_in wi x.node (hears_next t w l.0 (receiver (wiring_of t) l.0 dir)) })) (sym is.wiring)
-          (subst (λ (n : Node). after_bytes (wiring_of t) l.0 n session pdu.item ≡ Ok (record { node = after_event (wiring_of t) n (hears_next t w l.0 (receiver (wiring_of t) l.0 dir)); said = pdus_in (wiring_of t) n (hears_next t w l.0 (receiver (wiring_of t) l.0 dir)) })) (sym is.node_is)
-          (subst (λ bs. after_bytes (wiring_of t) l.0 (node_at t w (receiver (wiring_of t) l.0 dir)) session bs ≡ Ok (record { node = after_event (wiring_of t) (node_at t w (receiver (wiring_of t) l.0 dir)) (hears_next t w l.0 (receiver (wiring_of t) l.0 dir)); said = pdus_in (wiring_of t) (node_at t w (receiver (wiring_of t) l.0 dir)) (hears_next t w l.0 (receiver (wiring_of t) l.0 dir)) })) (sym spells)
-          (subst (λ (e : Event). after_bytes (wiring_of t) l.0 (node_at t w (receiver (wiring_of t) l.0 dir)) session bytes ≡ Ok (record { node = after_event (wiring_of t) (node_at t w (receiver (wiring_of t) l.0 dir)) e; said = pdus_in (wiring_of t) (node_at t w (receiver (wiring_of t) l.0 dir)) e })) (sym next-is)
-          (one_change (wiring_of t) l.0 (sender (wiring_of t) l.0 dir) (1 + w.sessions.heard l.0 (receiver (wiring_of t) l.0 dir)) message (node_at t w (receiver (wiring_of t) l.0 dir)) session (spelled_apart t lawful)
+          subst (λ (wi : Wiring). after_bytes wi l.0 x.node session pdu.item ≡ Ok (record {
+            node =
+                after_event wi x.node (hears_next t w l.0 (receiver (wiring_of t) l.0 dir));
+            said =
+                pdus_in wi x.node (hears_next t w l.0 (receiver (wiring_of t) l.0 dir));
+          })) (sym is.wiring)
+          (subst (λ (n : Node). after_bytes (wiring_of t) l.0 n session pdu.item ≡ Ok (record {
+            node =
+                after_event (wiring_of t) n (hears_next t w l.0 (receiver (wiring_of t) l.0 dir));
+            said =
+                pdus_in (wiring_of t) n (hears_next t w l.0 (receiver (wiring_of t) l.0 dir));
+          })) (sym is.node_is)
+          (subst (λ bs. after_bytes (wiring_of t) l.0 (node_at t w (receiver (wiring_of t) l.0 dir)) session bs ≡ Ok (record {
+            node =
+                after_event (wiring_of t) (node_at t w (receiver (wiring_of t) l.0 dir)) (hears_next t w l.0 (receiver (wiring_of t) l.0 dir));
+            said =
+                pdus_in (wiring_of t) (node_at t w (receiver (wiring_of t) l.0 dir)) (hears_next t w l.0 (receiver (wiring_of t) l.0 dir));
+          })) (sym spells)
+          (subst (λ (e : Event). after_bytes (wiring_of t) l.0 (node_at t w (receiver (wiring_of t) l.0 dir)) session bytes ≡ Ok (record {
+            node =
+                after_event (wiring_of t) (node_at t w (receiver (wiring_of t) l.0 dir)) e;
+            said =
+                pdus_in (wiring_of t) (node_at t w (receiver (wiring_of t) l.0 dir)) e;
+          })) (sym next-is)
+          (one_change (wiring_of t) l.0 (sender (wiring_of t) l.0 dir) (1 + w.sessions.heard l.0 (receiver (wiring_of t) l.0 dir)) message
+          (node_at t w (receiver (wiring_of t) l.0 dir)) session (spelled_apart t lawful)
           (record { me = receives dir; far_is_node = sends dir; other_end = far; this_end = back; of_node = speaks t message named; row = row })))))
 
   pub can-hear : CanHear t carried l.0 dir

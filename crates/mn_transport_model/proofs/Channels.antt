@@ -33,7 +33,9 @@ module _ {T : Type 0} where
 
 -- nothing flies on a link that was cut
 pub cut-here : (l : ℕ) (dir : Dir) (items : List (Item (List ℕ))) → bytes_on (channel l dir) (off_link l items) ≡ []
-cut-here l Forth items = ap (map (λ (item : Item (List ℕ)). item.item)) (off-other (2 * l) (2 * l + 1) (off_channel (2 * l) items) (λ e. absurd (omega (arith, e))) ∙ off-same (2 * l) items)
+cut-here l Forth items =
+    ap (map (λ (item : Item (List ℕ)). item.item)) (off-other (2 * l) (2 * l + 1) (off_channel (2 * l) items) (λ e. absurd (omega (arith, e)))
+    ∙ off-same (2 * l) items)
 cut-here l Back items = ap (map (λ (item : Item (List ℕ)). item.item)) (off-same (2 * l + 1) (off_channel (2 * l) items))
 
 apart-even : (k l : ℕ) (dir : Dir) → k ≢ l → channel k dir ≢ 2 * l

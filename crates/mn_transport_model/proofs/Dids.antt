@@ -57,7 +57,8 @@ messages-are t es lawful s turn moves =
 
 -- the notices of a change
 pub notices-are : (t : Network) (l tick number : ℕ) (old new : Carried) → new.notices ≡ (told t tick number l old).notices
-    → keys_in new.notices ≡ keys_in old.notices ++ keys_on (of_notices (length t.loopbacks)) (numbered t tick number (map (λ node. let made : Channel × Load = (Notices l node, ANotice) in made) (nodes_of (wiring_of t))))
+    → keys_in new.notices ≡ keys_in old.notices ++ keys_on (of_notices (length t.loopbacks))
+    (numbered t tick number (map (λ node. let made : Channel × Load = (Notices l node, ANotice) in made) (nodes_of (wiring_of t))))
 notices-are t l tick number old new is =
     ap keys_in is ∙ keys_put old.notices (notices_to (l * length t.loopbacks) (tick + t.notice_delay) number (nodes_of (wiring_of t)))
     ∙ ap (λ ks. keys_in old.notices ++ ks) (keys-told t l (tick + t.notice_delay) tick number (nodes_of (wiring_of t)) refl)
@@ -70,32 +71,41 @@ module _ (t : Network) (lawful : IsLawful t) (tick number next : ℕ) (old new :
   length-notices : (l : ℕ) → length (map (λ node. let made : Channel × Load = (Notices l node, ANotice) in made) (nodes_of (wiring_of t))) ≡ length t.loopbacks
   length-notices l = length-map-range_with_len _ 0 (length t.loopbacks)
 
-  here-up : (es : List JournalEntry) (l : LinkNo) → l.0 < length t.links → (n : ℕ) → is_end (wiring_of t) l.0 n ≡ true → IsHere (wiring_of t) (node_at t (world_of t es) n) (Opens l.0)
+  here-up : (es : List JournalEntry) (l : LinkNo) → l.0 < length t.links →
+      (n : ℕ) → is_end (wiring_of t) l.0 n ≡ true → IsHere (wiring_of t) (node_at t (world_of t es) n) (Opens l.0)
   here-up es l there n at = (there, at, subst (λ k. l.0 < k) (sym (length-map-range_with_len _ 0 (length t.links))) there)
 
-  puts-up : (es : List JournalEntry) (l : LinkNo) → IsTransport t es old → IsTurn t (world_of t es) (step.LinkUp l) → TurnsLink t tick number l.0 true old new next
+  puts-up : (es : List JournalEntry) (l : LinkNo) → IsTransport t es old → IsTurn t (world_of t es) (step.LinkUp l) →
+      TurnsLink t tick number l.0 true old new next
       → Puts t tick (number + length t.loopbacks) (messages_now t es (step.LinkUp l)) (told t tick number l.0 old).messages new.messages next
   puts-up es l stands turn did =
-      subst (λ xs. Puts t tick (number + length t.loopbacks) xs (told t tick number l.0 old).messages new.messages next) (sym (messages-are t es lawful (step.LinkUp l) turn refl))
+      subst (λ xs. Puts t tick (number + length t.loopbacks) xs (told t tick number l.0 old).messages new.messages next)
+      (sym (messages-are t es lawful (step.LinkUp l) turn refl))
       (by did.on (switch-at t lawful (given t es) (world_of t es) old stands l.0 did.on there did.switch) did.session)
     where
       there : l.0 < length t.links
       there = less_tells l.0 (length t.links) turn.fitting
 
-      by : (on : Bool) → on ≡ (world_of t es).config.ldp_on l.0 → TurnsIf on t tick (number + length t.loopbacks) l.0 (Opens l.0) (told t tick number l.0 old) new next
-          → Puts t tick (number + length t.loopbacks) (map message_of (flat_map (node_says t (world_of t es) (step.LinkUp l)) (acting t (step.LinkUp l)))) (told t tick number l.0 old).messages new.messages next
+      by : (on : Bool) → on ≡ (world_of t es).config.ldp_on l.0 →
+          TurnsIf on t tick (number + length t.loopbacks) l.0 (Opens l.0) (told t tick number l.0 old) new next
+          → Puts t tick (number + length t.loopbacks) (map message_of (flat_map (node_says t (world_of t es) (step.LinkUp l)) (acting t (step.LinkUp l))))
+          (told t tick number l.0 old).messages new.messages next
       by true e ends =
           turned-puts t es lawful (world_of t es) (step.LinkUp l) turn refl l.0 there refl refl (λ site. refl) (Opens l.0)
-          (λ n at. happens-up t (world_of t es) l turn.changes true e n ∙ an_end (is_end (wiring_of t) l.0 n) (Some (Opens l.0)) at) (λ n at. happens-up t (world_of t es) l turn.changes true e n ∙ no_end (is_end (wiring_of t) l.0 n) (Some (Opens l.0)) at)
+          (λ n at. happens-up t (world_of t es) l turn.changes true e n ∙ an_end (is_end (wiring_of t) l.0 n) (Some (Opens l.0)) at)
+          (λ n at. happens-up t (world_of t es) l turn.changes true e n ∙ no_end (is_end (wiring_of t) l.0 n) (Some (Opens l.0)) at)
           (here-up es l there) (λ n. tt) tick (number + length t.loopbacks) next (told t tick number l.0 old) new ends stands.each stands.nodes
       by false e same =
-          quiet-puts t es lawful (world_of t es) (step.LinkUp l) turn refl l.0 there refl refl (λ site. refl) (λ n. happens-up t (world_of t es) l turn.changes false e n ∙ no_event (is_end (wiring_of t) l.0 n))
+          quiet-puts t es lawful (world_of t es) (step.LinkUp l) turn refl l.0 there refl refl (λ site. refl)
+          (λ n. happens-up t (world_of t es) l turn.changes false e n ∙ no_event (is_end (wiring_of t) l.0 n))
           tick (number + length t.loopbacks) next (told t tick number l.0 old).messages new.messages (ap (λ (c : Carried). c.messages) same.0) same.1
 
-  puts-down : (es : List JournalEntry) (l : LinkNo) → IsTransport t es old → IsTurn t (world_of t es) (step.LinkDown l) → TurnsLink t tick number l.0 false old new next
+  puts-down : (es : List JournalEntry) (l : LinkNo) → IsTransport t es old → IsTurn t (world_of t es) (step.LinkDown l) →
+      TurnsLink t tick number l.0 false old new next
       → Puts t tick (number + length t.loopbacks) (messages_now t es (step.LinkDown l)) (told t tick number l.0 old).messages new.messages next
   puts-down es l stands turn did =
-      subst (λ xs. Puts t tick (number + length t.loopbacks) xs (told t tick number l.0 old).messages new.messages next) (sym (messages-are t es lawful (step.LinkDown l) turn refl))
+      subst (λ xs. Puts t tick (number + length t.loopbacks) xs (told t tick number l.0 old).messages new.messages next)
+      (sym (messages-are t es lawful (step.LinkDown l) turn refl))
       (by did.on (switch-at t lawful (given t es) (world_of t es) old stands l.0 did.on there did.switch) did.session)
     where
       there : l.0 < length t.links
@@ -104,17 +114,23 @@ module _ (t : Network) (lawful : IsLawful t) (tick number next : ℕ) (old new :
       was : (world_of t es).config.is_up l.0 ≡ true
       was = not_off ((world_of t es).config.is_up l.0) turn.changes
 
-      by : (on : Bool) → on ≡ (world_of t es).config.ldp_on l.0 → TurnsIf on t tick (number + length t.loopbacks) l.0 (Closes l.0) (told t tick number l.0 old) new next
-          → Puts t tick (number + length t.loopbacks) (map message_of (flat_map (node_says t (world_of t es) (step.LinkDown l)) (acting t (step.LinkDown l)))) (told t tick number l.0 old).messages new.messages next
+      by : (on : Bool) → on ≡ (world_of t es).config.ldp_on l.0 →
+          TurnsIf on t tick (number + length t.loopbacks) l.0 (Closes l.0) (told t tick number l.0 old) new next
+          → Puts t tick (number + length t.loopbacks)
+          (map message_of (flat_map (node_says t (world_of t es) (step.LinkDown l)) (acting t (step.LinkDown l))))
+          (told t tick number l.0 old).messages new.messages next
       by true e ends =
           turned-puts t es lawful (world_of t es) (step.LinkDown l) turn refl l.0 there refl refl (λ site. refl) (Closes l.0)
-          (λ n at. happens-down t (world_of t es) l was true e n ∙ an_end (is_end (wiring_of t) l.0 n) (Some (Closes l.0)) at) (λ n at. happens-down t (world_of t es) l was true e n ∙ no_end (is_end (wiring_of t) l.0 n) (Some (Closes l.0)) at)
+          (λ n at. happens-down t (world_of t es) l was true e n ∙ an_end (is_end (wiring_of t) l.0 n) (Some (Closes l.0)) at)
+          (λ n at. happens-down t (world_of t es) l was true e n ∙ no_end (is_end (wiring_of t) l.0 n) (Some (Closes l.0)) at)
           (λ n at. tt) (λ n. tt) tick (number + length t.loopbacks) next (told t tick number l.0 old) new ends stands.each stands.nodes
       by false e same =
-          quiet-puts t es lawful (world_of t es) (step.LinkDown l) turn refl l.0 there refl refl (λ site. refl) (λ n. happens-down t (world_of t es) l was false e n ∙ no_event (is_end (wiring_of t) l.0 n))
+          quiet-puts t es lawful (world_of t es) (step.LinkDown l) turn refl l.0 there refl refl (λ site. refl)
+          (λ n. happens-down t (world_of t es) l was false e n ∙ no_event (is_end (wiring_of t) l.0 n))
           tick (number + length t.loopbacks) next (told t tick number l.0 old).messages new.messages (ap (λ (c : Carried). c.messages) same.0) same.1
 
-  puts-switch : (es : List JournalEntry) (l : LinkNo) (on : Bool) → IsTransport t es old → IsTurn t (world_of t es) (step.LdpAdmin l on) → Switches t tick number l.0 on old new next
+  puts-switch : (es : List JournalEntry) (l : LinkNo) (on : Bool) → IsTransport t es old → IsTurn t (world_of t es) (step.LdpAdmin l on) →
+      Switches t tick number l.0 on old new next
       → Puts t tick number (messages_now t es (step.LdpAdmin l on)) (switched l.0 on old).messages new.messages next
   puts-switch es l on stands turn did =
       subst (λ xs. Puts t tick number xs (switched l.0 on old).messages new.messages next) (sym (messages-are t es lawful (step.LdpAdmin l on) turn refl))
@@ -132,21 +148,29 @@ module _ (t : Network) (lawful : IsLawful t) (tick number next : ℕ) (old new :
       brought false n = tt
 
       by : (up : Bool) → up ≡ (world_of t es).config.is_up l.0 → TurnsIf up t tick number l.0 (turned_by on l.0) (switched l.0 on old) new next
-          → Puts t tick number (map message_of (flat_map (node_says t (world_of t es) (step.LdpAdmin l on)) (acting t (step.LdpAdmin l on)))) (switched l.0 on old).messages new.messages next
+          → Puts t tick number (map message_of (flat_map (node_says t (world_of t es) (step.LdpAdmin l on)) (acting t (step.LdpAdmin l on))))
+          (switched l.0 on old).messages new.messages next
       by true e ends =
           turned-puts t es lawful (world_of t es) (step.LdpAdmin l on) turn refl l.0 there refl refl (λ site. refl) (turned_by on l.0)
-          (λ n at. happens-switch t (world_of t es) l on true e n ∙ an_end (is_end (wiring_of t) l.0 n) (turned l.0 ((world_of t es).config.ldp_on l.0) on) at ∙ switch_turns l.0 on ((world_of t es).config.ldp_on l.0) turn.changes)
+          (λ n at. happens-switch t (world_of t es) l on true e n
+          ∙ an_end (is_end (wiring_of t) l.0 n) (turned l.0 ((world_of t es).config.ldp_on l.0) on) at
+          ∙ switch_turns l.0 on ((world_of t es).config.ldp_on l.0) turn.changes)
           (λ n at. happens-switch t (world_of t es) l on true e n ∙ no_end (is_end (wiring_of t) l.0 n) (turned l.0 ((world_of t es).config.ldp_on l.0) on) at)
           (here on) (brought on) tick number next (switched l.0 on old) new ends stands.each stands.nodes
       by false e same =
-          quiet-puts t es lawful (world_of t es) (step.LdpAdmin l on) turn refl l.0 there refl refl (λ site. refl) (λ n. happens-switch t (world_of t es) l on false e n ∙ no_event (is_end (wiring_of t) l.0 n))
+          quiet-puts t es lawful (world_of t es) (step.LdpAdmin l on) turn refl l.0 there refl refl (λ site. refl)
+          (λ n. happens-switch t (world_of t es) l on false e n ∙ no_event (is_end (wiring_of t) l.0 n))
           tick number next (switched l.0 on old).messages new.messages (ap (λ (c : Carried). c.messages) same.0) same.1
 
   link-rest : (l : ℕ) (up : Bool) → TurnsLink t tick number l up old new next → Rest (told t tick number l old) new
   link-rest l up did = by did.on did.session
     where
-      by : (on : Bool) → TurnsIf on t tick (number + length t.loopbacks) l (turned_by up l) (told t tick number l old) new next → Rest (told t tick number l old) new
-      by true ends = both-rest (told t tick number l old) ends.middle new (act-rest t tick (number + length t.loopbacks) (link (wiring_of t) l).a.0 (turned_by up l) (told t tick number l old) ends.middle ends.second_number ends.first)
+      by : (on : Bool) → TurnsIf on t tick (number + length t.loopbacks) l (turned_by up l) (told t tick number l old) new next →
+          Rest (told t tick number l old) new
+      by true ends =
+          both-rest (told t tick number l old) ends.middle new
+          (act-rest t tick (number + length t.loopbacks) (link (wiring_of t) l).a.0 (turned_by up l)
+          (told t tick number l old) ends.middle ends.second_number ends.first)
           (act-rest t tick ends.second_number (link (wiring_of t) l).b.0 (turned_by up l) ends.middle new next ends.second)
       by false same = same-rest (told t tick number l old) new same.0
 
@@ -154,28 +178,40 @@ module _ (t : Network) (lawful : IsLawful t) (tick number next : ℕ) (old new :
   switch-rest l on did = by (is_link_up old.changes l) did
     where
       by : (up : Bool) → TurnsIf up t tick number l (turned_by on l) (switched l on old) new next → Rest (switched l on old) new
-      by true ends = both-rest (switched l on old) ends.middle new (act-rest t tick number (link (wiring_of t) l).a.0 (turned_by on l) (switched l on old) ends.middle ends.second_number ends.first)
+      by true ends =
+          both-rest (switched l on old) ends.middle new
+          (act-rest t tick number (link (wiring_of t) l).a.0 (turned_by on l) (switched l on old) ends.middle ends.second_number ends.first)
           (act-rest t tick ends.second_number (link (wiring_of t) l).b.0 (turned_by on l) ends.middle new next ends.second)
       by false same = same-rest (switched l on old) new same.0
 
   pub did-up : (l : LinkNo) → TurnsLink t tick number l.0 true old new next → Did t tick number (step.LinkUp l) old new (next - number)
   did-up l did = record {
-    goes = λ es stands turn. then-stands t es tick (step.LinkUp l) new (λ node. refl) (goes-up t es lawful (world_of t es) old stands l tick number new next turn did);
+    goes = λ es stands turn. then-stands t es tick (step.LinkUp l) new (λ node. refl)
+        (goes-up t es lawful (world_of t es) old stands l tick number new next turn did);
     notices = notices-are t l.0 tick number old new (link-rest l.0 true did).notices;
     messages = λ es stands turn.
-        (puts-up es l stands turn did).keys ∙ ap (λ ks. ks ++ keys_on (of_messages t) (numbered t tick (number + length t.loopbacks) (messages_now t es (step.LinkUp l)))) (keys-cut l.0 old.messages)
-        ∙ ap (λ n. messages_leave (step.LinkUp l) (keys_in old.messages) ++ keys_on (of_messages t) (numbered t tick (number + n) (messages_now t es (step.LinkUp l)))) (sym (length-notices l.0));
-    count = λ es stands turn. made-is (length t.loopbacks) (messages_now t es (step.LinkUp l)) (puts-up es l stands turn did).next_is ∙ ap (λ n. n + length (messages_now t es (step.LinkUp l))) (sym (length-notices l.0));
+        (puts-up es l stands turn did).keys
+        ∙ ap (λ ks. ks ++ keys_on (of_messages t) (numbered t tick (number + length t.loopbacks) (messages_now t es (step.LinkUp l))))
+        (keys-cut l.0 old.messages)
+        ∙ ap (λ n. messages_leave (step.LinkUp l) (keys_in old.messages) ++ keys_on (of_messages t)
+        (numbered t tick (number + n) (messages_now t es (step.LinkUp l)))) (sym (length-notices l.0));
+    count = λ es stands turn. made-is (length t.loopbacks) (messages_now t es (step.LinkUp l)) (puts-up es l stands turn did).next_is
+        ∙ ap (λ n. n + length (messages_now t es (step.LinkUp l))) (sym (length-notices l.0));
   }
 
   pub did-down : (l : LinkNo) → TurnsLink t tick number l.0 false old new next → Did t tick number (step.LinkDown l) old new (next - number)
   did-down l did = record {
-    goes = λ es stands turn. then-stands t es tick (step.LinkDown l) new (λ node. refl) (goes-down t es lawful (world_of t es) old stands l tick number new next turn did);
+    goes = λ es stands turn. then-stands t es tick (step.LinkDown l) new (λ node. refl)
+        (goes-down t es lawful (world_of t es) old stands l tick number new next turn did);
     notices = notices-are t l.0 tick number old new (link-rest l.0 false did).notices;
     messages = λ es stands turn.
-        (puts-down es l stands turn did).keys ∙ ap (λ ks. ks ++ keys_on (of_messages t) (numbered t tick (number + length t.loopbacks) (messages_now t es (step.LinkDown l)))) (keys-cut l.0 old.messages)
-        ∙ ap (λ n. messages_leave (step.LinkDown l) (keys_in old.messages) ++ keys_on (of_messages t) (numbered t tick (number + n) (messages_now t es (step.LinkDown l)))) (sym (length-notices l.0));
-    count = λ es stands turn. made-is (length t.loopbacks) (messages_now t es (step.LinkDown l)) (puts-down es l stands turn did).next_is ∙ ap (λ n. n + length (messages_now t es (step.LinkDown l))) (sym (length-notices l.0));
+        (puts-down es l stands turn did).keys
+        ∙ ap (λ ks. ks ++ keys_on (of_messages t) (numbered t tick (number + length t.loopbacks) (messages_now t es (step.LinkDown l))))
+        (keys-cut l.0 old.messages)
+        ∙ ap (λ n. messages_leave (step.LinkDown l) (keys_in old.messages) ++ keys_on (of_messages t)
+        (numbered t tick (number + n) (messages_now t es (step.LinkDown l)))) (sym (length-notices l.0));
+    count = λ es stands turn. made-is (length t.loopbacks) (messages_now t es (step.LinkDown l)) (puts-down es l stands turn did).next_is
+        ∙ ap (λ n. n + length (messages_now t es (step.LinkDown l))) (sym (length-notices l.0));
   }
 
   no-more : (number : ℕ) → number ≡ number + 0
@@ -183,10 +219,13 @@ module _ (t : Network) (lawful : IsLawful t) (tick number next : ℕ) (old new :
 
   pub did-switch : (l : LinkNo) (on : Bool) → Switches t tick number l.0 on old new next → Did t tick number (step.LdpAdmin l on) old new (next - number)
   did-switch l on did = record {
-    goes = λ es stands turn. then-stands t es tick (step.LdpAdmin l on) new (λ node. refl) (goes-switch t es lawful (world_of t es) old stands l on tick number new next turn did);
+    goes = λ es stands turn. then-stands t es tick (step.LdpAdmin l on) new (λ node. refl)
+        (goes-switch t es lawful (world_of t es) old stands l on tick number new next turn did);
     notices = ap keys_in (switch-rest l.0 on did).notices ∙ sym (append-nil (keys_in old.notices));
     messages = λ es stands turn.
-        (puts-switch es l on stands turn did).keys ∙ ap (λ ks. ks ++ keys_on (of_messages t) (numbered t tick number (messages_now t es (step.LdpAdmin l on)))) (keys-cut l.0 old.messages)
-        ∙ ap (λ n. messages_leave (step.LdpAdmin l on) (keys_in old.messages) ++ keys_on (of_messages t) (numbered t tick n (messages_now t es (step.LdpAdmin l on)))) (no-more number);
+        (puts-switch es l on stands turn did).keys
+        ∙ ap (λ ks. ks ++ keys_on (of_messages t) (numbered t tick number (messages_now t es (step.LdpAdmin l on)))) (keys-cut l.0 old.messages)
+        ∙ ap (λ n. messages_leave (step.LdpAdmin l on) (keys_in old.messages) ++ keys_on (of_messages t)
+        (numbered t tick n (messages_now t es (step.LdpAdmin l on)))) (no-more number);
     count = λ es stands turn. let n = (puts-switch es l on stands turn did).next_is in omega (arith, n);
   }

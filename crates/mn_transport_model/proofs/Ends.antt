@@ -1,5 +1,6 @@
 -- Both ends of a link act as its session opens or closes.
-use Rattle.std.proofs.Common.{ℕ, ◌≡◌, ◌≢◌, ◌<◌, ◌≤◌, inl, inr, true, false, List, [], ◌∷◌, ◌++◌, length, map, drop, arith, sym, ◌∙◌, ap, subst, Option, None, Some, append-nil, append_assoc}
+use Rattle.std.proofs.Common.{ℕ, ◌≡◌, ◌≢◌, ◌<◌, ◌≤◌, inl, inr, true, false, List, [], ◌∷◌, ◌++◌, length, map, drop, arith, sym, ◌∙◌, ap, subst, Option}
+use Rattle.std.proofs.Common.{None, Some, append-nil, append_assoc}
 use Rattle.std.specs.Prelude.{◌==◌, ◌||◌, slice_get, slice_set}
 use Rattle.std.specs.List.{flat_map}
 use Rattle.std.proofs.Math.ListN.{length-set}
@@ -44,7 +45,8 @@ use Rattle.mn_transport_model.proofs.Flown.{nodes-by, sessions-then, acts-flies}
 -- 1. A life begins or ends
 
 -- what flies on the link is cut, as nothing was said in the new life
-pub cut-anew : (w : Wiring) (s : Sessions) (l k : ℕ) (dir : Dir) (items : List (Item (List ℕ))) → FliesAs w k dir (s.heard k (receiver w k dir)) (s.said k (sender w k dir)) items
+pub cut-anew : (w : Wiring) (s : Sessions) (l k : ℕ) (dir : Dir) (items : List (Item (List ℕ))) →
+    FliesAs w k dir (s.heard k (receiver w k dir)) (s.said k (sender w k dir)) items
     → FliesAs w k dir ((anew s l).heard k (receiver w k dir)) ((anew s l).said k (sender w k dir)) (off_link l items)
 cut-anew w s l k dir items flies = elim (eqb_tells k l) [
   | inl p ↦ subst (λ j. FliesAs w j dir ((anew s l).heard j (receiver w j dir)) ((anew s l).said j (sender w j dir)) (off_link l items)) (sym p.1)
@@ -69,7 +71,8 @@ pub heard-within : (t : Network) (w : World) (s : Step) (lawful : IsLawful t) �
     → w.sessions.heard k (receiver (wiring_of t) k dir) ≤ length (w.sessions.said k (sender (wiring_of t) k dir))
 heard-within t w s lawful turn k dir h =
     let ends = dir_ends (wiring_of t) k dir (lawful.ends_differ k h) in
-    subst (λ far. w.sessions.heard k (receiver (wiring_of t) k dir) ≤ length (w.sessions.said k far)) ends.1 (turn.turn.ldp k (receiver (wiring_of t) k dir) h ends.0).heard
+    subst (λ far. w.sessions.heard k (receiver (wiring_of t) k dir) ≤ length (w.sessions.said k far)) ends.1
+    (turn.turn.ldp k (receiver (wiring_of t) k dir) h ends.0).heard
 
 end-of : (w : Wiring) (l n : ℕ) → n ≢ (link w l).a.0 → n ≢ (link w l).b.0 → is_end w l n ≡ false
 end-of w l n d e = ap (λ b. b || ((link w l).b.0 == n)) (other_test (link w l).a.0 n (λ q. d (sym q))) ∙ other_test (link w l).b.0 n (λ q. e (sym q))
@@ -77,7 +80,8 @@ end-of w l n d e = ap (λ b. b || ((link w l).b.0 == n)) (other_test (link w l).
 -- 2. Both ends act
 
 module _ (t : Network) (es : List JournalEntry) (lawful : IsLawful t) (w : World) (s : Step) (turn : IsTurn t w s) (moves : is_transport s ≡ true)
-    (l : ℕ) (there : l < length t.links) (acts_are : acting t s ≡ (link (wiring_of t) l).a.0 ∷ (link (wiring_of t) l).b.0 ∷ []) (counts_are : counted t w.sessions s ≡ anew w.sessions l)
+    (l : ℕ) (there : l < length t.links) (acts_are : acting t s ≡ (link (wiring_of t) l).a.0 ∷ (link (wiring_of t) l).b.0 ∷ [])
+    (counts_are : counted t w.sessions s ≡ anew w.sessions l)
     (attached : (site : ℕ) → (after t w s).config.attached site ≡ w.config.attached site) where
   abbrev v : World
   v = after t w s
@@ -97,8 +101,10 @@ module _ (t : Network) (es : List JournalEntry) (lawful : IsLawful t) (w : World
 
   flies-by : (k : ℕ) (dir : Dir) (items : List (Item (List ℕ))) (a b : List Message)
       → messages_of k (sender (wiring_of t) k dir) (node_says t w s end_a) ≡ a → messages_of k (sender (wiring_of t) k dir) (node_says t w s end_b) ≡ b
-      → FliesAs (wiring_of t) k dir ((anew w.sessions l).heard k (receiver (wiring_of t) k dir)) (((anew w.sessions l).said k (sender (wiring_of t) k dir) ++ a) ++ b) items
-      → FliesAs (wiring_of t) k dir ((after t w s).sessions.heard k (receiver (wiring_of t) k dir)) ((after t w s).sessions.said k (sender (wiring_of t) k dir)) items
+      → FliesAs (wiring_of t) k dir ((anew w.sessions l).heard k (receiver (wiring_of t) k dir))
+      (((anew w.sessions l).said k (sender (wiring_of t) k dir) ++ a) ++ b) items
+      → FliesAs (wiring_of t) k dir ((after t w s).sessions.heard k (receiver (wiring_of t) k dir))
+      ((after t w s).sessions.said k (sender (wiring_of t) k dir)) items
   flies-by k dir items a b is_a is_b flies =
       let me : ℕ = sender (wiring_of t) k dir in
       let base : List Message = (anew w.sessions l).said k me in
@@ -113,18 +119,22 @@ module _ (t : Network) (es : List JournalEntry) (lawful : IsLawful t) (w : World
   -- where nothing happens to either
   pub quiet-flies : ((n : ℕ) → event_of t w s n ≡ None) → (k : ℕ) (dir : Dir) (items : List (Item (List ℕ)))
       → FliesAs (wiring_of t) k dir (w.sessions.heard k (receiver (wiring_of t) k dir)) (w.sessions.said k (sender (wiring_of t) k dir)) items
-      → FliesAs (wiring_of t) k dir ((after t w s).sessions.heard k (receiver (wiring_of t) k dir)) ((after t w s).sessions.said k (sender (wiring_of t) k dir)) (off_link l items)
+      → FliesAs (wiring_of t) k dir ((after t w s).sessions.heard k (receiver (wiring_of t) k dir))
+      ((after t w s).sessions.said k (sender (wiring_of t) k dir)) (off_link l items)
   quiet-flies none k dir items flies =
       let me : ℕ = sender (wiring_of t) k dir in
-      flies-by k dir (off_link l items) [] [] (ap (λ e. messages_of k me (said_any (wiring_of t) (node_at t w end_a) e)) (none end_a)) (ap (λ e. messages_of k me (said_any (wiring_of t) (node_at t w end_b) e)) (none end_b))
+      flies-by k dir (off_link l items) [] [] (ap (λ e. messages_of k me (said_any (wiring_of t) (node_at t w end_a) e)) (none end_a))
+      (ap (λ e. messages_of k me (said_any (wiring_of t) (node_at t w end_b) e)) (none end_b))
       (subst (λ ms. FliesAs (wiring_of t) k dir ((anew w.sessions l).heard k (receiver (wiring_of t) k dir)) ms (off_link l items))
-      (sym (append-nil ((anew w.sessions l).said k me ++ []) ∙ append-nil ((anew w.sessions l).said k me))) (cut-anew (wiring_of t) w.sessions l k dir items flies))
+      (sym (append-nil ((anew w.sessions l).said k me ++ []) ∙ append-nil ((anew w.sessions l).said k me)))
+      (cut-anew (wiring_of t) w.sessions l k dir items flies))
 
   pub quiet-nodes : ((n : ℕ) → event_of t w s n ≡ None) → (nodes : List Standing) → length nodes ≡ length t.loopbacks
       → Each (λ n x. IsNode t (given t es) w n x) nodes → Each (λ n x. IsNode t (given t es) (after t w s) n x) nodes
   quiet-nodes none nodes each are n x is =
       let below : n < length t.loopbacks = subst (λ k. n < k) each (slice_get_within nodes n x is) in
-      node-still t es lawful w (after t w s) n below attached x (are n x is) ((nodes-by t lawful w s turn moves).each n below ∙ ap (after_any (wiring_of t) (node_at t w n)) (none n))
+      node-still t es lawful w (after t w s) n below attached x (are n x is) ((nodes-by t lawful w s turn moves).each n below
+      ∙ ap (after_any (wiring_of t) (node_at t w n)) (none n))
 
   pub quiet-puts : ((n : ℕ) → event_of t w s n ≡ None) → (tick number next : ℕ) (old new : List (Item (List ℕ))) → new ≡ old → next ≡ number
       → Puts t tick number (map message_of (flat_map (node_says t w s) (acting t s))) old new next
@@ -136,8 +146,10 @@ module _ (t : Network) (es : List JournalEntry) (lawful : IsLawful t) (w : World
       (puts-none t tick number old new next same e)
 
   -- where the same happens to both
-  module _ (e : Event) (ends : (n : ℕ) → is_end (wiring_of t) l n ≡ true → event_of t w s n ≡ Some e) (others : (n : ℕ) → is_end (wiring_of t) l n ≡ false → event_of t w s n ≡ None)
-      (here : (n : ℕ) → is_end (wiring_of t) l n ≡ true → IsHere (wiring_of t) (node_at t w n) e) (brought : (n : ℕ) → IsBrought (wiring_of t) (node_at t w n) e)
+  module _ (e : Event) (ends : (n : ℕ) → is_end (wiring_of t) l n ≡ true → event_of t w s n ≡ Some e) (others : (n : ℕ) → is_end (wiring_of t) l n ≡ false →
+      event_of t w s n ≡ None)
+      (here : (n : ℕ) → is_end (wiring_of t) l n ≡ true → IsHere (wiring_of t) (node_at t w n) e) (brought : (n : ℕ) →
+      IsBrought (wiring_of t) (node_at t w n) e)
       (tick number next : ℕ) (old new : Carried) (did : TurnsEnds t tick number l e old new next)
       (each : length old.nodes ≡ length t.loopbacks) (are : Each (λ n x. IsNode t (given t es) w n x) old.nodes) where
     differ : end_a ≢ end_b
@@ -186,8 +198,10 @@ module _ (t : Network) (es : List JournalEntry) (lawful : IsLawful t) (w : World
     own_a = own-event (wiring_of t) (node_at t w end_a) e (here end_a (is_end-a (wiring_of t) l))
 
     pub turned-flies : (k : ℕ) (dir : Dir) → k < length t.links
-        → FliesAs (wiring_of t) k dir ((anew w.sessions l).heard k (receiver (wiring_of t) k dir)) ((anew w.sessions l).said k (sender (wiring_of t) k dir)) old.messages
-        → FliesAs (wiring_of t) k dir ((after t w s).sessions.heard k (receiver (wiring_of t) k dir)) ((after t w s).sessions.said k (sender (wiring_of t) k dir)) new.messages
+        → FliesAs (wiring_of t) k dir ((anew w.sessions l).heard k (receiver (wiring_of t) k dir))
+        ((anew w.sessions l).said k (sender (wiring_of t) k dir)) old.messages
+        → FliesAs (wiring_of t) k dir ((after t w s).sessions.heard k (receiver (wiring_of t) k dir))
+        ((after t w s).sessions.said k (sender (wiring_of t) k dir)) new.messages
     turned-flies k dir h flies =
         let me : ℕ = sender (wiring_of t) k dir in
         let heard : ℕ = (anew w.sessions l).heard k (receiver (wiring_of t) k dir) in
@@ -198,12 +212,16 @@ module _ (t : Network) (es : List JournalEntry) (lawful : IsLawful t) (w : World
         let size : (n : ℕ) → me ≡ n → length base ≡ length ((counted t w.sessions s).said k n) =
         λ n sends. ap (λ m. length ((anew w.sessions l).said k m)) sends ∙ sym (ap (λ (x : Sessions). length (x.said k n)) counts_are) in
         let one : FliesAs (wiring_of t) k dir heard (base ++ a) did.middle.messages =
-        acts-flies t lawful w s turn moves tick number end_a did.second_number e old did.middle did.first (ends end_a (is_end-a (wiring_of t) l)) first_is.node_is
+        acts-flies t lawful w s turn moves tick number end_a did.second_number e old did.middle did.first
+        (ends end_a (is_end-a (wiring_of t) l)) first_is.node_is
         (here end_a (is_end-a (wiring_of t) l)) (brought end_a) k dir heard base h within (size end_a) flies in
         let two : FliesAs (wiring_of t) k dir heard ((base ++ a) ++ b) new.messages =
-        acts-flies t lawful w s turn moves tick did.second_number end_b next e did.middle new did.second (ends end_b (is_end-b (wiring_of t) l)) second_is.node_is
+        acts-flies t lawful w s turn moves tick did.second_number end_b next e did.middle new did.second
+        (ends end_b (is_end-b (wiring_of t) l)) second_is.node_is
         (here end_b (is_end-b (wiring_of t) l)) (brought end_b) k dir heard (base ++ a) h (let longer = length-append base a in omega (arith, within, longer))
-        (λ sends. ap (λ ms. length (base ++ ms)) (none-of-mine (wiring_of t) k me end_a (changed (wiring_of t) (node_at t w end_a) e) (said (wiring_of t) (node_at t w end_a) e) (λ q. differ (sym q ∙ sends)) own_a)
+        (λ sends. ap (λ ms. length (base ++ ms))
+        (none-of-mine (wiring_of t) k me end_a (changed (wiring_of t) (node_at t w end_a) e) (said (wiring_of t) (node_at t w end_a) e)
+        (λ q. differ (sym q ∙ sends)) own_a)
         ∙ ap length (append-nil base) ∙ size end_b sends) one in
         flies-by k dir new.messages a b (ap (λ o. messages_of k me (said_any (wiring_of t) (node_at t w end_a) o)) (ends end_a (is_end-a (wiring_of t) l)))
         (ap (λ o. messages_of k me (said_any (wiring_of t) (node_at t w end_b) o)) (ends end_b (is_end-b (wiring_of t) l))) two
@@ -211,17 +229,22 @@ module _ (t : Network) (es : List JournalEntry) (lawful : IsLawful t) (w : World
     own_b : AllOwn (wiring_of t) (changed (wiring_of t) (node_at t w end_b) e) end_b (said (wiring_of t) (node_at t w end_b) e)
     own_b = own-event (wiring_of t) (node_at t w end_b) e (here end_b (is_end-b (wiring_of t) l))
 
-    says-are : map message_of (said (wiring_of t) (node_at t w end_a) e) ++ map message_of (said (wiring_of t) (node_at t w end_b) e) ≡ map message_of (flat_map (node_says t w s) (acting t s))
+    says-are : map message_of (said (wiring_of t) (node_at t w end_a) e) ++ map message_of (said (wiring_of t) (node_at t w end_b) e) ≡ map message_of
+        (flat_map (node_says t w s) (acting t s))
     says-are =
         sym (map-append message_of (said (wiring_of t) (node_at t w end_a) e) (said (wiring_of t) (node_at t w end_b) e))
         ∙ ap (λ xs. map message_of (said (wiring_of t) (node_at t w end_a) e ++ xs)) (sym (append-nil (said (wiring_of t) (node_at t w end_b) e)))
-        ∙ ap (λ o. map message_of (said_any (wiring_of t) (node_at t w end_a) o ++ (said (wiring_of t) (node_at t w end_b) e ++ []))) (sym (ends end_a (is_end-a (wiring_of t) l)))
+        ∙ ap (λ o. map message_of (said_any (wiring_of t) (node_at t w end_a) o ++ (said (wiring_of t) (node_at t w end_b) e ++ [])))
+        (sym (ends end_a (is_end-a (wiring_of t) l)))
         ∙ ap (λ o. map message_of (node_says t w s end_a ++ (said_any (wiring_of t) (node_at t w end_b) o ++ []))) (sym (ends end_b (is_end-b (wiring_of t) l)))
         ∙ ap (λ ms. map message_of (flat_map (node_says t w s) ms)) (sym acts_are)
 
     pub turned-puts : Puts t tick number (map message_of (flat_map (node_says t w s) (acting t s))) old.messages new.messages next
     turned-puts =
         subst (λ xs. Puts t tick number xs old.messages new.messages next) says-are
-        (puts-both t tick number did.second_number next (map message_of (said (wiring_of t) (node_at t w end_a) e)) (map message_of (said (wiring_of t) (node_at t w end_b) e)) old.messages did.middle.messages new.messages
-        (puts-act t tick number end_a did.second_number e old did.middle did.first (node_at t w end_a) first_is.node_is (each-own (wiring_of t) (changed (wiring_of t) (node_at t w end_a) e) end_a (said (wiring_of t) (node_at t w end_a) e) own_a))
-        (puts-act t tick did.second_number end_b next e did.middle new did.second (node_at t w end_b) second_is.node_is (each-own (wiring_of t) (changed (wiring_of t) (node_at t w end_b) e) end_b (said (wiring_of t) (node_at t w end_b) e) own_b)))
+        (puts-both t tick number did.second_number next (map message_of (said (wiring_of t) (node_at t w end_a) e))
+        (map message_of (said (wiring_of t) (node_at t w end_b) e)) old.messages did.middle.messages new.messages
+        (puts-act t tick number end_a did.second_number e old did.middle did.first (node_at t w end_a) first_is.node_is
+        (each-own (wiring_of t) (changed (wiring_of t) (node_at t w end_a) e) end_a (said (wiring_of t) (node_at t w end_a) e) own_a))
+        (puts-act t tick did.second_number end_b next e did.middle new did.second (node_at t w end_b) second_is.node_is
+        (each-own (wiring_of t) (changed (wiring_of t) (node_at t w end_b) e) end_b (said (wiring_of t) (node_at t w end_b) e) own_b)))

@@ -1,5 +1,6 @@
 -- The transport that has done a step stands for the world after it.
-use Rattle.std.proofs.Common.{ℕ, zero, suc, ◌≡◌, ◌+◌, ◌*◌, ◌%◌, ◌<◌, inl, inr, Bool, true, false, not, List, length, map, refl, arith, sym, ◌∙◌, ap, subst, None, Some}
+use Rattle.std.proofs.Common.{ℕ, zero, suc, ◌≡◌, ◌+◌, ◌*◌, ◌%◌, ◌<◌, inl, inr, Bool, true, false, not, List, length, map, refl, arith, sym, ◌∙◌, ap, subst}
+use Rattle.std.proofs.Common.{None, Some}
 use Rattle.std.specs.Prelude.{◌==◌, slice_index, slice_set}
 use Rattle.std.proofs.lemmas.Bool.Decides.{eqb_tells}
 use Rattle.std.proofs.lemmas.List.FromFn.{get_or-map-range_with_len, length-map-range_with_len}
@@ -96,8 +97,10 @@ module _ (t : Network) (es : List JournalEntry) (lawful : IsLawful t) (w : World
     changed : new.changes ≡ map (after t w s).views.changes (links_of (wiring_of t))
     changed =
         rest.changes ∙ ap (λ xs. slice_set xs l (slice_index xs l + 1)) stands.changes
-        ∙ ap (λ n. slice_set (map w.views.changes (links_of (wiring_of t))) l (n + 1)) (get_or-map-range_with_len w.views.changes 0 (length t.links) l l 0 there (omega arith))
-        ∙ map-put w.views.changes (put w.views.changes l (w.views.changes l + 1)) (length t.links) l (w.views.changes l + 1) 0 (put_here w.views.changes l (w.views.changes l + 1)) (λ k below d. put_off w.views.changes l (w.views.changes l + 1) k d)
+        ∙ ap (λ n. slice_set (map w.views.changes (links_of (wiring_of t))) l (n + 1))
+        (get_or-map-range_with_len w.views.changes 0 (length t.links) l l 0 there (omega arith))
+        ∙ map-put w.views.changes (put w.views.changes l (w.views.changes l + 1)) (length t.links) l (w.views.changes l + 1) 0
+        (put_here w.views.changes l (w.views.changes l + 1)) (λ k below d. put_off w.views.changes l (w.views.changes l + 1) k d)
         ∙ ap (λ f. map f (links_of (wiring_of t))) (sym changes)
 
     not_not : (b : Bool) → not (not b) ≡ b
@@ -106,7 +109,8 @@ module _ (t : Network) (es : List JournalEntry) (lawful : IsLawful t) (w : World
 
     is_up : (k : ℕ) → k < length t.links → is_odd ((after t w s).views.changes k) ≡ (after t w s).config.is_up k
     is_up k h = elim (eqb_tells k l) [
-      | inl p ↦ ap (λ j. is_odd ((after t w s).views.changes j)) p.1 ∙ ap (λ f. is_odd (f l)) changes ∙ ap is_odd (put_here w.views.changes l (w.views.changes l + 1))
+      | inl p ↦ ap (λ j. is_odd ((after t w s).views.changes j)) p.1 ∙ ap (λ f. is_odd (f l)) changes
+          ∙ ap is_odd (put_here w.views.changes l (w.views.changes l + 1))
           ∙ odd_turns (w.views.changes l) ∙ ap not (stands.up l there ∙ was) ∙ not_not up
           ∙ sym (ap (λ j. (after t w s).config.is_up j) p.1 ∙ ap (λ f. f l) ups ∙ put_here w.config.is_up l up)
       | inr p ↦ ap (λ f. is_odd (f k)) changes ∙ ap is_odd (put_off w.views.changes l (w.views.changes l + 1) k p.1) ∙ stands.up k h
@@ -117,24 +121,30 @@ module _ (t : Network) (es : List JournalEntry) (lawful : IsLawful t) (w : World
         (after t w s).views.learned node k + length (on_channel (k * length t.loopbacks + node) new.notices) ≡ (after t w s).views.changes k
     notified k node h below =
         let made : List (Item Notice) = notices_to (l * length t.loopbacks) (tick + t.notice_delay) number (nodes_of (wiring_of t)) in
-        let more : length (on_channel (k * length t.loopbacks + node) new.notices) ≡ length (on_channel (k * length t.loopbacks + node) old.notices) + length (on_channel (k * length t.loopbacks + node) made) =
+        let more : length (on_channel (k * length t.loopbacks + node) new.notices) ≡ length
+        (on_channel (k * length t.loopbacks + node) old.notices) + length (on_channel (k * length t.loopbacks + node) made) =
         ap (λ xs. length (on_channel (k * length t.loopbacks + node) xs)) rest.notices ∙ count-append (k * length t.loopbacks + node) old.notices made in
         let before = stands.notices k node h below in
         let same : (after t w s).views.learned node k ≡ w.views.learned node k = ap (λ f. f node k) learned in
         elim (eqb_tells k l) [
           | inl p ↦ (let one : length (on_channel (k * length t.loopbacks + node) made) ≡ 1 =
-              ap (λ j. length (on_channel (j * length t.loopbacks + node) made)) p.1 ∙ told-here l (length t.loopbacks) (tick + t.notice_delay) number node below in
+              ap (λ j. length (on_channel (j * length t.loopbacks + node) made)) p.1
+              ∙ told-here l (length t.loopbacks) (tick + t.notice_delay) number node below in
               let then_is : (after t w s).views.changes k ≡ w.views.changes k + 1 =
-              ap (λ f. f k) changes ∙ ap (put w.views.changes l (w.views.changes l + 1)) p.1 ∙ put_here w.views.changes l (w.views.changes l + 1) ∙ ap (λ j. w.views.changes j + 1) (sym p.1) in
+              ap (λ f. f k) changes ∙ ap (put w.views.changes l (w.views.changes l + 1)) p.1 ∙ put_here w.views.changes l (w.views.changes l + 1)
+              ∙ ap (λ j. w.views.changes j + 1) (sym p.1) in
               omega (arith, more, before, same, one, then_is))
-          | inr p ↦ (let none : length (on_channel (k * length t.loopbacks + node) made) ≡ 0 = told-off k l (length t.loopbacks) (tick + t.notice_delay) number node p.1 below in
-              let then_is : (after t w s).views.changes k ≡ w.views.changes k = ap (λ f. f k) changes ∙ put_off w.views.changes l (w.views.changes l + 1) k p.1 in
+          | inr p ↦ (let none : length (on_channel (k * length t.loopbacks + node) made) ≡ 0 =
+              told-off k l (length t.loopbacks) (tick + t.notice_delay) number node p.1 below in
+              let then_is : (after t w s).views.changes k ≡ w.views.changes k =
+              ap (λ f. f k) changes ∙ put_off w.views.changes l (w.views.changes l + 1) k p.1 in
               omega (arith, more, before, same, none, then_is))
         ]
 
     link-stands : length new.nodes ≡ length t.loopbacks → Each (λ n x. IsNode t (given t es) (after t w s) n x) new.nodes
         → ((k : ℕ) (dir : Dir) → k < length t.links
-        → FliesAs (wiring_of t) k dir ((after t w s).sessions.heard k (receiver (wiring_of t) k dir)) ((after t w s).sessions.said k (sender (wiring_of t) k dir)) new.messages)
+        → FliesAs (wiring_of t) k dir ((after t w s).sessions.heard k (receiver (wiring_of t) k dir))
+        ((after t w s).sessions.said k (sender (wiring_of t) k dir)) new.messages)
         → StandsFor t (given t es) (after t w s) new
     link-stands each nodes flies = record {
       works = rest.failed ∙ stands.works;
@@ -157,33 +167,44 @@ module _ (t : Network) (es : List JournalEntry) (lawful : IsLawful t) (w : World
   length-sessions : (n : ℕ) → length (node_at t w n).sessions ≡ length t.links
   length-sessions n = length-map-range_with_len _ 0 (length t.links)
 
-  pub goes-up : (l : LinkNo) (tick number : ℕ) (new : Carried) (next : ℕ) → IsTurn t w (step.LinkUp l) → TurnsLink t tick number l.0 true old new next → StandsFor t (given t es) (after t w (step.LinkUp l)) new
+  pub goes-up : (l : LinkNo) (tick number : ℕ) (new : Carried) (next : ℕ) → IsTurn t w (step.LinkUp l) → TurnsLink t tick number l.0 true old new next →
+      StandsFor t (given t es) (after t w (step.LinkUp l)) new
   goes-up l tick number new next turn did = by did.on (switch-at t lawful (given t es) w old stands l.0 did.on there did.switch) did.session
     where
       there : l.0 < length t.links
       there = less_tells l.0 (length t.links) turn.fitting
 
-      by : (on : Bool) → on ≡ w.config.ldp_on l.0 → TurnsIf on t tick (number + length t.loopbacks) l.0 (Opens l.0) (told t tick number l.0 old) new next → StandsFor t (given t es) (after t w (step.LinkUp l)) new
+      by : (on : Bool) → on ≡ w.config.ldp_on l.0 → TurnsIf on t tick (number + length t.loopbacks) l.0 (Opens l.0) (told t tick number l.0 old) new next →
+          StandsFor t (given t es) (after t w (step.LinkUp l)) new
       by true e ends =
-          let on_end : (n : ℕ) → is_end (wiring_of t) l.0 n ≡ true → event_of t w (step.LinkUp l) n ≡ Some (Opens l.0) = λ n at. happens-up t w l turn.changes true e n ∙ an_end (is_end (wiring_of t) l.0 n) (Some (Opens l.0)) at in
-          let off_end : (n : ℕ) → is_end (wiring_of t) l.0 n ≡ false → event_of t w (step.LinkUp l) n ≡ None = λ n at. happens-up t w l turn.changes true e n ∙ no_end (is_end (wiring_of t) l.0 n) (Some (Opens l.0)) at in
-          let here : (n : ℕ) → is_end (wiring_of t) l.0 n ≡ true → IsHere (wiring_of t) (node_at t w n) (Opens l.0) = λ n at. (there, at, subst (λ k. l.0 < k) (sym (length-sessions n)) there) in
+          let on_end : (n : ℕ) → is_end (wiring_of t) l.0 n ≡ true → event_of t w (step.LinkUp l) n ≡ Some (Opens l.0) =
+          λ n at. happens-up t w l turn.changes true e n ∙ an_end (is_end (wiring_of t) l.0 n) (Some (Opens l.0)) at in
+          let off_end : (n : ℕ) → is_end (wiring_of t) l.0 n ≡ false → event_of t w (step.LinkUp l) n ≡ None =
+          λ n at. happens-up t w l turn.changes true e n ∙ no_end (is_end (wiring_of t) l.0 n) (Some (Opens l.0)) at in
+          let here : (n : ℕ) → is_end (wiring_of t) l.0 n ≡ true → IsHere (wiring_of t) (node_at t w n) (Opens l.0) =
+          λ n at. (there, at, subst (λ k. l.0 < k) (sym (length-sessions n)) there) in
           link-stands (step.LinkUp l) l.0 there true refl refl refl turn.changes refl (λ site. refl) tick number new
           (ends-rest tick (number + length t.loopbacks) l.0 (Opens l.0) (told t tick number l.0 old) new next ends)
-          (turned-each t es lawful w (step.LinkUp l) turn refl l.0 there refl refl (λ site. refl) (Opens l.0) on_end off_end here (λ n. tt) tick (number + length t.loopbacks) next (told t tick number l.0 old) new ends stands.each are)
-          (turned-nodes t es lawful w (step.LinkUp l) turn refl l.0 there refl refl (λ site. refl) (Opens l.0) on_end off_end here (λ n. tt) tick (number + length t.loopbacks) next (told t tick number l.0 old) new ends stands.each are)
-          (λ k dir h. turned-flies t es lawful w (step.LinkUp l) turn refl l.0 there refl refl (λ site. refl) (Opens l.0) on_end off_end here (λ n. tt) tick (number + length t.loopbacks) next (told t tick number l.0 old) new ends stands.each are k dir h
+          (turned-each t es lawful w (step.LinkUp l) turn refl l.0 there refl refl (λ site. refl) (Opens l.0) on_end off_end here (λ n. tt) tick
+          (number + length t.loopbacks) next (told t tick number l.0 old) new ends stands.each are)
+          (turned-nodes t es lawful w (step.LinkUp l) turn refl l.0 there refl refl (λ site. refl) (Opens l.0) on_end off_end here (λ n. tt) tick
+          (number + length t.loopbacks) next (told t tick number l.0 old) new ends stands.each are)
+          (λ k dir h. turned-flies t es lawful w (step.LinkUp l) turn refl l.0 there refl refl (λ site. refl) (Opens l.0) on_end off_end here (λ n. tt) tick
+          (number + length t.loopbacks) next (told t tick number l.0 old) new ends stands.each are k dir h
           (cut-anew (wiring_of t) w.sessions l.0 k dir old.messages (stands.messages k dir h)))
       by false e same =
           let none : (n : ℕ) → event_of t w (step.LinkUp l) n ≡ None = λ n. happens-up t w l turn.changes false e n ∙ no_event (is_end (wiring_of t) l.0 n) in
-          link-stands (step.LinkUp l) l.0 there true refl refl refl turn.changes refl (λ site. refl) tick number new (same-rest (told t tick number l.0 old) new same.0)
+          link-stands (step.LinkUp l) l.0 there true refl refl refl turn.changes refl (λ site. refl) tick number new
+          (same-rest (told t tick number l.0 old) new same.0)
           (ap (λ (c : Carried). length c.nodes) same.0 ∙ stands.each)
           (subst (Each (λ n x. IsNode t (given t es) (after t w (step.LinkUp l)) n x)) (sym (ap (λ (c : Carried). c.nodes) same.0))
           (quiet-nodes t es lawful w (step.LinkUp l) turn refl l.0 there refl refl (λ site. refl) none old.nodes stands.each are))
-          (λ k dir h. subst (λ (c : Carried). FliesAs (wiring_of t) k dir ((after t w (step.LinkUp l)).sessions.heard k (receiver (wiring_of t) k dir)) ((after t w (step.LinkUp l)).sessions.said k (sender (wiring_of t) k dir)) c.messages) (sym same.0)
+          (λ k dir h. subst (λ (c : Carried). FliesAs (wiring_of t) k dir ((after t w (step.LinkUp l)).sessions.heard k (receiver (wiring_of t) k dir))
+          ((after t w (step.LinkUp l)).sessions.said k (sender (wiring_of t) k dir)) c.messages) (sym same.0)
           (quiet-flies t es lawful w (step.LinkUp l) turn refl l.0 there refl refl (λ site. refl) none k dir old.messages (stands.messages k dir h)))
 
-  pub goes-down : (l : LinkNo) (tick number : ℕ) (new : Carried) (next : ℕ) → IsTurn t w (step.LinkDown l) → TurnsLink t tick number l.0 false old new next → StandsFor t (given t es) (after t w (step.LinkDown l)) new
+  pub goes-down : (l : LinkNo) (tick number : ℕ) (new : Carried) (next : ℕ) → IsTurn t w (step.LinkDown l) →
+      TurnsLink t tick number l.0 false old new next → StandsFor t (given t es) (after t w (step.LinkDown l)) new
   goes-down l tick number new next turn did = by did.on (switch-at t lawful (given t es) w old stands l.0 did.on there did.switch) did.session
     where
       there : l.0 < length t.links
@@ -192,23 +213,31 @@ module _ (t : Network) (es : List JournalEntry) (lawful : IsLawful t) (w : World
       was : w.config.is_up l.0 ≡ true
       was = not_off (w.config.is_up l.0) turn.changes
 
-      by : (on : Bool) → on ≡ w.config.ldp_on l.0 → TurnsIf on t tick (number + length t.loopbacks) l.0 (Closes l.0) (told t tick number l.0 old) new next → StandsFor t (given t es) (after t w (step.LinkDown l)) new
+      by : (on : Bool) → on ≡ w.config.ldp_on l.0 → TurnsIf on t tick (number + length t.loopbacks) l.0 (Closes l.0) (told t tick number l.0 old) new next →
+          StandsFor t (given t es) (after t w (step.LinkDown l)) new
       by true e ends =
-          let on_end : (n : ℕ) → is_end (wiring_of t) l.0 n ≡ true → event_of t w (step.LinkDown l) n ≡ Some (Closes l.0) = λ n at. happens-down t w l was true e n ∙ an_end (is_end (wiring_of t) l.0 n) (Some (Closes l.0)) at in
-          let off_end : (n : ℕ) → is_end (wiring_of t) l.0 n ≡ false → event_of t w (step.LinkDown l) n ≡ None = λ n at. happens-down t w l was true e n ∙ no_end (is_end (wiring_of t) l.0 n) (Some (Closes l.0)) at in
+          let on_end : (n : ℕ) → is_end (wiring_of t) l.0 n ≡ true → event_of t w (step.LinkDown l) n ≡ Some (Closes l.0) =
+          λ n at. happens-down t w l was true e n ∙ an_end (is_end (wiring_of t) l.0 n) (Some (Closes l.0)) at in
+          let off_end : (n : ℕ) → is_end (wiring_of t) l.0 n ≡ false → event_of t w (step.LinkDown l) n ≡ None =
+          λ n at. happens-down t w l was true e n ∙ no_end (is_end (wiring_of t) l.0 n) (Some (Closes l.0)) at in
           link-stands (step.LinkDown l) l.0 there false refl refl refl was refl (λ site. refl) tick number new
           (ends-rest tick (number + length t.loopbacks) l.0 (Closes l.0) (told t tick number l.0 old) new next ends)
-          (turned-each t es lawful w (step.LinkDown l) turn refl l.0 there refl refl (λ site. refl) (Closes l.0) on_end off_end (λ n at. tt) (λ n. tt) tick (number + length t.loopbacks) next (told t tick number l.0 old) new ends stands.each are)
-          (turned-nodes t es lawful w (step.LinkDown l) turn refl l.0 there refl refl (λ site. refl) (Closes l.0) on_end off_end (λ n at. tt) (λ n. tt) tick (number + length t.loopbacks) next (told t tick number l.0 old) new ends stands.each are)
-          (λ k dir h. turned-flies t es lawful w (step.LinkDown l) turn refl l.0 there refl refl (λ site. refl) (Closes l.0) on_end off_end (λ n at. tt) (λ n. tt) tick (number + length t.loopbacks) next (told t tick number l.0 old) new ends stands.each are k dir h
+          (turned-each t es lawful w (step.LinkDown l) turn refl l.0 there refl refl (λ site. refl) (Closes l.0) on_end off_end (λ n at. tt) (λ n. tt) tick
+          (number + length t.loopbacks) next (told t tick number l.0 old) new ends stands.each are)
+          (turned-nodes t es lawful w (step.LinkDown l) turn refl l.0 there refl refl (λ site. refl) (Closes l.0) on_end off_end (λ n at. tt) (λ n. tt) tick
+          (number + length t.loopbacks) next (told t tick number l.0 old) new ends stands.each are)
+          (λ k dir h. turned-flies t es lawful w (step.LinkDown l) turn refl l.0 there refl refl (λ site. refl) (Closes l.0) on_end off_end (λ n at. tt)
+          (λ n. tt) tick (number + length t.loopbacks) next (told t tick number l.0 old) new ends stands.each are k dir h
           (cut-anew (wiring_of t) w.sessions l.0 k dir old.messages (stands.messages k dir h)))
       by false e same =
           let none : (n : ℕ) → event_of t w (step.LinkDown l) n ≡ None = λ n. happens-down t w l was false e n ∙ no_event (is_end (wiring_of t) l.0 n) in
-          link-stands (step.LinkDown l) l.0 there false refl refl refl was refl (λ site. refl) tick number new (same-rest (told t tick number l.0 old) new same.0)
+          link-stands (step.LinkDown l) l.0 there false refl refl refl was refl (λ site. refl) tick number new
+          (same-rest (told t tick number l.0 old) new same.0)
           (ap (λ (c : Carried). length c.nodes) same.0 ∙ stands.each)
           (subst (Each (λ n x. IsNode t (given t es) (after t w (step.LinkDown l)) n x)) (sym (ap (λ (c : Carried). c.nodes) same.0))
           (quiet-nodes t es lawful w (step.LinkDown l) turn refl l.0 there refl refl (λ site. refl) none old.nodes stands.each are))
-          (λ k dir h. subst (λ (c : Carried). FliesAs (wiring_of t) k dir ((after t w (step.LinkDown l)).sessions.heard k (receiver (wiring_of t) k dir)) ((after t w (step.LinkDown l)).sessions.said k (sender (wiring_of t) k dir)) c.messages) (sym same.0)
+          (λ k dir h. subst (λ (c : Carried). FliesAs (wiring_of t) k dir ((after t w (step.LinkDown l)).sessions.heard k (receiver (wiring_of t) k dir))
+          ((after t w (step.LinkDown l)).sessions.said k (sender (wiring_of t) k dir)) c.messages) (sym same.0)
           (quiet-flies t es lawful w (step.LinkDown l) turn refl l.0 there refl refl (λ site. refl) none k dir old.messages (stands.messages k dir h)))
 
   -- 3. LDP is switched on or off for a link
@@ -216,7 +245,8 @@ module _ (t : Network) (es : List JournalEntry) (lawful : IsLawful t) (w : World
   module _ (l : LinkNo) (there : l.0 < length t.links) (on : Bool) (new : Carried) (rest : Rest (switched l.0 on old) new) where
     switch-stands : length new.nodes ≡ length t.loopbacks → Each (λ n x. IsNode t (given t es) (after t w (step.LdpAdmin l on)) n x) new.nodes
         → ((k : ℕ) (dir : Dir) → k < length t.links
-        → FliesAs (wiring_of t) k dir ((after t w (step.LdpAdmin l on)).sessions.heard k (receiver (wiring_of t) k dir)) ((after t w (step.LdpAdmin l on)).sessions.said k (sender (wiring_of t) k dir)) new.messages)
+        → FliesAs (wiring_of t) k dir ((after t w (step.LdpAdmin l on)).sessions.heard k (receiver (wiring_of t) k dir))
+        ((after t w (step.LdpAdmin l on)).sessions.said k (sender (wiring_of t) k dir)) new.messages)
         → StandsFor t (given t es) (after t w (step.LdpAdmin l on)) new
     switch-stands each nodes flies = record {
       works = rest.failed ∙ stands.works;
@@ -225,14 +255,18 @@ module _ (t : Network) (es : List JournalEntry) (lawful : IsLawful t) (w : World
       changes = rest.changes ∙ stands.changes;
       up = stands.up;
       switches = rest.switches ∙ ap (λ xs. slice_set xs l.0 on) stands.switches
-          ∙ map-put w.config.ldp_on (put w.config.ldp_on l.0 on) (length t.links) l.0 on false (put_here w.config.ldp_on l.0 on) (λ k below d. put_off w.config.ldp_on l.0 on k d);
+          ∙ map-put w.config.ldp_on (put w.config.ldp_on l.0 on) (length t.links) l.0 on false (put_here w.config.ldp_on l.0 on)
+          (λ k below d. put_off w.config.ldp_on l.0 on k d);
       each_site = ap length rest.labels ∙ stands.each_site;
       sites = λ site attachment h at. ap (λ xs. slice_index xs site) rest.labels ∙ stands.sites site attachment h at;
-      notices = λ k node h below. ap (λ xs. w.views.learned node k + length (on_channel (k * length t.loopbacks + node) xs)) rest.notices ∙ stands.notices k node h below;
+      notices =
+          λ k node h below. ap (λ xs. w.views.learned node k + length (on_channel (k * length t.loopbacks + node) xs)) rest.notices
+          ∙ stands.notices k node h below;
       messages = flies;
     }
 
-  pub goes-switch : (l : LinkNo) (on : Bool) (tick number : ℕ) (new : Carried) (next : ℕ) → IsTurn t w (step.LdpAdmin l on) → Switches t tick number l.0 on old new next → StandsFor t (given t es) (after t w (step.LdpAdmin l on)) new
+  pub goes-switch : (l : LinkNo) (on : Bool) (tick number : ℕ) (new : Carried) (next : ℕ) → IsTurn t w (step.LdpAdmin l on) →
+      Switches t tick number l.0 on old new next → StandsFor t (given t es) (after t w (step.LdpAdmin l on)) new
   goes-switch l on tick number new next turn did = by (is_link_up old.changes l.0) (up-at t lawful (given t es) w old stands l.0 there) did
     where
       there : l.0 < length t.links
@@ -246,15 +280,21 @@ module _ (t : Network) (es : List JournalEntry) (lawful : IsLawful t) (w : World
       brought true n = tt
       brought false n = tt
 
-      by : (up : Bool) → up ≡ w.config.is_up l.0 → TurnsIf up t tick number l.0 (turned_by on l.0) (switched l.0 on old) new next → StandsFor t (given t es) (after t w (step.LdpAdmin l on)) new
+      by : (up : Bool) → up ≡ w.config.is_up l.0 → TurnsIf up t tick number l.0 (turned_by on l.0) (switched l.0 on old) new next →
+          StandsFor t (given t es) (after t w (step.LdpAdmin l on)) new
       by true e ends =
           let on_end : (n : ℕ) → is_end (wiring_of t) l.0 n ≡ true → event_of t w (step.LdpAdmin l on) n ≡ Some (turned_by on l.0) =
-          λ n at. happens-switch t w l on true e n ∙ an_end (is_end (wiring_of t) l.0 n) (turned l.0 (w.config.ldp_on l.0) on) at ∙ switch_turns l.0 on (w.config.ldp_on l.0) turn.changes in
-          let off_end : (n : ℕ) → is_end (wiring_of t) l.0 n ≡ false → event_of t w (step.LdpAdmin l on) n ≡ None = λ n at. happens-switch t w l on true e n ∙ no_end (is_end (wiring_of t) l.0 n) (turned l.0 (w.config.ldp_on l.0) on) at in
+          λ n at. happens-switch t w l on true e n ∙ an_end (is_end (wiring_of t) l.0 n) (turned l.0 (w.config.ldp_on l.0) on) at
+          ∙ switch_turns l.0 on (w.config.ldp_on l.0) turn.changes in
+          let off_end : (n : ℕ) → is_end (wiring_of t) l.0 n ≡ false → event_of t w (step.LdpAdmin l on) n ≡ None =
+          λ n at. happens-switch t w l on true e n ∙ no_end (is_end (wiring_of t) l.0 n) (turned l.0 (w.config.ldp_on l.0) on) at in
           switch-stands l there on new (ends-rest tick number l.0 (turned_by on l.0) (switched l.0 on old) new next ends)
-          (turned-each t es lawful w (step.LdpAdmin l on) turn refl l.0 there refl refl (λ site. refl) (turned_by on l.0) on_end off_end (here on) (brought on) tick number next (switched l.0 on old) new ends stands.each are)
-          (turned-nodes t es lawful w (step.LdpAdmin l on) turn refl l.0 there refl refl (λ site. refl) (turned_by on l.0) on_end off_end (here on) (brought on) tick number next (switched l.0 on old) new ends stands.each are)
-          (λ k dir h. turned-flies t es lawful w (step.LdpAdmin l on) turn refl l.0 there refl refl (λ site. refl) (turned_by on l.0) on_end off_end (here on) (brought on) tick number next (switched l.0 on old) new ends stands.each are k dir h
+          (turned-each t es lawful w (step.LdpAdmin l on) turn refl l.0 there refl refl (λ site. refl) (turned_by on l.0) on_end off_end (here on)
+          (brought on) tick number next (switched l.0 on old) new ends stands.each are)
+          (turned-nodes t es lawful w (step.LdpAdmin l on) turn refl l.0 there refl refl (λ site. refl) (turned_by on l.0) on_end off_end (here on)
+          (brought on) tick number next (switched l.0 on old) new ends stands.each are)
+          (λ k dir h. turned-flies t es lawful w (step.LdpAdmin l on) turn refl l.0 there refl refl (λ site. refl) (turned_by on l.0) on_end off_end
+          (here on) (brought on) tick number next (switched l.0 on old) new ends stands.each are k dir h
           (cut-anew (wiring_of t) w.sessions l.0 k dir old.messages (stands.messages k dir h)))
       by false e same =
           let none : (n : ℕ) → event_of t w (step.LdpAdmin l on) n ≡ None = λ n. happens-switch t w l on false e n ∙ no_event (is_end (wiring_of t) l.0 n) in
@@ -262,5 +302,6 @@ module _ (t : Network) (es : List JournalEntry) (lawful : IsLawful t) (w : World
           (ap (λ (c : Carried). length c.nodes) same.0 ∙ stands.each)
           (subst (Each (λ n x. IsNode t (given t es) (after t w (step.LdpAdmin l on)) n x)) (sym (ap (λ (c : Carried). c.nodes) same.0))
           (quiet-nodes t es lawful w (step.LdpAdmin l on) turn refl l.0 there refl refl (λ site. refl) none old.nodes stands.each are))
-          (λ k dir h. subst (λ (c : Carried). FliesAs (wiring_of t) k dir ((after t w (step.LdpAdmin l on)).sessions.heard k (receiver (wiring_of t) k dir)) ((after t w (step.LdpAdmin l on)).sessions.said k (sender (wiring_of t) k dir)) c.messages) (sym same.0)
+          (λ k dir h. subst (λ (c : Carried). FliesAs (wiring_of t) k dir ((after t w (step.LdpAdmin l on)).sessions.heard k (receiver (wiring_of t) k dir))
+          ((after t w (step.LdpAdmin l on)).sessions.said k (sender (wiring_of t) k dir)) c.messages) (sym same.0)
           (quiet-flies t es lawful w (step.LdpAdmin l on) turn refl l.0 there refl refl (λ site. refl) none k dir old.messages (stands.messages k dir h)))

@@ -15,10 +15,13 @@ next-spelled w l s id heard [] h = absurd (let none : heard < 0 → ⊥ = (λ p.
 next-spelled w l s id zero (m ∷ ms) h = ap (λ k. (pdu_in_network w l s k m).bytes ∷ spelled w l s (id + 1) ms) (omega arith)
 next-spelled w l s id (suc heard) (m ∷ ms) h =
     next-spelled w l s (id + 1) heard ms (omega (arith, h))
-    ∙ ap (λ k. (pdu_in_network w l s k (slice_index_or ms heard Address)).bytes ∷ drop (heard + 1) (spelled w l s (id + 1) ms)) (let e : id + 1 + heard ≡ id + suc heard = omega arith in e)
-    ∙ ap (λ k. (pdu_in_network w l s (id + suc heard) (slice_index_or ms heard Address)).bytes ∷ drop k (spelled w l s id (m ∷ ms))) (let e : suc (heard + 1) ≡ suc heard + 1 = omega arith in e)
+    ∙ ap (λ k. (pdu_in_network w l s k (slice_index_or ms heard Address)).bytes ∷ drop (heard + 1) (spelled w l s (id + 1) ms))
+    (let e : id + 1 + heard ≡ id + suc heard = omega arith in e)
+    ∙ ap (λ k. (pdu_in_network w l s (id + suc heard) (slice_index_or ms heard Address)).bytes ∷ drop k (spelled w l s id (m ∷ ms)))
+    (let e : suc (heard + 1) ≡ suc heard + 1 = omega arith in e)
 
-pub first-item : (items : List (Item (List ℕ))) (b : List ℕ) (bs : List (List ℕ)) → map (λ item. item.item) items ≡ b ∷ bs → (x : Item (List ℕ)) × (slice_get items 0 ≡ Some x) × (x.item ≡ b)
+pub first-item : (items : List (Item (List ℕ))) (b : List ℕ) (bs : List (List ℕ)) → map (λ item. item.item) items ≡ b ∷ bs →
+    (x : Item (List ℕ)) × (slice_get items 0 ≡ Some x) × (x.item ≡ b)
 first-item [] b bs e = absurd (let no : [] ≡ b ∷ bs → ⊥ = (λ q. cc) in no e)
 first-item (x ∷ xs) b bs e = (x, refl, cc)
 

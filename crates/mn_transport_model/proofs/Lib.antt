@@ -1,3 +1,9 @@
+pub mod Attachments
+pub mod Attaching
+pub mod Detaching
+pub mod Starts
+pub mod Sited
+pub mod Witnesses
 pub mod Putting
 pub mod Own
 pub mod Spelled

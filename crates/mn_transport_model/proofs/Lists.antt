@@ -21,7 +21,8 @@ module _ {A : Type 0} where
   abbrev pub Each : (ℕ → A → Type 0) → List A → Type 0
   Each P xs = (k : ℕ) (x : A) → slice_get xs k ≡ Some x → P k x
 
-  pub each-set : (P : ℕ → A → Type 0) (xs : List A) (k : ℕ) (was now : A) → slice_get xs k ≡ Some was → P k now → ((j : ℕ) (x : A) → j ≢ k → slice_get xs j ≡ Some x → P j x) → Each P (slice_set xs k now)
+  pub each-set : (P : ℕ → A → Type 0) (xs : List A) (k : ℕ) (was now : A) → slice_get xs k ≡ Some was → P k now →
+      ((j : ℕ) (x : A) → j ≢ k → slice_get xs j ≡ Some x → P j x) → Each P (slice_set xs k now)
   each-set P xs k was now there here others j x is = elim (eqb_tells k j) [
     | inl p ↦ subst (λ i. P i x) p.1
         (subst (P k) (same_Some now x (sym (get-set_same xs k now (slice_get_within xs k was there)) ∙ ap (slice_get (slice_set xs k now)) p.1 ∙ is)) here)

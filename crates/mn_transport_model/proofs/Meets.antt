@@ -1,5 +1,5 @@
 -- What a public step's private call asks, and what the step ensures from what that does.
-use Rattle.std.proofs.Common.{ℕ, ◌≡◌, ◌+◌, ◌-◌, ◌*◌, ◌<◌, ◌≤◌, Bool, true, false, length, sym, ◌∙◌, ap, subst}
+use Rattle.std.proofs.Common.{ℕ, ◌≡◌, ◌+◌, ◌-◌, ◌*◌, ◌<◌, ◌≤◌, Bool, true, false, length, sym, subst}
 use Rattle.std.specs.Prelude.{nat_lt, slice_get}
 use Rattle.std.specs.List.{All}
 use Rattle.mn_base.proofs.Bools.{less_tells, and_left}
@@ -10,14 +10,13 @@ use Rattle.mn_base.specs.declared.numbers.NodeNo.{NodeNo}
 use Rattle.mn_flight.specs.Flying.{on_channel, IsFlight}
 use Rattle.mn_topo.specs.Network.{Network, wiring_of}
 use Rattle.mn_topo.specs.Lawful.{IsLawful}
-use Rattle.mn_topo.specs.declared.steps.Step.{Step}
 use Rattle.mn_topo.specs.declared.steps.Step.TheVariants as step
 use Rattle.mn_node.specs.Machine.{Event, Learns}
 use Rattle.mn_ledger.specs.Ledger.{world_of}
 use Rattle.mn_frames.specs.Given.{given}
 use Rattle.mn_transport_model.specs.Carried.{Carried}
 use Rattle.mn_transport_model.specs.Acting.{MayAct, MayHear}
-use Rattle.mn_transport_model.specs.Doing.{MayTurn, TurnsLink, MaySwitch, Switches, LearnsNext, noticed, CanHear, HearsNext, taken}
+use Rattle.mn_transport_model.specs.Doing.{MayTurn, MaySwitch, Switches, LearnsNext, noticed, CanHear, HearsNext, taken}
 use Rattle.mn_transport_model.specs.Steps.{MayDo, Did}
 use Rattle.mn_transport_model.proofs.Can.{can-hear}
 use Rattle.mn_transport_model.proofs.Dids.{switch-rest}
@@ -56,16 +55,19 @@ module _ (t : Network) (lawful : IsLawful t) (old : Carried) (works : old.failed
     meets-learn node l may flight learns = did-learn t lawful tick number next old new node l flight.0 flight.1 (may works) learns
 
     pub meets-hear : (l : LinkNo) (dir : Dir) → (old.failed ≡ false → MayDo t (step.HearLdp l dir) old) → (channels : ℕ) × IsFlight channels old.messages
-        → ((event : Event) → MayHear t old l.0 dir event → HearsNext t tick number l.0 dir event old new next) → Did t tick number (step.HearLdp l dir) old new (next - number)
+        → ((event : Event) → MayHear t old l.0 dir event → HearsNext t tick number l.0 dir event old new next) →
+        Did t tick number (step.HearLdp l dir) old new (next - number)
     meets-hear l dir may flight hears = did-hear t lawful tick number next old new l dir flight.0 flight.1 hears (may works)
 
     -- the notices that stay have the numbers that they had
-    pub notices-switch : (l : LinkNo) (on : Bool) → number ≤ next → Switches t tick number l.0 on old new next → All (λ item. item.number < number) old.notices → All (λ item. item.number < number + (next - number)) new.notices
+    pub notices-switch : (l : LinkNo) (on : Bool) → number ≤ next → Switches t tick number l.0 on old new next →
+        All (λ item. item.number < number) old.notices → All (λ item. item.number < number + (next - number)) new.notices
     notices-switch l on more turns below =
         below-made new.notices number next more (below-more new.notices number next more
         (subst (All (λ item. item.number < number)) (sym (switch-rest t lawful tick number next old new l.0 on turns).notices) below))
 
-    pub notices-learn : (node : NodeNo) (l : LinkNo) → number ≤ next → LearnsNext t tick number node.0 l.0 old new next → All (λ item. item.number < number) old.notices → All (λ item. item.number < number + (next - number)) new.notices
+    pub notices-learn : (node : NodeNo) (l : LinkNo) → number ≤ next → LearnsNext t tick number node.0 l.0 old new next →
+        All (λ item. item.number < number) old.notices → All (λ item. item.number < number + (next - number)) new.notices
     notices-learn node l more learns below =
         below-made new.notices number next more (below-more new.notices number next more
         (subst (All (λ item. item.number < number)) (sym (act-rest t tick number node.0 (Learns l.0) (noticed t node.0 l.0 old) new next learns).notices)
@@ -77,4 +79,5 @@ module _ (t : Network) (lawful : IsLawful t) (old : Carried) (works : old.failed
     notices-hear l dir more may hears below =
         let can = can-hear-next l dir may in
         below-made new.notices number next more (below-more new.notices number next more
-        (subst (All (λ item. item.number < number)) (sym (act-rest t tick number (receiver (wiring_of t) l.0 dir) can.event (taken l.0 dir old) new next (hears can.event can.may)).notices) below))
+        (subst (All (λ item. item.number < number))
+        (sym (act-rest t tick number (receiver (wiring_of t) l.0 dir) can.event (taken l.0 dir old) new next (hears can.event can.may)).notices) below))

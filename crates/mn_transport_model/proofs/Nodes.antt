@@ -26,7 +26,8 @@ module _ (t : Network) (es : List JournalEntry) (lawful : IsLawful t) (w v : Wor
     (attached : (site : ℕ) → v.config.attached site ≡ w.config.attached site) where
   entry-same : (site attachment : ℕ) → (let o : Option Use = Some (site_entry w site attachment) in o) ≡ Some (site_entry v site attachment)
   entry-same site attachment =
-      sym (ap (λ (o : Option ℕ). let u : Option Use = Some (if is_attachment o attachment then label_of.Site (record { 0 = site }) else label_of.Ended) in u) (attached site))
+      sym (ap (λ (o : Option ℕ). let u : Option Use = Some (if is_attachment o attachment then label_of.Site (record { 0 = site }) else label_of.Ended) in
+      u) (attached site))
 
   pub node-then : (event : Event) (was now : Standing) → IsNode t (given t es) w node was → Becomes event was now
       → node_at t v node ≡ after_event (wiring_of t) (node_at t w node) event → IsNode t (given t es) v node now

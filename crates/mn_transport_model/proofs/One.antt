@@ -1,5 +1,6 @@
 -- One node acts, as it learns or hears.
-use Rattle.std.proofs.Common.{ℕ, ◌≡◌, ◌≢◌, ◌+◌, ◌*◌, ◌<◌, ◌≤◌, inl, inr, Bool, true, false, not, List, [], ◌∷◌, ◌++◌, length, map, drop, refl, arith, sym, ◌∙◌, ap, subst, Option, None, Some, append-nil}
+use Rattle.std.proofs.Common.{ℕ, ◌≡◌, ◌≢◌, ◌+◌, ◌*◌, ◌<◌, ◌≤◌, inl, inr, Bool, true, false, not, List, [], ◌∷◌, ◌++◌, length, map, drop, refl, arith, sym}
+use Rattle.std.proofs.Common.{◌∙◌, ap, subst, Option, None, Some, append-nil}
 use Rattle.std.specs.Prelude.{◌==◌, nat_le, nat_lt, slice_get, slice_index, slice_index_or, option_map, if◌then◌else◌}
 use Rattle.std.specs.List.{flat_map}
 use Rattle.std.proofs.Math.ListN.{length-set}
@@ -56,7 +57,8 @@ use Rattle.mn_transport_model.proofs.Ends.{heard-within}
 use Rattle.mn_transport_model.proofs.Goes.{Rest, act-rest}
 
 module _ (t : Network) (es : List JournalEntry) (lawful : IsLawful t) (w : World) (s : Step) (turn : IsTurn t w s) (moves : is_transport s ≡ true)
-    (m : ℕ) (below : m < length t.loopbacks) (acts_are : acting t s ≡ m ∷ []) (e : Event) (happens : event_of t w s m ≡ Some e) (others : (n : ℕ) → n ≢ m → event_of t w s n ≡ None)
+    (m : ℕ) (below : m < length t.loopbacks) (acts_are : acting t s ≡ m ∷ []) (e : Event) (happens : event_of t w s m ≡ Some e) (others : (n : ℕ) → n ≢ m →
+    event_of t w s n ≡ None)
     (here : IsHere (wiring_of t) (node_at t w m) e) (brought : IsBrought (wiring_of t) (node_at t w m) e)
     (attached : (site : ℕ) → (after t w s).config.attached site ≡ w.config.attached site)
     (tick number next : ℕ) (old new : Carried) (acts : Acts t tick number m e old new next)
@@ -72,7 +74,8 @@ module _ (t : Network) (es : List JournalEntry) (lawful : IsLawful t) (w : World
       ((nodes-by t lawful w s turn moves).each m below ∙ ap (after_any (wiring_of t) (node_at t w m)) happens))
       (λ n x apart is.
       let under : n < length t.loopbacks = subst (λ k. n < k) each (slice_get_within old.nodes n x is) in
-      node-still t es lawful w (after t w s) n under attached x (are n x is) ((nodes-by t lawful w s turn moves).each n under ∙ ap (after_any (wiring_of t) (node_at t w n)) (others n apart))))
+      node-still t es lawful w (after t w s) n under attached x (are n x is) ((nodes-by t lawful w s turn moves).each n under
+      ∙ ap (after_any (wiring_of t) (node_at t w n)) (others n apart))))
 
   pub one-each : length new.nodes ≡ length t.loopbacks
   one-each = ap (λ (c : Carried). length c.nodes) acts.new_is ∙ length-set old.nodes m acts.now ∙ each
@@ -82,14 +85,20 @@ module _ (t : Network) (es : List JournalEntry) (lawful : IsLawful t) (w : World
 
   sessions-are : (after t w s).sessions ≡ with_said (counted t w.sessions s) (said (wiring_of t) (node_at t w m) e)
   sessions-are =
-      sessions-then t lawful w s turn moves ∙ ap (λ ms. with_said (counted t w.sessions s) (flat_map (node_says t w s) ms)) acts_are ∙ ap (with_said (counted t w.sessions s)) says-is
+      sessions-then t lawful w s turn moves ∙ ap (λ ms. with_said (counted t w.sessions s) (flat_map (node_says t w s) ms)) acts_are
+      ∙ ap (with_said (counted t w.sessions s)) says-is
 
-  pub one-flies : (k : ℕ) (dir : Dir) → k < length t.links → (counted t w.sessions s).heard k (receiver (wiring_of t) k dir) ≤ length ((counted t w.sessions s).said k (sender (wiring_of t) k dir))
-      → FliesAs (wiring_of t) k dir ((counted t w.sessions s).heard k (receiver (wiring_of t) k dir)) ((counted t w.sessions s).said k (sender (wiring_of t) k dir)) old.messages
-      → FliesAs (wiring_of t) k dir ((after t w s).sessions.heard k (receiver (wiring_of t) k dir)) ((after t w s).sessions.said k (sender (wiring_of t) k dir)) new.messages
+  pub one-flies : (k : ℕ) (dir : Dir) → k < length t.links →
+      (counted t w.sessions s).heard k (receiver (wiring_of t) k dir) ≤ length ((counted t w.sessions s).said k (sender (wiring_of t) k dir))
+      → FliesAs (wiring_of t) k dir ((counted t w.sessions s).heard k (receiver (wiring_of t) k dir))
+      ((counted t w.sessions s).said k (sender (wiring_of t) k dir)) old.messages
+      → FliesAs (wiring_of t) k dir ((after t w s).sessions.heard k (receiver (wiring_of t) k dir))
+      ((after t w s).sessions.said k (sender (wiring_of t) k dir)) new.messages
   one-flies k dir h within flies =
-      subst (λ (x : Sessions). FliesAs (wiring_of t) k dir (x.heard k (receiver (wiring_of t) k dir)) (x.said k (sender (wiring_of t) k dir)) new.messages) (sym sessions-are)
-      (acts-flies t lawful w s turn moves tick number m next e old new acts happens was_is.node_is here brought k dir ((counted t w.sessions s).heard k (receiver (wiring_of t) k dir))
+      subst (λ (x : Sessions). FliesAs (wiring_of t) k dir (x.heard k (receiver (wiring_of t) k dir)) (x.said k (sender (wiring_of t) k dir)) new.messages)
+      (sym sessions-are)
+      (acts-flies t lawful w s turn moves tick number m next e old new acts happens was_is.node_is here brought k dir
+      ((counted t w.sessions s).heard k (receiver (wiring_of t) k dir))
       ((counted t w.sessions s).said k (sender (wiring_of t) k dir)) h within (λ sends. ap (λ n. length ((counted t w.sessions s).said k n)) sends) flies)
 
   own : AllOwn (wiring_of t) (changed (wiring_of t) (node_at t w m) e) m (said (wiring_of t) (node_at t w m) e)
@@ -99,7 +108,8 @@ module _ (t : Network) (es : List JournalEntry) (lawful : IsLawful t) (w : World
   one-puts =
       subst (λ xs. Puts t tick number xs old.messages new.messages next)
       (ap (map message_of) (sym says-is) ∙ ap (λ ms. map message_of (flat_map (node_says t w s) ms)) (sym acts_are))
-      (puts-act t tick number m next e old new acts (node_at t w m) was_is.node_is (each-own (wiring_of t) (changed (wiring_of t) (node_at t w m) e) m (said (wiring_of t) (node_at t w m) e) own))
+      (puts-act t tick number m next e old new acts (node_at t w m) was_is.node_is
+      (each-own (wiring_of t) (changed (wiring_of t) (node_at t w m) e) m (said (wiring_of t) (node_at t w m) e) own))
 
 if_same : (a b : ℕ) (e : Event) → a ≡ b → (if a == b then Some e else None) ≡ Some e
 if_same a b e q = ap (λ x. if x then Some e else None) (ap (λ y. y == b) q ∙ same_test b)
@@ -108,8 +118,10 @@ if_other : (a b : ℕ) (e : Event) → a ≢ b → (if a == b then Some e else N
 if_other a b e d = ap (λ x. if x then Some e else None) (other_test a b d)
 
 -- a session in which a message is heard goes on
-pub heard-open : (w : Wiring) (n : Node) (l : ℕ) (message : Message) (label : ℕ) → session_at n l ≢ None → session_at (changed w n (Hears l message label)) l ≢ None
-heard-open w n l message label was_open none = goes_on (session_at n l) was_open (sym (get_or-set_same n.sessions l (option_map (session_after message label) (session_at n l)) None there) ∙ none)
+pub heard-open : (w : Wiring) (n : Node) (l : ℕ) (message : Message) (label : ℕ) → session_at n l ≢ None →
+    session_at (changed w n (Hears l message label)) l ≢ None
+heard-open w n l message label was_open none =
+    goes_on (session_at n l) was_open (sym (get_or-set_same n.sessions l (option_map (session_after message label) (session_at n l)) None there) ∙ none)
   where
     there : l < length n.sessions
     there = elim (leb_tells (length n.sessions) l) [ inl p ↦ absurd (was_open (get_or_past n.sessions l None p.1)) | inr p ↦ p.1 ]
@@ -152,7 +164,8 @@ module _ (t : Network) (es : List JournalEntry) (lawful : IsLawful t) (w : World
     pub first-notice : (x : Item Notice) × (slice_get (on_channel (l.0 * length t.loopbacks + node.0) old.notices) 0 ≡ Some x)
     first-notice = some_there (on_channel (l.0 * length t.loopbacks + node.0) old.notices) more
 
-    elsewhere : (k n : ℕ) → k * length t.loopbacks + n ≢ l.0 * length t.loopbacks + node.0 → (after t w (step.Learn node l)).views.learned n k ≡ w.views.learned n k
+    elsewhere : (k n : ℕ) → k * length t.loopbacks + n ≢ l.0 * length t.loopbacks + node.0 →
+        (after t w (step.Learn node l)).views.learned n k ≡ w.views.learned n k
     elsewhere k n d = elim (eqb_tells n node.0) [
       | inr q ↦ pair_off w.views.learned node.0 l.0 (w.views.learned node.0 l.0 + 1) n k (inl q.1)
       | inl q ↦ elim (eqb_tells k l.0) [
@@ -162,28 +175,36 @@ module _ (t : Network) (es : List JournalEntry) (lawful : IsLawful t) (w : World
     ]
 
     count : (channels : ℕ) → IsFlight channels old.notices → (k n : ℕ) → k < length t.links → n < length t.loopbacks
-        → (after t w (step.Learn node l)).views.learned n k + length (on_channel (k * length t.loopbacks + n) (without (slice_get (on_channel (l.0 * length t.loopbacks + node.0) old.notices) 0) old.notices)) ≡ w.views.changes k
+        → (after t w (step.Learn node l)).views.learned n k + length
+        (on_channel (k * length t.loopbacks + n) (without (slice_get (on_channel (l.0 * length t.loopbacks + node.0) old.notices) 0) old.notices)) ≡
+        w.views.changes k
     count channels flight k n h under =
         ap (λ o. (after t w (step.Learn node l)).views.learned n k + length (on_channel (k * length t.loopbacks + n) (without o old.notices))) first-notice.1
         ∙ elim (eqb_tells (k * length t.loopbacks + n) (l.0 * length t.loopbacks + node.0)) [
           | inl p ↦ here p.1 (pair_one (length t.loopbacks) k l.0 n node.0 under below p.1)
-          | inr p ↦ ap (λ xs. (after t w (step.Learn node l)).views.learned n k + length xs) (left_off (l.0 * length t.loopbacks + node.0) (k * length t.loopbacks + n) old.notices 0 first-notice.0 flight.ascending first-notice.1 p.0)
+          | inr p ↦ ap (λ xs. (after t w (step.Learn node l)).views.learned n k + length xs)
+              (left_off (l.0 * length t.loopbacks + node.0) (k * length t.loopbacks + n) old.notices 0 first-notice.0 flight.ascending first-notice.1 p.0)
               ∙ ap (λ i. i + length (on_channel (k * length t.loopbacks + n) old.notices)) (elsewhere k n p.1) ∙ stands.notices k n h under
         ]
       where
         here : k * length t.loopbacks + n ≡ l.0 * length t.loopbacks + node.0 → (k ≡ l.0) × (n ≡ node.0)
-            → (after t w (step.Learn node l)).views.learned n k + length (on_channel (k * length t.loopbacks + n) (without (Some first-notice.0) old.notices)) ≡ w.views.changes k
+            → (after t w (step.Learn node l)).views.learned n k + length
+            (on_channel (k * length t.loopbacks + n) (without (Some first-notice.0) old.notices)) ≡ w.views.changes k
         here p same =
-            let left : length (on_channel (k * length t.loopbacks + n) (without (Some first-notice.0) old.notices)) + 1 ≡ length (on_channel (l.0 * length t.loopbacks + node.0) old.notices) =
+            let left : length (on_channel (k * length t.loopbacks + n) (without (Some first-notice.0) old.notices)) + 1 ≡ length
+            (on_channel (l.0 * length t.loopbacks + node.0) old.notices) =
             ap (λ d. length (on_channel d (without (Some first-notice.0) old.notices)) + 1) p
-            ∙ ap (λ xs. length xs + 1) (left_on (l.0 * length t.loopbacks + node.0) old.notices 0 first-notice.0 flight.ascending first-notice.1) ∙ length-first (on_channel (l.0 * length t.loopbacks + node.0) old.notices) more in
+            ∙ ap (λ xs. length xs + 1) (left_on (l.0 * length t.loopbacks + node.0) old.notices 0 first-notice.0 flight.ascending first-notice.1)
+            ∙ length-first (on_channel (l.0 * length t.loopbacks + node.0) old.notices) more in
             let learned : (after t w (step.Learn node l)).views.learned n k ≡ w.views.learned node.0 l.0 + 1 =
-            ap (λ j. (after t w (step.Learn node l)).views.learned n j) same.0 ∙ ap (λ i. (after t w (step.Learn node l)).views.learned i l.0) same.1 ∙ pair_here w.views.learned node.0 l.0 (w.views.learned node.0 l.0 + 1) in
+            ap (λ j. (after t w (step.Learn node l)).views.learned n j) same.0 ∙ ap (λ i. (after t w (step.Learn node l)).views.learned i l.0) same.1
+            ∙ pair_here w.views.learned node.0 l.0 (w.views.learned node.0 l.0 + 1) in
             let has = stands.notices l.0 node.0 there below in
             let changed_is : w.views.changes k ≡ w.views.changes l.0 = ap w.views.changes same.0 in
             omega (arith, left, learned, has, changed_is)
 
-  pub goes-learn : (node : NodeNo) (l : LinkNo) (tick number : ℕ) (new : Carried) (next channels : ℕ) → IsFlight channels old.notices → IsTurn t w (step.Learn node l)
+  pub goes-learn : (node : NodeNo) (l : LinkNo) (tick number : ℕ) (new : Carried) (next channels : ℕ) → IsFlight channels old.notices →
+      IsTurn t w (step.Learn node l)
       → LearnsNext t tick number node.0 l.0 old new next → StandsFor t (given t es) (after t w (step.Learn node l)) new
   goes-learn node l tick number new next channels flight turn acts =
       let s : Step = step.Learn node l in
@@ -191,26 +212,35 @@ module _ (t : Network) (es : List JournalEntry) (lawful : IsLawful t) (w : World
       let rest : Rest base new = act-rest t tick number node.0 (Learns l.0) base new next acts in
       record {
         works = rest.failed ∙ stands.works;
-        each = one-each t es lawful w (step.Learn node l) turn refl node.0 (below node l turn) refl (Learns l.0) (happens node l turn) (others node l turn) tt tt (λ site. refl) tick number next base new acts stands.each are;
-        nodes = one-nodes t es lawful w (step.Learn node l) turn refl node.0 (below node l turn) refl (Learns l.0) (happens node l turn) (others node l turn) tt tt (λ site. refl) tick number next base new acts stands.each are;
+        each = one-each t es lawful w (step.Learn node l) turn refl node.0 (below node l turn) refl (Learns l.0) (happens node l turn)
+            (others node l turn) tt tt (λ site. refl) tick number next base new acts stands.each are;
+        nodes = one-nodes t es lawful w (step.Learn node l) turn refl node.0 (below node l turn) refl (Learns l.0) (happens node l turn)
+            (others node l turn) tt tt (λ site. refl) tick number next base new acts stands.each are;
         changes = rest.changes ∙ stands.changes;
         up = stands.up;
         switches = rest.switches ∙ stands.switches;
         each_site = ap length rest.labels ∙ stands.each_site;
         sites = λ site attachment h at. ap (λ xs. slice_index xs site) rest.labels ∙ stands.sites site attachment h at;
-        notices = λ k n h under. ap (λ xs. (after t w (step.Learn node l)).views.learned n k + length (on_channel (k * length t.loopbacks + n) xs)) rest.notices ∙ count node l turn channels flight k n h under;
-        messages = λ k dir h. one-flies t es lawful w (step.Learn node l) turn refl node.0 (below node l turn) refl (Learns l.0) (happens node l turn) (others node l turn) tt tt (λ site. refl) tick number next base new acts stands.each are k dir h
+        notices =
+            λ k n h under. ap (λ xs. (after t w (step.Learn node l)).views.learned n k + length (on_channel (k * length t.loopbacks + n) xs)) rest.notices
+            ∙ count node l turn channels flight k n h under;
+        messages =
+            λ k dir h. one-flies t es lawful w (step.Learn node l) turn refl node.0 (below node l turn) refl (Learns l.0) (happens node l turn)
+            (others node l turn) tt tt (λ site. refl) tick number next base new acts stands.each are k dir h
             (heard-within t w (step.Learn node l) lawful turn k dir h) (stands.messages k dir h);
       }
 
-  pub puts-learn : (node : NodeNo) (l : LinkNo) (tick number : ℕ) (new : Carried) (next : ℕ) → IsTurn t w (step.Learn node l) → LearnsNext t tick number node.0 l.0 old new next
+  pub puts-learn : (node : NodeNo) (l : LinkNo) (tick number : ℕ) (new : Carried) (next : ℕ) → IsTurn t w (step.Learn node l) →
+      LearnsNext t tick number node.0 l.0 old new next
       → Puts t tick number (map message_of (flat_map (node_says t w (step.Learn node l)) (acting t (step.Learn node l)))) old.messages new.messages next
   puts-learn node l tick number new next turn acts =
-      one-puts t es lawful w (step.Learn node l) turn refl node.0 (below node l turn) refl (Learns l.0) (happens node l turn) (others node l turn) tt tt (λ site. refl) tick number next (noticed t node.0 l.0 old) new acts stands.each are
+      one-puts t es lawful w (step.Learn node l) turn refl node.0 (below node l turn) refl (Learns l.0) (happens node l turn) (others node l turn) tt tt
+      (λ site. refl) tick number next (noticed t node.0 l.0 old) new acts stands.each are
 
   -- 2. A node hears
 
-  bytes-first : (xs : List (Item (List ℕ))) (b : List ℕ) (bs : List (List ℕ)) → map (λ item. item.item) xs ≡ b ∷ bs → map (λ item. item.item) (without_at 0 xs) ≡ bs
+  bytes-first : (xs : List (Item (List ℕ))) (b : List ℕ) (bs : List (List ℕ)) → map (λ item. item.item) xs ≡ b ∷ bs →
+      map (λ item. item.item) (without_at 0 xs) ≡ bs
   bytes-first [] b bs e = absurd (let no : [] ≡ b ∷ bs → ⊥ = (λ q. cc) in no e)
   bytes-first (x ∷ xs) b bs e = cc
 
@@ -248,13 +278,16 @@ module _ (t : Network) (es : List JournalEntry) (lawful : IsLawful t) (w : World
         was_on false q = cc
 
     more_said : w.sessions.heard l.0 r < length (w.sessions.said l.0 far)
-    more_said = not_at_most_tells (length (w.sessions.said l.0 far)) (w.sessions.heard l.0 r) (or_off (not (lives w.config l.0)) (nat_le (length (w.sessions.said l.0 far)) (w.sessions.heard l.0 r)) turn.there).1
+    more_said =
+        not_at_most_tells (length (w.sessions.said l.0 far)) (w.sessions.heard l.0 r)
+        (or_off (not (lives w.config l.0)) (nat_le (length (w.sessions.said l.0 far)) (w.sessions.heard l.0 r)) turn.there).1
 
     at_end : is_end (wiring_of t) l.0 r ≡ true
     at_end = (dir_ends (wiring_of t) l.0 dir (lawful.ends_differ l.0 link_there)).0
 
     here_heard : IsHere (wiring_of t) (node_at t w r) e
-    here_heard = (link_there, at_end, heard-open (wiring_of t) (node_at t w r) l.0 _ _ (open-at t lawful (given t es) w old stands r l.0 link_there live at_end))
+    here_heard =
+        (link_there, at_end, heard-open (wiring_of t) (node_at t w r) l.0 _ _ (open-at t lawful (given t es) w old stands r l.0 link_there live at_end))
 
     abbrev heard_then : ℕ → ℕ → ℕ
     heard_then = (counted t w.sessions (step.HearLdp l dir)).heard
@@ -263,7 +296,9 @@ module _ (t : Network) (es : List JournalEntry) (lawful : IsLawful t) (w : World
     apart : (k : ℕ) (d : Dir) → channel k d ≢ channel l.0 dir → heard_then k (receiver (wiring_of t) k d) ≡ w.sessions.heard k (receiver (wiring_of t) k d)
     apart k d off = elim (eqb_tells k l.0) [
       | inr q ↦ pair_off w.sessions.heard l.0 r (w.sessions.heard l.0 r + 1) k (receiver (wiring_of t) k d) (inl q.1)
-      | inl q ↦ pair_off w.sessions.heard l.0 r (w.sessions.heard l.0 r + 1) k (receiver (wiring_of t) k d) (inr (λ same. ends d dir (λ both. off (ap (λ j. channel j d) q.1 ∙ ap (channel l.0) both)) (ap (λ j. receiver (wiring_of t) j d) (sym q.1) ∙ same)))
+      | inl q ↦ pair_off w.sessions.heard l.0 r (w.sessions.heard l.0 r + 1) k (receiver (wiring_of t) k d)
+          (inr (λ same. ends d dir (λ both. off (ap (λ j. channel j d) q.1 ∙ ap (channel l.0) both)) (ap (λ j. receiver (wiring_of t) j d) (sym q.1)
+          ∙ same)))
     ]
       where
         ends : (d c : Dir) → d ≢ c → receiver (wiring_of t) l.0 d ≢ receiver (wiring_of t) l.0 c
@@ -277,8 +312,10 @@ module _ (t : Network) (es : List JournalEntry) (lawful : IsLawful t) (w : World
       | inl p ↦ (let same = one_channel k l.0 d dir p.1 in
           subst (λ j. heard_then j (receiver (wiring_of t) j d) ≤ length (w.sessions.said j (sender (wiring_of t) j d))) (sym same.0)
           (subst (λ c. heard_then l.0 (receiver (wiring_of t) l.0 c) ≤ length (w.sessions.said l.0 (sender (wiring_of t) l.0 c))) (sym same.1)
-          (let one : heard_then l.0 r ≡ w.sessions.heard l.0 r + 1 = pair_here w.sessions.heard l.0 r (w.sessions.heard l.0 r + 1) in omega (arith, one, more_said))))
-      | inr p ↦ subst (λ n. n ≤ length (w.sessions.said k (sender (wiring_of t) k d))) (sym (apart k d p.1)) (heard-within t w (step.HearLdp l dir) lawful turn k d h)
+          (let one : heard_then l.0 r ≡ w.sessions.heard l.0 r + 1 = pair_here w.sessions.heard l.0 r (w.sessions.heard l.0 r + 1) in
+          omega (arith, one, more_said))))
+      | inr p ↦ subst (λ n. n ≤ length (w.sessions.said k (sender (wiring_of t) k d))) (sym (apart k d p.1))
+          (heard-within t w (step.HearLdp l dir) lawful turn k d h)
     ]
 
     abbrev spelling : List (List ℕ)
@@ -286,50 +323,66 @@ module _ (t : Network) (es : List JournalEntry) (lawful : IsLawful t) (w : World
 
     -- what flies in this direction, with the first
     flying : map (λ item. item.item) (on_channel (channel l.0 dir) old.messages)
-        ≡ (pdu_in_network (wiring_of t) l.0 far (1 + w.sessions.heard l.0 r) (slice_index_or (w.sessions.said l.0 far) (w.sessions.heard l.0 r) Address)).bytes ∷ drop (w.sessions.heard l.0 r + 1) spelling
+        ≡ (pdu_in_network (wiring_of t) l.0 far (1 + w.sessions.heard l.0 r)
+        (slice_index_or (w.sessions.said l.0 far) (w.sessions.heard l.0 r) Address)).bytes ∷ drop (w.sessions.heard l.0 r + 1) spelling
     flying = stands.messages l.0 dir link_there ∙ next-spelled (wiring_of t) l.0 far 1 (w.sessions.heard l.0 r) (w.sessions.said l.0 far) more_said
 
     first_pdu : (x : Item (List ℕ)) × (slice_get (on_channel (channel l.0 dir) old.messages) 0 ≡ Some x)
     first_pdu = let found = first-item (on_channel (channel l.0 dir) old.messages) _ _ flying in (found.0, found.1)
 
-    left : (channels : ℕ) → IsFlight channels old.messages → (k : ℕ) (d : Dir) → k < length t.links → FliesAs (wiring_of t) k d (heard_then k (receiver (wiring_of t) k d)) (w.sessions.said k (sender (wiring_of t) k d)) (taken l.0 dir old).messages
+    left : (channels : ℕ) → IsFlight channels old.messages →
+        (k : ℕ) (d : Dir) → k < length t.links →
+        FliesAs (wiring_of t) k d (heard_then k (receiver (wiring_of t) k d)) (w.sessions.said k (sender (wiring_of t) k d)) (taken l.0 dir old).messages
     left channels flight k d h =
-        subst (λ o. FliesAs (wiring_of t) k d (heard_then k (receiver (wiring_of t) k d)) (w.sessions.said k (sender (wiring_of t) k d)) (without o old.messages)) (sym first_pdu.1)
+        subst (λ o. FliesAs (wiring_of t) k d (heard_then k (receiver (wiring_of t) k d)) (w.sessions.said k (sender (wiring_of t) k d))
+        (without o old.messages)) (sym first_pdu.1)
         (elim (eqb_tells (channel k d) (channel l.0 dir)) [
           | inl p ↦ (let same = one_channel k l.0 d dir p.1 in
-              subst (λ j. FliesAs (wiring_of t) j d (heard_then j (receiver (wiring_of t) j d)) (w.sessions.said j (sender (wiring_of t) j d)) (without (Some first_pdu.0) old.messages)) (sym same.0)
-              (subst (λ c. FliesAs (wiring_of t) l.0 c (heard_then l.0 (receiver (wiring_of t) l.0 c)) (w.sessions.said l.0 (sender (wiring_of t) l.0 c)) (without (Some first_pdu.0) old.messages)) (sym same.1)
+              subst (λ j. FliesAs (wiring_of t) j d (heard_then j (receiver (wiring_of t) j d)) (w.sessions.said j (sender (wiring_of t) j d))
+              (without (Some first_pdu.0) old.messages)) (sym same.0)
+              (subst (λ c. FliesAs (wiring_of t) l.0 c (heard_then l.0 (receiver (wiring_of t) l.0 c)) (w.sessions.said l.0 (sender (wiring_of t) l.0 c))
+              (without (Some first_pdu.0) old.messages)) (sym same.1)
               (ap (map (λ (item : Item (List ℕ)). item.item)) (left_on (channel l.0 dir) old.messages 0 first_pdu.0 flight.ascending first_pdu.1)
               ∙ bytes-first (on_channel (channel l.0 dir) old.messages) _ _ flying
               ∙ ap (λ n. drop n spelling) (sym (pair_here w.sessions.heard l.0 r (w.sessions.heard l.0 r + 1))))))
-          | inr p ↦ ap (map (λ (item : Item (List ℕ)). item.item)) (left_off (channel l.0 dir) (channel k d) old.messages 0 first_pdu.0 flight.ascending first_pdu.1 p.0)
+          | inr p ↦ ap (map (λ (item : Item (List ℕ)). item.item))
+              (left_off (channel l.0 dir) (channel k d) old.messages 0 first_pdu.0 flight.ascending first_pdu.1 p.0)
               ∙ stands.messages k d h
               ∙ ap (λ n. drop n (spelled (wiring_of t) k (sender (wiring_of t) k d) 1 (w.sessions.said k (sender (wiring_of t) k d)))) (sym (apart k d p.1))
         ])
 
-  pub goes-hear : (l : LinkNo) (dir : Dir) (tick number : ℕ) (new : Carried) (next channels : ℕ) → IsFlight channels old.messages → IsTurn t w (step.HearLdp l dir)
-      → HearsNext t tick number l.0 dir (hears_next t w l.0 (receiver (wiring_of t) l.0 dir)) old new next → StandsFor t (given t es) (after t w (step.HearLdp l dir)) new
+  pub goes-hear : (l : LinkNo) (dir : Dir) (tick number : ℕ) (new : Carried) (next channels : ℕ) → IsFlight channels old.messages →
+      IsTurn t w (step.HearLdp l dir)
+      → HearsNext t tick number l.0 dir (hears_next t w l.0 (receiver (wiring_of t) l.0 dir)) old new next →
+      StandsFor t (given t es) (after t w (step.HearLdp l dir)) new
   goes-hear l dir tick number new next channels flight turn acts =
       let base : Carried = taken l.0 dir old in
       let event : Event = hears_next t w l.0 (receiver (wiring_of t) l.0 dir) in
       let rest : Rest base new = act-rest t tick number (receiver (wiring_of t) l.0 dir) event base new next acts in
       record {
         works = rest.failed ∙ stands.works;
-        each = one-each t es lawful w (step.HearLdp l dir) turn refl (receiver (wiring_of t) l.0 dir) (end_below l dir turn) refl event (hears_it l dir turn) (no_other l dir turn) (here_heard l dir turn) refl (λ site. refl) tick number next base new acts stands.each are;
-        nodes = one-nodes t es lawful w (step.HearLdp l dir) turn refl (receiver (wiring_of t) l.0 dir) (end_below l dir turn) refl event (hears_it l dir turn) (no_other l dir turn) (here_heard l dir turn) refl (λ site. refl) tick number next base new acts stands.each are;
+        each = one-each t es lawful w (step.HearLdp l dir) turn refl (receiver (wiring_of t) l.0 dir) (end_below l dir turn) refl event
+            (hears_it l dir turn) (no_other l dir turn) (here_heard l dir turn) refl (λ site. refl) tick number next base new acts stands.each are;
+        nodes = one-nodes t es lawful w (step.HearLdp l dir) turn refl (receiver (wiring_of t) l.0 dir) (end_below l dir turn) refl event
+            (hears_it l dir turn) (no_other l dir turn) (here_heard l dir turn) refl (λ site. refl) tick number next base new acts stands.each are;
         changes = rest.changes ∙ stands.changes;
         up = stands.up;
         switches = rest.switches ∙ stands.switches;
         each_site = ap length rest.labels ∙ stands.each_site;
         sites = λ site attachment h at. ap (λ xs. slice_index xs site) rest.labels ∙ stands.sites site attachment h at;
         notices = λ k n h under. ap (λ xs. w.views.learned n k + length (on_channel (k * length t.loopbacks + n) xs)) rest.notices ∙ stands.notices k n h under;
-        messages = λ k d h. one-flies t es lawful w (step.HearLdp l dir) turn refl (receiver (wiring_of t) l.0 dir) (end_below l dir turn) refl event (hears_it l dir turn) (no_other l dir turn) (here_heard l dir turn) refl (λ site. refl) tick number next base new acts stands.each are k d h
+        messages =
+            λ k d h. one-flies t es lawful w (step.HearLdp l dir) turn refl (receiver (wiring_of t) l.0 dir) (end_below l dir turn) refl event
+            (hears_it l dir turn) (no_other l dir turn) (here_heard l dir turn) refl (λ site. refl) tick number next base new acts stands.each are k d h
             (counts l dir turn k d h) (left l dir turn channels flight k d h);
       }
 
   pub puts-hear : (l : LinkNo) (dir : Dir) (tick number : ℕ) (new : Carried) (next : ℕ) → IsTurn t w (step.HearLdp l dir)
       → HearsNext t tick number l.0 dir (hears_next t w l.0 (receiver (wiring_of t) l.0 dir)) old new next
-      → Puts t tick number (map message_of (flat_map (node_says t w (step.HearLdp l dir)) (acting t (step.HearLdp l dir)))) (taken l.0 dir old).messages new.messages next
+      → Puts t tick number (map message_of (flat_map (node_says t w (step.HearLdp l dir)) (acting t (step.HearLdp l dir))))
+      (taken l.0 dir old).messages new.messages next
   puts-hear l dir tick number new next turn acts =
-      one-puts t es lawful w (step.HearLdp l dir) turn refl (receiver (wiring_of t) l.0 dir) (end_below l dir turn) refl (hears_next t w l.0 (receiver (wiring_of t) l.0 dir)) (hears_it l dir turn) (no_other l dir turn) (here_heard l dir turn) refl (λ site. refl) tick number next
+      one-puts t es lawful w (step.HearLdp l dir) turn refl (receiver (wiring_of t) l.0 dir) (end_below l dir turn) refl
+      (hears_next t w l.0 (receiver (wiring_of t) l.0 dir)) (hears_it l dir turn) (no_other l dir turn) (here_heard l dir turn) refl
+      (λ site. refl) tick number next
       (taken l.0 dir old) new acts stands.each are

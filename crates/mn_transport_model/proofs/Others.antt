@@ -29,8 +29,10 @@ pub world-then : (t : Network) (es : List JournalEntry) (tick : ℕ) (s : Step) 
 world-then t es tick s = world_from-push t es (start t) (record { tick = tick; step = s })
 
 -- a step that attaches no site gives no label
-pub given-same : (t : Network) (es : List JournalEntry) (tick : ℕ) (s : Step) → ((node : ℕ) → given_in t node (world_of t es).config s ≡ []) → given t (pushed es tick s) ≡ given t es
-given-same t es tick s none = fun_ext (λ node. gives_more t es (record { tick = tick; step = s }) node ∙ ap (λ xs. given t es node ++ xs) (none node) ∙ append-nil (given t es node))
+pub given-same : (t : Network) (es : List JournalEntry) (tick : ℕ) (s : Step) →
+    ((node : ℕ) → given_in t node (world_of t es).config s ≡ []) → given t (pushed es tick s) ≡ given t es
+given-same t es tick s none =
+    fun_ext (λ node. gives_more t es (record { tick = tick; step = s }) node ∙ ap (λ xs. given t es node ++ xs) (none node) ∙ append-nil (given t es node))
 
 pub record Keeps (t : Network) (w : World) (s : Step) : Type 0 where
   pub views : (after t w s).views ≡ w.views
@@ -55,7 +57,8 @@ keeps t w (step.Carry l d k) e = record { views = refl; sessions = refl; ups = r
 keeps t w (step.Lose l d k) e = record { views = refl; sessions = refl; ups = refl; ldp = refl; attached = refl; node = λ n. refl; none = λ n. refl }
 keeps t w _ e = cc
 
-pub as-it-was : (t : Network) (es : List JournalEntry) (tick : ℕ) (s : Step) (carried : Carried) → IsLawful t → touches s ≡ false → IsTransport t es carried → IsTransport t (pushed es tick s) carried
+pub as-it-was : (t : Network) (es : List JournalEntry) (tick : ℕ) (s : Step) (carried : Carried) → IsLawful t → touches s ≡ false →
+    IsTransport t es carried → IsTransport t (pushed es tick s) carried
 as-it-was t es tick s carried lawful other stands =
     let w : World = world_of t es in
     let k : Keeps t w s = keeps t w s other in
@@ -65,13 +68,17 @@ as-it-was t es tick s carried lawful other stands =
       works = stands.works;
       each = stands.each;
       nodes = λ n x is.
-          node-still t es lawful w (after t w s) n (subst (λ m. n < m) stands.each (slice_get_within carried.nodes n x is)) (λ site. ap (λ f. f site) k.attached) x (stands.nodes n x is) (k.node n);
+          node-still t es lawful w (after t w s) n (subst (λ m. n < m) stands.each (slice_get_within carried.nodes n x is))
+          (λ site. ap (λ f. f site) k.attached) x (stands.nodes n x is) (k.node n);
       changes = stands.changes ∙ sym (ap (λ (v : Views). map v.changes (links_of (wiring_of t))) k.views);
       up = λ l h. ap (λ (v : Views). is_odd (v.changes l)) k.views ∙ stands.up l h ∙ sym (ap (λ f. f l) k.ups);
       switches = stands.switches ∙ sym (ap (λ f. map f (links_of (wiring_of t))) k.ldp);
       each_site = stands.each_site;
       sites = λ site attachment h at. stands.sites site attachment h (sym (ap (λ f. f site) k.attached) ∙ at);
-      notices = λ l n h below. ap (λ (v : Views). v.learned n l + length (on_channel (l * length t.loopbacks + n) carried.notices)) k.views ∙ stands.notices l n h below ∙ sym (ap (λ (v : Views). v.changes l) k.views);
+      notices =
+          λ l n h below. ap (λ (v : Views). v.learned n l + length (on_channel (l * length t.loopbacks + n) carried.notices)) k.views
+          ∙ stands.notices l n h below ∙ sym (ap (λ (v : Views). v.changes l) k.views);
       messages = λ l dir h. stands.messages l dir h
-          ∙ sym (ap (λ (x : Sessions). drop (x.heard l (receiver (wiring_of t) l dir)) (spelled (wiring_of t) l (sender (wiring_of t) l dir) 1 (x.said l (sender (wiring_of t) l dir)))) k.sessions);
+          ∙ sym (ap (λ (x : Sessions). drop (x.heard l (receiver (wiring_of t) l dir))
+          (spelled (wiring_of t) l (sender (wiring_of t) l dir) 1 (x.said l (sender (wiring_of t) l dir)))) k.sessions);
     }))

@@ -25,29 +25,37 @@ over : (g : Labelling) (edge : ℕ) (o : Option (ℕ × ℕ)) → option_map sen
 over g edge None = refl
 over g edge (Some hop) = ap (λ label. let o : Option (NodeNo × Option ℕ) = Some (record { 0 = hop.0 }, label) in o) (by (hop.0 == edge))
   where
-    by : (b : Bool) → label_sent (if b then 3 else label_in (g hop.0) (fec_of edge)) ≡ (if b then None else Some (if b then 3 else label_in (g hop.0) (fec_of edge)))
+    by : (b : Bool) →
+        label_sent (if b then 3 else label_in (g hop.0) (fec_of edge)) ≡ (if b then None else Some (if b then 3 else label_in (g hop.0) (fec_of edge)))
     by true = refl
-    by false = ap (λ b. if b then None else Some (label_in (g hop.0) (fec_of edge))) (other_test (16 + position_or_len (same_bind (fec_of edge)) (g hop.0)) 3 (λ e. absurd (omega (arith, e))))
+    by false =
+        ap (λ b. if b then None else Some (label_in (g hop.0) (fec_of edge)))
+        (other_test (16 + position_or_len (same_bind (fec_of edge)) (g hop.0)) 3 (λ e. absurd (omega (arith, e))))
 
-pub outer-is : (t : Network) (es : List JournalEntry) (lawful : IsLawful t) (w : World) (node : ℕ) → node < length t.loopbacks → (s : Standing) → IsNode t (given t es) w node s → (edge : ℕ) → edge < length t.loopbacks → node ≢ edge
+pub outer-is : (t : Network) (es : List JournalEntry) (lawful : IsLawful t) (w : World) (node : ℕ) → node < length t.loopbacks →
+    (s : Standing) → IsNode t (given t es) w node s → (edge : ℕ) → edge < length t.loopbacks → node ≢ edge
     → option_map sent_to (way_to s.wiring s.node edge) ≡ outer_for t (given t es) w node edge
 outer-is t es lawful w node below s is edge under apart =
-    ap (option_map sent_to) (ap (λ (x : Wiring). way_to x s.node edge) is.wiring ∙ ap (λ (n : Node). way_to (wiring_of t) n edge) is.node_is ∙ way-is t es lawful w node below edge under apart)
+    ap (option_map sent_to) (ap (λ (x : Wiring). way_to x s.node edge) is.wiring ∙ ap (λ (n : Node). way_to (wiring_of t) n edge) is.node_is
+    ∙ way-is t es lawful w node below edge under apart)
     ∙ over (given t es) edge (usable t w.config w.views w.sessions node edge)
 
 -- Contracts see the transport as `seen`, the code as `old`. The node at this index was read.
-module _ (t : Network) (lawful : IsLawful t) (old seen : Carried) (view_is : old ≡ seen) (node index : ℕ) (below : node < length t.loopbacks) (at : index ≡ node) (es : List JournalEntry) (stands : IsTransport t es seen) where
+module _ (t : Network) (lawful : IsLawful t) (old seen : Carried) (view_is : old ≡ seen) (node index : ℕ) (below : node < length t.loopbacks)
+    (at : index ≡ node) (es : List JournalEntry) (stands : IsTransport t es seen) where
   pub node-there : index < length old.nodes
   node-there = subst (λ k. k < length old.nodes) (sym at) (subst (λ n. node < n) (sym (ap (λ (c : Carried). length c.nodes) view_is ∙ stands.each)) below)
 
   module _ (x : Standing) (value : x ≡ get_or old.nodes index x) where
     node-is : IsNode t (given t es) (world_of t es) node x
     node-is = stands.nodes node x
-        (ap (λ (c : Carried). slice_get c.nodes node) (sym view_is) ∙ ap (slice_get old.nodes) (sym at) ∙ slice_get_read old.nodes (length old.nodes) index x refl node-there value)
+        (ap (λ (c : Carried). slice_get c.nodes node) (sym view_is) ∙ ap (slice_get old.nodes) (sym at)
+        ∙ slice_get_read old.nodes (length old.nodes) index x refl node-there value)
 
     pub edge-there : (edge : ℕ) → edge < length t.loopbacks → edge < length x.wiring.loopbacks
     edge-there edge under = subst (λ (w : Wiring). edge < length w.loopbacks) (sym node-is.wiring) under
 
-    pub outer-told : (edge : ℕ) → edge < length t.loopbacks → node ≢ edge → (way : Option (NodeNo × Option ℕ)) → (x.failed ≡ false → way ≡ option_map sent_to (way_to x.wiring x.node edge))
+    pub outer-told : (edge : ℕ) → edge < length t.loopbacks → node ≢ edge → (way : Option (NodeNo × Option ℕ)) →
+        (x.failed ≡ false → way ≡ option_map sent_to (way_to x.wiring x.node edge))
         → way ≡ outer_for t (given t es) (world_of t es) node edge
     outer-told edge under apart way is = is node-is.works ∙ outer-is t es lawful (world_of t es) node below x node-is edge under apart

@@ -6,7 +6,8 @@ use Rattle.std.proofs.lemmas.List.{get_or-set_same}
 use Rattle.mn_base.proofs.Bools.{clash}
 use Rattle.mn_base.proofs.Members.{In, in_flat_map, in_filter, in_range}
 use Rattle.mn_base.specs.Wiring.{Wiring, nodes_of, links_of, links_at, joining, is_end, across}
-use Rattle.mn_node.specs.Ldp.{Message, Initialization, Said, Knowledge, is_operational, said_on, mention, mentioned_on, mentioned_from, offered, by_neighbour, news}
+use Rattle.mn_node.specs.Ldp.{Message, Initialization, Said, Knowledge, is_operational, said_on, mention, mentioned_on, mentioned_from, offered}
+use Rattle.mn_node.specs.Ldp.{by_neighbour, news}
 use Rattle.mn_node.specs.Node.{Session, Node, session_at, hearing_in, knowledge_in}
 use Rattle.mn_node.specs.Machine.{Event, Learns, Opens, Closes, Hears, speaks_first, changed, answer_in, said}
 use Rattle.mn_node.proofs.Opening.{hearing-in}
@@ -26,7 +27,8 @@ own-append : (w : Wiring) (n : Node) (me : ℕ) (xs ys : List Said) → AllOwn w
 own-append w n me [] ys h g = g
 own-append w n me (x ∷ xs) ys h g = (h.0, own-append w n me xs ys h.1 g)
 
-pub own-said : (w : Wiring) (n : Node) (me l : ℕ) (ms : List Message) → l < length w.ends → is_end w l me ≡ true → session_at n l ≢ None → AllOwn w n me (said_on l me ms)
+pub own-said : (w : Wiring) (n : Node) (me l : ℕ) (ms : List Message) → l < length w.ends → is_end w l me ≡ true → session_at n l ≢ None →
+    AllOwn w n me (said_on l me ms)
 own-said w n me l [] h e o = tt
 own-said w n me l (m ∷ ms) h e o = (record { by = refl; there = h; at_end = e; lives = o }, own-said w n me l ms h e o)
 
@@ -42,7 +44,8 @@ own-if w n me l ms false on h e = tt
 AtNode : Wiring → ℕ → List ℕ → Type 0
 AtNode w me ls = (l : ℕ) → In ls l → (l < length w.ends) × (is_end w l me ≡ true)
 
-own-links : (w : Wiring) (before : Knowledge) (n : Node) (me fec : ℕ) (was is : Bool) (ls : List ℕ) → ((l : ℕ) → In ls l → (l < length w.ends) × (is_end w l me ≡ true))
+own-links : (w : Wiring) (before : Knowledge) (n : Node) (me fec : ℕ) (was is : Bool) (ls : List ℕ) →
+    ((l : ℕ) → In ls l → (l < length w.ends) × (is_end w l me ≡ true))
     → AllOwn w n me (flat_map (mentioned_on before (knowledge_in n) me fec was is) ls)
 own-links w before n me fec was is [] at = tt
 own-links w before n me fec was is (l ∷ ls) at =
@@ -50,7 +53,8 @@ own-links w before n me fec was is (l ∷ ls) at =
     (own-if w n me l (mention (is_operational before l && was) is fec) (is_operational (knowledge_in n) l) refl (at l (inl refl)).0 (at l (inl refl)).1)
     (own-links w before n me fec was is ls (λ k i. at k (inr i)))
 
-own-from : (w : Wiring) (before : Knowledge) (n : Node) (me : ℕ) (ls : List ℕ) → ((l : ℕ) → In ls l → (l < length w.ends) × (is_end w l me ≡ true)) → (fec : ℕ) (weres ares : List Bool)
+own-from : (w : Wiring) (before : Knowledge) (n : Node) (me : ℕ) (ls : List ℕ) → ((l : ℕ) → In ls l → (l < length w.ends) × (is_end w l me ≡ true)) →
+    (fec : ℕ) (weres ares : List Bool)
     → AllOwn w n me (mentioned_from before (knowledge_in n) me ls fec weres ares)
 own-from w before n me ls at fec [] ares = tt
 own-from w before n me ls at fec (was ∷ weres) [] = tt
@@ -86,12 +90,15 @@ pub own-event : (w : Wiring) (n : Node) (e : Event) → IsHere w n e → AllOwn 
 own-event w n (Learns l) h = own-news w (knowledge_in n) (changed w n (Learns l)) n.me
 own-event w n (Closes l) h = own-news w (knowledge_in n) (changed w n (Closes l)) n.me
 own-event w n (Opens l) h =
-    own-append w (changed w n (Opens l)) n.me (if speaks_first w l n.me then said_on l n.me (Initialization ∷ []) else []) (news w (knowledge_in n) (knowledge_in (changed w n (Opens l))) n.me)
+    own-append w (changed w n (Opens l)) n.me (if speaks_first w l n.me then said_on l n.me (Initialization ∷ []) else [])
+    (news w (knowledge_in n) (knowledge_in (changed w n (Opens l))) n.me)
     (first (speaks_first w l n.me)) (own-news w (knowledge_in n) (changed w n (Opens l)) n.me)
   where
     first : (b : Bool) → AllOwn w (changed w n (Opens l)) n.me (if b then said_on l n.me (Initialization ∷ []) else [])
     first true = own-said w (changed w n (Opens l)) n.me l (Initialization ∷ []) h.0 h.1 (opened w n l h.2)
     first false = tt
 own-event w n (Hears l message label) h =
-    own-append w (changed w n (Hears l message label)) n.me (said_on l n.me (answer_in (session_at n l) message)) (news w (knowledge_in n) (knowledge_in (changed w n (Hears l message label))) n.me)
-    (own-said w (changed w n (Hears l message label)) n.me l (answer_in (session_at n l) message) h.0 h.1 h.2) (own-news w (knowledge_in n) (changed w n (Hears l message label)) n.me)
+    own-append w (changed w n (Hears l message label)) n.me (said_on l n.me (answer_in (session_at n l) message))
+    (news w (knowledge_in n) (knowledge_in (changed w n (Hears l message label))) n.me)
+    (own-said w (changed w n (Hears l message label)) n.me l (answer_in (session_at n l) message) h.0 h.1 h.2)
+    (own-news w (knowledge_in n) (changed w n (Hears l message label)) n.me)

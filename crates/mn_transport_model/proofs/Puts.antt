@@ -24,11 +24,14 @@ use Rattle.mn_transport_model.proofs.Keyed.{keys-sent, length-pdus}
 -- 1. Notices
 
 pub keys-told : (t : Network) (l due tick number : ℕ) (ns : List ℕ) → due ≡ tick + t.notice_delay
-    → keys_in (notices_to (l * length t.loopbacks) due number ns) ≡ keys_on (of_notices (length t.loopbacks)) (numbered t tick number (map (λ node. let made : Channel × Load = (Notices l node, ANotice) in made) ns))
+    → keys_in (notices_to (l * length t.loopbacks) due number ns) ≡ keys_on (of_notices (length t.loopbacks))
+    (numbered t tick number (map (λ node. let made : Channel × Load = (Notices l node, ANotice) in made) ns))
 keys-told t l due tick number [] e = refl
 keys-told t l due tick number (n ∷ ns) e =
-    ap (λ d. (let k : Key = record { channel = l * length t.loopbacks + n; due = d; number = number } in k) ∷ keys_in (notices_to (l * length t.loopbacks) due (number + 1) ns)) e
-    ∙ ap (λ ks. (let k : Key = record { channel = l * length t.loopbacks + n; due = tick + t.notice_delay; number = number } in k) ∷ ks) (keys-told t l due tick (number + 1) ns e)
+    ap (λ d. (let k : Key = record { channel = l * length t.loopbacks + n; due = d; number = number } in
+    k) ∷ keys_in (notices_to (l * length t.loopbacks) due (number + 1) ns)) e
+    ∙ ap (λ ks. (let k : Key = record { channel = l * length t.loopbacks + n; due = tick + t.notice_delay; number = number } in k) ∷ ks)
+    (keys-told t l due tick (number + 1) ns e)
 
 -- 2. Messages
 
@@ -41,17 +44,21 @@ pub record Puts (t : Network) (tick number : ℕ) (xs : List (Channel × Load)) 
   pub keys : keys_in new ≡ keys_in old ++ keys_on (of_messages t) (numbered t tick number xs)
   pub next_is : next ≡ number + length xs
 
-pub puts-act : (t : Network) (tick number m next : ℕ) (e : Event) (old new : Carried) (acts : Acts t tick number m e old new next) (n : Node) → acts.was.node ≡ n → EachBy m (said (wiring_of t) n e)
+pub puts-act : (t : Network) (tick number m next : ℕ) (e : Event) (old new : Carried) (acts : Acts t tick number m e old new next) (n : Node) →
+    acts.was.node ≡ n → EachBy m (said (wiring_of t) n e)
     → Puts t tick number (map message_of (said (wiring_of t) n e)) old.messages new.messages next
 puts-act t tick number m next e old new acts n is by = record {
-  keys = ap (λ (c : Carried). keys_in c.messages) acts.new_is ∙ ap (λ (x : Node). keys_in (old.messages ++ put_pdus (wiring_of t) m tick number (pdus_in (wiring_of t) x e))) is
+  keys = ap (λ (c : Carried). keys_in c.messages) acts.new_is
+      ∙ ap (λ (x : Node). keys_in (old.messages ++ put_pdus (wiring_of t) m tick number (pdus_in (wiring_of t) x e))) is
       ∙ keys_put old.messages (put_pdus (wiring_of t) m tick number (pdus_in (wiring_of t) n e))
       ∙ ap (λ ks. keys_in old.messages ++ ks) (keys-sent t m tick number (released_by e) (changed (wiring_of t) n e) (said (wiring_of t) n e) by);
   next_is = acts.next_is ∙ ap (λ (x : Node). number + length (pdus_in (wiring_of t) x e)) is
-      ∙ ap (λ k. number + k) (length-pdus (wiring_of t) (released_by e) (changed (wiring_of t) n e) (said (wiring_of t) n e) ∙ sym (length-map (said (wiring_of t) n e) message_of));
+      ∙ ap (λ k. number + k) (length-pdus (wiring_of t) (released_by e) (changed (wiring_of t) n e) (said (wiring_of t) n e)
+      ∙ sym (length-map (said (wiring_of t) n e) message_of));
 }
 
-pub puts-both : (t : Network) (tick number middle next : ℕ) (xs ys : List (Channel × Load)) (a b c : List (Item (List ℕ))) → Puts t tick number xs a b middle → Puts t tick middle ys b c next
+pub puts-both : (t : Network) (tick number middle next : ℕ) (xs ys : List (Channel × Load)) (a b c : List (Item (List ℕ))) →
+    Puts t tick number xs a b middle → Puts t tick middle ys b c next
     → Puts t tick number (xs ++ ys) a c next
 puts-both t tick number middle next xs ys a b c f g = record {
   keys = g.keys ∙ ap (λ ks. ks ++ keys_on (of_messages t) (numbered t tick middle ys)) f.keys

@@ -1,5 +1,6 @@
 -- Where the transport stands for a world in which a step has its turn, its nodes may act.
-use Rattle.std.proofs.Common.{ℕ, zero, suc, ◌≡◌, ◌≢◌, ◌<◌, Bool, true, false, List, [], ◌∷◌, length, refl, arith, sym, ◌∙◌, ap, subst, Option, None, Some, get_or}
+use Rattle.std.proofs.Common.{ℕ, zero, suc, ◌≡◌, ◌≢◌, ◌<◌, Bool, true, false, List, [], ◌∷◌, length, refl, arith, sym, ◌∙◌, ap, subst, Option, None, Some}
+use Rattle.std.proofs.Common.{get_or}
 use Rattle.std.specs.Prelude.{◌&&◌, not, nat_lt, slice_get, slice_index, if◌then◌else◌}
 use Rattle.std.proofs.lemmas.List.FromFn.{length-map-range_with_len, get_or-map-range_with_len}
 use Rattle.std.proofs.lemmas.Option.{get_or_from_slice_get}
@@ -49,7 +50,8 @@ module _ (t : Network) (lawful : IsLawful t) (g : Labelling) (w : World) (carrie
 
   pub open-at : (node l : ℕ) → l < length t.links → lives w.config l ≡ true → is_end (wiring_of t) l node ≡ true → session_at (node_at t w node) l ≢ None
   open-at node l h alive at_end =
-      some_not_none _ (session_at (node_at t w node) l) (session_at-is t w.config w.views w.sessions node l h ∙ some_if (lives w.config l) (is_end (wiring_of t) l node) _ alive at_end)
+      some_not_none _ (session_at (node_at t w node) l) (session_at-is t w.config w.views w.sessions node l h
+      ∙ some_if (lives w.config l) (is_end (wiring_of t) l node) _ alive at_end)
 
   pub links-are : length carried.changes ≡ length t.links
   links-are = ap length stands.changes ∙ length-map-range_with_len w.views.changes 0 (length t.links)
@@ -65,12 +67,14 @@ module _ (t : Network) (lawful : IsLawful t) (g : Labelling) (w : World) (carrie
 
   pub switch-at : (l : ℕ) (on : Bool) → l < length t.links → slice_get carried.switches l ≡ Some on → on ≡ w.config.ldp_on l
   switch-at l on h is =
-      sym (get_or_from_slice_get carried.switches l on false is) ∙ ap (λ xs. get_or xs l false) stands.switches ∙ get_or-map-range_with_len w.config.ldp_on 0 (length t.links) l l false h (omega arith)
+      sym (get_or_from_slice_get carried.switches l on false is) ∙ ap (λ xs. get_or xs l false) stands.switches
+      ∙ get_or-map-range_with_len w.config.ldp_on 0 (length t.links) l l false h (omega arith)
 
   pub learned-at : (node l : ℕ) → l < length t.links → slice_index (node_at t w node).learned l ≡ w.views.learned node l
   learned-at node l h = get_or-map-range_with_len (w.views.learned node) 0 (length t.links) l l 0 h (omega arith)
 
-  pub may-act : (node : ℕ) (event : Event) → node < length t.loopbacks → link_in event < length t.links → IsAtEnd t node event → IsReady carried.changes (node_at t w node) event
+  pub may-act : (node : ℕ) (event : Event) → node < length t.loopbacks → link_in event < length t.links → IsAtEnd t node event →
+      IsReady carried.changes (node_at t w node) event
       → MayAct t carried node event
   may-act node event below link_there at_end ready =
       let found : (s : Standing) × (slice_get carried.nodes node ≡ Some s) = there carried.nodes node (subst (λ k. node < k) (sym stands.each) below) in
@@ -96,8 +100,10 @@ module _ (t : Network) (lawful : IsLawful t) (g : Labelling) (w : World) (carrie
 
   pub may-close : (l : ℕ) → l < length t.links → lives w.config l ≡ true → MayBoth t carried l (Closes l)
   may-close l h alive = record {
-    a = may-act (link (wiring_of t) l).a.0 (Closes l) (lawful.joins_nodes l h).0 h (is_end-a (wiring_of t) l) (open-at (link (wiring_of t) l).a.0 l h alive (is_end-a (wiring_of t) l));
-    b = may-act (link (wiring_of t) l).b.0 (Closes l) (lawful.joins_nodes l h).1 h (is_end-b (wiring_of t) l) (open-at (link (wiring_of t) l).b.0 l h alive (is_end-b (wiring_of t) l));
+    a = may-act (link (wiring_of t) l).a.0 (Closes l) (lawful.joins_nodes l h).0 h (is_end-a (wiring_of t) l)
+        (open-at (link (wiring_of t) l).a.0 l h alive (is_end-a (wiring_of t) l));
+    b = may-act (link (wiring_of t) l).b.0 (Closes l) (lawful.joins_nodes l h).1 h (is_end-b (wiring_of t) l)
+        (open-at (link (wiring_of t) l).b.0 l h alive (is_end-b (wiring_of t) l));
   }
 
   both_on : (up on : Bool) → up ≡ true → on ≡ true → (up && on) ≡ true
@@ -154,8 +160,10 @@ module _ (t : Network) (lawful : IsLawful t) (g : Labelling) (w : World) (carrie
 
   pub may-learn : (node l : _) → IsTurn t w (step.Learn node l) → MayAct t carried node.0 (Learns l.0)
   may-learn node l turn =
-      let below : node.0 < length t.loopbacks = less_tells node.0 (length t.loopbacks) (and_left (nat_lt node.0 (length t.loopbacks)) (nat_lt l.0 (length t.links)) turn.fitting) in
-      let h : l.0 < length t.links = less_tells l.0 (length t.links) (and_right (nat_lt node.0 (length t.loopbacks)) (nat_lt l.0 (length t.links)) turn.fitting) in
+      let below : node.0 < length t.loopbacks =
+      less_tells node.0 (length t.loopbacks) (and_left (nat_lt node.0 (length t.loopbacks)) (nat_lt l.0 (length t.links)) turn.fitting) in
+      let h : l.0 < length t.links =
+      less_tells l.0 (length t.links) (and_right (nat_lt node.0 (length t.loopbacks)) (nat_lt l.0 (length t.links)) turn.fitting) in
       let more : w.views.learned node.0 l.0 < w.views.changes l.0 = not_at_most_tells (w.views.changes l.0) (w.views.learned node.0 l.0) turn.there in
       let learned = learned-at node.0 l.0 h in
       let changed = changes-at l.0 h in

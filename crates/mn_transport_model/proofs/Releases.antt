@@ -5,7 +5,8 @@ use Rattle.std.specs.List.{flat_map}
 use Rattle.mn_base.specs.Wiring.{Wiring, across}
 use Rattle.mn_base.specs.declared.states.LdpState.{LdpState}
 use Rattle.mn_base.specs.declared.states.LdpState.TheVariants.{Initialized, OpenSent, OpenRec, Operational}
-use Rattle.mn_node.specs.Ldp.{Message, Initialization, KeepAlive, Address, Mapping, Withdraw, Release, Said, Knowledge, is_operational, said_on, mention, mentioned_on, mentioned_from, offered, by_neighbour, answer, news}
+use Rattle.mn_node.specs.Ldp.{Message, Initialization, KeepAlive, Address, Mapping, Withdraw, Release, Said, Knowledge, is_operational, said_on, mention}
+use Rattle.mn_node.specs.Ldp.{mentioned_on, mentioned_from, offered, by_neighbour, answer, news}
 use Rattle.mn_node.specs.Node.{Session, Node, session_at, knowledge_in, label_brought}
 use Rattle.mn_node.specs.Machine.{Event, Learns, Opens, Closes, Hears, speaks_first, changed, answer_in, said}
 use Rattle.mn_transport_model.specs.Sending.{released_by}
@@ -25,14 +26,17 @@ rel-if : (w : Wiring) (me wd : ℕ) (b : Bool) (xs : List Said) → AllReleases 
 rel-if w me wd true xs h = h
 rel-if w me wd false xs h = tt
 
-rel-links : (w : Wiring) (before now : Knowledge) (me wd fec : ℕ) (was is : Bool) (ls : List ℕ) → AllReleases w me wd (flat_map (mentioned_on before now me fec was is) ls)
+rel-links : (w : Wiring) (before now : Knowledge) (me wd fec : ℕ) (was is : Bool) (ls : List ℕ) →
+    AllReleases w me wd (flat_map (mentioned_on before now me fec was is) ls)
 rel-links w before now me wd fec was is [] = tt
 rel-links w before now me wd fec was is (l ∷ ls) =
     rel-append w me wd (mentioned_on before now me fec was is l) (flat_map (mentioned_on before now me fec was is) ls)
-    (rel-if w me wd (is_operational now l) (said_on l me (mention (is_operational before l && was) is fec)) (rel-mention w me wd l fec (is_operational before l && was) is))
+    (rel-if w me wd (is_operational now l) (said_on l me (mention (is_operational before l && was) is fec))
+    (rel-mention w me wd l fec (is_operational before l && was) is))
     (rel-links w before now me wd fec was is ls)
 
-rel-from : (w : Wiring) (before now : Knowledge) (me wd : ℕ) (ls : List ℕ) (fec : ℕ) (weres ares : List Bool) → AllReleases w me wd (mentioned_from before now me ls fec weres ares)
+rel-from : (w : Wiring) (before now : Knowledge) (me wd : ℕ) (ls : List ℕ) (fec : ℕ) (weres ares : List Bool) →
+    AllReleases w me wd (mentioned_from before now me ls fec weres ares)
 rel-from w before now me wd ls fec [] ares = tt
 rel-from w before now me wd ls fec (was ∷ weres) [] = tt
 rel-from w before now me wd ls fec (was ∷ weres) (is ∷ ares) =
@@ -43,7 +47,8 @@ rel-news : (w : Wiring) (before now : Knowledge) (me wd : ℕ) → AllReleases w
 unfolding news
 rel-news w before now me wd = rel-from w before now me wd (by_neighbour w me) 0 (offered w before me) (offered w now me)
 
-rel-answer : (w : Wiring) (me l label : ℕ) (state : LdpState) (message : Message) → label ≡ label_brought (across w l me) message → AllReleases w me label (said_on l me (answer state message))
+rel-answer : (w : Wiring) (me l label : ℕ) (state : LdpState) (message : Message) → label ≡ label_brought (across w l me) message →
+    AllReleases w me label (said_on l me (answer state message))
 rel-answer w me l label Initialized Initialization e = (tt, (tt, tt))
 rel-answer w me l label Initialized KeepAlive e = tt
 rel-answer w me l label Initialized Address e = tt
@@ -69,7 +74,8 @@ rel-answer w me l label Operational (Mapping fec) e = tt
 rel-answer w me l label Operational (Withdraw fec) e = (sym e, tt)
 rel-answer w me l label Operational (Release fec) e = tt
 
-rel-answers : (w : Wiring) (me l label : ℕ) (o : Option Session) (message : Message) → label ≡ label_brought (across w l me) message → AllReleases w me label (said_on l me (answer_in o message))
+rel-answers : (w : Wiring) (me l label : ℕ) (o : Option Session) (message : Message) → label ≡ label_brought (across w l me) message →
+    AllReleases w me label (said_on l me (answer_in o message))
 rel-answers w me l label None message e = tt
 rel-answers w me l label (Some session) message e = rel-answer w me l label session.state message e
 
@@ -82,8 +88,11 @@ pub releases : (w : Wiring) (n : Node) (e : Event) → IsBrought w n e → AllRe
 releases w n (Learns l) h = rel-news w (knowledge_in n) (knowledge_in (changed w n (Learns l))) n.me 0
 releases w n (Closes l) h = rel-news w (knowledge_in n) (knowledge_in (changed w n (Closes l))) n.me 0
 releases w n (Opens l) h =
-    rel-append w n.me 0 (if speaks_first w l n.me then said_on l n.me (Initialization ∷ []) else []) (news w (knowledge_in n) (knowledge_in (changed w n (Opens l))) n.me)
-    (rel-if w n.me 0 (speaks_first w l n.me) (said_on l n.me (Initialization ∷ [])) (tt, tt)) (rel-news w (knowledge_in n) (knowledge_in (changed w n (Opens l))) n.me 0)
+    rel-append w n.me 0 (if speaks_first w l n.me then said_on l n.me (Initialization ∷ []) else [])
+    (news w (knowledge_in n) (knowledge_in (changed w n (Opens l))) n.me)
+    (rel-if w n.me 0 (speaks_first w l n.me) (said_on l n.me (Initialization ∷ [])) (tt, tt))
+    (rel-news w (knowledge_in n) (knowledge_in (changed w n (Opens l))) n.me 0)
 releases w n (Hears l message label) h =
-    rel-append w n.me label (said_on l n.me (answer_in (session_at n l) message)) (news w (knowledge_in n) (knowledge_in (changed w n (Hears l message label))) n.me)
+    rel-append w n.me label (said_on l n.me (answer_in (session_at n l) message))
+    (news w (knowledge_in n) (knowledge_in (changed w n (Hears l message label))) n.me)
     (rel-answers w n.me l label (session_at n l) message h) (rel-news w (knowledge_in n) (knowledge_in (changed w n (Hears l message label))) n.me label)

@@ -1,5 +1,6 @@
 -- What a node puts into flight is, on each channel, the spelling of what it says there.
-use Rattle.std.proofs.Common.{ℕ, suc, ◌≡◌, ◌≢◌, ◌+◌, ◌*◌, ◌<◌, inl, inr, Bool, true, false, cond, List, [], ◌∷◌, ◌++◌, map, filter, length, drop, ◌≤◌, refl, arith, sym, ◌∙◌, ap, subst, Option, None, Some}
+use Rattle.std.proofs.Common.{ℕ, suc, ◌≡◌, ◌≢◌, ◌+◌, ◌*◌, ◌<◌, inl, inr, Bool, true, false, cond, List, [], ◌∷◌, ◌++◌, map, filter, length, drop, ◌≤◌, refl}
+use Rattle.std.proofs.Common.{arith, sym, ◌∙◌, ap, subst, Option, None, Some}
 use Rattle.std.specs.Prelude.{◌==◌, ◌&&◌, ◌||◌, option_map, if◌then◌else◌, ⊤}
 use Rattle.std.proofs.lemmas.Bool.Decides.{eqb_tells, leb_tells}
 use Rattle.std.proofs.lemmas.List.{get_or-set_same, get_or-set_other, get_or_past, drop-append-le}
@@ -36,7 +37,8 @@ odd_even l = other_test (2 * l + 1) (2 * l) (λ e. absurd (omega (arith, e)))
 -- what an end sends flies in the direction in which it is the sender
 pub sends-here : (w : Wiring) (l me : ℕ) (dir : Dir) → (link w l).a.0 ≢ (link w l).b.0 → sender w l dir ≡ me → (channel_from w l me == channel l dir) ≡ true
 sends-here w l me Forth d e = ap (λ b. (if b then 2 * l else 2 * l + 1) == 2 * l) (ap (λ a. me == a) e ∙ same_test me) ∙ same_test (2 * l)
-sends-here w l me Back d e = ap (λ b. (if b then 2 * l else 2 * l + 1) == 2 * l + 1) (other_test me (link w l).a.0 (λ q. d (sym q ∙ sym e))) ∙ same_test (2 * l + 1)
+sends-here w l me Back d e =
+    ap (λ b. (if b then 2 * l else 2 * l + 1) == 2 * l + 1) (other_test me (link w l).a.0 (λ q. d (sym q ∙ sym e))) ∙ same_test (2 * l + 1)
 
 -- and in no other
 pub sends-there : (w : Wiring) (l me : ℕ) (dir : Dir) → is_end w l me ≡ true → sender w l dir ≢ me → (channel_from w l me == channel l dir) ≡ false
@@ -90,7 +92,8 @@ said-off n k l d = get_or-set_other n.sessions k l (option_map (with_count 1) (s
 
 still : (n : Node) (k l : ℕ) → session_at n k ≢ None → session_at n l ≢ None → session_at (one_said n k) l ≢ None
 still n k l a b none = elim (eqb_tells k l) [
-  | inl p ↦ more_there (session_at n k) a (sym (get_or-set_same n.sessions k (option_map (with_count 1) (session_at n k)) None (within n k a)) ∙ ap (session_at (one_said n k)) p.1 ∙ none)
+  | inl p ↦ more_there (session_at n k) a (sym (get_or-set_same n.sessions k (option_map (with_count 1) (session_at n k)) None (within n k a))
+      ∙ ap (session_at (one_said n k)) p.1 ∙ none)
   | inr p ↦ b (sym (said-off n k l p.1) ∙ none)
 ]
   where
@@ -119,7 +122,8 @@ bytes-append c [] ys = refl
 bytes-append c (x ∷ xs) ys = by (x.channel == c) (bytes-append c xs ys)
   where
     by : (b : Bool) → bytes_on c (xs ++ ys) ≡ bytes_on c xs ++ bytes_on c ys
-        → map (λ (item : Item (List ℕ)). item.item) (cond b (x ∷ on_channel c (xs ++ ys)) (on_channel c (xs ++ ys))) ≡ map (λ (item : Item (List ℕ)). item.item) (cond b (x ∷ on_channel c xs) (on_channel c xs)) ++ bytes_on c ys
+        → map (λ (item : Item (List ℕ)). item.item) (cond b (x ∷ on_channel c (xs ++ ys)) (on_channel c (xs ++ ys))) ≡ map
+        (λ (item : Item (List ℕ)). item.item) (cond b (x ∷ on_channel c xs) (on_channel c xs)) ++ bytes_on c ys
     by true e = ap (λ bs. x.item ∷ bs) e
     by false e = e
 
@@ -133,24 +137,41 @@ by-me : (x : Said) (me : ℕ) → x.end ≡ me → is_by x.link me x ≡ true
 by-me x me e = ap (λ b. b && (x.end == me)) (same_test x.link) ∙ ap (λ m. m == me) e ∙ same_test me
 
 -- a node's message on a link stands behind those that it said there
-mine-here : (w : Wiring) (me : ℕ) (dir : Dir) (tick number wd : ℕ) (n : Node) (x : Said) (xs : List Said) → n.me ≡ me → (link w x.link).a.0 ≢ (link w x.link).b.0 → sender w x.link dir ≡ me
+mine-here : (w : Wiring) (me : ℕ) (dir : Dir) (tick number wd : ℕ) (n : Node) (x : Said) (xs : List Said) → n.me ≡ me →
+    (link w x.link).a.0 ≢ (link w x.link).b.0 → sender w x.link dir ≡ me
     → IsOwn w n me x → IsReleaseOf w me x.link wd x.message
-    → bytes_on (channel x.link dir) (put_pdus w me tick (number + 1) (pdus w wd (one_said n x.link) xs)) ≡ spelled w x.link me (count_of (session_at (one_said n x.link) x.link) + 1) (messages_of x.link me xs)
-    → bytes_on (channel x.link dir) (put_pdus w me tick number (pdus w wd n (x ∷ xs))) ≡ spelled w x.link me (count_of (session_at n x.link) + 1) (messages_of x.link me (x ∷ xs))
+    → bytes_on (channel x.link dir) (put_pdus w me tick (number + 1) (pdus w wd (one_said n x.link) xs)) ≡ spelled w x.link me
+    (count_of (session_at (one_said n x.link) x.link) + 1) (messages_of x.link me xs)
+    → bytes_on (channel x.link dir) (put_pdus w me tick number (pdus w wd n (x ∷ xs))) ≡ spelled w x.link me (count_of (session_at n x.link) + 1)
+    (messages_of x.link me (x ∷ xs))
 mine-here w me dir tick number wd n x xs mine differ sends own rel rest =
     let c : ℕ = channel x.link dir in
     let id : ℕ = count_of (session_at n x.link) + 1 in
     let others : List (Item (List ℕ)) = put_pdus w me tick (number + 1) (pdus w wd (one_said n x.link) xs) in
-    bytes-here c (record { channel = channel_from w x.link me; due = tick + (link w x.link).delay; number = number; item = (pdu w x.link n.me wd id x.message).bytes }) others (sends-here w x.link me dir differ sends)
+    bytes-here c (record {
+      channel = channel_from w x.link me;
+      due = tick + (link w x.link).delay;
+      number = number;
+      item =
+          (pdu w x.link n.me wd id x.message).bytes;
+    }) others (sends-here w x.link me dir differ sends)
     ∙ ap (λ (p : Pdu). p.bytes ∷ bytes_on c others) (ap (λ m. pdu w x.link m wd id x.message) mine ∙ pdu-is w x.link me wd id x.message rel)
-    ∙ ap (λ bs. (pdu_in_network w x.link me id x.message).bytes ∷ bs) (rest ∙ ap (λ k. spelled w x.link me (k + 1) (messages_of x.link me xs)) (said-here n x.link own.lives))
+    ∙ ap (λ bs. (pdu_in_network w x.link me id x.message).bytes ∷ bs)
+    (rest ∙ ap (λ k. spelled w x.link me (k + 1) (messages_of x.link me xs)) (said-here n x.link own.lives))
     ∙ sym (ap (spelled w x.link me id) (messages-here x.link me x xs (by-me x me own.by)))
 
 mine-off : (w : Wiring) (l me : ℕ) (dir : Dir) (tick number wd : ℕ) (n : Node) (x : Said) (xs : List Said) → x.link ≢ l
-    → bytes_on (channel l dir) (put_pdus w me tick (number + 1) (pdus w wd (one_said n x.link) xs)) ≡ spelled w l me (count_of (session_at (one_said n x.link) l) + 1) (messages_of l me xs)
+    → bytes_on (channel l dir) (put_pdus w me tick (number + 1) (pdus w wd (one_said n x.link) xs)) ≡ spelled w l me
+    (count_of (session_at (one_said n x.link) l) + 1) (messages_of l me xs)
     → bytes_on (channel l dir) (put_pdus w me tick number (pdus w wd n (x ∷ xs))) ≡ spelled w l me (count_of (session_at n l) + 1) (messages_of l me (x ∷ xs))
 mine-off w l me dir tick number wd n x xs d rest =
-    bytes-off (channel l dir) (record { channel = channel_from w x.link me; due = tick + (link w x.link).delay; number = number; item = (pdu w x.link n.me wd (count_of (session_at n x.link) + 1) x.message).bytes })
+    bytes-off (channel l dir) (record {
+      channel = channel_from w x.link me;
+      due = tick + (link w x.link).delay;
+      number = number;
+      item =
+          (pdu w x.link n.me wd (count_of (session_at n x.link) + 1) x.message).bytes;
+    })
     (put_pdus w me tick (number + 1) (pdus w wd (one_said n x.link) xs)) (other-link w x.link l me dir d)
     ∙ rest
     ∙ ap (λ (o : Option Session). spelled w l me (count_of o + 1) (messages_of l me xs)) (said-off n x.link l d)
@@ -163,7 +184,9 @@ pub spelled-mine : (w : Wiring) (l me : ℕ) (dir : Dir) (tick number wd : ℕ) 
 spelled-mine w l me dir tick number wd n [] mine differ sends own rel = refl
 spelled-mine w l me dir tick number wd n (x ∷ xs) mine differ sends own rel =
     elim (eqb_tells x.link l) [
-      | inl p ↦ subst (λ k. sender w k dir ≡ me → bytes_on (channel k dir) (put_pdus w me tick number (pdus w wd n (x ∷ xs))) ≡ spelled w k me (count_of (session_at n k) + 1) (messages_of k me (x ∷ xs))) p.1
+      | inl p ↦ subst (λ k. sender w k dir ≡ me →
+          bytes_on (channel k dir) (put_pdus w me tick number (pdus w wd n (x ∷ xs))) ≡ spelled w k me (count_of (session_at n k) + 1)
+          (messages_of k me (x ∷ xs))) p.1
           (λ at. mine-here w me dir tick number wd n x xs mine (differ x.link own.0.there) at own.0 rel.0
           (spelled-mine w x.link me dir tick (number + 1) wd (one_said n x.link) xs mine differ at (own-still w n me x.link xs own.0.lives own.1) rel.1)) sends
       | inr p ↦ mine-off w l me dir tick number wd n x xs p.1
@@ -175,7 +198,13 @@ pub spelled-not : (w : Wiring) (l me : ℕ) (dir : Dir) (tick number wd : ℕ) (
     → bytes_on (channel l dir) (put_pdus w me tick number (pdus w wd n xs)) ≡ []
 spelled-not w l me dir tick number wd n [] d own = refl
 spelled-not w l me dir tick number wd n (x ∷ xs) d own =
-    bytes-off (channel l dir) (record { channel = channel_from w x.link me; due = tick + (link w x.link).delay; number = number; item = (pdu w x.link n.me wd (count_of (session_at n x.link) + 1) x.message).bytes })
+    bytes-off (channel l dir) (record {
+      channel = channel_from w x.link me;
+      due = tick + (link w x.link).delay;
+      number = number;
+      item =
+          (pdu w x.link n.me wd (count_of (session_at n x.link) + 1) x.message).bytes;
+    })
     (put_pdus w me tick (number + 1) (pdus w wd (one_said n x.link) xs))
     (elim (eqb_tells x.link l) [
       | inl p ↦ subst (λ k. sender w k dir ≢ me → (channel_from w x.link me == channel k dir) ≡ false) p.1 (λ e. sends-there w x.link me dir own.0.at_end e) d
@@ -187,7 +216,8 @@ spelled-not w l me dir tick number wd n (x ∷ xs) d own =
 pub none-of-mine : (w : Wiring) (l s me : ℕ) (n : Node) (xs : List Said) → s ≢ me → AllOwn w n me xs → messages_of l s xs ≡ []
 none-of-mine w l s me n [] d own = refl
 none-of-mine w l s me n (x ∷ xs) d own =
-    messages-off l s x xs (ap (λ b. (x.link == l) && b) (ap (λ m. m == s) own.0.by ∙ other_test me s (λ e. d (sym e))) ∙ and_false (x.link == l)) ∙ none-of-mine w l s me n xs d own.1
+    messages-off l s x xs (ap (λ b. (x.link == l) && b) (ap (λ m. m == s) own.0.by ∙ other_test me s (λ e. d (sym e))) ∙ and_false (x.link == l))
+    ∙ none-of-mine w l s me n xs d own.1
 
 -- 5. What flies
 
@@ -195,10 +225,12 @@ pub length-spelled : (w : Wiring) (l s id : ℕ) (ms : List Message) → length 
 length-spelled w l s id [] = refl
 length-spelled w l s id (m ∷ ms) = ap suc (length-spelled w l s (id + 1) ms)
 
-pub spelled-append : (w : Wiring) (l s id : ℕ) (ms more : List Message) → spelled w l s id (ms ++ more) ≡ spelled w l s id ms ++ spelled w l s (id + length ms) more
+pub spelled-append : (w : Wiring) (l s id : ℕ) (ms more : List Message) →
+    spelled w l s id (ms ++ more) ≡ spelled w l s id ms ++ spelled w l s (id + length ms) more
 spelled-append w l s id [] more = ap (λ k. spelled w l s k more) (omega arith)
 spelled-append w l s id (m ∷ ms) more =
-    ap (λ bs. (pdu_in_network w l s id m).bytes ∷ bs) (spelled-append w l s (id + 1) ms more ∙ ap (λ k. spelled w l s (id + 1) ms ++ spelled w l s k more) (omega arith))
+    ap (λ bs. (pdu_in_network w l s id m).bytes ∷ bs)
+    (spelled-append w l s (id + 1) ms more ∙ ap (λ k. spelled w l s (id + 1) ms ++ spelled w l s k more) (omega arith))
 
 -- what flies in a direction is the spelling of what was said and not heard
 abbrev pub FliesAs : Wiring → ℕ → Dir → ℕ → List Message → List (Item (List ℕ)) → Type 0
@@ -206,23 +238,30 @@ FliesAs w l dir heard said items = bytes_on (channel l dir) items ≡ drop heard
 
 -- and once a node has said more it is so of all
 pub flies-on : (w : Wiring) (l me : ℕ) (dir : Dir) (tick number wd heard : ℕ) (said : List Message) (n : Node) (xs : List Said) (items : List (Item (List ℕ)))
-    → n.me ≡ me → EndsDiffer w → AllOwn w n me xs → AllReleases w me wd xs → heard ≤ length said → (sender w l dir ≡ me → messages_of l me xs ≢ [] → count_of (session_at n l) ≡ length said)
+    → n.me ≡ me → EndsDiffer w → AllOwn w n me xs → AllReleases w me wd xs → heard ≤ length said →
+    (sender w l dir ≡ me → messages_of l me xs ≢ [] → count_of (session_at n l) ≡ length said)
     → FliesAs w l dir heard said items → FliesAs w l dir heard (said ++ messages_of l (sender w l dir) xs) (items ++ put_pdus w me tick number (pdus w wd n xs))
 flies-on w l me dir tick number wd heard said n xs items mine differ own rel within count flies =
-    bytes-append (channel l dir) items (put_pdus w me tick number (pdus w wd n xs)) ∙ ap (λ bs. bs ++ bytes_on (channel l dir) (put_pdus w me tick number (pdus w wd n xs))) flies
+    bytes-append (channel l dir) items (put_pdus w me tick number (pdus w wd n xs))
+    ∙ ap (λ bs. bs ++ bytes_on (channel l dir) (put_pdus w me tick number (pdus w wd n xs))) flies
     ∙ ap (λ bs. drop heard (spelled w l (sender w l dir) 1 said) ++ bs) more
-    ∙ sym (drop-append-le heard (spelled w l (sender w l dir) 1 said) (spelled w l (sender w l dir) (1 + length said) (messages_of l (sender w l dir) xs)) (omega (arith, within, length-spelled w l (sender w l dir) 1 said)))
+    ∙ sym (drop-append-le heard (spelled w l (sender w l dir) 1 said) (spelled w l (sender w l dir) (1 + length said) (messages_of l (sender w l dir) xs))
+    (omega (arith, within, length-spelled w l (sender w l dir) 1 said)))
     ∙ ap (drop heard) (sym (spelled-append w l (sender w l dir) 1 said (messages_of l (sender w l dir) xs)))
   where
-    by-list : (ms : List Message) → (ms ≢ [] → count_of (session_at n l) ≡ length said) → spelled w l me (count_of (session_at n l) + 1) ms ≡ spelled w l me (1 + length said) ms
+    by-list : (ms : List Message) →
+        (ms ≢ [] → count_of (session_at n l) ≡ length said) → spelled w l me (count_of (session_at n l) + 1) ms ≡ spelled w l me (1 + length said) ms
     by-list [] h = refl
     by-list (m ∷ ms) h = ap (λ k. spelled w l me k (m ∷ ms)) (let e = h (λ q. cons_nil q) in omega (arith, e))
       where
         cons_nil : m ∷ ms ≡ [] → ⊥
         cons_nil q = cc
 
-    more : bytes_on (channel l dir) (put_pdus w me tick number (pdus w wd n xs)) ≡ spelled w l (sender w l dir) (1 + length said) (messages_of l (sender w l dir) xs)
+    more : bytes_on (channel l dir) (put_pdus w me tick number (pdus w wd n xs)) ≡ spelled w l (sender w l dir) (1 + length said)
+        (messages_of l (sender w l dir) xs)
     more = elim (eqb_tells (sender w l dir) me) [
-      | inl p ↦ spelled-mine w l me dir tick number wd n xs mine differ p.1 own rel ∙ by-list (messages_of l me xs) (count p.1) ∙ ap (λ s. spelled w l s (1 + length said) (messages_of l s xs)) (sym p.1)
-      | inr p ↦ spelled-not w l me dir tick number wd n xs p.1 own ∙ sym (ap (spelled w l (sender w l dir) (1 + length said)) (none-of-mine w l (sender w l dir) me n xs p.1 own))
+      | inl p ↦ spelled-mine w l me dir tick number wd n xs mine differ p.1 own rel ∙ by-list (messages_of l me xs) (count p.1)
+          ∙ ap (λ s. spelled w l s (1 + length said) (messages_of l s xs)) (sym p.1)
+      | inr p ↦ spelled-not w l me dir tick number wd n xs p.1 own
+          ∙ sym (ap (spelled w l (sender w l dir) (1 + length said)) (none-of-mine w l (sender w l dir) me n xs p.1 own))
     ]

@@ -48,13 +48,21 @@ module _ (t : Network) (es : List JournalEntry) (lawful : IsLawful t) (w : World
       let both : (is_operational known hop.1 && is_mapped false edge (hearing known hop.1).messages) ≡ true =
       both_true (is_operational known hop.1 && is_mapped false edge (hearing known hop.1).messages) hop (sym (ap (usable_over known edge) first) ∙ can) in
       let on : ((lives w.config hop.1 && is_end (wiring_of t) hop.1 node) && nat_le 2 (w.sessions.heard hop.1 node)) ≡ true =
-      sym (operational-is (wiring_of t) w.config w.views w.sessions node hop.1 is.there) ∙ and_left (is_operational known hop.1) (is_mapped false edge (hearing known hop.1).messages) both in
-      let alive : (lives w.config hop.1 && is_end (wiring_of t) hop.1 node) ≡ true = and_left (lives w.config hop.1 && is_end (wiring_of t) hop.1 node) (nat_le 2 (w.sessions.heard hop.1 node)) on in
+      sym (operational-is (wiring_of t) w.config w.views w.sessions node hop.1 is.there)
+      ∙ and_left (is_operational known hop.1) (is_mapped false edge (hearing known hop.1).messages) both in
+      let alive : (lives w.config hop.1 && is_end (wiring_of t) hop.1 node) ≡ true =
+      and_left (lives w.config hop.1 && is_end (wiring_of t) hop.1 node) (nat_le 2 (w.sessions.heard hop.1 node)) on in
       let far : ℕ = across (wiring_of t) hop.1 node in
       let messages : List Message = heard_by (wiring_of t) w.sessions hop.1 node in
       let mapped : is_mapped false edge messages ≡ true =
-      sym (ap (λ h. is_mapped false edge h.messages) (hearing-is t w.config w.views w.sessions node hop.1 is.there)) ∙ and_right (is_operational known hop.1) (is_mapped false edge (hearing known hop.1).messages) both in
-      let there : session_of t w.config w.sessions node hop.1 ≡ Some (record { state = state_of t w.sessions hop.1 node; said = length (w.sessions.said hop.1 node); labels = map (label_heard far messages) (nodes_of (wiring_of t)) }) =
+      sym (ap (λ h. is_mapped false edge h.messages) (hearing-is t w.config w.views w.sessions node hop.1 is.there))
+      ∙ and_right (is_operational known hop.1) (is_mapped false edge (hearing known hop.1).messages) both in
+      let there : session_of t w.config w.sessions node hop.1 ≡ Some (record {
+        state = state_of t w.sessions hop.1 node;
+        said =
+            length (w.sessions.said hop.1 node);
+        labels = map (label_heard far messages) (nodes_of (wiring_of t));
+      }) =
       in_session (lives w.config hop.1 && is_end (wiring_of t) hop.1 node) alive _ in
       ap (λ o. lsr.label_in o edge) (session_at-is t w.config w.views w.sessions node hop.1 is.there ∙ there)
       ∙ get_or-map-range_with_len (label_heard far messages) 0 (length t.loopbacks) edge edge None under (omega arith)
@@ -75,7 +83,8 @@ module _ (t : Network) (es : List JournalEntry) (lawful : IsLawful t) (w : World
   -- the way that the node itself knows is the ledger's
   pub way-is : (edge : ℕ) → edge < length t.loopbacks → node ≢ edge → way_to (wiring_of t) (node_at t w node) edge ≡ next_entry t (given t es) w node edge
   way-is edge under apart =
-      ap (labelled (node_at t w node) edge) (sym (usable_by-alike (wiring_of t) known (knowledge_in (node_at t w node)) node edge under (knows_as_much t w.config w.views w.sessions node)))
+      ap (labelled (node_at t w node) edge)
+      (sym (usable_by-alike (wiring_of t) known (knowledge_in (node_at t w node)) node edge under (knows_as_much t w.config w.views w.sessions node)))
       ∙ over edge under apart (usable t w.config w.views w.sessions node edge) refl
 
   no_meaning_low : (binds : List Bind) (label : ℕ) → label < 16 → meaning_of binds label ≡ None
@@ -87,12 +96,14 @@ module _ (t : Network) (es : List JournalEntry) (lawful : IsLawful t) (w : World
 
   -- a table that stands for the node stands for the world, where the attachments' labels do
   pub table-is : (s : Standing) → s.wiring ≡ wiring_of t → s.node ≡ node_at t w node → s.given.given ≡ given t es node → lsr.TableStands s
-      → ((site attachment : ℕ) → Contains (given t es node) (attachment_of site attachment) → use_of s.uses (label_in (given t es node) (attachment_of site attachment)) ≡ Some (site_entry w site attachment))
+      → ((site attachment : ℕ) → Contains (given t es node) (attachment_of site attachment) →
+      use_of s.uses (label_in (given t es node) (attachment_of site attachment)) ≡ Some (site_entry w site attachment))
       → TableStands t (given t es) w node s.uses
   table-is s wired node_is labels stands sites = record {
     fecs = λ edge under apart.
         let label : ℕ = label_in (given t es node) (fec_of edge) in
-        let meaning : meaning_of s.given.given label ≡ Some (fec_of edge) = ap (λ g. meaning_of g label) labels ∙ means_one (given t es node) (fec_of edge) (has_fecs t es node edge under apart) in
+        let meaning : meaning_of s.given.given label ≡ Some (fec_of edge) =
+        ap (λ g. meaning_of g label) labels ∙ means_one (given t es node) (fec_of edge) (has_fecs t es node edge under apart) in
         subst (λ m. IsUseOf (way_to s.wiring s.node) m (use_of s.uses label)) meaning (stands label)
         ∙ ap fec_use (ap (λ x. way_to x s.node edge) wired ∙ ap (λ n. way_to (wiring_of t) n edge) node_is ∙ way-is edge under (λ e. apart (sym e)));
     sites = sites;

@@ -30,24 +30,29 @@ use Rattle.mn_transport_model.proofs.Dids.{then-stands, messages-are}
 use Rattle.mn_transport_model.proofs.Can.{may-hear}
 
 module _ (t : Network) (lawful : IsLawful t) (tick number next : ℕ) (old new : Carried) where
-  pub did-learn : (node : NodeNo) (l : LinkNo) (channels : ℕ) → IsFlight channels old.notices → MayDo t (step.Learn node l) old → LearnsNext t tick number node.0 l.0 old new next
+  pub did-learn : (node : NodeNo) (l : LinkNo) (channels : ℕ) → IsFlight channels old.notices → MayDo t (step.Learn node l) old →
+      LearnsNext t tick number node.0 l.0 old new next
       → Did t tick number (step.Learn node l) old new (next - number)
   did-learn node l channels flight may acts =
       let first = first-notice t may.journal lawful (world_of t may.journal) old may.stands node l may.turn in
       record {
-        goes = λ es stands turn. then-stands t es tick (step.Learn node l) new (λ n. refl) (goes-learn t es lawful (world_of t es) old stands node l tick number new next channels flight turn acts);
+        goes = λ es stands turn. then-stands t es tick (step.Learn node l) new (λ n. refl)
+            (goes-learn t es lawful (world_of t es) old stands node l tick number new next channels flight turn acts);
         notices = ap keys_in (act-rest t tick number node.0 (Learns l.0) (noticed t node.0 l.0 old) new next acts).notices
             ∙ ap (λ o. keys_in (without o old.notices)) first.1
             ∙ key_taken (l.0 * length t.loopbacks + node.0) old.notices 0 first.0 flight.ascending first.1
             ∙ sym (append-nil (key_without (l.0 * length t.loopbacks + node.0) 0 (keys_in old.notices)));
-        messages = λ es stands turn. (puts es stands turn).keys ∙ ap (λ n. keys_in old.messages ++ keys_on (of_messages t) (numbered t tick n (messages_now t es (step.Learn node l)))) (no_more number);
+        messages =
+            λ es stands turn. (puts es stands turn).keys
+            ∙ ap (λ n. keys_in old.messages ++ keys_on (of_messages t) (numbered t tick n (messages_now t es (step.Learn node l)))) (no_more number);
         count = λ es stands turn. let n = (puts es stands turn).next_is in omega (arith, n);
       }
     where
       no_more : (k : ℕ) → k ≡ k + 0
       no_more k = omega arith
 
-      puts : (es : List JournalEntry) → IsTransport t es old → IsTurn t (world_of t es) (step.Learn node l) → Puts t tick number (messages_now t es (step.Learn node l)) old.messages new.messages next
+      puts : (es : List JournalEntry) → IsTransport t es old → IsTurn t (world_of t es) (step.Learn node l) →
+          Puts t tick number (messages_now t es (step.Learn node l)) old.messages new.messages next
       puts es stands turn = subst (λ xs. Puts t tick number xs old.messages new.messages next) (sym (messages-are t es lawful (step.Learn node l) turn refl))
           (puts-learn t es lawful (world_of t es) old stands node l tick number new next turn acts)
 
@@ -55,14 +60,18 @@ module _ (t : Network) (lawful : IsLawful t) (tick number next : ℕ) (old new :
       → ((event : Event) → MayHear t old l.0 dir event → HearsNext t tick number l.0 dir event old new next)
       → MayDo t (step.HearLdp l dir) old → Did t tick number (step.HearLdp l dir) old new (next - number)
   did-hear l dir channels flight hears may = record {
-    goes = λ es stands turn. then-stands t es tick (step.HearLdp l dir) new (λ n. refl) (goes-hear t es lawful (world_of t es) old stands l dir tick number new next channels flight turn (acts es stands turn));
-    notices = ap keys_in (act-rest t tick number (receiver (wiring_of t) l.0 dir) _ (taken l.0 dir old) new next (acts may.journal may.stands may.turn)).notices ∙ sym (append-nil (keys_in old.notices));
+    goes = λ es stands turn. then-stands t es tick (step.HearLdp l dir) new (λ n. refl)
+        (goes-hear t es lawful (world_of t es) old stands l dir tick number new next channels flight turn (acts es stands turn));
+    notices =
+        ap keys_in (act-rest t tick number (receiver (wiring_of t) l.0 dir) _ (taken l.0 dir old) new next (acts may.journal may.stands may.turn)).notices
+        ∙ sym (append-nil (keys_in old.notices));
     messages = λ es stands turn.
         let can = may-hear t lawful (given t es) (world_of t es) old stands l dir turn in
         (puts es stands turn).keys
         ∙ ap (λ ks. ks ++ keys_on (of_messages t) (numbered t tick number (messages_now t es (step.HearLdp l dir))))
         (ap (λ o. keys_in (without o old.messages)) can.flies ∙ key_taken (channel l.0 dir) old.messages 0 can.pdu flight.ascending can.flies)
-        ∙ ap (λ n. key_without (channel l.0 dir) 0 (keys_in old.messages) ++ keys_on (of_messages t) (numbered t tick n (messages_now t es (step.HearLdp l dir)))) (no_more number);
+        ∙ ap (λ n. key_without (channel l.0 dir) 0 (keys_in old.messages) ++ keys_on (of_messages t)
+        (numbered t tick n (messages_now t es (step.HearLdp l dir)))) (no_more number);
     count = λ es stands turn. let n = (puts es stands turn).next_is in omega (arith, n);
   }
     where
@@ -71,8 +80,11 @@ module _ (t : Network) (lawful : IsLawful t) (tick number next : ℕ) (old new :
 
       acts : (es : List JournalEntry) → IsTransport t es old → IsTurn t (world_of t es) (step.HearLdp l dir)
           → HearsNext t tick number l.0 dir (hears_next t (world_of t es) l.0 (receiver (wiring_of t) l.0 dir)) old new next
-      acts es stands turn = hears (hears_next t (world_of t es) l.0 (receiver (wiring_of t) l.0 dir)) (may-hear t lawful (given t es) (world_of t es) old stands l dir turn)
+      acts es stands turn =
+          hears (hears_next t (world_of t es) l.0 (receiver (wiring_of t) l.0 dir)) (may-hear t lawful (given t es) (world_of t es) old stands l dir turn)
 
-      puts : (es : List JournalEntry) → IsTransport t es old → IsTurn t (world_of t es) (step.HearLdp l dir) → Puts t tick number (messages_now t es (step.HearLdp l dir)) (taken l.0 dir old).messages new.messages next
-      puts es stands turn = subst (λ xs. Puts t tick number xs (taken l.0 dir old).messages new.messages next) (sym (messages-are t es lawful (step.HearLdp l dir) turn refl))
+      puts : (es : List JournalEntry) → IsTransport t es old → IsTurn t (world_of t es) (step.HearLdp l dir) →
+          Puts t tick number (messages_now t es (step.HearLdp l dir)) (taken l.0 dir old).messages new.messages next
+      puts es stands turn =
+          subst (λ xs. Puts t tick number xs (taken l.0 dir old).messages new.messages next) (sym (messages-are t es lawful (step.HearLdp l dir) turn refl))
           (puts-hear t es lawful (world_of t es) old stands l dir tick number new next turn (acts es stands turn))

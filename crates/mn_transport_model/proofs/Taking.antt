@@ -16,17 +16,21 @@ without_at (suc place) (x ∷ xs) = x ∷ without_at place xs
 
 module _ {T : Type 0} where
   -- without the item of the number at a place of the channel is without that place
-  pub left_on : (c : ℕ) (xs : List (Item T)) (n : ℕ) (x : Item T) → Ascends xs → slice_get (on_channel c xs) n ≡ Some x → on_channel c (filter (others x.number) xs) ≡ without_at n (on_channel c xs)
+  pub left_on : (c : ℕ) (xs : List (Item T)) (n : ℕ) (x : Item T) → Ascends xs → slice_get (on_channel c xs) n ≡ Some x →
+      on_channel c (filter (others x.number) xs) ≡ without_at n (on_channel c xs)
   left_on c [] n x up h = absurd (let no : None ≡ Some x → ⊥ = (λ e. cc) in no h)
   left_on c (y ∷ ys) n x up h = by (y.channel == c) refl (λ i. left_on c ys i x (rest_ascends y ys up)) n h
     where
-      by : (b : Bool) → (y.channel == c) ≡ b → ((i : ℕ) → slice_get (on_channel c ys) i ≡ Some x → on_channel c (filter (others x.number) ys) ≡ without_at i (on_channel c ys)) →
+      by : (b : Bool) → (y.channel == c) ≡ b →
+          ((i : ℕ) → slice_get (on_channel c ys) i ≡ Some x → on_channel c (filter (others x.number) ys) ≡ without_at i (on_channel c ys)) →
           (n : ℕ) → slice_get (cond b (y ∷ on_channel c ys) (on_channel c ys)) n ≡ Some x →
           on_channel c (filter (others x.number) (y ∷ ys)) ≡ without_at n (cond b (y ∷ on_channel c ys) (on_channel c ys))
       by true e hyp zero g =
           let same : y ≡ x = same_Some y x g in
           let gone : others x.number y ≡ false = subst (λ (z : Item T). others z.number y ≡ false) same (same_gone y.number) in
-          let all : filter (others x.number) ys ≡ ys = filter_all (others x.number) ys (λ z i. more_stays z.number x.number (subst (λ (k : Item T). k.number < z.number) same (first_below y ys up z i))) in
+          let all : filter (others x.number) ys ≡ ys =
+          filter_all (others x.number) ys
+          (λ z i. more_stays z.number x.number (subst (λ (k : Item T). k.number < z.number) same (first_below y ys up z i))) in
           rw (gone, all) refl
       by true e hyp (suc n) g =
           let stays : others x.number y ≡ true = less_stays y.number x.number (first_below y ys up x (on_it c ys n x g)) in
@@ -36,7 +40,8 @@ module _ {T : Type 0} where
           rw (stays, e) (hyp n g)
 
   -- on every other channel nothing changes
-  pub left_off : (c d : ℕ) (xs : List (Item T)) (n : ℕ) (x : Item T) → Ascends xs → slice_get (on_channel c xs) n ≡ Some x → (d == c) ≡ false → on_channel d (filter (others x.number) xs) ≡ on_channel d xs
+  pub left_off : (c d : ℕ) (xs : List (Item T)) (n : ℕ) (x : Item T) → Ascends xs → slice_get (on_channel c xs) n ≡ Some x →
+      (d == c) ≡ false → on_channel d (filter (others x.number) xs) ≡ on_channel d xs
   left_off c d [] n x up h apart = refl
   left_off c d (y ∷ ys) n x up h apart = by (y.channel == c) refl (λ i g. left_off c d ys i x (rest_ascends y ys up) g apart) n h
     where
@@ -46,13 +51,16 @@ module _ {T : Type 0} where
       under : (b : Bool) (us vs : List (Item T)) → us ≡ vs → cond b (y ∷ us) us ≡ cond b (y ∷ vs) vs
       under b us vs e = ap (λ l. cond b (y ∷ l) l) e
 
-      by : (b : Bool) → (y.channel == c) ≡ b → ((i : ℕ) → slice_get (on_channel c ys) i ≡ Some x → on_channel d (filter (others x.number) ys) ≡ on_channel d ys) →
+      by : (b : Bool) → (y.channel == c) ≡ b →
+          ((i : ℕ) → slice_get (on_channel c ys) i ≡ Some x → on_channel d (filter (others x.number) ys) ≡ on_channel d ys) →
           (n : ℕ) → slice_get (cond b (y ∷ on_channel c ys) (on_channel c ys)) n ≡ Some x →
           on_channel d (filter (others x.number) (y ∷ ys)) ≡ on_channel d (y ∷ ys)
       by true e hyp zero g =
           let same : y ≡ x = same_Some y x g in
           let gone : others x.number y ≡ false = subst (λ (z : Item T). others z.number y ≡ false) same (same_gone y.number) in
-          let all : filter (others x.number) ys ≡ ys = filter_all (others x.number) ys (λ z i. more_stays z.number x.number (subst (λ (k : Item T). k.number < z.number) same (first_below y ys up z i))) in
+          let all : filter (others x.number) ys ≡ ys =
+          filter_all (others x.number) ys
+          (λ z i. more_stays z.number x.number (subst (λ (k : Item T). k.number < z.number) same (first_below y ys up z i))) in
           rw (gone, elsewhere e) (ap (on_channel d) all)
       by true e hyp (suc n) g =
           let stays : others x.number y ≡ true = less_stays y.number x.number (first_below y ys up x (on_it c ys n x g)) in

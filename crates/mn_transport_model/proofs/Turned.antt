@@ -24,7 +24,8 @@ ends-grow t tick number l event old new next turns =
     let second = acts-grow t tick turns.second_number (link (wiring_of t) l).b.0 event turns.middle new next turns.second in
     omega (arith, first, second)
 
-if-grow : (on : Bool) (t : Network) (tick number l : ℕ) (event : Event) (old new : Carried) (next : ℕ) → TurnsIf on t tick number l event old new next → number ≤ next
+if-grow : (on : Bool) (t : Network) (tick number l : ℕ) (event : Event) (old new : Carried) (next : ℕ) → TurnsIf on t tick number l event old new next →
+    number ≤ next
 if-grow true t tick number l event old new next turns = ends-grow t tick number l event old new next turns
 if-grow false t tick number l event old new next turns = let n = turns.1 in omega (arith, n)
 
@@ -36,22 +37,27 @@ pub switch-grows : (t : Network) (tick number l : ℕ) (on : Bool) (old new : Ca
 switch-grows t tick number l on old new next turns = if-grow (is_link_up old.changes l) t tick number l (turned_by on l) (switched l on old) new next turns
 
 -- numbers below one are below a greater one
-pub below-more : {T : Type 0} (items : List (Item T)) (number next : ℕ) → number ≤ next → All (λ item. item.number < number) items → All (λ item. item.number < next) items
+pub below-more : {T : Type 0} (items : List (Item T)) (number next : ℕ) → number ≤ next → All (λ item. item.number < number) items →
+    All (λ item. item.number < next) items
 below-more items number next more below = λ k d p. let low : (get_or items k d).number < number = below k d p in omega (arith, low, more)
 
 -- and what is made is that many
-pub below-made : {T : Type 0} (items : List (Item T)) (number next : ℕ) → number ≤ next → All (λ item. item.number < next) items → All (λ item. item.number < number + (next - number)) items
+pub below-made : {T : Type 0} (items : List (Item T)) (number next : ℕ) → number ≤ next → All (λ item. item.number < next) items →
+    All (λ item. item.number < number + (next - number)) items
 below-made items number next more below = λ k d p. let low : (get_or items k d).number < next = below k d p in omega (arith, low, more)
 
 -- what stays in flight has the numbers that it had
-pub below-without : {T : Type 0} (taken : Option (Item T)) (items : List (Item T)) (number : ℕ) → All (λ item. item.number < number) items → All (λ item. item.number < number) (without taken items)
+pub below-without : {T : Type 0} (taken : Option (Item T)) (items : List (Item T)) (number : ℕ) → All (λ item. item.number < number) items →
+    All (λ item. item.number < number) (without taken items)
 below-without None items number below = below
 below-without {T} (Some x) items number below = All-filter (λ (item : Item T). not (item.number == x.number)) (λ item. item.number < number) items below
 
-pub below-taken : {T : Type 0} (taken : Option (Item T)) (items left : List (Item T)) (number : ℕ) → left ≡ without taken items → All (λ item. item.number < number) items → All (λ item. item.number < number) left
+pub below-taken : {T : Type 0} (taken : Option (Item T)) (items left : List (Item T)) (number : ℕ) → left ≡ without taken items →
+    All (λ item. item.number < number) items → All (λ item. item.number < number) left
 below-taken {T} taken items left number is below = subst (All (λ (item : Item T). item.number < number)) (sym is) (below-without taken items number below)
 
-pub below-cut : (l : ℕ) (items left : List (Item (List ℕ))) (number : ℕ) → left ≡ off_link l items → All (λ item. item.number < number) items → All (λ item. item.number < number) left
+pub below-cut : (l : ℕ) (items left : List (Item (List ℕ))) (number : ℕ) → left ≡ off_link l items → All (λ item. item.number < number) items →
+    All (λ item. item.number < number) left
 below-cut l items left number is below =
     subst (All (λ (item : Item (List ℕ)). item.number < number)) (sym is)
     (All-filter (λ (item : Item (List ℕ)). not (item.channel == 2 * l + 1)) (λ item. item.number < number) (off_channel (2 * l) items)

@@ -11,7 +11,8 @@ use Rattle.mn_ledger.proofs.Turning.{loopbacks_apart}
 
 has_32_bits : (address : ℕ) → is_loopback address ≡ true → address < 2 ^ 32
 has_32_bits address h =
-    let below : address < 224 * 2 ^ 24 = less_tells address (224 * 2 ^ 24) (and_right (not (address / 2 ^ 24 == 0 || address / 2 ^ 24 == 127)) (nat_lt address (224 * 2 ^ 24)) h) in
+    let below : address < 224 * 2 ^ 24 =
+    less_tells address (224 * 2 ^ 24) (and_right (not (address / 2 ^ 24 == 0 || address / 2 ^ 24 == 127)) (nat_lt address (224 * 2 ^ 24)) h) in
     omega (arith, below)
 
 pub spelled : (t : Network) → IsLawful t → AreSpelled (wiring_of t)

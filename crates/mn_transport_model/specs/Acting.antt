@@ -58,7 +58,11 @@ pub record MayHear (topology : Network) (carried : Carried) (l : ℕ) (dir : Dir
   pub flies : slice_get (on_channel (channel l dir) carried.messages) 0 ≡ Some pdu
   pub session : Session
   pub lives : session_at may.was.node l ≡ Some session
-  pub heard : after_bytes may.was.wiring l may.was.node session pdu.item ≡ Ok (record { node = after_event may.was.wiring may.was.node event; said = pdus_in may.was.wiring may.was.node event })
+  pub heard : after_bytes may.was.wiring l may.was.node session pdu.item ≡ Ok (record {
+    node = after_event may.was.wiring may.was.node event;
+    said =
+        pdus_in may.was.wiring may.was.node event;
+  })
 
 -- what an event makes of a node
 pub record Becomes (event : Event) (was now : Standing) : Type 0 where
@@ -75,5 +79,9 @@ pub record Acts (topology : Network) (tick number node : ℕ) (event : Event) (o
   pub now : Standing
   pub there : slice_get old.nodes node ≡ Some was
   pub becomes : Becomes event was now
-  pub new_is : new ≡ record old { nodes = slice_set old.nodes node now; messages = old.messages ++ put_pdus (wiring_of topology) node tick number (pdus_in (wiring_of topology) was.node event) }
+  pub new_is : new ≡ record old {
+    nodes = slice_set old.nodes node now;
+    messages =
+        old.messages ++ put_pdus (wiring_of topology) node tick number (pdus_in (wiring_of topology) was.node event);
+  }
   pub next_is : next ≡ number + length (pdus_in (wiring_of topology) was.node event)

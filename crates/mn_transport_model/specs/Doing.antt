@@ -68,7 +68,8 @@ Switches topology tick number l on old new next = TurnsIf (is_link_up old.change
 
 -- the first notice to the node is gone
 abbrev pub noticed : Network → ℕ → ℕ → Carried → Carried
-noticed topology node l carried = record carried { notices = without (slice_get (on_channel (l * length topology.loopbacks + node) carried.notices) 0) carried.notices }
+noticed topology node l carried =
+    record carried { notices = without (slice_get (on_channel (l * length topology.loopbacks + node) carried.notices) 0) carried.notices }
 
 abbrev pub LearnsNext : Network → ℕ → ℕ → ℕ → ℕ → Carried → Carried → ℕ → Type 0
 LearnsNext topology tick number node l old new next = Acts topology tick number node (Learns l) (noticed topology node l old) new next

@@ -4,3 +4,4 @@ pub mod Acting
 pub mod Doing
 pub mod Stands
 pub mod Steps
+pub mod Starting

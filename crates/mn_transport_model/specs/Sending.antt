@@ -15,7 +15,8 @@ use Rattle.mn_timetable.specs.Keys.{channel_from}
 -- a change of a link is told to these nodes, one after another
 abbrev pub notices_to : ℕ → ℕ → ℕ → List ℕ → List (Item Notice)
 notices_to first due number [] = []
-notices_to first due number (node ∷ nodes) = record { channel = first + node; due = due; number = number; item = record {} } ∷ notices_to first due (number + 1) nodes
+notices_to first due number (node ∷ nodes) =
+    record { channel = first + node; due = due; number = number; item = record {} } ∷ notices_to first due (number + 1) nodes
 
 -- 2. Messages
 
@@ -23,7 +24,13 @@ notices_to first due number (node ∷ nodes) = record { channel = first + node; 
 abbrev pub put_pdus : Wiring → ℕ → ℕ → ℕ → List Pdu → List (Item (List ℕ))
 put_pdus wiring node tick number [] = []
 put_pdus wiring node tick number (pdu ∷ pdus) =
-    record { channel = channel_from wiring pdu.link node; due = tick + (link wiring pdu.link).delay; number = number; item = pdu.bytes } ∷ put_pdus wiring node tick (number + 1) pdus
+    record {
+      channel = channel_from wiring pdu.link node;
+      due = tick + (link wiring pdu.link).delay;
+      number = number;
+      item =
+          pdu.bytes;
+    } ∷ put_pdus wiring node tick (number + 1) pdus
 
 -- the label that a Release brings, which is that of the Withdraw that was heard
 abbrev pub released_by : Event → ℕ

@@ -36,12 +36,14 @@ pub record StandsFor (topology : Network) (given : Labelling) (world : World) (c
   pub up : (l : ℕ) → l < length topology.links → is_odd (world.views.changes l) ≡ world.config.is_up l
   pub switches : carried.switches ≡ map world.config.ldp_on (links_of (wiring_of topology))
   pub each_site : length carried.labels ≡ length topology.sites
-  pub sites : (site attachment : ℕ) → site < length topology.sites → world.config.attached site ≡ Some attachment → slice_index carried.labels site ≡ label_at given (home_of topology site) site attachment
+  pub sites : (site attachment : ℕ) → site < length topology.sites → world.config.attached site ≡ Some attachment →
+      slice_index carried.labels site ≡ label_at given (home_of topology site) site attachment
   pub notices : (l node : ℕ) → l < length topology.links → node < length topology.loopbacks →
       world.views.learned node l + length (on_channel (l * length topology.loopbacks + node) carried.notices) ≡ world.views.changes l
   pub messages : (l : ℕ) (dir : Dir) → l < length topology.links →
       map (λ item. item.item) (on_channel (channel l dir) carried.messages)
-      ≡ drop (world.sessions.heard l (receiver (wiring_of topology) l dir)) (spelled (wiring_of topology) l (sender (wiring_of topology) l dir) 1 (world.sessions.said l (sender (wiring_of topology) l dir)))
+      ≡ drop (world.sessions.heard l (receiver (wiring_of topology) l dir))
+      (spelled (wiring_of topology) l (sender (wiring_of topology) l dir) 1 (world.sessions.said l (sender (wiring_of topology) l dir)))
 
 -- it is the transport after this journal, with the labels that were given in it
 abbrev pub IsTransport : Network → List JournalEntry → Carried → Type 0

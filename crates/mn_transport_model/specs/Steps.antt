@@ -34,9 +34,11 @@ pub record MayDo (topology : Network) (step : Step) (carried : Carried) : Type 0
 
 -- The step is done, and made so many items, numbered from this number on: notices first, and then messages.
 pub record Did (topology : Network) (tick number : ℕ) (step : Step) (old new : Carried) (made : ℕ) : Type 0 where
-  pub goes : (journal : List JournalEntry) → IsTransport topology journal old → IsTurn topology (world_of topology journal) step → IsTransport topology (pushed journal tick step) new
+  pub goes : (journal : List JournalEntry) → IsTransport topology journal old → IsTurn topology (world_of topology journal) step →
+      IsTransport topology (pushed journal tick step) new
   pub notices : keys_in new.notices
-      ≡ notices_leave (length topology.loopbacks) step (keys_in old.notices) ++ keys_on (of_notices (length topology.loopbacks)) (numbered topology tick number (notices_in topology step))
+      ≡ notices_leave (length topology.loopbacks) step (keys_in old.notices) ++ keys_on (of_notices (length topology.loopbacks))
+      (numbered topology tick number (notices_in topology step))
   pub messages : (journal : List JournalEntry) → IsTransport topology journal old → IsTurn topology (world_of topology journal) step →
       keys_in new.messages
       ≡ messages_leave step (keys_in old.messages)

@@ -4,6 +4,7 @@
 //! - `specs/Stands`: when it stands for a journal
 //! - `specs/Steps`: when a step has its turn, and what it does
 //! - `specs/Sending`: what nodes put into flight
+//! - `specs/Starting`: a transport as it starts, and the first labels
 //! - `specs/Acting`, `specs/Doing`: what the code does in a step, before that is known to be the ledger's
 //! - `laws`: what leaves the transport as it is
 //! - `proofs/`: from what the code does to the ledger's words

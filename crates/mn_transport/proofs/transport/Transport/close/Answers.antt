@@ -6,15 +6,37 @@ use Rattle.mn_transport.proofs.transport.Transport.close.Goals as goal
 pub send-requires-clause-links : goal.send-requires-clause-links
 send-requires-clause-links c =
     let i = c.self.inside in
-    let old : Carried = record { nodes = i.nodes.items; changes = i.changes; switches = i.switches.items; labels = i.labels.items; notices = i.notices.items; messages = i.messages.items; failed = i.failed } in
-    out-on-links c.args.topology.now old c.args.self.now c.self.view_is c.args.end.0 (Closes c.args.link.0) c.requires.may c.from.result c.from.ensures c.index_mut.result.now c.index_mut.ensures.value
+    let old : Carried =
+    record {
+      nodes = i.nodes.items;
+      changes = i.changes;
+      switches = i.switches.items;
+      labels = i.labels.items;
+      notices = i.notices.items;
+      messages =
+          i.messages.items;
+      failed = i.failed;
+    } in
+    out-on-links c.args.topology.now old c.args.self.now c.self.view_is c.args.end.0
+    (Closes c.args.link.0) c.requires.may c.from.result c.from.ensures c.index_mut.result.now c.index_mut.ensures.value
     c.in_ok-out.out.items c.in_ok-out.ensures.said
 
 pub returns-clause-acts : goal.returns-clause-acts
 returns-clause-acts c =
     let i = c.self.inside in
-    let old : Carried = record { nodes = i.nodes.items; changes = i.changes; switches = i.switches.items; labels = i.labels.items; notices = i.notices.items; messages = i.messages.items; failed = i.failed } in
-    acted c.args.topology.now old c.args.self.now c.self.view_is c.args.end.0 (Closes c.args.link.0) c.requires.may c.from.result c.from.ensures c.index_mut.result.now c.index_mut.ensures.value
+    let old : Carried =
+    record {
+      nodes = i.nodes.items;
+      changes = i.changes;
+      switches = i.switches.items;
+      labels = i.labels.items;
+      notices = i.notices.items;
+      messages =
+          i.messages.items;
+      failed = i.failed;
+    } in
+    acted c.args.topology.now old c.args.self.now c.self.view_is c.args.end.0
+    (Closes c.args.link.0) c.requires.may c.from.result c.from.ensures c.index_mut.result.now c.index_mut.ensures.value
     c.args.clock.tick c.args.clock.number c.close.new.self c.in_ok-out.out.items c.send.new.messages.items c.send.result
     (becomes-by (Closes c.args.link.0) c.index_mut.result.now c.close.new.self c.in_ok-out.ensures.after c.in_ok-out.ensures.table c.in_ok-out.ensures.sites)
     c.in_ok-out.ensures.said c.send.ensures.sent c.send.ensures.next

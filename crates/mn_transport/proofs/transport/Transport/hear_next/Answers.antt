@@ -10,22 +10,45 @@ use Rattle.mn_transport.proofs.transport.Transport.hear_next.Goals as goal
 pub send-requires-clause-links : goal.send-requires-clause-links
 send-requires-clause-links c =
     let i = c.self.inside in
-    let old : Carried = record { nodes = i.nodes.items; changes = i.changes; switches = i.switches.items; labels = i.labels.items; notices = i.notices.items; messages = i.messages.items; failed = i.failed } in
+    let old : Carried =
+    record {
+      nodes = i.nodes.items;
+      changes = i.changes;
+      switches = i.switches.items;
+      labels = i.labels.items;
+      notices = i.notices.items;
+      messages =
+          i.messages.items;
+      failed = i.failed;
+    } in
     let at : c.from.result ≡ receiver (wiring_of c.args.topology.now) c.args.link.0 c.args.dir = c.from.ensures ∙ c.receiver-node.ensures.end in
-    hears-on-links c.args.topology.now old c.args.self.now c.self.view_is c.args.link.0 c.args.dir c.requires.may.event c.requires.may.may c.from.result at c.index_mut.result.now c.index_mut.ensures.value
+    hears-on-links c.args.topology.now old c.args.self.now c.self.view_is c.args.link.0 c.args.dir c.requires.may.event c.requires.may.may c.from.result at
+    c.index_mut.result.now c.index_mut.ensures.value
     c.channel_of.result c.take.result c.take.new.self.items c.in-Some.pdu c.as_slice.result.now c.hear_ldp.new.self c.in-Ok.out.items
     c.channel_of.ensures c.take.ensures.value c.take.ensures.items c.in-Some.is c.as_slice.ensures c.in-Ok.ensures.heard
 
 pub send-requires-clause-number : goal.send-requires-clause-number
 send-requires-clause-number c =
-    below-taken c.take.result c.self.inside.messages.items c.take.new.self.items c.args.clock.number c.take.ensures.items (subst (λ (x : Carried). All (λ item. item.number < c.args.clock.number) x.messages) (sym c.self.view_is) c.requires.messages)
+    below-taken c.take.result c.self.inside.messages.items c.take.new.self.items c.args.clock.number c.take.ensures.items
+    (subst (λ (x : Carried). All (λ item. item.number < c.args.clock.number) x.messages) (sym c.self.view_is) c.requires.messages)
 
 pub returns-clause-hears : goal.returns-clause-hears
 returns-clause-hears c =
     let i = c.self.inside in
-    let old : Carried = record { nodes = i.nodes.items; changes = i.changes; switches = i.switches.items; labels = i.labels.items; notices = i.notices.items; messages = i.messages.items; failed = i.failed } in
+    let old : Carried =
+    record {
+      nodes = i.nodes.items;
+      changes = i.changes;
+      switches = i.switches.items;
+      labels = i.labels.items;
+      notices = i.notices.items;
+      messages =
+          i.messages.items;
+      failed = i.failed;
+    } in
     let at : c.from.result ≡ receiver (wiring_of c.args.topology.now) c.args.link.0 c.args.dir = c.from.ensures ∙ c.receiver-node.ensures.end in
-    λ event may. hears-acts c.args.topology.now old c.args.self.now c.self.view_is c.args.link.0 c.args.dir event may c.from.result at c.index_mut.result.now c.index_mut.ensures.value
+    λ event may. hears-acts c.args.topology.now old c.args.self.now c.self.view_is c.args.link.0 c.args.dir event may c.from.result at
+    c.index_mut.result.now c.index_mut.ensures.value
     c.channel_of.result c.take.result c.take.new.self.items c.in-Some.pdu c.as_slice.result.now c.hear_ldp.new.self c.in-Ok.out.items
     c.channel_of.ensures c.take.ensures.value c.take.ensures.items c.in-Some.is c.as_slice.ensures c.in-Ok.ensures.heard
     c.args.clock.tick c.args.clock.number c.receiver-node.result.0 c.send.new.messages.items c.send.result c.receiver-node.ensures.end

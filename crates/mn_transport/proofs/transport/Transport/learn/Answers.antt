@@ -16,9 +16,11 @@ learn_next-requires-clause-node c =
 pub returns-in-Ok-clause-did : goal.returns-in-Ok-clause-did
 returns-in-Ok-clause-did c =
     let works : c.args.self.now.failed ≡ false = ap (λ (x : Carried). x.failed) (sym c.self.view_is) ∙ c.if-self.false in
-    meets-learn c.args.topology.now c.laws.ensures c.args.self.now works c.args.clock.tick c.args.clock.number c.in-Ok.next c.learn_next.new.self c.args.node c.args.link c.requires.may c.in-Ok.ensures.flight c.in-Ok.ensures.learns
+    meets-learn c.args.topology.now c.laws.ensures c.args.self.now works c.args.clock.tick c.args.clock.number c.in-Ok.next c.learn_next.new.self
+    c.args.node c.args.link c.requires.may c.in-Ok.ensures.flight c.in-Ok.ensures.learns
 
 pub returns-in-Ok-clause-notices_below : goal.returns-in-Ok-clause-notices_below
 returns-in-Ok-clause-notices_below c =
     let works : c.args.self.now.failed ≡ false = ap (λ (x : Carried). x.failed) (sym c.self.view_is) ∙ c.if-self.false in
-    notices-learn c.args.topology.now c.laws.ensures c.args.self.now works c.args.clock.tick c.args.clock.number c.in-Ok.next c.learn_next.new.self c.args.node c.args.link c.in-Ok.ensures.number.0 c.in-Ok.ensures.learns c.requires.notices
+    notices-learn c.args.topology.now c.laws.ensures c.args.self.now works c.args.clock.tick c.args.clock.number c.in-Ok.next c.learn_next.new.self
+    c.args.node c.args.link c.in-Ok.ensures.number.0 c.in-Ok.ensures.learns c.requires.notices

@@ -10,24 +10,54 @@ use Rattle.mn_transport.proofs.transport.Transport.learn_next.Goals as goal
 pub send-requires-clause-links : goal.send-requires-clause-links
 send-requires-clause-links c =
     let i = c.self.inside in
-    let old : Carried = record { nodes = i.nodes.items; changes = i.changes; switches = i.switches.items; labels = i.labels.items; notices = i.notices.items; messages = i.messages.items; failed = i.failed } in
+    let old : Carried =
+    record {
+      nodes = i.nodes.items;
+      changes = i.changes;
+      switches = i.switches.items;
+      labels = i.labels.items;
+      notices = i.notices.items;
+      messages =
+          i.messages.items;
+      failed = i.failed;
+    } in
     let taken : Carried = record old { notices = c.take.new.self.items } in
     let is : taken ≡ noticed c.args.topology.now c.args.node.0 c.args.link.0 c.args.self.now =
-    noticed-is c.args.topology.now old c.args.self.now c.args.node.0 c.args.link.0 c.channel_to.result c.take.new.self.items c.take.result c.self.view_is c.channel_to.ensures c.take.ensures.value c.take.ensures.items in
-    out-on-links c.args.topology.now taken (noticed c.args.topology.now c.args.node.0 c.args.link.0 c.args.self.now) is c.args.node.0 (Learns c.args.link.0) (may-noticed c.args.topology.now c.args.self.now c.args.node.0 c.args.link.0 c.args.link.0 c.requires.may) c.from.result c.from.ensures c.index_mut.result.now c.index_mut.ensures.value c.in-Ok.out.items c.in-Ok.ensures.said
+    noticed-is c.args.topology.now old c.args.self.now c.args.node.0 c.args.link.0 c.channel_to.result c.take.new.self.items c.take.result c.self.view_is
+    c.channel_to.ensures c.take.ensures.value c.take.ensures.items in
+    out-on-links c.args.topology.now taken (noticed c.args.topology.now c.args.node.0 c.args.link.0 c.args.self.now) is c.args.node.0 (Learns c.args.link.0)
+    (may-noticed c.args.topology.now c.args.self.now c.args.node.0 c.args.link.0 c.args.link.0 c.requires.may) c.from.result c.from.ensures
+    c.index_mut.result.now c.index_mut.ensures.value c.in-Ok.out.items c.in-Ok.ensures.said
 
 pub returns-clause-learns : goal.returns-clause-learns
 returns-clause-learns c =
     let i = c.self.inside in
-    let old : Carried = record { nodes = i.nodes.items; changes = i.changes; switches = i.switches.items; labels = i.labels.items; notices = i.notices.items; messages = i.messages.items; failed = i.failed } in
+    let old : Carried =
+    record {
+      nodes = i.nodes.items;
+      changes = i.changes;
+      switches = i.switches.items;
+      labels = i.labels.items;
+      notices = i.notices.items;
+      messages =
+          i.messages.items;
+      failed = i.failed;
+    } in
     let taken : Carried = record old { notices = c.take.new.self.items } in
     let is : taken ≡ noticed c.args.topology.now c.args.node.0 c.args.link.0 c.args.self.now =
-    noticed-is c.args.topology.now old c.args.self.now c.args.node.0 c.args.link.0 c.channel_to.result c.take.new.self.items c.take.result c.self.view_is c.channel_to.ensures c.take.ensures.value c.take.ensures.items in
-    acted c.args.topology.now taken (noticed c.args.topology.now c.args.node.0 c.args.link.0 c.args.self.now) is c.args.node.0 (Learns c.args.link.0) (may-noticed c.args.topology.now c.args.self.now c.args.node.0 c.args.link.0 c.args.link.0 c.requires.may) c.from.result c.from.ensures c.index_mut.result.now c.index_mut.ensures.value
+    noticed-is c.args.topology.now old c.args.self.now c.args.node.0 c.args.link.0 c.channel_to.result c.take.new.self.items c.take.result c.self.view_is
+    c.channel_to.ensures c.take.ensures.value c.take.ensures.items in
+    acted c.args.topology.now taken (noticed c.args.topology.now c.args.node.0 c.args.link.0 c.args.self.now) is c.args.node.0 (Learns c.args.link.0)
+    (may-noticed c.args.topology.now c.args.self.now c.args.node.0 c.args.link.0 c.args.link.0 c.requires.may) c.from.result c.from.ensures
+    c.index_mut.result.now c.index_mut.ensures.value
     c.args.clock.tick c.args.clock.number c.learn.new.self c.in-Ok.out.items c.send.new.messages.items c.send.result
     (becomes-by (Learns c.args.link.0) c.index_mut.result.now c.learn.new.self c.in-Ok.ensures.after c.in-Ok.ensures.table c.in-Ok.ensures.sites)
     c.in-Ok.ensures.said c.send.ensures.sent c.send.ensures.next
 
 pub returns-clause-flight : goal.returns-clause-flight
 returns-clause-flight c =
-    always c.send.result (c.self.inside.notices.channels, subst (λ (x : Carried). IsFlight c.self.inside.notices.channels x.notices) c.self.view_is c.self.invariant.notices_fly)
+    always c.send.result (
+      c.self.inside.notices.channels,
+      subst (λ (x : Carried). IsFlight c.self.inside.notices.channels x.notices) c.self.view_is
+          c.self.invariant.notices_fly,
+    )

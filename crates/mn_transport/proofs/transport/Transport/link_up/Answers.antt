@@ -11,4 +11,5 @@ turn_link-requires-clause-may c =
 
 pub returns-in-Ok-clause-did : goal.returns-in-Ok-clause-did
 returns-in-Ok-clause-did c =
-    did-up c.args.topology.now c.laws.ensures c.args.clock.tick c.args.clock.number c.in-Ok.next c.args.self.now c.turn_link.new.self c.args.link c.in-Ok.ensures.turns
+    did-up c.args.topology.now c.laws.ensures c.args.clock.tick c.args.clock.number c.in-Ok.next c.args.self.now c.turn_link.new.self c.args.link
+    c.in-Ok.ensures.turns

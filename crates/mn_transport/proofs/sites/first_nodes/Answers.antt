@@ -1,0 +1,61 @@
+use Rattle.std.proofs.Common.{ℕ, ◌≡◌, ◌≤◌, ◌+◌, List, [], false, length, map, arith, sym, ◌∙◌, ap, subst}
+use Rattle.std.proofs.lemmas.List.{length_push}
+use Rattle.mn_base.specs.Wiring.{Wiring}
+use Rattle.mn_base.specs.declared.links.LinkEnds.{LinkEnds}
+use Rattle.mn_node.specs.Machine.{fresh_node}
+use Rattle.mn_topo.specs.Network.{wiring_of}
+use Rattle.mn_topo.specs.declared.nodes.Node.{Node}
+use Rattle.mn_lsr.specs.Standing.{Standing, IsWired, fecs_given}
+use Rattle.mn_transport_model.specs.Starting.{IsFirst}
+use Rattle.mn_transport_model.proofs.Lists.{Each}
+use Rattle.mn_transport_model.proofs.Starts.{wired, loopbacks-are, first-node, each-push}
+use Rattle.mn_transport.proofs.sites.first_nodes.Goals as goal
+
+pub new-requires-clause-wired : goal.new-requires-clause-wired
+new-requires-clause-wired c =
+    let t = c.args.topology.now in
+    let loopbacks : c.deref.result.now ≡ t.loopbacks =
+    c.deref.ensures.value ∙ c.in_ok-loopbacks.ensures ∙ ap (map (λ (node : Node). node.loopback)) c.nodes.ensures ∙ loopbacks-are t.loopbacks in
+    subst (λ xs. IsWired (record { loopbacks = xs; ends = c.links-ends.result.now })) (sym loopbacks)
+    (subst (λ es. IsWired (record { loopbacks = t.loopbacks; ends = es })) (sym c.links-ends.ensures) (wired t c.laws.ensures))
+
+pub loop-number-preserved : goal.loop-number-preserved
+loop-number-preserved c =
+    let t = c.args.topology.now in
+    let x : Standing = c.in_ok-new.field-0 in
+    let number : ℕ = c.loop-number.number in
+    let loopbacks : c.deref.result.now ≡ t.loopbacks =
+    c.deref.ensures.value ∙ c.in_ok-loopbacks.ensures ∙ ap (map (λ (node : Node). node.loopback)) c.nodes.ensures ∙ loopbacks-are t.loopbacks in
+    let wiring : (let w : Wiring = record { loopbacks = c.deref.result.now; ends = c.links-ends.result.now } in w) ≡ wiring_of t =
+    ap (λ xs. let w : Wiring = record { loopbacks = xs; ends = c.links-ends.result.now } in w) loopbacks
+    ∙ ap (λ (es : List LinkEnds). let w : Wiring = record { loopbacks = t.loopbacks; ends = es } in w) c.links-ends.ensures in
+    let fresh : IsFirst t 0 number x =
+    first-node t number x
+    (subst (λ (w : Wiring). x ≡ record {
+      wiring = w;
+      node = fresh_node w number;
+      given = x.given;
+      uses = [];
+      failed =
+          false;
+    }) wiring c.in_ok-new.ensures.fresh)
+    (c.in_ok-new.ensures.given ∙ ap (λ (xs : List ℕ). fecs_given (length xs) number) loopbacks) c.in_ok-new.ensures.table in
+    record {
+      count = ap length c.in_ok-push.ensures.items ∙ length_push c.loop-number.nodes.items x ∙ ap (λ n. n + 1) c.loop-number.invariant.count;
+      first = subst (Each (IsFirst t 0)) (sym c.in_ok-push.ensures.items)
+          (each-push (IsFirst t 0) c.loop-number.nodes.items x c.loop-number.invariant.first
+          (subst (λ n. IsFirst t 0 n x) (sym c.loop-number.invariant.count) fresh));
+    }
+
+pub returns : goal.returns
+returns c =
+    let t = c.args.topology.now in
+    let loopbacks : c.in_ok-loopbacks.loopbacks.items ≡ t.loopbacks =
+    c.in_ok-loopbacks.ensures ∙ ap (map (λ (node : Node). node.loopback)) c.nodes.ensures ∙ loopbacks-are t.loopbacks in
+    let size = ap length loopbacks in
+    let last : c.len-number-end.result ≤ c.loop-number.number = c.loop-number-test.false in
+    record {
+      each = omega (arith, size, last, c.loop-number.invariant.count, c.loop-number.auto.number-end, c.len-number-end.ensures);
+      nodes =
+          c.loop-number.invariant.first;
+    }
