@@ -45,7 +45,8 @@ module _ (t : Network) (lawful : IsLawful t) (es : List JournalEntry) (ps : List
       ∙ session_lives t (labels_of t es) w.config w.peerings a b (edge-below t lawful a both.0) (edge-below t lawful b both.1) three.1
 
   label_is : (s : ℕ) → nat_lt s (length t.sites) ≡ true → is_some (site_label t seen.routes s) ≡ is_some (w.config.attached s)
-  label_is s fit = ap (λ r. is_some (site_label t r s)) h.routes ∙ attached_is t (labels_of t es) w.config w.peerings lawful s (less_tells s (length t.sites) fit)
+  label_is s fit =
+      ap (λ r. is_some (site_label t r s)) h.routes ∙ attached_is t (labels_of t es) w.config w.peerings lawful s (less_tells s (length t.sites) fit)
 
   pub already : (s : Step) → fits t s ≡ true → is_so t seen s ≡ is_unchanged w.config s
   already (LinkUp l) fit = up_is l.0 (less_tells l.0 (length t.links) fit)

@@ -1,5 +1,6 @@
 -- What comes next by keys is what comes next in the ledger.
-use Rattle.std.proofs.Common.{ℕ, suc, ◌≡◌, ◌+◌, ◌*◌, ◌<◌, ◌≤◌, ◌⊎◌, inl, inr, Bool, true, false, cond, List, [], ◌∷◌, length, refl, arith, sym, ap, ◌∙◌, subst, Option, Some, None}
+use Rattle.std.proofs.Common.{ℕ, suc, ◌≡◌, ◌+◌, ◌*◌, ◌<◌, ◌≤◌, ◌⊎◌, inl, inr, Bool, true, false, cond, List, [], ◌∷◌, length, refl, arith, sym, ap, ◌∙◌}
+use Rattle.std.proofs.Common.{subst, Option, Some, None}
 use Rattle.std.specs.Prelude.{◌==◌, ◌&&◌, ◌||◌, ◌/◌, ◌%◌, nat_lt, nat_le, is_some, option_map, if◌then◌else◌}
 use Rattle.std.specs.List.{Contains}
 use Rattle.std.proofs.lemmas.Bool.Decides.{nat_tests, eqb_tells}
@@ -49,7 +50,8 @@ unfolding IsKeyOf
 from_keys number [] key i = absurd i
 from_keys number (x ∷ xs) key i = by (number x.on) refl (λ j. from_keys number xs key j) i
   where
-    by : (o : Option ℕ) → number x.on ≡ o → (IsIn key (keys_on number xs) → (y : Item) × In xs y × IsKeyOf number key y) → IsIn key (with_key o x (keys_on number xs)) →
+    by : (o : Option ℕ) → number x.on ≡ o →
+        (IsIn key (keys_on number xs) → (y : Item) × In xs y × IsKeyOf number key y) → IsIn key (with_key o x (keys_on number xs)) →
         (y : Item) × In (x ∷ xs) y × IsKeyOf number key y
     by None e later j = let m = later j in (m.0, inr m.1, m.2)
     by (Some c) e later j = elim j [
@@ -61,12 +63,14 @@ to_keys : (number : Numbering) (xs : List Item) (x : Item) (c : ℕ) → In xs x
 unfolding key_as
 to_keys number [] x c i e = absurd i
 to_keys number (y ∷ ys) x c i e = elim i [
-  | inl q ↦ subst (λ o. IsIn (record { channel = c; due = x.due; number = x.number }) (with_key o y (keys_on number ys))) (sym (ap (λ (z : Item). number z.on) q ∙ e))
+  | inl q ↦ subst (λ o. IsIn (record { channel = c; due = x.due; number = x.number }) (with_key o y (keys_on number ys)))
+      (sym (ap (λ (z : Item). number z.on) q ∙ e))
       (inl (ap (λ (z : Item). let k : Key = record { channel = c; due = z.due; number = z.number } in k) (sym q)))
   | inr j ↦ by (number y.on) (to_keys number ys x c j e)
 ]
   where
-    by : (o : Option ℕ) → IsIn (record { channel = c; due = x.due; number = x.number }) (keys_on number ys) → IsIn (record { channel = c; due = x.due; number = x.number }) (with_key o y (keys_on number ys))
+    by : (o : Option ℕ) → IsIn (record { channel = c; due = x.due; number = x.number }) (keys_on number ys) →
+        IsIn (record { channel = c; due = x.due; number = x.number }) (with_key o y (keys_on number ys))
     by None j = j
     by (Some d) j = inr j
 
@@ -116,12 +120,20 @@ odd_test l = ap (λ n. n == 0) (one l)
     one k = omega arith
 
 hears_channel : (l : ℕ) (d : Dir) → hears_on (channel l d) ≡ HearLdp (record { 0 = l }) d
-hears_channel l Forth = ap (λ n. let s : Step = HearLdp (record { 0 = n }) (dir_of (2 * l)) in s) (even l) ∙ ap (λ b. let s : Step = HearLdp (record { 0 = l }) (if b then Forth else Back) in s) (even_test l)
-hears_channel l Back = ap (λ n. let s : Step = HearLdp (record { 0 = n }) (dir_of (2 * l + 1)) in s) (odd l) ∙ ap (λ b. let s : Step = HearLdp (record { 0 = l }) (if b then Forth else Back) in s) (odd_test l)
+hears_channel l Forth =
+    ap (λ n. let s : Step = HearLdp (record { 0 = n }) (dir_of (2 * l)) in s) (even l) ∙ ap (λ b. let s : Step =
+    HearLdp (record { 0 = l }) (if b then Forth else Back) in s) (even_test l)
+hears_channel l Back =
+    ap (λ n. let s : Step = HearLdp (record { 0 = n }) (dir_of (2 * l + 1)) in s) (odd l) ∙ ap (λ b. let s : Step =
+    HearLdp (record { 0 = l }) (if b then Forth else Back) in s) (odd_test l)
 
 carries_channel : (l : ℕ) (d : Dir) → carries_on (channel l d) ≡ Carry (record { 0 = l }) d 0
-carries_channel l Forth = ap (λ n. let s : Step = Carry (record { 0 = n }) (dir_of (2 * l)) 0 in s) (even l) ∙ ap (λ b. let s : Step = Carry (record { 0 = l }) (if b then Forth else Back) 0 in s) (even_test l)
-carries_channel l Back = ap (λ n. let s : Step = Carry (record { 0 = n }) (dir_of (2 * l + 1)) 0 in s) (odd l) ∙ ap (λ b. let s : Step = Carry (record { 0 = l }) (if b then Forth else Back) 0 in s) (odd_test l)
+carries_channel l Forth =
+    ap (λ n. let s : Step = Carry (record { 0 = n }) (dir_of (2 * l)) 0 in s) (even l) ∙ ap (λ b. let s : Step =
+    Carry (record { 0 = l }) (if b then Forth else Back) 0 in s) (even_test l)
+carries_channel l Back =
+    ap (λ n. let s : Step = Carry (record { 0 = n }) (dir_of (2 * l + 1)) 0 in s) (odd l) ∙ ap (λ b. let s : Step =
+    Carry (record { 0 = l }) (if b then Forth else Back) 0 in s) (odd_test l)
 
 turned : (a b : ℕ) → (a == b) ≡ (b == a)
 turned a b = grind (arith, nat_tests)
@@ -153,7 +165,8 @@ module _ (t : Network) (lawful : IsLawful t) (es : List JournalEntry) (ps : List
 
   abbrev Comes : (Item → Bool) → Option Coming → Type 0
   Comes test None = (x : Item) → In items x → test x ≡ true → ⊥
-  Comes test (Some c) = (x : Item) × In items x × (test x ≡ true) × IsOf c x × ((y : Item) → In items y → test y ≡ true → comes_before y.due y.number x.due x.number ≡ false)
+  Comes test (Some c) =
+      (x : Item) × In items x × (test x ≡ true) × IsOf c x × ((y : Item) → In items y → test y ≡ true → comes_before y.due y.number x.due x.number ≡ false)
 
   one_comes : (test : Item → Bool) (a b : Option Coming) → Comes test a → Comes test b → a ≡ b
   one_comes test None None p q = refl
@@ -244,8 +257,7 @@ module _ (t : Network) (lawful : IsLawful t) (es : List JournalEntry) (ps : List
           p (key_as c.0 x) (to_keys number items x c.0 i c.1) (at_most_tells x.due limit both.1)
       by (Some key) p =
           let m = from_keys number items key p.0 in
-          let k : IsKeyOf number key m.0 = m.2 in
-          (
+          let k : IsKeyOf number key m.0 = m.2 in (
             m.0,
             m.1,
             and_on (is_some (number m.0.on)) (nat_le m.0.due limit) (ap is_some k.0) (at_most_is m.0.due limit (subst (λ n. n ≤ limit) k.1 p.1)),
@@ -296,9 +308,11 @@ module _ (t : Network) (lawful : IsLawful t) (es : List JournalEntry) (ps : List
   route_step (Frames l m) c g e = cc
 
   message_step : (on : Channel) (c : ℕ) → IsThere t on → of_messages t on ≡ Some c → hears_on c ≡ delivering t on 0
-  message_step (Messages l m) c g e = ap hears_on (sym (some_is (channel_from (wiring_of t) l m) c e)) ∙ by (m == (link (wiring_of t) l).a.0) (turned m (link (wiring_of t) l).a.0)
+  message_step (Messages l m) c g e =
+      ap hears_on (sym (some_is (channel_from (wiring_of t) l m) c e)) ∙ by (m == (link (wiring_of t) l).a.0) (turned m (link (wiring_of t) l).a.0)
     where
-      by : (b : Bool) → b ≡ ((link (wiring_of t) l).a.0 == m) → hears_on (if b then 2 * l else 2 * l + 1) ≡ HearLdp (record { 0 = l }) (if (link (wiring_of t) l).a.0 == m then Forth else Back)
+      by : (b : Bool) → b ≡ ((link (wiring_of t) l).a.0 == m) →
+          hears_on (if b then 2 * l else 2 * l + 1) ≡ HearLdp (record { 0 = l }) (if (link (wiring_of t) l).a.0 == m then Forth else Back)
       by true q = hears_channel l Forth ∙ ap (λ i. let s : Step = HearLdp (record { 0 = l }) (if i then Forth else Back) in s) q
       by false q = hears_channel l Back ∙ ap (λ i. let s : Step = HearLdp (record { 0 = l }) (if i then Forth else Back) in s) q
   message_step (Notices l m) c g e = cc
@@ -361,7 +375,8 @@ module _ (t : Network) (lawful : IsLawful t) (es : List JournalEntry) (ps : List
   -- 5. Of each kind
 
   news_comes : (number : Numbering) (keys : List Key) (limit : ℕ) (step : ℕ → Step) → keys ≡ keys_on number items →
-      ((on : Channel) (c : ℕ) → IsThere t on → number on ≡ Some c → step c ≡ delivering t on 0) → ((on : Channel) (c : ℕ) → number on ≡ Some c → is_kind Frame (kind_of on) ≡ false) →
+      ((on : Channel) (c : ℕ) → IsThere t on → number on ≡ Some c → step c ≡ delivering t on 0) →
+      ((on : Channel) (c : ℕ) → number on ≡ Some c → is_kind Frame (kind_of on) ≡ false) →
       Comes (due_on number limit) (news_coming step limit keys)
   news_comes number keys limit step e f g =
       subst (λ ks. Comes (due_on number limit) (news_coming step limit ks)) (sym e)
@@ -377,14 +392,16 @@ module _ (t : Network) (lawful : IsLawful t) (es : List JournalEntry) (ps : List
   messages_come limit =
       both_come (due_on (of_messages t) limit) (due_on (of_routes (length t.loopbacks)) limit) (is_due Message limit) _ _
       (λ x e. let b = and_parts (is_some (of_messages t x.on)) (nat_le x.due limit) e in
-          and_on (is_kind Message (kind_of x.on)) (nat_le x.due limit) (sym (message_kind x.on) ∙ or_left (is_some (of_messages t x.on)) (is_some (of_routes (length t.loopbacks) x.on)) b.0) b.1)
+      and_on (is_kind Message (kind_of x.on)) (nat_le x.due limit)
+      (sym (message_kind x.on) ∙ or_left (is_some (of_messages t x.on)) (is_some (of_routes (length t.loopbacks) x.on)) b.0) b.1)
       (λ x e. let b = and_parts (is_some (of_routes (length t.loopbacks) x.on)) (nat_le x.due limit) e in
-          and_on (is_kind Message (kind_of x.on)) (nat_le x.due limit) (sym (message_kind x.on) ∙ or_right (is_some (of_messages t x.on)) (is_some (of_routes (length t.loopbacks) x.on)) b.0) b.1)
+      and_on (is_kind Message (kind_of x.on)) (nat_le x.due limit)
+      (sym (message_kind x.on) ∙ or_right (is_some (of_messages t x.on)) (is_some (of_routes (length t.loopbacks) x.on)) b.0) b.1)
       (λ x e. let b = and_parts (is_kind Message (kind_of x.on)) (nat_le x.due limit) e in
-          elim (or_ways (is_some (of_messages t x.on)) (is_some (of_routes (length t.loopbacks) x.on)) (message_kind x.on ∙ b.0)) [
-            | inl r ↦ inl (and_on (is_some (of_messages t x.on)) (nat_le x.due limit) r b.1)
-            | inr r ↦ inr (and_on (is_some (of_routes (length t.loopbacks) x.on)) (nat_le x.due limit) r b.1)
-          ])
+      elim (or_ways (is_some (of_messages t x.on)) (is_some (of_routes (length t.loopbacks) x.on)) (message_kind x.on ∙ b.0)) [
+        | inl r ↦ inl (and_on (is_some (of_messages t x.on)) (nat_le x.due limit) r b.1)
+        | inr r ↦ inr (and_on (is_some (of_routes (length t.loopbacks) x.on)) (nat_le x.due limit) r b.1)
+      ])
       (news_comes (of_messages t) packed.messages limit hears_on h.messages message_step message_no_frame)
       (news_comes (of_routes (length t.loopbacks)) packed.routes limit (tells_on (length t.loopbacks)) h.routes route_step route_no_frame)
 

@@ -1,5 +1,6 @@
 -- The first key of a flight: none is due before it.
-use Rattle.std.proofs.Common.{ℕ, ◌≡◌, ◌<◌, ◌≤◌, inl, inr, Bool, true, false, cond, List, [], ◌∷◌, map, filter, refl, arith, sym, ap, ◌∙◌, subst, Option, Some, None}
+use Rattle.std.proofs.Common.{ℕ, ◌≡◌, ◌<◌, ◌≤◌, inl, inr, Bool, true, false, cond, List, [], ◌∷◌, map, filter, refl, arith, sym, ap, ◌∙◌, subst, Option}
+use Rattle.std.proofs.Common.{Some, None}
 use Rattle.std.specs.Prelude.{◌==◌, ◌&&◌, ◌||◌, nat_lt, nat_le, find, option_map, if◌then◌else◌}
 use Rattle.std.specs.List.{list_all}
 use Rattle.std.proofs.lemmas.Bool.Decides.{nat_tests}
@@ -42,7 +43,8 @@ module _ {T : Type 0} where
 
   pub earliest_key : (limit : ℕ) (xs : List (ItemOf T)) → option_map key_of (earliest limit xs) ≡ first_key limit (keys_in xs)
   earliest_key limit xs =
-      found_key (is_first (due_by limit xs)) (λ key. list_all (goes_first key) (keys_in (due_by limit xs))) (due_by limit xs) (λ x. all_keys x (due_by limit xs))
+      found_key (is_first (due_by limit xs)) (λ key. list_all (goes_first key) (keys_in (due_by limit xs))) (due_by limit xs)
+      (λ x. all_keys x (due_by limit xs))
       ∙ ap (λ keys. find (λ key. list_all (goes_first key) keys) keys) (due_keys limit xs)
 
 -- 2. It is the first
@@ -69,11 +71,11 @@ some_first keys key i = by (least (map as_item keys)) (least_is (map as_item key
     back x [] j = absurd j
     back x (y ∷ ys) j = elim j [ inl e ↦ inl (sym e) | inr k ↦ inr (back x ys k) ]
 
-    by : (o : Option Item) → IsLeastOf (map as_item keys) o → (first : Key) × IsIn first keys × ((other : Key) → IsIn other keys → goes_first first other ≡ true)
+    by : (o : Option Item) → IsLeastOf (map as_item keys) o →
+        (first : Key) × IsIn first keys × ((other : Key) → IsIn other keys → goes_first first other ≡ true)
     by None h = absurd (subst (λ xs. In xs (as_item key)) h (map_in as_item keys key (turn key keys i)))
     by (Some x) h =
-        let m = in_map as_item keys x h.0 in
-        (
+        let m = in_map as_item keys x h.0 in (
           m.0,
           back m.0 keys m.1,
           λ other j. none_before_goes other.due other.number m.0.due m.0.number
@@ -86,11 +88,11 @@ first_is limit keys = by (first_key limit keys) refl
     by : (o : Option Key) → first_key limit keys ≡ o → IsFirst limit keys o
     by None e = λ key i due.
         let some = some_first (keys_due limit keys) key (in_filter (λ (k : Key). nat_le k.due limit) key keys i (at_most_is key.due limit due)) in
-        find_some (λ k. list_all (goes_first k) (keys_due limit keys)) some.0 (keys_due limit keys) some.1 (all_from (goes_first some.0) (keys_due limit keys) some.2) e
+        find_some (λ k. list_all (goes_first k) (keys_due limit keys)) some.0 (keys_due limit keys) some.1
+        (all_from (goes_first some.0) (keys_due limit keys) some.2) e
     by (Some key) e =
         let found = find_in (λ k. list_all (goes_first k) (keys_due limit keys)) key (keys_due limit keys) e in
-        let there = from_filter (λ (k : Key). nat_le k.due limit) key keys found.1 in
-        (
+        let there = from_filter (λ (k : Key). nat_le k.due limit) key keys found.1 in (
           there.1,
           at_most_tells key.due limit there.0,
           λ other i due. all_at (goes_first key) other (keys_due limit keys) found.0

@@ -72,7 +72,9 @@ module _ (t : Network) (lawful : IsLawful t) (es : List JournalEntry) (ps : List
   nothing_to_learn : (l node : ℕ) → l < length t.links → node < length t.loopbacks →
       (count_on (l * length t.loopbacks + node) packed.notices == 0) ≡ nat_le (w.views.changes l) (w.views.learned node l)
   nothing_to_learn l node there g =
-      let names = names_all t (of_notices (length t.loopbacks)) (Notices l node) (l * length t.loopbacks + node) (notice_named t lawful l node there g) items (all_there t es ps lawful h.lawful) in
+      let names =
+      names_all t (of_notices (length t.loopbacks)) (Notices l node) (l * length t.loopbacks + node) (notice_named t lawful l node there g) items
+      (all_there t es ps lawful h.lawful) in
       let count = counted_names (of_notices (length t.loopbacks)) (Notices l node) (l * length t.loopbacks + node) items names in
       let loads = length-map (items_on (Notices l node) items) (λ item. item.load) in
       ap (λ keys. count_on (l * length t.loopbacks + node) keys == 0) h.notices
@@ -90,9 +92,11 @@ module _ (t : Network) (lawful : IsLawful t) (es : List JournalEntry) (ps : List
       let names = names_all t (of_messages t) (Messages l from) (channel l d) (message_named t lawful l d there) items (all_there t es ps lawful h.lawful) in
       let count = counted_names (of_messages t) (Messages l from) (channel l d) items names in
       let loads = length-map (items_on (Messages l from) items) (λ item. item.load) in
-      let unheard = ap length (flies.messages l from there ends.0) ∙ length-map (drop (w.sessions.heard l (across (wiring_of t) l from)) (w.sessions.said l from)) (λ message. Says message)
-          ∙ length-drop (w.sessions.heard l (across (wiring_of t) l from)) (w.sessions.said l from)
-          ∙ ap (λ n. length (w.sessions.said l from) - w.sessions.heard l n) ends.1 in
+      let unheard =
+      ap length (flies.messages l from there ends.0) ∙ length-map (drop (w.sessions.heard l (across (wiring_of t) l from)) (w.sessions.said l from))
+      (λ message. Says message)
+      ∙ length-drop (w.sessions.heard l (across (wiring_of t) l from)) (w.sessions.said l from)
+      ∙ ap (λ n. length (w.sessions.said l from) - w.sessions.heard l n) ends.1 in
       ap (λ keys. count_on (channel l d) keys == 0) h.messages
       ∙ ap (λ n. n == 0) (sym count ∙ sym loads)
       ∙ none_said (lives w.config l) _ (length (w.sessions.said l from)) (w.sessions.heard l (receiver (wiring_of t) l d)) unheard
@@ -105,11 +109,13 @@ module _ (t : Network) (lawful : IsLawful t) (es : List JournalEntry) (ps : List
       ≡ (not (peers_live w.config a b) || nat_le (length (w.peerings.told a b)) (w.peerings.heard b a))
   nothing_told a b below other differ =
       let apart = other_numbers a b differ in
-      let names = names_all t (of_routes (length t.loopbacks)) (Routes a b) (a * length t.loopbacks + b) (route_named t lawful a b below other) items (all_there t es ps lawful h.lawful) in
+      let names =
+      names_all t (of_routes (length t.loopbacks)) (Routes a b) (a * length t.loopbacks + b) (route_named t lawful a b below other) items
+      (all_there t es ps lawful h.lawful) in
       let count = counted_names (of_routes (length t.loopbacks)) (Routes a b) (a * length t.loopbacks + b) items names in
       let loads = length-map (items_on (Routes a b) items) (λ item. item.load) in
       let unheard = ap length (flies.routes a b apart) ∙ length-map (drop (w.peerings.heard b a) (w.peerings.told a b)) (λ telling. Tells telling)
-          ∙ length-drop (w.peerings.heard b a) (w.peerings.told a b) in
+      ∙ length-drop (w.peerings.heard b a) (w.peerings.told a b) in
       ap (λ keys. count_on (a * length t.loopbacks + b) keys == 0) h.routes
       ∙ ap (λ n. n == 0) (sym count ∙ sym loads)
       ∙ none_said (peers_live w.config a b) _ (length (w.peerings.told a b)) (w.peerings.heard b a) unheard

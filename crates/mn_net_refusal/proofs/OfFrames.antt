@@ -28,7 +28,8 @@ abbrev On : ℕ → List Key → Type 0
 On n keys = AllByRecursion (λ (key : Key). key.channel < n) keys
 
 module _ (t : Network) where
-  one_on : (x : Item) (on : Channel) (load : Load) (keys : List Key) → IsOfChannel t on load → On (2 * length t.links) keys → On (2 * length t.links) (with_key (of_frames on) x keys)
+  one_on : (x : Item) (on : Channel) (load : Load) (keys : List Key) → IsOfChannel t on load → On (2 * length t.links) keys →
+      On (2 * length t.links) (with_key (of_frames on) x keys)
   one_on x (Notices l n) load keys h g = g
   one_on x (Messages l n) load keys h g = g
   one_on x (Routes a b) load keys h g = g
@@ -45,7 +46,8 @@ items_on_them : {T : Type 0} (n : ℕ) (xs : List (ItemOf T)) → On n (keys_in 
 items_on_them n [] h = All-nil (λ item. item.channel < n)
 items_on_them n (x ∷ xs) h = All-cons (λ item. item.channel < n) x xs h.0 (items_on_them n xs h.1)
 
-pub on_directions : (t : Network) (es : List JournalEntry) (ps : List (List ℕ)) (packed : Packed) → IsLawful t → StandsFor t es packed ps → IsFlight (2 * length t.links) packed.moving.flying
+pub on_directions : (t : Network) (es : List JournalEntry) (ps : List (List ℕ)) (packed : Packed) → IsLawful t → StandsFor t es packed ps →
+    IsFlight (2 * length t.links) packed.moving.flying
 on_directions t es ps packed lawful h = record {
   ascending = flight_ascends of_frames t es ps packed.moving.flying h.frames;
   on_channels = items_on_them (2 * length t.links) packed.moving.flying (subst (On (2 * length t.links)) (sym h.frames)

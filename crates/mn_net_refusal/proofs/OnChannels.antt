@@ -11,7 +11,8 @@ use Rattle.mn_topo.specs.declared.steps.Step.{Step}
 use Rattle.mn_topo.specs.declared.steps.Step.TheVariants.{Learn, HearLdp, HearBgp}
 use Rattle.mn_ledger.specs.Packets.{channel}
 use Rattle.mn_ledger.specs.Items.{Channel, Notices, Messages, Routes, Frames, Notice, Item, same_channel, items_on, without}
-use Rattle.mn_timetable.specs.Keys.{Key, Numbering, of_notices, of_messages, of_routes, with_key, keys_on, keys_by, is_number, key_without, Names, IsThere, AreThere}
+use Rattle.mn_timetable.specs.Keys.{Key, Numbering, of_notices, of_messages, of_routes, with_key, keys_on, keys_by, is_number, key_without, Names, IsThere}
+use Rattle.mn_timetable.specs.Keys.{AreThere}
 use Rattle.mn_timetable.proofs.OtherKeys.{notices_left, messages_left, routes_left}
 use Rattle.mn_net_refusal.specs.Refusal.{count_on}
 
@@ -20,7 +21,8 @@ use Rattle.mn_net_refusal.specs.Refusal.{count_on}
 abbrev key_at : ℕ → Item → Key
 key_at d x = record { channel = d; due = x.due; number = x.number }
 
-pub counted_names : (number : Numbering) (on : Channel) (c : ℕ) (xs : List Item) → Names number on c xs → length (items_on on xs) ≡ count_on c (keys_on number xs)
+pub counted_names : (number : Numbering) (on : Channel) (c : ℕ) (xs : List Item) → Names number on c xs →
+    length (items_on on xs) ≡ count_on c (keys_on number xs)
 counted_names number on c [] h = refl
 counted_names number on c (x ∷ xs) h = by (number x.on) h.0 (counted_names number on c xs h.1)
   where
@@ -30,11 +32,13 @@ counted_names number on c (x ∷ xs) h = by (number x.on) h.0 (counted_names num
     by (Some d) e rest = ap (λ b. length (cond b (x ∷ items_on on xs) (items_on on xs))) e ∙ split (d == c) rest
       where
         split : (b : Bool) → length (items_on on xs) ≡ count_on c (keys_on number xs) →
-            length (cond b (x ∷ items_on on xs) (items_on on xs)) ≡ length (cond b (key_at d x ∷ keys_by (λ n. n == c) (keys_on number xs)) (keys_by (λ n. n == c) (keys_on number xs)))
+            length (cond b (x ∷ items_on on xs) (items_on on xs)) ≡ length
+            (cond b (key_at d x ∷ keys_by (λ n. n == c) (keys_on number xs)) (keys_by (λ n. n == c) (keys_on number xs)))
         split true r = ap suc r
         split false r = r
 
-pub names_all : (t : Network) (number : Numbering) (on : Channel) (c : ℕ) → ((other : Channel) → IsThere t other → same_channel on other ≡ is_number c (number other)) →
+pub names_all : (t : Network) (number : Numbering) (on : Channel) (c : ℕ) →
+    ((other : Channel) → IsThere t other → same_channel on other ≡ is_number c (number other)) →
     (xs : List Item) → AreThere t xs → Names number on c xs
 names_all t number on c h [] there = tt
 names_all t number on c h (x ∷ xs) there = (h x.on there.0, names_all t number on c h xs there.1)
@@ -53,7 +57,8 @@ goes_both false false k e = refl
 goes_both true false k e = cc
 goes_both false true k e = cc
 
-kept_keys : (number : Numbering) (on : Channel) (d : ℕ) (b : Bool) → number on ≡ Some d → keys_on number (cond b [] (alone on ∷ [])) ≡ cond b [] (key_of_it d ∷ [])
+kept_keys : (number : Numbering) (on : Channel) (d : ℕ) (b : Bool) → number on ≡ Some d →
+    keys_on number (cond b [] (alone on ∷ [])) ≡ cond b [] (key_of_it d ∷ [])
 kept_keys number on d true e = refl
 kept_keys number on d false e = ap (λ o. with_key o (alone on) []) e
 

@@ -19,7 +19,8 @@ use Rattle.mn_ledger.specs.Places.{vrf_of, home_of}
 use Rattle.mn_ledger.specs.World.{World}
 use Rattle.mn_ledger.specs.Packets.{Packets}
 use Rattle.mn_ledger.specs.Ledger.{world_of, packets_of}
-use Rattle.mn_ledger.specs.Refusal.{first_cause, where_holds, taken_by, prefix_refusal, static_refusal, is_targets_full, is_spent, is_full, takes_out, in_flight, bytes_flying, refusal}
+use Rattle.mn_ledger.specs.Refusal.{first_cause, where_holds, taken_by, prefix_refusal, static_refusal, is_targets_full, is_spent, is_full, takes_out}
+use Rattle.mn_ledger.specs.Refusal.{in_flight, bytes_flying, refusal}
 use Rattle.mn_ledger.specs.Refusal as refusals
 use Rattle.mn_ledger.proofs.Choice.{keeps}
 use Rattle.mn_ledger.proofs.Statics.{HasStatics}
@@ -36,7 +37,8 @@ use Rattle.mn_net_model.proofs.News.{is_counted}
 use Rattle.mn_net_model.proofs.Numbers.{flight_ascends}
 use Rattle.mn_net_refusal.specs.Alike.{RefusesAlike}
 use Rattle.mn_net_refusal.specs.Seen.{Seen, Shows}
-use Rattle.mn_net_refusal.specs.Refusal.{of_vrf, site_with, is_site, is_so, has_nothing, of_static, has_all_targets, has_given_all, has_no_room, has_too_much, refusal_seen}
+use Rattle.mn_net_refusal.specs.Refusal.{of_vrf, site_with, is_site, is_so, has_nothing, of_static, has_all_targets, has_given_all, has_no_room}
+use Rattle.mn_net_refusal.specs.Refusal.{has_too_much, refusal_seen}
 use Rattle.mn_net_refusal.proofs.Already.{already}
 use Rattle.mn_net_refusal.proofs.Nothing.{nothing_is_there}
 use Rattle.mn_net_refusal.proofs.OfFrames.{on_directions}
@@ -57,11 +59,13 @@ module _ (t : Network) (lawful : IsLawful t) (es : List JournalEntry) (ps : List
   site_row s p fit =
       let there = less_tells s.0 (length t.sites) (and_parts (nat_lt s.0 (length t.sites)) (is_lawful_prefix p) fit).0 in
       ap (λ r. site_with t r (vrf_of t s.0) p) h.routes
-      ∙ vrf_is t (labels_of t es) w.config w.peerings lawful (vrf_of t s.0) (λ vrf. option_map (λ (static : Static). static.site) (static_of p vrf.statics)) (vrf_there t s.0 lawful there)
+      ∙ vrf_is t (labels_of t es) w.config w.peerings lawful (vrf_of t s.0) (λ vrf. option_map (λ (static : Static). static.site) (static_of p vrf.statics))
+      (vrf_there t s.0 lawful there)
       ∙ site_is t (vrf_of t s.0) p w.config has
 
   static_is : (s : Step) → fits t s ≡ true → of_static t seen s ≡ static_refusal t w.config s
-  static_is (AddRoute s p) fit = ap (λ o. prefix_refusal o seen.statics) (site_row s p fit) ∙ ap (prefix_refusal (taken_by t (vrf_of t s.0) p w.config.statics)) h.statics
+  static_is (AddRoute s p) fit =
+      ap (λ o. prefix_refusal o seen.statics) (site_row s p fit) ∙ ap (prefix_refusal (taken_by t (vrf_of t s.0) p w.config.statics)) h.statics
   static_is (DelRoute s p) fit =
       ap (λ o. cond (is_site s.0 o) None (Some NoRouteThere)) (site_row s p fit)
       ∙ ap (λ b. cond b None (Some NoRouteThere)) (sym (over_site t (vrf_of t s.0) p w.config has s.0 refl))
@@ -113,12 +117,15 @@ module _ (t : Network) (lawful : IsLawful t) (es : List JournalEntry) (ps : List
 
   pub same_refusal : (s : Step) (b : List ℕ) → fits t s ≡ true → refusal_seen t seen s b ≡ refusal t es ps s b
   same_refusal s b fit =
-      rows (already t lawful es ps seen h s fit) (nothing_is_there t lawful es ps seen.packed h.packed s fit) (static_is s fit) (targets_are s fit) (labels_are s fit) (full_is s b) h.steps
+      rows (already t lawful es ps seen h s fit) (nothing_is_there t lawful es ps seen.packed h.packed s fit) (static_is s fit) (targets_are s fit)
+      (labels_are s fit) (full_is s b) h.steps
     where
       rows : {so so_too none none_too many many_too all all_too full full_too : Bool} {static static_too : Option Refused} {steps steps_too : ℕ} →
           so ≡ so_too → none ≡ none_too → static ≡ static_too → many ≡ many_too → all ≡ all_too → full ≡ full_too → steps ≡ steps_too →
-          first_cause (where_holds so Unchanged ∷ where_holds none Empty ∷ static ∷ where_holds many TargetsFull ∷ where_holds all LabelsSpent ∷ where_holds full NetFull ∷ where_holds (nat_le 4000000 steps) TooManySteps ∷ [])
-          ≡ first_cause (where_holds so_too Unchanged ∷ where_holds none_too Empty ∷ static_too ∷ where_holds many_too TargetsFull ∷ where_holds all_too LabelsSpent ∷ where_holds full_too NetFull ∷ where_holds (nat_le 4000000 steps_too) TooManySteps ∷ [])
+          first_cause (where_holds so Unchanged ∷ where_holds none Empty ∷ static ∷ where_holds many TargetsFull ∷ where_holds all LabelsSpent
+          ∷ where_holds full NetFull ∷ where_holds (nat_le 4000000 steps) TooManySteps ∷ [])
+          ≡ first_cause (where_holds so_too Unchanged ∷ where_holds none_too Empty ∷ static_too ∷ where_holds many_too TargetsFull
+          ∷ where_holds all_too LabelsSpent ∷ where_holds full_too NetFull ∷ where_holds (nat_le 4000000 steps_too) TooManySteps ∷ [])
       rows a b c d e f g = rw (a, b, c, d, e, f, g) refl
 
 pub refuses_alike : RefusesAlike

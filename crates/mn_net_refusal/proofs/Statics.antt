@@ -1,5 +1,6 @@
 -- A VRF's static of a prefix is the ledger's.
-use Rattle.std.proofs.Common.{ℕ, ◌≡◌, ◌≢◌, Bool, true, false, cond, List, [], ◌∷◌, map, filter, fold, length, refl, sym, ap, ◌∙◌, subst, Option, Some, None, inl, inr, ◌⊎◌}
+use Rattle.std.proofs.Common.{ℕ, ◌≡◌, ◌≢◌, Bool, true, false, cond, List, [], ◌∷◌, map, filter, fold, length, refl, sym, ap, ◌∙◌, subst, Option, Some, None}
+use Rattle.std.proofs.Common.{inl, inr, ◌⊎◌}
 use Rattle.std.specs.Prelude.{◌==◌, ◌&&◌, ◌||◌, nat_lt, option_map, if◌then◌else◌}
 use Rattle.std.specs.List.{list_any}
 use Rattle.mn_base.specs.Ordered.{with_one, one_at}
@@ -37,7 +38,8 @@ found {A = A} before x (y ∷ ys) = by (found before x ys) (before y x || before
     later None e h = λ z i p. elim i [ inl q ↦ absurd (clash (sym e ∙ subst (InPlace before x) (sym q) p)) | inr j ↦ h z j p ]
     later (Some z) e h = (inr h.0, h.1)
 
-    by : IsFound before x ys (one_at before x ys) → (b : Bool) → (before y x || before x y) ≡ b → IsFound before x (y ∷ ys) (if b then one_at before x ys else Some y)
+    by : IsFound before x ys (one_at before x ys) → (b : Bool) →
+        (before y x || before x y) ≡ b → IsFound before x (y ∷ ys) (if b then one_at before x ys else Some y)
     by rest true e = later (one_at before x ys) e rest
     by rest false e = (inl refl, e)
 
@@ -60,7 +62,9 @@ module _ (t : Network) (v : ℕ) (p : AddressBlock) where
       differs e h = clash (sym (and_on (vrf_of t x.site == v) (same_prefix x.prefix p) (test_same (vrf_of t x.site) v h.0) (same_from x.prefix p h.1)) ∙ e)
         where
           same_from : (a b : AddressBlock) → a ≡ b → same_prefix a b ≡ true
-          same_from a b q = elim (two_prefixes a b) [ inl r ↦ r.1 | inr r ↦ absurd (clash (sym r.1 ∙ ap (λ (z : AddressBlock). prefix_before z b || prefix_before b z) q ∙ same_place b)) ]
+          same_from a b q =
+              elim (two_prefixes a b)
+              [ inl r ↦ r.1 | inr r ↦ absurd (clash (sym r.1 ∙ ap (λ (z : AddressBlock). prefix_before z b || prefix_before b z) q ∙ same_place b)) ]
 
       agrees : ((vrf_of t x.site == v) && same_prefix x.prefix p) ≡ true → Fits x
       agrees e =
@@ -71,7 +75,8 @@ module _ (t : Network) (v : ℕ) (p : AddressBlock) where
       later None off h = λ y i f. elim i [ inl q ↦ off (subst Fits (sym q) f) | inr j ↦ h y j f ]
       later (Some s) off h = (h.0, inr h.1, h.2, h.3)
 
-      by : IsTaken xs (taken_by t v p xs) → (b : Bool) → ((vrf_of t x.site == v) && same_prefix x.prefix p) ≡ b → IsTaken (x ∷ xs) (cond b (Some x.site) (taken_by t v p xs))
+      by : IsTaken xs (taken_by t v p xs) → (b : Bool) →
+          ((vrf_of t x.site == v) && same_prefix x.prefix p) ≡ b → IsTaken (x ∷ xs) (cond b (Some x.site) (taken_by t v p xs))
       by rest true e = (x, inl refl, agrees e, refl)
       by rest false e = later (taken_by t v p xs) (differs e) rest
 
@@ -95,8 +100,7 @@ module _ (t : Network) (v : ℕ) (p : AddressBlock) where
       | inl j ↦ absurd j
       | inr j ↦
           let m = in_map static_of (filter (λ static. vrf_of t static.site == v) c.statics) y j in
-          let f = in_filter (λ static. vrf_of t static.site == v) c.statics m.0 m.1 in
-          (
+          let f = in_filter (λ static. vrf_of t static.site == v) c.statics m.0 m.1 in (
             m.0,
             f.0,
             (
@@ -115,7 +119,8 @@ module _ (t : Network) (v : ℕ) (p : AddressBlock) where
     unfolding Fits place
     in_place x i f = (
       in_fold static_before [] (map static_of (filter (λ static. vrf_of t static.site == v) c.statics)) (static_of x)
-          (inr (map_in static_of (filter (λ static. vrf_of t static.site == v) c.statics) x (filter_in (λ static. vrf_of t static.site == v) c.statics x i (test_same (vrf_of t x.site) v f.0))))
+          (inr (map_in static_of (filter (λ static. vrf_of t static.site == v) c.statics) x
+          (filter_in (λ static. vrf_of t static.site == v) c.statics x i (test_same (vrf_of t x.site) v f.0))))
           (λ z j. apart z (in_map static_of (filter (λ static. vrf_of t static.site == v) c.statics) z j)),
       ap (λ q. prefix_before q p || prefix_before p q) f.1 ∙ same_place p,
     )
@@ -133,7 +138,8 @@ module _ (t : Network) (v : ℕ) (p : AddressBlock) where
     unfolding place
     site_is = by (vrf.static_of p (statics_in t c v)) (taken_by t v p c.statics) (found static_before place (statics_in t c v)) (taken c.statics)
       where
-        by : (o : Option Static) (q : Option ℕ) → IsFound static_before place (statics_in t c v) o → IsTaken c.statics q → option_map (λ (static : Static). static.site) o ≡ q
+        by : (o : Option Static) (q : Option ℕ) → IsFound static_before place (statics_in t c v) o → IsTaken c.statics q →
+            option_map (λ (static : Static). static.site) o ≡ q
         by None None h g = refl
         by None (Some s) h g = let there = in_place g.0 g.1 g.2 in absurd (h (static_of g.0) there.0 there.1)
         by (Some y) None h g = let m = from_place y h.0 h.1 in absurd (g m.0 m.1 m.2)
@@ -165,7 +171,9 @@ module _ (t : Network) (v : ℕ) (p : AddressBlock) where
         off x d = elim (two_ways (is_static s p x)) [ inl g ↦ absurd (d g) | inr g ↦ g ]
 
         any_true : (x : SiteRoute) → In c.statics x → is_static s p x ≡ true → list_any (is_static s p) c.statics ≡ true
-        any_true x i g = elim (two_ways (list_any (is_static s p) c.statics)) [ inl a ↦ a | inr a ↦ absurd (clash (sym g ∙ none_passes (is_static s p) c.statics x a i)) ]
+        any_true x i g =
+            elim (two_ways (list_any (is_static s p) c.statics))
+            [ inl a ↦ a | inr a ↦ absurd (clash (sym g ∙ none_passes (is_static s p) c.statics x a i)) ]
 
         split : (x : SiteRoute) → In c.statics x → Fits x → (b : Bool) → (x.site == s) ≡ b → list_any (is_static s p) c.statics ≡ b
         split x i f true q = any_true x i (itself x f (same_numbers x.site s q))

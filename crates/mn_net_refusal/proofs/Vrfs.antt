@@ -1,5 +1,6 @@
 -- What edges and sessions show is what the ledger has configured.
-use Rattle.std.proofs.Common.{ℕ, zero, suc, ◌≡◌, ◌+◌, ◌<◌, Bool, true, false, cond, List, [], ◌∷◌, length, map, refl, arith, sym, ap, ◌∙◌, subst, Option, Some, None, inl, inr}
+use Rattle.std.proofs.Common.{ℕ, zero, suc, ◌≡◌, ◌+◌, ◌<◌, Bool, true, false, cond, List, [], ◌∷◌, length, map, refl, arith, sym, ap, ◌∙◌, subst, Option}
+use Rattle.std.proofs.Common.{Some, None, inl, inr}
 use Rattle.std.specs.Prelude.{◌==◌, ◌&&◌, ◌||◌, not, nat_lt, slice_index_or, is_some, is_none, option_map, unwrap_or, if◌then◌else◌}
 use Rattle.std.specs.List.{list_any, range_with_len}
 use Rattle.std.proofs.lemmas.List.{length-map}
@@ -44,7 +45,8 @@ module _ (t : Network) (l : Labels) (c : Config) (p : Peerings) where
       ap (λ row. slice_index_or row b None) (map_numbers_at (λ node. map (session_or_none t c p node) (nodes_of (wiring_of t))) (length t.loopbacks) a [] below)
       ∙ map_numbers_at (session_or_none t c p a) (length t.loopbacks) b None other
 
-  pub session_lives : (a b : ℕ) → a < length t.loopbacks → b < length t.loopbacks → nat_lt a b ≡ true → is_some (session_at (routes_in t l c p) a b) ≡ c.bgp_on a b
+  pub session_lives : (a b : ℕ) → a < length t.loopbacks → b < length t.loopbacks → nat_lt a b ≡ true →
+      is_some (session_at (routes_in t l c p) a b) ≡ c.bgp_on a b
   session_lives a b below other first =
       ap is_some (session_is a b below other) ∙ some_where (peers_live c a b) (session_in t c p a b) ∙ ap (λ i. if i then c.bgp_on a b else c.bgp_on b a) first
 
@@ -63,10 +65,12 @@ at_edge_of (x ∷ xs) (suc v) d h = or_on ((slice_index_or xs v d).node.0 == x.n
     or_on false e = e
 
 -- the VRF of this number, among VRFs that are made by their numbers
-found_there : {A : Type 0} (make : ℕ → VrfState) (question : VrfState → Option A) (v : ℕ) (us : List ℕ) → ((u : ℕ) → (make u).number ≡ u) → In us v → found_in v question (map make us) ≡ question (make v)
+found_there : {A : Type 0} (make : ℕ → VrfState) (question : VrfState → Option A) (v : ℕ) (us : List ℕ) →
+    ((u : ℕ) → (make u).number ≡ u) → In us v → found_in v question (map make us) ≡ question (make v)
 found_there make question v [] numbered i = absurd i
 found_there make question v (u ∷ us) numbered i =
-    ap (λ n. if n == v then question (make u) else found_in v question (map make us)) (numbered u) ∙ by (λ j. found_there make question v us numbered j) (u == v) refl
+    ap (λ n. if n == v then question (make u) else found_in v question (map make us)) (numbered u)
+    ∙ by (λ j. found_there make question v us numbered j) (u == v) refl
   where
     rest : (u == v) ≡ false → In (u ∷ us) v → In us v
     rest e j = elim j [ inl q ↦ absurd (clash (sym (ap (λ n. n == v) q ∙ same_test v) ∙ e)) | inr k ↦ k ]
@@ -80,7 +84,8 @@ found_there make question v (u ∷ us) numbered i =
     by later false e = later (rest e i)
 
 module _ (t : Network) (l : Labels) (c : Config) (p : Peerings) (lawful : IsLawful t) where
-  edge_is : (node : ℕ) → node < length t.loopbacks → is_edge t.vrfs node ≡ true → slice_index_or (routes_in t l c p).edges node None ≡ Some (edge_in t l c p node)
+  edge_is : (node : ℕ) → node < length t.loopbacks → is_edge t.vrfs node ≡ true →
+      slice_index_or (routes_in t l c p).edges node None ≡ Some (edge_in t l c p node)
   edge_is node below edge =
       map_numbers_at (edge_or_none t l c p) (length t.loopbacks) node None below ∙ ap (λ b. if b then Some (edge_in t l c p node) else None) edge
 
@@ -88,7 +93,9 @@ module _ (t : Network) (l : Labels) (c : Config) (p : Peerings) (lawful : IsLawf
   its_edge v h = edge_is (edge_of t v) (edge_there t v lawful h) (at_edge_of t.vrfs v _ h)
 
   one_of_its : (v : ℕ) → v < length t.vrfs → In (vrfs_at t (edge_of t v)) v
-  one_of_its v h = filter_in (λ u. edge_of t u == edge_of t v) (range_with_len 0 (length t.vrfs)) v (range_in 0 (length t.vrfs) v (omega arith) (omega (arith, h))) (same_test (edge_of t v))
+  one_of_its v h =
+      filter_in (λ u. edge_of t u == edge_of t v) (range_with_len 0 (length t.vrfs)) v (range_in 0 (length t.vrfs) v (omega arith) (omega (arith, h)))
+      (same_test (edge_of t v))
 
   pub vrf_is : {A : Type 0} (v : ℕ) (question : VrfState → Option A) → v < length t.vrfs → of_vrf t (routes_in t l c p) v question ≡ question (vrf_in t c v)
   vrf_is v question h =

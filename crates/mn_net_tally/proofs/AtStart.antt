@@ -10,7 +10,9 @@ use Rattle.mn_ledger.specs.World.{SiteRoute}
 use Rattle.mn_ledger.specs.Ledger.{statics_from}
 
 one_site : (site : SiteDef) (sites : List SiteDef) → length (statics_of (site ∷ sites)) ≡ length site.prefixes + length (statics_of sites)
-one_site site sites = length-append (in_vrf site.vrf.0 site.prefixes) (statics_of sites) ∙ ap (λ n. n + length (statics_of sites)) (length-map site.prefixes (λ prefix. (site.vrf.0, prefix)))
+one_site site sites =
+    length-append (in_vrf site.vrf.0 site.prefixes) (statics_of sites)
+    ∙ ap (λ n. n + length (statics_of sites)) (length-map site.prefixes (λ prefix. (site.vrf.0, prefix)))
 
 abbrev over : ℕ → AddressBlock → SiteRoute
 over s prefix = record { site = s; prefix = prefix }

@@ -1,5 +1,6 @@
 -- A tally goes on with each step.
-use Rattle.std.proofs.Common.{ℕ, zero, suc, ◌≡◌, ◌+◌, ◌-◌, ◌*◌, ◌<◌, ◌≤◌, ◌⊎◌, inl, inr, Bool, true, false, cond, List, [], ◌∷◌, ◌++◌, length, map, filter, refl, arith, sym, ap, ◌∙◌, subst, append-nil, Option, Some, None}
+use Rattle.std.proofs.Common.{ℕ, zero, suc, ◌≡◌, ◌+◌, ◌-◌, ◌*◌, ◌<◌, ◌≤◌, ◌⊎◌, inl, inr, Bool, true, false, cond, List, [], ◌∷◌, ◌++◌, length, map, filter}
+use Rattle.std.proofs.Common.{refl, arith, sym, ap, ◌∙◌, subst, append-nil, Option, Some, None}
 use Rattle.std.specs.Prelude.{◌==◌, ◌/◌, nat_le, slice_get, slice_index, slice_set, find, option_map, if◌then◌else◌}
 use Rattle.std.specs.List.{Contains, AllByRecursion, list_any}
 use Rattle.std.proofs.lemmas.Bool.Decides.{nat_tests}
@@ -16,14 +17,16 @@ use Rattle.mn_prefix.specs.Prefix.{AddressBlock}
 use Rattle.mn_topo.specs.Lawful.{IsLawful}
 use Rattle.mn_topo.specs.Network.{Network, wiring_of}
 use Rattle.mn_topo.specs.declared.steps.Step.{Step}
-use Rattle.mn_topo.specs.declared.steps.Step.TheVariants.{LinkUp, LinkDown, Learn, LdpAdmin, HearLdp, BgpUp, BgpDown, HearBgp, AddRoute, DelRoute, Import, Export, Attach, Detach, Inject, Carry, Lose}
+use Rattle.mn_topo.specs.declared.steps.Step.TheVariants.{LinkUp, LinkDown, Learn, LdpAdmin, HearLdp, BgpUp, BgpDown, HearBgp, AddRoute, DelRoute, Import}
+use Rattle.mn_topo.specs.declared.steps.Step.TheVariants.{Export, Attach, Detach, Inject, Carry, Lose}
 use Rattle.mn_topo.specs.declared.steps.JournalEntry.{JournalEntry}
 use Rattle.mn_ledger.specs.World.{World, Config}
 use Rattle.mn_ledger.specs.Lawful.{IsLawfulJournal}
 use Rattle.mn_ledger.specs.Verdicts.{injections}
 use Rattle.mn_ledger.specs.Ledger.{world_of, packets_of, after, config_after}
 use Rattle.mn_ledger.specs.Packets.{Packets, channel, packets_after}
-use Rattle.mn_ledger.specs.Items.{Channel, Notices, Messages, Routes, Frames, Load, Notice, Says, Tells, Carries, Item, Flight, delay_on, notices_in, messages_in, routes_in, frames_in, made_in, numbered, left_in_flight, made_by, flight_of}
+use Rattle.mn_ledger.specs.Items.{Channel, Notices, Messages, Routes, Frames, Load, Notice, Says, Tells, Carries, Item, Flight, delay_on, notices_in}
+use Rattle.mn_ledger.specs.Items.{messages_in, routes_in, frames_in, made_in, numbered, left_in_flight, made_by, flight_of}
 use Rattle.mn_ledger.specs.OneMore.{with_packet, made_then}
 use Rattle.mn_ledger.specs.InFlight.{AreNumbered}
 use Rattle.mn_ledger.proofs.Choice.{keeps}
@@ -63,7 +66,9 @@ quiet_keys t es tick n s b ps h =
     let w = world_of t es in
     let v = after t w s in
     let k = packets_after t v (packets_of t es ps) s b in
-    frames_made t w v (packets_of t es ps) k s tick n ∙ ap (λ fs. keys_on of_frames (numbered t tick (n + length (notices_in t s) + length (messages_in t w v s) + length (routes_in t w v s)) fs)) (no_frame_of s (packets_of t es ps) k h)
+    frames_made t w v (packets_of t es ps) k s tick n
+    ∙ ap (λ fs. keys_on of_frames (numbered t tick (n + length (notices_in t s) + length (messages_in t w v s) + length (routes_in t w v s)) fs))
+    (no_frame_of s (packets_of t es ps) k h)
 
 statics_then : (t : Network) (es : List JournalEntry) (tick : ℕ) (s : Step) (b : List ℕ) (ps : List (List ℕ)) → length ps ≡ injections es →
     (world_of t (pushed es tick s)).config ≡ config_after (world_of t es).config s
@@ -72,7 +77,8 @@ statics_then t es tick s b ps each = ap (λ (w : World). w.config) (goes_on t es
 -- the counts of frames go on as they are
 quietly : (t : Network) (es : List JournalEntry) (tick : ℕ) (s : Step) (b : List ℕ) (ps : List (List ℕ)) (tally : Tally) (statics : ℕ) →
     IsLawful t → IsLawfulJournal t es ps → length ps ≡ injections es →
-    keys_on of_frames (numbered t tick (length (made_by t es ps)) (made_then t (world_of t es) (packets_of t es ps) s b)) ≡ [] → statics ≡ length (config_after (world_of t es).config s).statics →
+    keys_on of_frames (numbered t tick (length (made_by t es ps)) (made_then t (world_of t es) (packets_of t es ps) s b)) ≡ [] →
+    statics ≡ length (config_after (world_of t es).config s).statics →
     Tallies t es ps tally → Tallies t (pushed es tick s) (with_packet s b ps) (record tally { statics = statics })
 quietly t es tick s b ps tally statics lawful journal each none same h =
     record {
@@ -84,24 +90,25 @@ quietly t es tick s b ps tally statics lawful journal each none same h =
 
 pub counts_as_it_did : CountsAsItDid
 counts_as_it_did t es tick s b ps tally lawful journal each quiet other h =
-    quietly t es tick s b ps tally tally.statics lawful journal each (quiet_keys t es tick (length (made_by t es ps)) s b ps quiet) (h.statics ∙ ap length (sym (statics_stay (world_of t es).config s other))) h
+    quietly t es tick s b ps tally tally.statics lawful journal each (quiet_keys t es tick (length (made_by t es ps)) s b ps quiet)
+    (h.statics ∙ ap length (sym (statics_stay (world_of t es).config s other))) h
 
 pub counts_statics : CountsStatics
 counts_statics t es tick site p b ps tally lawful each h = (
   λ may journal.
       let is_free = free t (world_of t es) (packets_of t es ps) (length es) (AddRoute site p) b may.unrefused in
-      let few = has_few t (world_of t es).config site p is_free.statics in
-      (
+      let few = has_few t (world_of t es).config site p is_free.statics in (
         subst (λ n. n < 65536) (sym h.statics) few,
-        quietly t es tick (AddRoute site p) b ps tally (tally.statics + 1) lawful journal each (quiet_keys t es tick (length (made_by t es ps)) (AddRoute site p) b ps refl)
+        quietly t es tick (AddRoute site p) b ps tally (tally.statics + 1) lawful journal each
+            (quiet_keys t es tick (length (made_by t es ps)) (AddRoute site p) b ps refl)
             (ap (λ n. n + 1) h.statics ∙ sym (one_static_more (world_of t es).config site p)) h,
       ),
   λ may journal.
       let is_free = free t (world_of t es) (packets_of t es ps) (length es) (DelRoute site p) b may.unrefused in
-      let less = one_static_less t (world_of t es).config site p (keeps t es ps lawful journal).statics is_free.statics in
-      (
+      let less = one_static_less t (world_of t es).config site p (keeps t es ps lawful journal).statics is_free.statics in (
         some tally.statics _ _ h.statics less,
-        quietly t es tick (DelRoute site p) b ps tally (tally.statics - 1) lawful journal each (quiet_keys t es tick (length (made_by t es ps)) (DelRoute site p) b ps refl) (one_less tally.statics _ _ h.statics less) h,
+        quietly t es tick (DelRoute site p) b ps tally (tally.statics - 1) lawful journal each
+            (quiet_keys t es tick (length (made_by t es ps)) (DelRoute site p) b ps refl) (one_less tally.statics _ _ h.statics less) h,
       ),
 )
   where
@@ -186,7 +193,8 @@ below_all low high (x ∷ xs) h =
     low_high : low ≤ x.number → suc x.number ≤ high → low ≤ high
     low_high g r = omega (arith, g, r)
 
-    by : (o : Option ℕ) → suc x.number ≤ high → AllByRecursion (λ (key : Key). key.number < high) (keys_on of_frames xs) → AllByRecursion (λ (key : Key). key.number < high) (with_key o x (keys_on of_frames xs))
+    by : (o : Option ℕ) → suc x.number ≤ high → AllByRecursion (λ (key : Key). key.number < high) (keys_on of_frames xs) →
+        AllByRecursion (λ (key : Key). key.number < high) (with_key o x (keys_on of_frames xs))
     by None g r = r
     by (Some c) g r = (omega (arith, g), r)
 
@@ -195,12 +203,14 @@ unfolding AllBelow
 without_below n c place [] h = tt
 without_below n c zero (k ∷ keys) h = by (k.channel == c) (without_below n c zero keys h.1)
   where
-    by : (b : Bool) → AllByRecursion (λ (key : Key). key.number < n) (key_without c zero keys) → AllByRecursion (λ (key : Key). key.number < n) (cond b keys (k ∷ key_without c zero keys))
+    by : (b : Bool) → AllByRecursion (λ (key : Key). key.number < n) (key_without c zero keys) →
+        AllByRecursion (λ (key : Key). key.number < n) (cond b keys (k ∷ key_without c zero keys))
     by true r = h.1
     by false r = (h.0, r)
 without_below n c (suc place) (k ∷ keys) h = (h.0, by (k.channel == c) (without_below n c place keys h.1) (without_below n c (suc place) keys h.1))
   where
-    by : (b : Bool) → AllByRecursion (λ (key : Key). key.number < n) (key_without c place keys) → AllByRecursion (λ (key : Key). key.number < n) (key_without c (suc place) keys) →
+    by : (b : Bool) → AllByRecursion (λ (key : Key). key.number < n) (key_without c place keys) →
+        AllByRecursion (λ (key : Key). key.number < n) (key_without c (suc place) keys) →
         AllByRecursion (λ (key : Key). key.number < n) (cond b (key_without c place keys) (key_without c (suc place) keys))
     by true r q = r
     by false r q = q
@@ -214,28 +224,34 @@ leave_below n _ keys m h = absurd (no m)
 module _ (t : Network) (es : List JournalEntry) (tick : ℕ) (s : Step) (b : List ℕ) (ps : List (List ℕ)) (tally : Tally)
     (lawful : IsLawful t) (journal : IsLawfulJournal t es ps) (each : length ps ≡ injections es) (h : Tallies t es ps tally) where
   -- the item that was made flies on a link
-  pub with_one : (key : Key) → keys_on of_frames (new t es tick s b ps each lawful journal) ≡ key ∷ [] → (l : ℕ) (d : Dir) → key.channel ≡ channel l d → l < length t.links → changes_statics s ≡ false →
+  pub with_one : (key : Key) → keys_on of_frames (new t es tick s b ps each lawful journal) ≡ key ∷ [] →
+      (l : ℕ) (d : Dir) → key.channel ≡ channel l d → l < length t.links → changes_statics s ≡ false →
       Tallies t (pushed es tick s) (with_packet s b ps) (after_frame t (Some (key.channel, key.number)) tally)
   with_one key e l d q there other =
       let c = key.channel in
       let was : slice_index tally.sent key.channel ≡ length (frames_sent t es ps l d) = ap (slice_index tally.sent) q ∙ h.sent l d there in
       let link_is : key.channel / 2 ≡ l = ap (λ n. n / 2) q ∙ half l d in
       record {
-        statics = h.statics ∙ ap length (sym (statics_stay (world_of t es).config s other)) ∙ ap (λ (k : Config). length k.statics) (sym (statics_then t es tick s b ps each));
+        statics =
+            h.statics ∙ ap length (sym (statics_stay (world_of t es).config s other))
+            ∙ ap (λ (k : Config). length k.statics) (sym (statics_then t es tick s b ps each));
         each = set_length tally.sent key.channel (slice_index tally.sent key.channel + 1) ∙ h.each;
         sent = λ k f below. counted k f below (key.channel == channel k f) refl;
-        lossy = ap (λ n. if is_each (link (wiring_of t) n).loss (slice_index tally.sent key.channel + 1) then tally.lossy ++ key.number ∷ [] else tally.lossy) link_is
+        lossy = ap (λ n. if is_each (link (wiring_of t) n).loss (slice_index tally.sent key.channel + 1) then tally.lossy ++ key.number
+            ∷ [] else tally.lossy) link_is
             ∙ ap (λ n. if is_each (link (wiring_of t) l).loss (n + 1) then tally.lossy ++ key.number ∷ [] else tally.lossy) was
             ∙ ap (λ ns. if is_each (link (wiring_of t) l).loss (length (frames_sent t es ps l d) + 1) then ns ++ key.number ∷ [] else ns) h.lossy
             ∙ sym (lost_one t es tick s b ps each lawful journal key e l d q);
       }
     where
       counted : (k : ℕ) (f : Dir) → k < length t.links → (i : Bool) → (key.channel == channel k f) ≡ i →
-          slice_index (slice_set tally.sent key.channel (slice_index tally.sent key.channel + 1)) (channel k f) ≡ length (frames_sent t (pushed es tick s) (with_packet s b ps) k f)
+          slice_index (slice_set tally.sent key.channel (slice_index tally.sent key.channel + 1)) (channel k f) ≡ length
+          (frames_sent t (pushed es tick s) (with_packet s b ps) k f)
       counted k f below true g =
           let same : key.channel ≡ channel k f = same_numbers key.channel (channel k f) g in
           ap (λ n. slice_index (slice_set tally.sent n (slice_index tally.sent n + 1)) (channel k f)) same
-          ∙ set_at tally.sent (channel k f) (slice_index tally.sent (channel k f) + 1) (subst (λ n. channel k f < n) (sym h.each) (two_within k (length t.links) f below))
+          ∙ set_at tally.sent (channel k f) (slice_index tally.sent (channel k f) + 1)
+          (subst (λ n. channel k f < n) (sym h.each) (two_within k (length t.links) f below))
           ∙ ap (λ n. n + 1) (h.sent k f below)
           ∙ ap (λ i. length (frames_sent t es ps k f) + cond i 1 0) (sym g) ∙ sym (sent_one t es tick s b ps each lawful journal key e k f)
       counted k f below false g =
@@ -255,7 +271,8 @@ sends_only (LinkUp l) m = refl
 sends_only _ m = refl
 
 -- a step that may send makes nothing before its frame
-first_number : (t : Network) (w v : World) (s : Step) (n : ℕ) → may_send s ≡ true → n + length (notices_in t s) + length (messages_in t w v s) + length (routes_in t w v s) ≡ n
+first_number : (t : Network) (w v : World) (s : Step) (n : ℕ) → may_send s ≡ true →
+    n + length (notices_in t s) + length (messages_in t w v s) + length (routes_in t w v s) ≡ n
 first_number t w v (Inject s k) n m = omega arith
 first_number t w v (Carry l d k) n m = omega arith
 first_number t w v (LinkUp l) n m = absurd (no m)
@@ -271,7 +288,8 @@ frame_there t l d (Messages k n) load h e = absurd (none_is (channel l d) e)
 frame_there t l d (Routes k n) load h e = absurd (none_is (channel l d) e)
 
 module _ (t : Network) (es : List JournalEntry) (tick : ℕ) (s : Step) (b : List ℕ) (ps : List (List ℕ)) (old now : Packed) (tally : Tally)
-    (lawful : IsLawful t) (m : may_send s ≡ true) (was : StandsFor t es old ps) (is : StandsFor t (pushed es tick s) now (with_packet s b ps)) (h : Tallies t es ps tally) where
+    (lawful : IsLawful t) (m : may_send s ≡ true) (was : StandsFor t es old ps) (is : StandsFor t (pushed es tick s) now (with_packet s b ps))
+    (h : Tallies t es ps tally) where
   abbrev n : ℕ
   n = length (made_by t es ps)
 
@@ -296,10 +314,13 @@ module _ (t : Network) (es : List JournalEntry) (tick : ℕ) (s : Step) (b : Lis
 
   old_below : AllBelow old.made (frames_leave s (keys_in old.moving.flying))
   old_below = leave_below old.made s (keys_in old.moving.flying) m
-      (subst (AllBelow old.made) (sym was.frames) (subst (λ k. AllBelow k (keys_on of_frames items)) (sym was.made) (below_all 0 (flight_of t es ps).made items (numbers_ascend t es ps)).1))
+      (subst (AllBelow old.made) (sym was.frames)
+      (subst (λ k. AllBelow k (keys_on of_frames items)) (sym was.made) (below_all 0 (flight_of t es ps).made items (numbers_ascend t es ps)).1))
 
   frame_is : frame_of old.made now.moving.flying ≡ first_of old.made (keys_on of_frames those)
-  frame_is = frame_key old.made now.moving.flying ∙ ap (first_of old.made) keys_then ∙ past_old old.made (frames_leave s (keys_in old.moving.flying)) (keys_on of_frames those) old_below
+  frame_is =
+      frame_key old.made now.moving.flying ∙ ap (first_of old.made) keys_then
+      ∙ past_old old.made (frames_leave s (keys_in old.moving.flying)) (keys_on of_frames those) old_below
 
   abbrev v : World
   v = after t (world_of t es) s
@@ -319,18 +340,21 @@ module _ (t : Network) (es : List JournalEntry) (tick : ℕ) (s : Step) (b : Lis
     | inl e ↦
         let none : keys_on of_frames those ≡ [] = those_are [] e in
         subst (λ o. Tallies t (pushed es tick s) (with_packet s b ps) (after_frame t o tally)) (sym (frame_is ∙ ap (first_of old.made) none))
-        (quietly t es tick s b ps tally tally.statics lawful was.lawful was.each none (h.statics ∙ ap length (sym (statics_stay (world_of t es).config s (sends_only s m)))) h)
+        (quietly t es tick s b ps tally tally.statics lawful was.lawful was.each none
+        (h.statics ∙ ap length (sym (statics_stay (world_of t es).config s (sends_only s m)))) h)
     | inr e ↦
         let key : Key = record { channel = channel e.0 e.1; due = tick + delay_on t (Frames e.0 e.1); number = n } in
         let only : keys_on of_frames those ≡ key ∷ [] = those_are ((Frames e.0 e.1, e.2) ∷ []) e.3 in
         let one : OneSent those key = one_sent those key only in
         let flown : Contains (flight_of t (pushed es tick s) (with_packet s b ps)).items one.frame =
-            contained_in (flight_of t (pushed es tick s) (with_packet s b ps)).items one.frame
-            (subst (λ xs. In xs one.frame) (sym flight_then) (in_rest (left_in_flight t s items) those one.frame one.there)) in
+        contained_in (flight_of t (pushed es tick s) (with_packet s b ps)).items one.frame
+        (subst (λ xs. In xs one.frame) (sym flight_then) (in_rest (left_in_flight t s items) those one.frame one.there)) in
         let on : IsOfChannel t one.frame.on one.frame.load = channels_are t (pushed es tick s) (with_packet s b ps) one.frame lawful is.lawful flown in
         subst (λ o. Tallies t (pushed es tick s) (with_packet s b ps) (after_frame t o tally))
-        (sym (frame_is ∙ ap (first_of old.made) only ∙ ap (λ i. option_map pair_of (if i then Some key else None)) (test_same n old.made (sym (was.made ∙ counted)))))
-        (with_one t es tick s b ps tally lawful was.lawful was.each h key only e.0 e.1 refl (frame_there t e.0 e.1 one.frame.on one.frame.load on one.channel_is) (sends_only s m))
+        (sym (frame_is ∙ ap (first_of old.made) only
+        ∙ ap (λ i. option_map pair_of (if i then Some key else None)) (test_same n old.made (sym (was.made ∙ counted)))))
+        (with_one t es tick s b ps tally lawful was.lawful was.each h key only e.0 e.1 refl
+        (frame_there t e.0 e.1 one.frame.on one.frame.load on one.channel_is) (sends_only s m))
   ]
 
 pub counts_frames : CountsFrames
@@ -352,13 +376,16 @@ tells t es ps tally lawful journal h item c =
     let i = in_contained (made_by t es ps) item (flies.among item c) in
     ap (λ ns. is_one ns item.number) h.lossy ∙ by flies.numbers i (is_lost t es ps item.on item) refl
   where
-    by : AreNumbered (made_by t es ps) → In (made_by t es ps) item → (b : Bool) → is_lost t es ps item.on item ≡ b → is_one (lost_numbers t es ps) item.number ≡ is_lost t es ps item.on item
+    by : AreNumbered (made_by t es ps) → In (made_by t es ps) item →
+        (b : Bool) → is_lost t es ps item.on item ≡ b → is_one (lost_numbers t es ps) item.number ≡ is_lost t es ps item.on item
     by numbered i true e = any_is (two_ways (is_one (lost_numbers t es ps) item.number)) ∙ sym e
       where
-        any_is : (is_one (lost_numbers t es ps) item.number ≡ true) ⊎ (is_one (lost_numbers t es ps) item.number ≡ false) → is_one (lost_numbers t es ps) item.number ≡ true
+        any_is : (is_one (lost_numbers t es ps) item.number ≡ true) ⊎ (is_one (lost_numbers t es ps) item.number ≡ false) →
+            is_one (lost_numbers t es ps) item.number ≡ true
         any_is (inl g) = g
         any_is (inr g) = absurd (clash (sym (same_test item.number) ∙ none_passes (λ other. other == item.number) (lost_numbers t es ps) item.number g
-            (map_in (λ (x : Item). x.number) (filter (λ x. is_lost t es ps x.on x) (made_by t es ps)) item (filter_in (λ x. is_lost t es ps x.on x) (made_by t es ps) item i e))))
+            (map_in (λ (x : Item). x.number) (filter (λ x. is_lost t es ps x.on x) (made_by t es ps)) item
+            (filter_in (λ x. is_lost t es ps x.on x) (made_by t es ps) item i e))))
     by numbered i false e = passes_none (λ other. other == item.number) (lost_numbers t es ps) (λ k j. off k j (k == item.number) refl) ∙ sym e
       where
         off : (k : ℕ) → In (lost_numbers t es ps) k → (b : Bool) → (k == item.number) ≡ b → (k == item.number) ≡ false

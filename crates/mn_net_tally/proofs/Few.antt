@@ -1,5 +1,6 @@
 -- A step sends one frame at most.
-use Rattle.std.proofs.Common.{ℕ, zero, suc, ◌≡◌, ◌+◌, ◌*◌, ◌<◌, ◌≤◌, inl, inr, Bool, true, false, cond, List, [], ◌∷◌, ◌++◌, length, refl, arith, sym, ap, ◌∙◌, subst}
+use Rattle.std.proofs.Common.{ℕ, zero, suc, ◌≡◌, ◌+◌, ◌*◌, ◌<◌, ◌≤◌, inl, inr, Bool, true, false, cond, List, [], ◌∷◌, ◌++◌, length, refl, arith, sym, ap}
+use Rattle.std.proofs.Common.{◌∙◌, subst}
 use Rattle.std.specs.Prelude.{◌==◌, ◌/◌, ◌%◌, slice_index}
 use Rattle.std.proofs.lemmas.List.{length-append}
 use Rattle.std.proofs.lemmas.List.Elements.{filter-append}
@@ -11,7 +12,8 @@ use Rattle.mn_topo.specs.declared.steps.JournalEntry.{JournalEntry}
 use Rattle.mn_ledger.specs.World.{World}
 use Rattle.mn_ledger.specs.Packets.{Packets, channel, packets_after}
 use Rattle.mn_ledger.specs.Ledger.{after, start, no_packets, next_of, left_by}
-use Rattle.mn_ledger.specs.Items.{Channel, Frames, Load, same_channel, items_on, delay_on, notices_in, messages_in, routes_in, frames_in, made_in, numbered, made_from}
+use Rattle.mn_ledger.specs.Items.{Channel, Frames, Load, same_channel, items_on, delay_on, notices_in, messages_in, routes_in, frames_in, made_in, numbered}
+use Rattle.mn_ledger.specs.Items.{made_from}
 use Rattle.mn_laws.specs.Ids.{frames_sent}
 use Rattle.mn_timetable.specs.Keys.{Key, keys_on, of_frames}
 use Rattle.mn_timetable.proofs.Made.{IsOneFrame, one_frame, frames_made}
@@ -25,7 +27,8 @@ one_key c key = by (key.channel == c)
     by true = omega arith
     by false = omega arith
 
-one_in_step : (t : Network) (w v : World) (p q : Packets) (s : Step) (tick n : ℕ) (l : ℕ) (d : Dir) → length (items_on (Frames l d) (numbered t tick n (made_in t w v p q s))) ≤ 1
+one_in_step : (t : Network) (w v : World) (p q : Packets) (s : Step) (tick n : ℕ) (l : ℕ) (d : Dir) →
+    length (items_on (Frames l d) (numbered t tick n (made_in t w v p q s))) ≤ 1
 one_in_step t w v p q s tick n l d =
     subst (λ m. m ≤ 1) (sym (counted_on l d (numbered t tick n (made_in t w v p q s)) ∙ ap (count_on (channel l d)) (frames_made t w v p q s tick n)))
     (by (frames_in p q s) (one_frame p q s) (n + length (notices_in t s) + length (messages_in t w v s) + length (routes_in t w v s)))
@@ -35,7 +38,8 @@ one_in_step t w v p q s tick n l d =
     by fs (inr e) m = subst (λ gs. count_on (channel l d) (keys_on of_frames (numbered t tick m gs)) ≤ 1) (sym e.3)
         (one_key (channel l d) (record { channel = channel e.0 e.1; due = tick + delay_on t (Frames e.0 e.1); number = m }))
 
-few_from : (t : Network) (w : World) (k : Packets) (n : ℕ) (es : List JournalEntry) (ps : List (List ℕ)) (l : ℕ) (d : Dir) → length (items_on (Frames l d) (made_from t w k n es ps)) ≤ length es
+few_from : (t : Network) (w : World) (k : Packets) (n : ℕ) (es : List JournalEntry) (ps : List (List ℕ)) (l : ℕ) (d : Dir) →
+    length (items_on (Frames l d) (made_from t w k n es ps)) ≤ length es
 few_from t w k n [] ps l d = omega arith
 few_from t w k n (e ∷ es) ps l d =
     let v : World = after t w e.step in
@@ -43,8 +47,10 @@ few_from t w k n (e ∷ es) ps l d =
     let new : List (Channel × Load) = made_in t w v k q e.step in
     let rest = few_from t v q (n + length new) es (left_by e.step ps) l d in
     let one = one_in_step t w v k q e.step e.tick n l d in
-    let split = ap length (filter-append (λ item. same_channel (Frames l d) item.on) (numbered t e.tick n new) (made_from t v q (n + length new) es (left_by e.step ps)))
-        ∙ length-append (items_on (Frames l d) (numbered t e.tick n new)) (items_on (Frames l d) (made_from t v q (n + length new) es (left_by e.step ps))) in
+    let split =
+    ap length
+    (filter-append (λ item. same_channel (Frames l d) item.on) (numbered t e.tick n new) (made_from t v q (n + length new) es (left_by e.step ps)))
+    ∙ length-append (items_on (Frames l d) (numbered t e.tick n new)) (items_on (Frames l d) (made_from t v q (n + length new) es (left_by e.step ps))) in
     omega (arith, split, one, rest)
 
 -- the direction of a number
@@ -55,7 +61,8 @@ direction c n h = by (c % 2) refl
     by zero e = (c / 2, Forth, omega (arith, h), omega (arith, e))
     by (suc r) e = (c / 2, Back, omega (arith, h), omega (arith, e))
 
-pub few_sent : (t : Network) (es : List JournalEntry) (ps : List (List ℕ)) (tally : Tally) (c : ℕ) → Tallies t es ps tally → c < 2 * length t.links → slice_index tally.sent c ≤ length es
+pub few_sent : (t : Network) (es : List JournalEntry) (ps : List (List ℕ)) (tally : Tally) (c : ℕ) → Tallies t es ps tally → c < 2 * length t.links →
+    slice_index tally.sent c ≤ length es
 few_sent t es ps tally c h below =
     let at = direction c (length t.links) below in
     subst (λ n. n ≤ length es) (sym (ap (slice_index tally.sent) at.3 ∙ h.sent at.0 at.1 at.2)) (few_from t (start t) no_packets 0 es ps at.0 at.1)

@@ -15,7 +15,8 @@ abbrev pair_in : {T : Type 0} → Item T → ℕ × ℕ
 pair_in item = (item.channel, item.number)
 
 -- it is on a direction of the topology's links
-pub on_direction : {T : Type 0} (n number : ℕ) (xs : List (Item T)) (x : Item T) → IsFlight n xs → find (λ item. item.number == number) xs ≡ Some x → x.channel < n
+pub on_direction : {T : Type 0} (n number : ℕ) (xs : List (Item T)) (x : Item T) → IsFlight n xs → find (λ item. item.number == number) xs ≡ Some x →
+    x.channel < n
 on_direction {T = T} n number xs x flight e =
     let found = find_in (λ (item : Item T). item.number == number) x xs e in
     let at = contains_of_in xs x found.1 in
@@ -32,11 +33,13 @@ get_other (x ∷ xs) (suc i) d e h = get_other xs i d e (omega (arith, h))
 pub loss_at : (t : Network) (l : ℕ) (found : LinkEnds) → l < length t.links → found ≡ slice_index_or t.links l found → found.loss ≡ (link (wiring_of t) l).loss
 loss_at t l found h e = ap (λ (k : LinkEnds). k.loss) (e ∙ get_other t.links l found _ h)
 
-pub counted_frame : {T : Type 0} (t : Network) (number : ℕ) (xs : List (Item T)) (x : Item T) (loss : ℕ) (tally : Tally) → find (λ item. item.number == number) xs ≡ Some x →
+pub counted_frame : {T : Type 0} (t : Network) (number : ℕ) (xs : List (Item T)) (x : Item T) (loss : ℕ) (tally : Tally) →
+    find (λ item. item.number == number) xs ≡ Some x →
     loss ≡ (link (wiring_of t) (x.channel / 2)).loss → with_frame loss x.channel x.number tally ≡ after_frame t (frame_of number xs) tally
 counted_frame {T = T} t number xs x loss tally e l =
     ap (λ n. with_frame n x.channel x.number tally) l
     ∙ ap (λ (o : Option (Item T)). after_frame t (option_map pair_in o) tally) (sym e)
 
-pub no_frame : {T : Type 0} (t : Network) (number : ℕ) (xs : List (Item T)) (tally : Tally) → find (λ item. item.number == number) xs ≡ None → tally ≡ after_frame t (frame_of number xs) tally
+pub no_frame : {T : Type 0} (t : Network) (number : ℕ) (xs : List (Item T)) (tally : Tally) → find (λ item. item.number == number) xs ≡ None →
+    tally ≡ after_frame t (frame_of number xs) tally
 no_frame {T = T} t number xs tally e = ap (λ (o : Option (Item T)). after_frame t (option_map pair_in o) tally) (sym e)

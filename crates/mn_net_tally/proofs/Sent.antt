@@ -1,5 +1,6 @@
 -- A journal with one entry more, by the frames among what its last step made.
-use Rattle.std.proofs.Common.{ℕ, zero, suc, ◌≡◌, ◌+◌, ◌*◌, ◌<◌, ◌≤◌, ◌⊎◌, inl, inr, Bool, true, false, cond, List, [], ◌∷◌, ◌++◌, length, map, filter, refl, arith, sym, ap, ◌∙◌, subst, append-nil, Option, Some, None}
+use Rattle.std.proofs.Common.{ℕ, zero, suc, ◌≡◌, ◌+◌, ◌*◌, ◌<◌, ◌≤◌, ◌⊎◌, inl, inr, Bool, true, false, cond, List, [], ◌∷◌, ◌++◌, length, map, filter, refl}
+use Rattle.std.proofs.Common.{arith, sym, ap, ◌∙◌, subst, append-nil, Option, Some, None}
 use Rattle.std.specs.Prelude.{◌==◌, nat_le, slice_get, slice_index_or, if◌then◌else◌}
 use Rattle.std.specs.List.{Contains}
 use Rattle.std.proofs.lemmas.List.{map-append, length-append}
@@ -33,7 +34,8 @@ use Rattle.mn_net_tally.specs.Tallies.{lost_numbers}
 
 filter_same : {A : Type 0} (p q : A → Bool) (xs : List A) → ((x : A) → In xs x → p x ≡ q x) → filter p xs ≡ filter q xs
 filter_same p q [] h = refl
-filter_same p q (x ∷ xs) h = ap (λ b. cond b (x ∷ filter p xs) (filter p xs)) (h x (inl refl)) ∙ ap (λ ys. cond (q x) (x ∷ ys) ys) (filter_same p q xs (λ y i. h y (inr i)))
+filter_same p q (x ∷ xs) h =
+    ap (λ b. cond b (x ∷ filter p xs) (filter p xs)) (h x (inl refl)) ∙ ap (λ ys. cond (q x) (x ∷ ys) ys) (filter_same p q xs (λ y i. h y (inr i)))
 
 filter_no : {A : Type 0} (p : A → Bool) (xs : List A) → ((x : A) → In xs x → p x ≡ false) → filter p xs ≡ []
 filter_no p [] h = refl
@@ -67,7 +69,8 @@ pub record OneSent (xs : List Item) (key : Key) : Type 0 where
   pub passed : (p : Item → Bool) → ForFrames p → filter p xs ≡ cond (p frame) (frame ∷ []) []
 
 -- an item more that is no frame
-quiet_on : (x : Item) (xs : List Item) (l : ℕ) (d : Dir) → (on : Channel) → x.on ≡ on → is_frame on ≡ false → items_on (Frames l d) (x ∷ xs) ≡ items_on (Frames l d) xs
+quiet_on : (x : Item) (xs : List Item) (l : ℕ) (d : Dir) →
+    (on : Channel) → x.on ≡ on → is_frame on ≡ false → items_on (Frames l d) (x ∷ xs) ≡ items_on (Frames l d) xs
 quiet_on x xs l d (Notices k m) e h = ap (λ o. cond (same_channel (Frames l d) o) (x ∷ items_on (Frames l d) xs) (items_on (Frames l d) xs)) e
 quiet_on x xs l d (Messages k m) e h = ap (λ o. cond (same_channel (Frames l d) o) (x ∷ items_on (Frames l d) xs) (items_on (Frames l d) xs)) e
 quiet_on x xs l d (Routes k m) e h = ap (λ o. cond (same_channel (Frames l d) o) (x ∷ items_on (Frames l d) xs) (items_on (Frames l d) xs)) e
@@ -99,7 +102,8 @@ none_sent (x ∷ xs) e = by x.on refl e (λ r. none_sent xs r)
     by (Routes k m) q r later = none_more x xs (Routes k m) q refl (later r)
     by (Frames k d) q r later = cc
 
-this_one : (x : Item) (xs : List Item) (key : Key) (k : ℕ) (d : Dir) → x.on ≡ Frames k d → channel k d ≡ key.channel → x.number ≡ key.number → NoneSent xs → OneSent (x ∷ xs) key
+this_one : (x : Item) (xs : List Item) (key : Key) (k : ℕ) (d : Dir) → x.on ≡ Frames k d → channel k d ≡ key.channel → x.number ≡ key.number → NoneSent xs →
+    OneSent (x ∷ xs) key
 this_one x xs key k d e c n none = record {
   frame = x;
   there = inl refl;
@@ -114,7 +118,8 @@ pub one_sent : (xs : List Item) (key : Key) → keys_on of_frames xs ≡ key ∷
 one_sent [] key e = cc
 one_sent (x ∷ xs) key e = by x.on refl e (λ r. one_sent xs key r)
   where
-    by : (on : Channel) → x.on ≡ on → with_key (of_frames on) x (keys_on of_frames xs) ≡ key ∷ [] → (keys_on of_frames xs ≡ key ∷ [] → OneSent xs key) → OneSent (x ∷ xs) key
+    by : (on : Channel) → x.on ≡ on → with_key (of_frames on) x (keys_on of_frames xs) ≡ key ∷ [] →
+        (keys_on of_frames xs ≡ key ∷ [] → OneSent xs key) → OneSent (x ∷ xs) key
     by (Notices k m) q r later = one_more x xs key (Notices k m) q refl (later r)
     by (Messages k m) q r later = one_more x xs key (Messages k m) q refl (later r)
     by (Routes k m) q r later = one_more x xs key (Routes k m) q refl (later r)
@@ -144,7 +149,8 @@ for_frames t es ps x h = by x.on h
     by (Routes k m) h = refl
     by (Frames k d) h = cc
 
-module _ (t : Network) (es : List JournalEntry) (tick : ℕ) (s : Step) (b : List ℕ) (ps : List (List ℕ)) (each : length ps ≡ injections es) (lawful : IsLawful t) (journal : IsLawfulJournal t es ps) where
+module _ (t : Network) (es : List JournalEntry) (tick : ℕ) (s : Step) (b : List ℕ) (ps : List (List ℕ)) (each : length ps ≡ injections es)
+    (lawful : IsLawful t) (journal : IsLawfulJournal t es ps) where
   abbrev pub later : List JournalEntry
   later = pushed es tick s
 
@@ -212,7 +218,8 @@ module _ (t : Network) (es : List JournalEntry) (tick : ℕ) (s : Step) (b : Lis
       ∙ ap (map (λ item. item.number)) (filter-append (λ item. is_lost t (pushed es tick s) (with_packet s b ps) item.on item) made new)
       ∙ map-append (λ item. item.number) (filter (λ item. is_lost t (pushed es tick s) (with_packet s b ps) item.on item) made)
       (filter (λ item. is_lost t (pushed es tick s) (with_packet s b ps) item.on item) new)
-      ∙ ap (λ xs. map (λ item. item.number) xs ++ map (λ item. item.number) (filter (λ item. is_lost t (pushed es tick s) (with_packet s b ps) item.on item) new))
+      ∙ ap (λ xs. map (λ item. item.number) xs ++ map (λ item. item.number)
+      (filter (λ item. is_lost t (pushed es tick s) (with_packet s b ps) item.on item) new))
       (filter_same (λ item. is_lost t (pushed es tick s) (with_packet s b ps) item.on item) (λ item. is_lost t es ps item.on item) made loss_stays)
 
   -- 4. Without a frame
@@ -233,7 +240,8 @@ module _ (t : Network) (es : List JournalEntry) (tick : ℕ) (s : Step) (b : Lis
     one : OneSent new key
     one = one_sent new key e
 
-    pub sent_one : (l : ℕ) (d : Dir) → length (frames_sent t (pushed es tick s) (with_packet s b ps) l d) ≡ length (frames_sent t es ps l d) + cond (key.channel == channel l d) 1 0
+    pub sent_one : (l : ℕ) (d : Dir) →
+        length (frames_sent t (pushed es tick s) (with_packet s b ps) l d) ≡ length (frames_sent t es ps l d) + cond (key.channel == channel l d) 1 0
     unfolding one
     sent_one l d =
         ap length (sent_more l d ∙ ap (λ xs. frames_sent t es ps l d ++ xs) (one.on l d))
@@ -245,12 +253,15 @@ module _ (t : Network) (es : List JournalEntry) (tick : ℕ) (s : Step) (b : Lis
         by false = refl
 
     -- its number in its direction is one more than so many
-    number_is : (l : ℕ) (d : Dir) → key.channel ≡ channel l d → frame_number t (pushed es tick s) (with_packet s b ps) l d one.frame ≡ length (frames_sent t es ps l d) + 1
+    number_is : (l : ℕ) (d : Dir) → key.channel ≡ channel l d →
+        frame_number t (pushed es tick s) (with_packet s b ps) l d one.frame ≡ length (frames_sent t es ps l d) + 1
     unfolding one
     number_is l d q =
         ap (λ xs. length (filter (λ item. nat_le item.number one.frame.number) xs)) (sent_more l d ∙ ap (λ xs. frames_sent t es ps l d ++ xs) (one.on l d)
         ∙ ap (λ c. frames_sent t es ps l d ++ cond c (one.frame ∷ []) []) (test_same key.channel (channel l d) q))
-        ∙ ap length (filter_each (λ item. nat_le item.number one.frame.number) (frames_sent t es ps l d ++ one.frame ∷ []) (λ y j. no_later y (in_append (frames_sent t es ps l d) (one.frame ∷ []) y j)))
+        ∙ ap length
+        (filter_each (λ item. nat_le item.number one.frame.number) (frames_sent t es ps l d ++ one.frame ∷ [])
+        (λ y j. no_later y (in_append (frames_sent t es ps l d) (one.frame ∷ []) y j)))
         ∙ length-append (frames_sent t es ps l d) (one.frame ∷ [])
       where
         no_later : (y : Item) → In (frames_sent t es ps l d) y ⊎ In (one.frame ∷ []) y → nat_le y.number one.frame.number ≡ true
@@ -286,6 +297,8 @@ module _ (t : Network) (es : List JournalEntry) (tick : ℕ) (s : Step) (b : Lis
 
         by : (c : Bool) → c ≡ is_each (link (wiring_of t) l).loss (length (frames_sent t es ps l d) + 1) →
             lost_numbers t es ps ++ map (λ (item : Item). item.number) (cond c (one.frame ∷ []) [])
-            ≡ (if is_each (link (wiring_of t) l).loss (length (frames_sent t es ps l d) + 1) then lost_numbers t es ps ++ key.number ∷ [] else lost_numbers t es ps)
-        by true g = ap (λ n. lost_numbers t es ps ++ n ∷ []) one.number ∙ ap (λ c. if c then lost_numbers t es ps ++ key.number ∷ [] else lost_numbers t es ps) g
+            ≡ (if is_each (link (wiring_of t) l).loss (length (frames_sent t es ps l d) + 1) then lost_numbers t es ps ++ key.number
+            ∷ [] else lost_numbers t es ps)
+        by true g =
+            ap (λ n. lost_numbers t es ps ++ n ∷ []) one.number ∙ ap (λ c. if c then lost_numbers t es ps ++ key.number ∷ [] else lost_numbers t es ps) g
         by false g = append-nil (lost_numbers t es ps) ∙ ap (λ c. if c then lost_numbers t es ps ++ key.number ∷ [] else lost_numbers t es ps) g

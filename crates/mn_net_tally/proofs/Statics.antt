@@ -1,5 +1,6 @@
 -- How many statics there are after a step.
-use Rattle.std.proofs.Common.{ℕ, suc, ◌≡◌, ◌+◌, ◌-◌, ◌<◌, ◌≤◌, inl, inr, Bool, true, false, cond, List, [], ◌∷◌, ◌++◌, length, filter, refl, arith, sym, ap, ◌∙◌, subst, Option, Some, None}
+use Rattle.std.proofs.Common.{ℕ, suc, ◌≡◌, ◌+◌, ◌-◌, ◌<◌, ◌≤◌, inl, inr, Bool, true, false, cond, List, [], ◌∷◌, ◌++◌, length, filter, refl, arith, sym, ap}
+use Rattle.std.proofs.Common.{◌∙◌, subst, Option, Some, None}
 use Rattle.std.specs.Prelude.{◌==◌, ◌&&◌, ◌||◌, not, nat_le}
 use Rattle.std.specs.List.{list_any}
 use Rattle.std.proofs.lemmas.List.{length-append}
@@ -9,7 +10,8 @@ use Rattle.mn_base.proofs.Members.{In, AreApart}
 use Rattle.mn_prefix.specs.Prefix.{AddressBlock, same_prefix}
 use Rattle.mn_topo.specs.Network.{Network}
 use Rattle.mn_topo.specs.declared.steps.Step.{Step}
-use Rattle.mn_topo.specs.declared.steps.Step.TheVariants.{LinkUp, LinkDown, Learn, LdpAdmin, HearLdp, BgpUp, BgpDown, HearBgp, AddRoute, DelRoute, Import, Export, Attach, Detach, Inject, Carry, Lose}
+use Rattle.mn_topo.specs.declared.steps.Step.TheVariants.{LinkUp, LinkDown, Learn, LdpAdmin, HearLdp, BgpUp, BgpDown, HearBgp, AddRoute, DelRoute, Import}
+use Rattle.mn_topo.specs.declared.steps.Step.TheVariants.{Export, Attach, Detach, Inject, Carry, Lose}
 use Rattle.mn_ledger.specs.declared.refused.Refused.{Refused}
 use Rattle.mn_ledger.specs.declared.refused.Refused.TheVariants.{RoutesFull, NoRouteThere}
 use Rattle.mn_ledger.specs.Places.{vrf_of}
@@ -62,7 +64,9 @@ is_that s p x g =
 
 all_stay : (p : SiteRoute → Bool) (xs : List SiteRoute) → ((x : SiteRoute) → In xs x → p x ≡ false) → filter (λ x. not (p x)) xs ≡ xs
 all_stay p [] h = refl
-all_stay p (x ∷ xs) h = ap (λ b. cond (not b) (x ∷ filter (λ y. not (p y)) xs) (filter (λ y. not (p y)) xs)) (h x (inl refl)) ∙ ap (λ ys. x ∷ ys) (all_stay p xs (λ y i. h y (inr i)))
+all_stay p (x ∷ xs) h =
+    ap (λ b. cond (not b) (x ∷ filter (λ y. not (p y)) xs) (filter (λ y. not (p y)) xs)) (h x (inl refl))
+    ∙ ap (λ ys. x ∷ ys) (all_stay p xs (λ y i. h y (inr i)))
 
 one_goes : (t : Network) (s : ℕ) (p : AddressBlock) (xs : List SiteRoute) → AreApart (SameStatic t) xs → list_any (is_static s p) xs ≡ true →
     length (filter (λ x. not (is_static s p x)) xs) + 1 ≡ length xs
@@ -77,7 +81,8 @@ one_goes t s p (x ∷ xs) apart h = by (λ g. one_goes t s p xs apart.1 g) (is_s
         split true g = let one = is_that s p x e in let two = is_that s p y g in
             absurd (apart.0 y i (ap (vrf_of t) (one.0 ∙ sym two.0), one.1 ∙ sym two.1))
 
-    by : (list_any (is_static s p) xs ≡ true → length (filter (λ y. not (is_static s p y)) xs) + 1 ≡ length xs) → (b : Bool) → is_static s p x ≡ b → (b || list_any (is_static s p) xs) ≡ true →
+    by : (list_any (is_static s p) xs ≡ true → length (filter (λ y. not (is_static s p y)) xs) + 1 ≡ length xs) → (b : Bool) → is_static s p x ≡ b →
+        (b || list_any (is_static s p) xs) ≡ true →
         length (cond (not b) (x ∷ filter (λ y. not (is_static s p y)) xs) (filter (λ y. not (is_static s p y)) xs)) + 1 ≡ suc (length xs)
     by later true e g = let all = ap length (all_stay (is_static s p) xs (others e)) in omega (arith, all)
     by later false e g = let rest = later g in omega (arith, rest)

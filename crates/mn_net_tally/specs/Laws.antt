@@ -41,7 +41,9 @@ CountsAsItDid = (topology : Network) (journal : List JournalEntry) (tick : ℕ) 
 
 -- one static more, or less
 abbrev pub CountsStatics : Type 0
-CountsStatics = (topology : Network) (journal : List JournalEntry) (tick : ℕ) (site : SiteNo) (prefix : AddressBlock) (bytes : List ℕ) (inputs : List (List ℕ)) (tally : Tally) →
+CountsStatics =
+    (topology : Network) (journal : List JournalEntry) (tick : ℕ) (site : SiteNo) (prefix : AddressBlock) (bytes : List ℕ) (inputs : List (List ℕ))
+    (tally : Tally) →
     IsLawful topology → length inputs ≡ injections journal → Tallies topology journal inputs tally →
     (MayStep topology journal tick (AddRoute site prefix) bytes inputs → IsLawfulJournal topology journal inputs →
     (tally.statics < 65536) × Tallies topology (pushed journal tick (AddRoute site prefix)) inputs (record tally { statics = tally.statics + 1 }))
@@ -50,7 +52,9 @@ CountsStatics = (topology : Network) (journal : List JournalEntry) (tick : ℕ) 
 
 -- the frame that a step sends, if it sends one, has the first number of the step's
 abbrev pub CountsFrames : Type 0
-CountsFrames = (topology : Network) (journal : List JournalEntry) (tick : ℕ) (step : Step) (bytes : List ℕ) (inputs : List (List ℕ)) (old new : Packed) (tally : Tally) →
+CountsFrames =
+    (topology : Network) (journal : List JournalEntry) (tick : ℕ) (step : Step) (bytes : List ℕ) (inputs : List (List ℕ)) (old new : Packed)
+    (tally : Tally) →
     IsLawful topology → may_send step ≡ true → StandsFor topology journal old inputs → MayStep topology journal tick step bytes inputs →
     StandsFor topology (pushed journal tick step) new (with_packet step bytes inputs) → Tallies topology journal inputs tally →
     Tallies topology (pushed journal tick step) (with_packet step bytes inputs) (after_frame topology (frame_of old.made new.moving.flying) tally)

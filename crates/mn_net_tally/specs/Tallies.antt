@@ -1,5 +1,6 @@
 -- What a network counts beside its parts, and when that is what the ledger says.
-use Rattle.std.specs.Prelude.{◌≡◌, ◌<◌, ◌+◌, ◌-◌, ◌*◌, ◌/◌, ◌==◌, ℕ, Bool, List, [], ◌∷◌, ◌++◌, length, map, filter, find, slice_index, slice_set, if◌then◌else◌, Option, Some, None, option_map, ⊤}
+use Rattle.std.specs.Prelude.{◌≡◌, ◌<◌, ◌+◌, ◌-◌, ◌*◌, ◌/◌, ◌==◌, ℕ, Bool, List, [], ◌∷◌, ◌++◌, length, map, filter, find, slice_index, slice_set}
+use Rattle.std.specs.Prelude.{if◌then◌else◌, Option, Some, None, option_map, ⊤}
 use Rattle.std.specs.List.{list_any}
 use Rattle.mn_base.specs.declared.links.Dir.{Dir}
 use Rattle.mn_base.specs.Wiring.{link}
@@ -22,7 +23,8 @@ pub record Tally : Type 0 where
 
 -- of all items that were made, the numbers of the frames that their links lose
 abbrev pub lost_numbers : Network → List JournalEntry → List (List ℕ) → List ℕ
-lost_numbers topology journal inputs = map (λ item. item.number) (filter (λ item. is_lost topology journal inputs item.on item) (made_by topology journal inputs))
+lost_numbers topology journal inputs =
+    map (λ item. item.number) (filter (λ item. is_lost topology journal inputs item.on item) (made_by topology journal inputs))
 
 -- with these packets it counts what the ledger has after the journal
 pub record Tallies (topology : Network) (journal : List JournalEntry) (inputs : List (List ℕ)) (tally : Tally) : Type 0 where

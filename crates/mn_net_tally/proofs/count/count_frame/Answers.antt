@@ -7,9 +7,11 @@ pub bounds-links-item : goal.bounds-links-item
 bounds-links-item c =
     subst (λ links. c.in-Some.item.now.channel / 2 < length links) (sym c.links.ensures)
     (half_below c.in-Some.item.now.channel (length c.args.topology.now.links)
-    (on_direction (2 * length c.args.topology.now.links) c.args.number c.args.transit.now.flying c.in-Some.item.now c.requires.flight (sym c.frame.ensures ∙ ap option_copied c.in-Some.is)))
+    (on_direction (2 * length c.args.topology.now.links) c.args.number c.args.transit.now.flying c.in-Some.item.now c.requires.flight
+    (sym c.frame.ensures ∙ ap option_copied c.in-Some.is)))
 
 pub send-requires-clause-there : goal.send-requires-clause-there
 send-requires-clause-there c =
     subst (λ n. c.in-Some.item.now.channel < n) (sym c.requires.each)
-    (on_direction (2 * length c.args.topology.now.links) c.args.number c.args.transit.now.flying c.in-Some.item.now c.requires.flight (sym c.frame.ensures ∙ ap option_copied c.in-Some.is))
+    (on_direction (2 * length c.args.topology.now.links) c.args.number c.args.transit.now.flying c.in-Some.item.now c.requires.flight
+    (sym c.frame.ensures ∙ ap option_copied c.in-Some.is))

@@ -9,4 +9,5 @@ pub returns-clause-tells : goal.returns-clause-tells
 returns-clause-tells c = tells
 
 pub returns-clause-order : goal.returns-clause-order
-returns-clause-order c = λ t es ps tally lawful journal h. (subst AreRising (sym h.lossy) (lost_rise t es ps lawful journal), λ n below. few_sent t es ps tally n h below)
+returns-clause-order c =
+    λ t es ps tally lawful journal h. (subst AreRising (sym h.lossy) (lost_rise t es ps lawful journal), λ n below. few_sent t es ps tally n h below)
