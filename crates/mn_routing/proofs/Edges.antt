@@ -20,4 +20,4 @@ pub within : (t : Network) → IsLawful t → (routed : Routed) (v : ℕ) → v 
 within t lawful routed v below es stands edges same =
     subst (λ xs. edge_of t v < length xs) (sym same)
     (slice_get_within routed.edges (edge_of t v) _
-        (edge_there t (labels_of t es) (world_of t es) routed stands (edge_of t v) (there.edge_there t v lawful below) (is_edge_of t v below)))
+    (edge_there t (labels_of t es) (world_of t es) routed stands (edge_of t v) (there.edge_there t v lawful below) (is_edge_of t v below)))

@@ -18,14 +18,14 @@ edge-requires c =
 pub unreachable-requires : goal.unreachable-requires
 unreachable-requires c =
     some_edge c.args.topology.now c.laws.ensures c.args.self.now (vrf_of c.args.topology.now c.args.site.0)
-        (vrf_there c.args.topology.now c.args.site.0 c.laws.ensures c.requires.site) c.requires.stands.0 c.requires.stands.1
+    (vrf_there c.args.topology.now c.args.site.0 c.laws.ensures c.requires.site) c.requires.stands.0 c.requires.stands.1
     (ap (λ k. slice_index_or c.args.self.now.edges k None) (sym c.home_of-home.ensures.home) ∙ sym c.edge.ensures ∙ ap (option_map _) c.in_default.is)
 
 pub returns-clause-fate : goal.returns-clause-fate
 returns-clause-fate c = if_ok c.enter_at.result
     (λ entered fates journal inputs lawful stands. fates c.args.topology.now (given c.args.topology.now journal) (world_of c.args.topology.now journal)
     (enters c.args.topology.now c.laws.ensures c.args.self.now c.args.site.0 c.args.packet.now c.in-Some.pe.now c.requires.site c.enter_at.ensures.bytes
-        (ap (λ k. slice_index_or c.args.self.now.edges k None) (sym c.home_of-home.ensures.home) ∙ sym c.in-Some.ensures) journal inputs lawful stands))
+    (ap (λ k. slice_index_or c.args.self.now.edges k None) (sym c.home_of-home.ensures.home) ∙ sym c.in-Some.ensures) journal inputs lawful stands))
     c.enter_at.ensures.fate
 
 pub returns-clause-answer : goal.returns-clause-answer

@@ -17,6 +17,8 @@ unreachable-requires c =
 
 pub returns : goal.returns
 returns c =
-    record { best =
-    looks_up c.args.topology.now c.laws.ensures c.args.self.now c.args.vrf.0 c.requires.vrf c.args.address c.in-Some.pe.now c.lookup.result
-    (ap (λ k. slice_index_or c.args.self.now.edges k None) (sym c.edge_of-edge.ensures.edge) ∙ sym c.in-Some.ensures) c.lookup.ensures }
+    record {
+      best =
+          looks_up c.args.topology.now c.laws.ensures c.args.self.now c.args.vrf.0 c.requires.vrf c.args.address c.in-Some.pe.now c.lookup.result
+          (ap (λ k. slice_index_or c.args.self.now.edges k None) (sym c.edge_of-edge.ensures.edge) ∙ sym c.in-Some.ensures) c.lookup.ensures;
+    }
