@@ -252,7 +252,7 @@ impl Transport {
         send(&mut self.messages, topology, node, out, clock)
     }
 
-    /// A link comes up: each node is to be told, and where LDP is switched on for it its session opens.
+    /// A link comes up: each node is to be told, and where LDP is switched on for it its session opens (RFC 5036, section 2.5.2).
     ///
     /// It answers how many items that made, of which the first has the clock's number. After want of memory this and each later step
     /// answer so.
@@ -286,7 +286,8 @@ impl Transport {
         }
     }
 
-    /// A link goes down: each node is to be told, nothing flies on it any more, and its session closes.
+    /// A link goes down: each node is to be told, nothing flies on it any more, and its session closes, with all labels that were
+    /// heard in it.
     ///
     /// It answers how many items that made, of which the first has the clock's number. After want of memory this and each later step
     /// answer so.
@@ -355,7 +356,7 @@ impl Transport {
         }
     }
 
-    /// A node learns the next change of a link, and says what its offers have become.
+    /// A node learns the next change of a link, and says what its offers have become (RFC 5036, section 2.6.1).
     ///
     /// It answers how many items that made, of which the first has the clock's number. After want of memory this and each later step
     /// answer so.
@@ -390,7 +391,7 @@ impl Transport {
         }
     }
 
-    /// The end of a link to which a direction leads hears the next PDU there. It is never refused.
+    /// The end of a link to which a direction leads hears the next PDU there (RFC 5036, section 3.5). It is never refused.
     ///
     /// It answers how many items that made, of which the first has the clock's number. After want of memory this and each later step
     /// answer so.
