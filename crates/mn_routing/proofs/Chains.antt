@@ -72,20 +72,24 @@ module _ (t : Network) (peer edge : ℕ) (old one : Routed) (m found : BgpMessag
 
     pub answered : IsAnswered two peer edge found answer
     answered = subst (λ (r : Routed). IsAnswered r peer edge found answer) (sym two_is)
-        (subst (λ x. IsAnswered (with_edge edge heard left) peer edge x answer) (sym read) (record { session = may.taken_by.session; lives =
-            may.taken_by.lives; takes = may.taken_by.takes }))
+        (subst (λ x. IsAnswered (with_edge edge heard left) peer edge x answer) (sym read) (record {
+          session = may.taken_by.session;
+          lives =
+              may.taken_by.lives;
+          takes = may.taken_by.takes;
+        }))
 
     module _ (three : Routed) (reply : BgpReply)
         (third : three ≡ with_end edge peer
-            (option_map (λ session. table.after_message session found) (slice_index_or (slice_index_or two.sessions edge []) peer None)) two)
-            (replies : reply ≡ answer) where
+        (option_map (λ session. table.after_message session found) (slice_index_or (slice_index_or two.sessions edge []) peer None)) two)
+        (replies : reply ≡ answer) where
       three_is : three ≡ heard_in peer edge m left
       three_is = third
           ∙ ap (λ (r : Routed). with_end edge peer
-              (option_map (λ session. table.after_message session found) (slice_index_or (slice_index_or r.sessions edge []) peer None)) r) two_is
+          (option_map (λ session. table.after_message session found) (slice_index_or (slice_index_or r.sessions edge []) peer None)) r) two_is
           ∙ ap (λ x. with_end edge peer
-              (option_map (λ session. table.after_message session x) (slice_index_or (slice_index_or old.sessions edge []) peer None))
-              (with_edge edge heard left)) read
+          (option_map (λ session. table.after_message session x) (slice_index_or (slice_index_or old.sessions edge []) peer None))
+          (with_edge edge heard left)) read
 
       edge_is : edge_at (heard_in peer edge m left) edge ≡ heard
       edge_is = ap edge_or_blank (index_set old.edges edge (Some (working heard)) None within)
@@ -124,5 +128,5 @@ module _ (t : Network) (peer edge : ℕ) (old one : Routed) (m found : BgpMessag
       hears_so tick number new (Ok next) h =
           subst (λ e. Puts t tick number (answers_in t edge peer answer (exports_of e)) (heard_in peer edge m left) new next) edge_is
           (subst (λ a. Puts t tick number (answers_in t edge peer a (exports_of (edge_at (heard_in peer edge m left) edge)))
-              (heard_in peer edge m left) new next) replies
+          (heard_in peer edge m left) new next) replies
           (subst (λ (x : Routed). Puts t tick number (answers_in t edge peer reply (exports_of (edge_at x edge))) x new next) three_is h))

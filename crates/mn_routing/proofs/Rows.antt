@@ -42,7 +42,7 @@ module _ {R : Type 0} (f : R → List (Option BgpSession)) (rows : List R) (i j 
       slice_get (slice_index_or (map f rows) a []) b ≡ Some (Some session) → end ≡ session
   session_is r end session got is lives =
       same_Some end session (sym is ∙ got ∙ ap (λ xs. get_or xs j r) row_is ∙ ap (λ k. get_or (slice_index_or (map f rows) a []) k r) to
-          ∙ found (slice_index_or (map f rows) a []) b (Some session) r lives)
+      ∙ found (slice_index_or (map f rows) a []) b (Some session) r lives)
 
 pub same_ok : {A E : Type 0} (x y : A) → (let r : Result A E = Ok x in r) ≡ Ok y → x ≡ y
 same_ok x y h = cc
@@ -63,3 +63,7 @@ fails_only bads.BadType m h = cc
 fails_only bads.BadOpen m h = cc
 fails_only bads.BadAttribute m h = cc
 fails_only bads.MissingAttribute m h = cc
+
+pub if_ok : {A E : Type 0} {P Q : A → Type 0} (r : Result A E) → ((x : A) → P x → Q x) → IfOk r P → IfOk r Q
+if_ok (Ok x) f h = f x h
+if_ok (Err e) f h = tt

@@ -13,6 +13,7 @@
 //! - `routes`: `Routes`, and what its edges and sessions are
 //! - `changes`: the steps of one edge, which has news then
 //! - `sessions`: a session opens or ends, and a message is heard
+//! - `start`: the routes at the start
 //! - `steps`: one call for each step
 //!
 //! RFC 4271, sections 3, 4 and 8.2.2; RFC 4364, sections 3, 4.3 and 5.
@@ -22,6 +23,7 @@ mod changes;
 mod flying;
 mod routes;
 mod sessions;
+mod start;
 mod steps;
 
 pub use flying::{Clock, Messages};

@@ -1,12 +1,29 @@
 //! The routes, and what its edges and sessions are.
-ghost use Rattle.std.specs.Prelude.{◌≡◌, ◌<◌, None, [], length, is_some, option_map, slice_index_or};
+ghost use Rattle.std.specs.Prelude.{◌≡◌, ◌<◌, ℕ, List, None, [], length, is_some, option_map, slice_index, slice_index_or, IfOk};
+ghost use Rattle.mn_topo.specs.Network.{Network};
+ghost use Rattle.mn_ledger.specs.World.{World};
+ghost use Rattle.mn_topo.specs.declared.steps.JournalEntry.{JournalEntry};
+ghost use Rattle.mn_ledger.specs.Places.{edge_of};
+ghost use Rattle.mn_ledger.specs.Vpn.{held, best};
+ghost use Rattle.mn_ledger.specs.Ledger.{world_of};
+ghost use Rattle.mn_ledger.specs.Lawful.{IsLawfulJournal};
+ghost use Rattle.mn_frames.specs.Given.{Labelling, given};
+ghost use Rattle.mn_frames.specs.Numbers.{labels_of};
+ghost use Rattle.mn_pe.specs.Edge.{Edge};
+ghost use Rattle.mn_pe.specs.Entries.{IsItsFate, StandsAtEntry, entered_at};
+ghost use Rattle.mn_routing_model.specs.Sources.{as_held};
+ghost use Rattle.mn_routing_model.specs.Routed.{IsRoutes};
 ghost use Rattle.mn_routing_model.specs.Sending.{state_by};
 
+use crate::changes::{edge_of, home_of};
 use crate::flying::Messages;
-use mn_base::{BgpState, NodeNo};
+use mn_base::{BgpState, NodeNo, SiteNo, VrfNo};
 use mn_bgp_session::BgpSession;
-use mn_pe::Pe;
-use std::alloc::Global;
+use mn_pe::{Entered, Pe};
+use mn_prefix::Prefix;
+use mn_topo::Topology;
+use mn_vrf::Source;
+use std::alloc::{AllocError, Global};
 use std::marker::Model;
 
 /// The edges of a network, and their sessions.
@@ -43,6 +60,19 @@ impl Model for Routes {
       messages = r.messages.items;
       failed = r.failed;
     }) r.messages.channels };
+}
+
+/// What becomes of a packet that a site of an edge sends.
+fn enter_at(pe: &Pe, site: SiteNo, packet: &[u8]) -> Result<Entered, AllocError>
+    ensures fate { IfOk result (λ entered. (topology : Network) (given : Labelling) (world : World) →
+        StandsAtEntry pe.now.edge topology given world site.0 packet.now → IsItsFate topology given world site.0 packet.now entered) }
+    ensures answer { IfOk result (λ entered. entered ≡ entered_at pe.now.edge site.0 packet.now) }
+    ensures bytes { (i : ℕ) → slice_index packet.now i < 256 }
+{
+    match pe.enter(site, packet) {
+        Ok(entered) => Ok(entered),
+        Err(_) => Err(AllocError),
+    }
 }
 
 impl Routes {
@@ -83,5 +113,41 @@ impl Routes {
         ensures { result ≡ is_some (slice_index_or (slice_index_or self.now.sessions edge.0 []) peer.0 None) }
     {
         self.sessions[usize::from(edge.0)][usize::from(peer.0)].is_some()
+    }
+
+    /// The best route that a VRF holds for an address.
+    pub fn lookup(&self, topology: &Topology, vrf: VrfNo, address: u32) -> Option<(Prefix, Source)>
+        requires vrf { vrf.0 < length topology.now.vrfs }
+        requires stands { (journal : List JournalEntry) × IsRoutes topology.now journal self.now }
+        ensures best { (journal : List JournalEntry) (inputs : List (List ℕ)) → IsLawfulJournal topology.now journal inputs → IsRoutes topology.now journal self.now →
+            result ≡ option_map (as_held (labels_of topology.now journal)) (best (held topology.now (world_of topology.now journal).config (world_of topology.now journal).peerings (edge_of topology.now vrf.0) vrf.0) address) }
+    {
+        topology.laws();
+        let edge = edge_of(topology, vrf);
+        let Some(pe) = self.edge(edge) else {
+            unreachable!()
+        };
+        pe.lookup(vrf, address)
+    }
+
+    /// What becomes of a packet that a site sends. The packet is copied once, cut to its total length.
+    pub fn enter(
+        &self,
+        topology: &Topology,
+        site: SiteNo,
+        packet: &[u8],
+    ) -> Result<Entered, AllocError>
+        requires site { site.0 < length topology.now.sites }
+        requires stands { (journal : List JournalEntry) × IsRoutes topology.now journal self.now }
+        ensures fate { IfOk result (λ entered. (journal : List JournalEntry) (inputs : List (List ℕ)) → IsLawfulJournal topology.now journal inputs → IsRoutes topology.now journal self.now →
+            IsItsFate topology.now (given topology.now journal) (world_of topology.now journal) site.0 packet.now entered) }
+        ensures answer { IfOk result (λ entered. (edge : Edge) × (entered ≡ entered_at edge site.0 packet.now)) }
+    {
+        topology.laws();
+        let home = home_of(topology, site);
+        let Some(pe) = self.edge(home) else {
+            unreachable!()
+        };
+        enter_at(pe, site, packet)
     }
 }

@@ -39,3 +39,4 @@ pub mod Said
 pub mod AtEntry
 pub mod Enters
 pub mod Opening
+pub mod Starts

@@ -8,7 +8,7 @@ use Rattle.mn_routing.proofs.routes.Routes.del_at.Goals as goal
 pub returns : goal.returns
 returns c =
     told_on c.args.topology.now c.args.clock.tick c.args.clock.number c.args.self.now c.del_on_edge.new.self c.tell_peers.new.self c.home_of-edge.result.0
-        (home_of c.args.topology.now c.args.site.0)
+    (home_of c.args.topology.now c.args.site.0)
     (λ e. static_deleted (edge_at c.args.self.now e) c.args.site c.args.prefix) false
-        (λ e. those_of (export_of (edge_at c.args.self.now e) c.args.site.0 c.args.prefix)) c.deref.result.now c.tell_peers.result
+    (λ e. those_of (export_of (edge_at c.args.self.now e) c.args.site.0 c.args.prefix)) c.deref.result.now c.tell_peers.result
     c.in_ok-gone.ensures.now c.home_of-edge.ensures.home (c.deref.ensures.value ∙ c.in_ok-gone.ensures.gone) c.tell_peers.ensures

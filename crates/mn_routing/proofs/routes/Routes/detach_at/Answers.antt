@@ -9,7 +9,7 @@ use Rattle.mn_routing.proofs.routes.Routes.detach_at.Goals as goal
 pub returns : goal.returns
 returns c =
     told_on c.args.topology.now c.args.clock.tick c.args.clock.number c.args.self.now c.detach_on_edge.new.self c.tell_peers.new.self
-        c.home_of-edge.result.0 (home_of c.args.topology.now c.args.site.0)
+    c.home_of-edge.result.0 (home_of c.args.topology.now c.args.site.0)
     (λ e. after_detach (edge_at c.args.self.now e) c.args.site.0) false (λ e. exports_over (edge_at c.args.self.now e) c.args.site.0) c.deref.result.now
-        c.tell_peers.result
+    c.tell_peers.result
     c.in_ok-gone.ensures.now c.home_of-edge.ensures.home (c.deref.ensures.value ∙ c.in_ok-gone.ensures.gone) c.tell_peers.ensures

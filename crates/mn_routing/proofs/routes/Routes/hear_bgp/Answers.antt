@@ -22,4 +22,4 @@ pub returns-in-Ok-clause-did : goal.returns-in-Ok-clause-did
 returns-in-Ok-clause-did c =
     let works : c.args.self.now.failed ≡ false = ap (λ (x : Routed). x.failed) (sym c.self.view_is) ∙ c.if-self.false in
     did_hear c.args.topology.now c.laws.ensures c.args.clock.tick c.args.clock.number c.in-Ok.next c.args.self.now c.hear_next.new.self c.args.a c.args.b
-        c.in-Ok.ensures.flight.0 c.in-Ok.ensures.flight.1 c.in-Ok.ensures.hears
+    c.in-Ok.ensures.flight.0 c.in-Ok.ensures.flight.1 c.in-Ok.ensures.hears

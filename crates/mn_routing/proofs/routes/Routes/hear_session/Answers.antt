@@ -15,12 +15,12 @@ returns-clause-heard c =
     let answered = c.requires.takes.1 in
     let same : c.in-Some.end ≡ answered.session =
     session_is _ i.sessions.items c.from.result c.from-2.result c.args.edge.0 c.args.peer.0 c.index_mut.result.now c.index_mut.ensures.value c.from.ensures
-        c.from-2.ensures within
+    c.from-2.ensures within
     c.index_mut-2.result.now c.in-Some.end answered.session c.index_mut-2.ensures.value c.in-Some.is
     (ap (λ (x : Routed). slice_get (slice_index_or x.sessions c.args.edge.0 []) c.args.peer.0) c.self.view_is ∙ answered.lives) in
     ap (λ rows. let r : Routed = record { edges = i.edges.items; sessions = rows; messages = i.messages.items; failed = i.failed } in r)
     (row_set _ i.sessions.items c.from.result c.from-2.result c.args.edge.0 c.args.peer.0 c.index_mut.result.now c.index_mut.ensures.value c.from.ensures
-        c.from-2.ensures within _ (Some c.hear.new.self) refl)
+    c.from-2.ensures within _ (Some c.hear.new.self) refl)
     ∙ ap (with_end c.args.edge.0 c.args.peer.0 (Some c.hear.new.self)) c.self.view_is
     ∙ ap (λ end. with_end c.args.edge.0 c.args.peer.0 end c.args.self.now)
     (ap (λ s. Some s) (c.hear.ensures.after ∙ ap (λ s. table.after_message s c.args.message.now) same)
@@ -34,7 +34,7 @@ returns-clause-answer c =
     λ answer answered.
     let same : c.in-Some.end ≡ answered.session =
     session_is _ i.sessions.items c.from.result c.from-2.result c.args.edge.0 c.args.peer.0 c.index_mut.result.now c.index_mut.ensures.value c.from.ensures
-        c.from-2.ensures within
+    c.from-2.ensures within
     c.index_mut-2.result.now c.in-Some.end answered.session c.index_mut-2.ensures.value c.in-Some.is
     (ap (λ (x : Routed). slice_get (slice_index_or x.sessions c.args.edge.0 []) c.args.peer.0) c.self.view_is ∙ answered.lives) in
     same_ok c.in-Ok.answer answer (c.in-Ok.ensures.answer ∙ ap (λ s. table.answer_in s c.args.message.now) same ∙ answered.takes)

@@ -18,4 +18,4 @@ pub returns-in-Ok-clause-did : goal.returns-in-Ok-clause-did
 returns-in-Ok-clause-did c =
     let works : c.args.self.now.failed ≡ false = ap (λ (x : Routed). x.failed) (sym c.self.view_is) ∙ c.if-self.false in
     did_import c.args.topology.now c.laws.ensures c.args.clock.tick c.args.clock.number c.args.self.now c.set_import.new.self c.args.vrf c.args.target
-        c.args.on c.in-Ok.ensures
+    c.args.on c.in-Ok.ensures
