@@ -1,0 +1,39 @@
+-- How many fly on a channel, as a flight counts them.
+use Rattle.std.proofs.Common.{ℕ, zero, suc, ◌≡◌, ◌+◌, ◌*◌, ◌<◌, Bool, true, false, List, [], ◌∷◌, length, refl, sym, ap, ◌∙◌, Option, Some}
+use Rattle.std.specs.Prelude.{◌==◌, ◌&&◌, nat_le, nat_lt, slice_get, slice_index_or}
+use Rattle.mn_base.proofs.Bools.{and_left, and_right}
+use Rattle.mn_base.proofs.Rules.{some_is}
+use Rattle.mn_flight.specs.declared.Item.{Item}
+use Rattle.mn_flight.specs.Flying.{on_channel}
+use Rattle.mn_topo.specs.Lawful.{IsLawful}
+use Rattle.mn_topo.specs.Network.{Network, nodes_with}
+use Rattle.mn_topo.specs.VrfTable.{is_edge}
+use Rattle.mn_timetable.specs.Keys.{keys_in}
+use Rattle.mn_timetable.proofs.OtherKeys.{edge-below}
+use Rattle.mn_net_model.proofs.Counted.{counted_in}
+use Rattle.mn_net_refusal.specs.Refusal.{count_on}
+
+pub none_on : {T : Type 0} (n c d : ℕ) (xs ys : List (Item T)) → n ≡ length (on_channel c xs) → c ≡ d → xs ≡ ys → (n == 0) ≡ (count_on d (keys_in ys) == 0)
+none_on {T = T} n c d xs ys e f g =
+    ap (λ m. m == 0) (e ∙ ap (λ k. length (on_channel k xs)) f ∙ ap (λ (zs : List (Item T)). length (on_channel d zs)) g ∙ counted_in d ys)
+
+pub none_at : {T : Type 0} (n d place : ℕ) (xs : List (Item T)) → n ≡ length (on_channel d xs) → nat_le n place ≡ nat_le (count_on d (keys_in xs)) place
+none_at n d place xs e = ap (λ m. nat_le m place) (e ∙ counted_in d xs)
+
+pub as_many_nodes : (loopbacks : List ℕ) → length (nodes_with loopbacks) ≡ length loopbacks
+as_many_nodes [] = refl
+as_many_nodes (l ∷ loopbacks) = ap suc (as_many_nodes loopbacks)
+
+-- the first edge of a BGP step is a node
+pub first_node : (t : Network) → IsLawful t → (a b : ℕ) → ((is_edge t.vrfs a && is_edge t.vrfs b) && nat_lt a b) ≡ true → a < length t.loopbacks
+first_node t lawful a b h =
+    edge-below t lawful a (and_left (is_edge t.vrfs a) (is_edge t.vrfs b) (and_left (is_edge t.vrfs a && is_edge t.vrfs b) (nat_lt a b) h))
+
+pub second_node : (t : Network) → IsLawful t → (a b : ℕ) → ((is_edge t.vrfs a && is_edge t.vrfs b) && nat_lt a b) ≡ true → b < length t.loopbacks
+second_node t lawful a b h =
+    edge-below t lawful b (and_right (is_edge t.vrfs a) (is_edge t.vrfs b) (and_left (is_edge t.vrfs a && is_edge t.vrfs b) (nat_lt a b) h))
+
+pub switch_at : (xs : List Bool) (i : ℕ) (b : Bool) → slice_get xs i ≡ Some b → b ≡ slice_index_or xs i false
+switch_at [] i b e = cc
+switch_at (x ∷ xs) zero b e = sym (some_is x b e)
+switch_at (x ∷ xs) (suc i) b e = switch_at xs i b e
