@@ -1,4 +1,26 @@
-//! One node's transport.
+//! One node's transport: what it has learned of the links, its least walks, its LDP sessions, what its neighbours said of
+//! labels, the labels that it gave itself, and what each of them is used for.
+//!
+//! ```text
+//!  a change of a link --> view --> tree --> next hops --+
+//!                                                       +--> bindings --> what is offered --> PDUs to the neighbours
+//!  a PDU from a neighbour --> session --> mappings -----+        |
+//!                                                                +--> next hop and its label --> uses of the labels
+//! ```
+//!
+//! What happens is one change each time: a link's next change, a session that opens or closes, a message that is heard.
+//! What the node keeps and says after it is what `mn_node`'s machine says, and it says it byte for byte, each message in a
+//! PDU of its own. A node offers its own FEC, and another one while its next hop has mapped it (RFC 5036, section 2.6.1.2);
+//! it keeps what any neighbour said (section 2.6.2.2), so that a new next hop is used at once.
+//!
+//! Where memory is wanted in the midst of a change, the parts may not fit together any more: the node then answers
+//! `NoMemory` to each change from then on.
+//!
+//! - `lsr`: the node, in the words of its contract
+//! - `parts`, `hearing`, `making`, `sites`: its parts, and what each change does to them
+//! - `message`, `speaking`: what is said, as PDUs on links
+//! - `ways`: the labels of FECs and their uses
+//! - `laws`: what is said and heard where both ends of a session are nodes
 #![tactic(auto)]
 
 mod hearing;
@@ -11,6 +33,8 @@ mod refusal;
 mod said;
 mod sites;
 mod speaking;
+#[cfg(test)]
+mod tests;
 mod ways;
 
 pub use laws::{a_node_speaks_of_nodes, routers_in_a_row_are_wired, what_is_said_is_one_change};
