@@ -1,5 +1,5 @@
 -- In a network that stands for the ledger labels mean what the ledger's world says.
-use Rattle.std.proofs.Common.{ℕ, ◌≡◌, ◌<◌, Bool, true, false, List, length, map, refl, sym, ap, ◌∙◌, subst, Option, Some, None}
+use Rattle.std.proofs.Common.{ℕ, ◌≡◌, ◌<◌, Bool, true, false, List, length, map, sym, ap, ◌∙◌, Option, Some, None}
 use Rattle.std.specs.Prelude.{◌&&◌, if◌then◌else◌, slice_get, slice_index_or}
 use Rattle.mn_base.specs.Wiring.{across, is_end, nodes_of}
 use Rattle.mn_topo.specs.Network.{Network, wiring_of}
@@ -13,7 +13,6 @@ use Rattle.mn_slice.specs.Slice.{node_at, session_of, label_heard}
 use Rattle.mn_frames.specs.Given.{given, label_for}
 use Rattle.mn_frames.proofs.Numbers.{by_number}
 use Rattle.mn_lsr.specs.Standing.{Standing, label_in}
-use Rattle.mn_transport_model.specs.Stands.{IsNode}
 use Rattle.mn_routing_model.proofs.Tables.{map_numbers_at}
 use Rattle.mn_net_now.specs.Now.{NetNow, StandsFor}
 use Rattle.mn_net_now.specs.Labels.{NodeMeans, LabelsMean}

@@ -16,7 +16,7 @@ use Rattle.mn_lfib.specs.declared.answer.Use.{Use}
 use Rattle.mn_topo.specs.Network.{Network, wiring_of}
 use Rattle.mn_topo.specs.Lawful.{IsLawful}
 use Rattle.mn_topo.specs.declared.steps.Step.{Step}
-use Rattle.mn_topo.specs.declared.steps.Step.TheVariants.{Carry, Lose, Inject, LinkDown}
+use Rattle.mn_topo.specs.declared.steps.Step.TheVariants.{Carry, Lose, Inject}
 use Rattle.mn_topo.specs.declared.steps.JournalEntry.{JournalEntry}
 use Rattle.mn_ledger.specs.World.{World}
 use Rattle.mn_ledger.specs.Places.{home_of}
@@ -27,24 +27,36 @@ use Rattle.mn_ledger.specs.Ledger.{world_of, packets_of, after, start, injects}
 use Rattle.mn_ledger.specs.OneMore.{added, with_packet, tick_from}
 use Rattle.mn_ledger.proofs.More.{world_from-push, unread}
 use Rattle.mn_ledger.proofs.Refusals.{IsFree, free}
-use Rattle.mn_laws.proofs.There.{receiver_there}
 use Rattle.mn_frames.specs.Given.{Labelling, given}
 use Rattle.mn_frames.specs.Tables.{TableStands}
 use Rattle.mn_lsr.specs.Standing.{Standing, FitsOuter}
 use Rattle.mn_stack.specs.Labelled.{Labelled}
 use Rattle.mn_transit.specs.Moving.{Moving, CountsOn, bytes_in}
-use Rattle.mn_pe.specs.Entries.{IsItsFate}
+use Rattle.mn_prefix.specs.Prefix.{AddressBlock}
+use Rattle.mn_base.specs.declared.drops.Rule.{Rule}
+use Rattle.mn_ipv4.specs.Header.{aged, total_length, destination_of}
+use Rattle.mn_ipv4.proofs.Laws.{IsGood, IsGood-from_good, length-aged}
+use Rattle.mn_vrf.specs.declared.source.Source.{Source}
+use Rattle.mn_vrf.specs.declared.source.Source.TheVariants.{Own, Near, Far}
+use Rattle.mn_ledger.specs.Entry.{first_rule}
+use Rattle.mn_ledger.specs.Lawful.{IsLawfulJournal}
+use Rattle.mn_ledger.specs.Packets.{entry_rules}
+use Rattle.mn_frames.specs.Entries.{IsFit, IsFall}
+use Rattle.mn_frames.proofs.Fit.{fits_or_falls}
+use Rattle.mn_pe.specs.Edge.{Edge}
+use Rattle.mn_pe.specs.Held.{label_of}
+use Rattle.mn_pe.specs.Entries.{IsItsFate, entered_at, entered_by, route_for}
 use Rattle.mn_pe.specs.declared.entering.Entered.{Entered}
 use Rattle.mn_pe.specs.declared.entering.Entered.TheVariants.{Drop, Local, Tunnel}
-use Rattle.mn_transit.specs.Entering.{IsWayOut, OuterFits, size_of}
+use Rattle.mn_transit.specs.Entering.{IsWayOut, OuterFits, HasRoom, size_of}
 use Rattle.mn_transit.specs.Stands as transit
 use Rattle.mn_transit.specs.Stands.{Makes}
 use Rattle.mn_transit.proofs.Counting.{as_many}
 use Rattle.mn_transit.proofs.Injecting.{leaves_home}
-use Rattle.mn_timetable.specs.Keys.{keys_in, of_frames}
+use Rattle.mn_timetable.specs.Keys.{of_frames}
 use Rattle.mn_timetable.specs.Steps.{pushed, later_world}
-use Rattle.mn_net_model.specs.Stepped.{MayStep, later_packets}
-use Rattle.mn_net_model.proofs.Going.{labelled_more}
+use Rattle.mn_net_model.specs.Stepped.{MayStep}
+use Rattle.mn_net_model.proofs.Going.{labelled_more, lawful_more}
 use Rattle.mn_net_model.proofs.Numbers.{flight_below}
 use Rattle.mn_net_model.specs.Stands as model
 use Rattle.mn_net_model.proofs.Steps.{carried, lost, injected}
@@ -57,7 +69,7 @@ use Rattle.mn_net_tally.specs.Tallies.{Tally, Tallies, frame_of, after_frame}
 use Rattle.mn_net_tally.proofs.Counting.{counts_as_it_did, counts_frames}
 use Rattle.mn_net_tally.proofs.Few.{few_sent}
 use Rattle.mn_net_now.specs.Now.{NetNow, packed_in, StandsFor, IsNet}
-use Rattle.mn_net_now.specs.Done.{IsLonger, IsDone, MayBeDone}
+use Rattle.mn_net_now.specs.Done.{IsDone, MayBeDone}
 use Rattle.mn_net_moves.specs.Bound.{IsBoundBelow}
 
 -- a step of another part leaves the transport as it is
@@ -271,6 +283,32 @@ bound_below t g w site b (Drop cause) h = tt
 bound_below t g w site b (Local to frame) h = tt
 bound_below t g w site b (Tunnel edge frame) h = subst (λ n. n < length t.loopbacks) h.2 h.3.sound.node
 
+-- it has room for one entry more
+room_by : (b : List ℕ) (cause : Option Rule) (route : Option (AddressBlock × Source)) → HasRoom (entered_by b cause route)
+room_by b (Some cause) route = tt
+room_by b None None = tt
+room_by b None (Some (prefix, Own site)) = tt
+room_by b None (Some (prefix, Near v site)) = tt
+room_by b None (Some (prefix, Far address rd edge label)) = (omega arith, omega arith)
+
+pub room_at : (edge : Edge) (site : ℕ) (b : List ℕ) (entered : Entered) → entered ≡ entered_at edge site b → HasRoom entered
+room_at edge site b entered e = subst HasRoom (sym e) (room_by b (first_rule (entry_rules (label_of edge site) b)) (route_for edge site (destination_of b)))
+
+no_longer : (b : List ℕ) (packet : List ℕ) → IsGood b → packet ≡ aged b 1 → length packet ≤ length b
+no_longer b packet good e =
+    let cut : length packet ≡ total_length b = ap length e ∙ length-aged b 1 good in
+    let whole = good.total_there in
+    omega (arith, cut, whole)
+
+-- and no byte more than the packet
+pub size_small : (t : Network) (g : Labelling) (w : World) (site : ℕ) (b : List ℕ) (entered : Entered) → ((i : ℕ) → slice_index b i < 256) →
+    IsItsFate t g w site b entered → size_of entered ≤ length b
+size_small t g w site b (Drop cause) small h = omega arith
+size_small t g w site b (Local to frame) small h = omega arith
+size_small t g w site b (Tunnel edge frame) small h =
+    let fit : IsFit b = fits_or_falls t w site b small (λ fall. subst IsFall h.1 fall) in
+    no_longer b frame.packet (IsGood-from_good b fit.good) h.3.packet
+
 -- and another node than the one where it entered
 pub bound_apart : (t : Network) (g : Labelling) (w : World) (node site : ℕ) (b : List ℕ) (edge : NodeNo) (frame : Labelled) → node ≡ home_of t site →
     IsItsFate t g w site b (Tunnel edge frame) → node ≢ edge.0
@@ -281,7 +319,7 @@ pub inject_done : (old : NetNow) (moving : Moving) (tally : Tally) (site : SiteN
     StaysAsItWas → StayAsTheyWere → IsLawful old.topology → IsNet old → MayBeDone old (Inject site number) b →
     ((inputs : List (List ℕ)) → StandsFor old inputs → bytes_in old.moving.flying ≡ bytes_flying old.topology (packets_of old.topology old.journal inputs)) →
     node.0 ≡ home_of old.topology site.0 →
-    ((journal : List JournalEntry) → IsRoutes old.topology journal old.routes →
+    ((journal : List JournalEntry) (inputs : List (List ℕ)) → IsLawfulJournal old.topology journal inputs → IsRoutes old.topology journal old.routes →
     IsItsFate old.topology (given old.topology journal) (world_of old.topology journal) site.0 b entered) →
     size_of entered ≤ length b →
     ((journal : List JournalEntry) → IsTransport old.topology journal old.transport →
@@ -307,8 +345,8 @@ inject_done old moving tally site number b node entered outer made made_now stay
     let still : IsTransport t (pushed es old.tick s) old.transport = stays t es old.tick s old.transport lawful refl h.transport in
     let routes : IsRoutes t (pushed es old.tick s) old.routes = stay t es old.tick s old.routes lawful refl h.routes in
     let same : world_of t (pushed es old.tick s) ≡ later_world t es s = world_from-push t es (start t) (record { tick = old.tick; step = s }) in
-    let is_fate = fate (pushed es old.tick s) routes in
     let step = may_step old s b lawful is may ps h in
+    let is_fate = fate (pushed es old.tick s) (ps ++ b ∷ []) (lawful_more t es old.tick s b ps h.stands.each h.stands.lawful step) routes in
     let on = injected t es old.tick site number b ps (packed_in old) moving made h.stands step
     (moved_as (given t (pushed es old.tick s)) (later_world t es s) (packets_of t es ps) site number b home
     (subst (λ w. IsItsFate t (given t (pushed es old.tick s)) w site.0 b entered) same is_fate)

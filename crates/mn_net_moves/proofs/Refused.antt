@@ -1,5 +1,5 @@
 -- What a refusal tells of a step.
-use Rattle.std.proofs.Common.{◌≡◌, Option, Some, None, refl}
+use Rattle.std.proofs.Common.{◌≡◌, Option, Some, refl}
 use Rattle.std.specs.Prelude.{◌≢◌, Err}
 use Rattle.mn_ledger.specs.declared.refused.Refused.{Refused}
 use Rattle.mn_ledger.specs.declared.refused.Refused.TheVariants.{NoMemory, Unchanged, Empty, PrefixTaken, NoRouteThere, RoutesFull, TargetsFull}

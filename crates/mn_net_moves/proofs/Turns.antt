@@ -1,5 +1,5 @@
 -- The steps of the transport and of the routes, from what these say of them.
-use Rattle.std.proofs.Common.{ℕ, ◌≡◌, ◌+◌, ◌<◌, ◌≤◌, Bool, true, false, List, [], ◌++◌, ◌∷◌, length, refl, arith, sym, ap, ◌∙◌, subst, Some, None, append-nil}
+use Rattle.std.proofs.Common.{ℕ, ◌≡◌, ◌+◌, ◌<◌, true, false, List, [], ◌++◌, length, refl, arith, sym, ap, ◌∙◌, subst, None, append-nil}
 use Rattle.std.specs.List.{All}
 use Rattle.mn_base.proofs.Bools.{no}
 use Rattle.mn_base.specs.declared.links.Dir.TheVariants.{Forth, Back}
@@ -9,7 +9,7 @@ use Rattle.mn_topo.specs.Network.{Network}
 use Rattle.mn_topo.specs.Lawful.{IsLawful}
 use Rattle.mn_topo.specs.declared.steps.Step.{Step}
 use Rattle.mn_topo.specs.declared.steps.Step.TheVariants.{LinkUp, LinkDown, Learn, LdpAdmin, HearLdp, BgpUp, BgpDown, HearBgp, AddRoute, DelRoute, Import}
-use Rattle.mn_topo.specs.declared.steps.Step.TheVariants.{Export, Attach, Detach, Inject, Carry, Lose}
+use Rattle.mn_topo.specs.declared.steps.Step.TheVariants.{Export, Attach, Detach, Inject, Carry}
 use Rattle.mn_topo.specs.declared.steps.JournalEntry.{JournalEntry}
 use Rattle.mn_ledger.specs.World.{World}
 use Rattle.mn_ledger.specs.Packets.{Packets, channel, packets_after}
@@ -22,7 +22,7 @@ use Rattle.mn_ledger.specs.Vpn.{is_routing}
 use Rattle.mn_ledger.proofs.InTurn.{in_turn}
 use Rattle.mn_laws.proofs.Holding.{names_what_exists}
 use Rattle.mn_frames.specs.Given.{Labelling, given}
-use Rattle.mn_transit.specs.Moving.{Moving, CountsOn, bytes_in}
+use Rattle.mn_transit.specs.Moving.{Moving, CountsOn}
 use Rattle.mn_transit.specs.Stands as transit
 use Rattle.mn_transit.proofs.Counts.{counts_begun}
 use Rattle.mn_timetable.specs.Keys.{Key, keys_in, keys_on, of_notices, of_messages, of_routes, notices_leave, messages_leave, routes_leave}

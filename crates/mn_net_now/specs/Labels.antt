@@ -1,5 +1,5 @@
 -- What labels mean between any two steps of a network: RFC 3031, sections 3.1 and 3.14; RFC 5036, section 2.6; RFC 4364, sections 3.2 and 5.
-use Rattle.std.specs.Prelude.{◌≡◌, ◌<◌, ℕ, List, length, map, drop, slice_get, Option, Some}
+use Rattle.std.specs.Prelude.{◌≡◌, ◌<◌, ℕ, List, length, map, drop, slice_get, Some}
 use Rattle.mn_base.specs.Wiring.{across, sender, receiver}
 use Rattle.mn_base.specs.declared.links.Dir.{Dir}
 use Rattle.mn_flight.specs.Flying.{on_channel}

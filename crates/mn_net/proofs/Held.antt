@@ -1,0 +1,137 @@
+-- What edges hold in a network that works.
+use Rattle.std.proofs.Common.{ℕ, zero, suc, ◌≡◌, ◌<◌, Bool, true, false, List, [], ◌∷◌, length, map, refl, arith, sym, ap, ◌∙◌, subst, Option, Some, None}
+use Rattle.std.specs.Prelude.{◌==◌, ◌||◌, if◌then◌else◌, slice_index_or, option_map}
+use Rattle.std.specs.List.{list_any}
+use Rattle.std.proofs.lemmas.List.{length-map}
+use Rattle.std.proofs.lemmas.Option.{same_Some}
+use Rattle.mn_base.specs.Wiring.{nodes_of}
+use Rattle.mn_base.specs.declared.states.BgpState.TheVariants.{Idle}
+use Rattle.mn_base.proofs.Bools.{same_test}
+use Rattle.mn_prefix.specs.Prefix.{AddressBlock}
+use Rattle.mn_prefix.specs.Table.{longest_match}
+use Rattle.mn_topo.specs.Network.{Network, wiring_of}
+use Rattle.mn_topo.specs.Lawful.{IsLawful}
+use Rattle.mn_topo.specs.VrfTable.{is_edge}
+use Rattle.mn_topo.specs.declared.vrfs.VrfDef.{VrfDef}
+use Rattle.mn_ledger.specs.World.{Config, Peerings}
+use Rattle.mn_ledger.specs.Ledger.{world_of}
+use Rattle.mn_ledger.specs.Places.{edge_of}
+use Rattle.mn_ledger.specs.Vpn.{peers_live, state_heard, state_of, held, best}
+use Rattle.mn_laws.proofs.There.{edge_there}
+use Rattle.mn_laws.proofs.Holding.{length_range}
+use Rattle.mn_frames.specs.Numbers.{labels_of}
+use Rattle.mn_vrf.specs.Vrf.{VrfState}
+use Rattle.mn_vrf.specs.declared.source.Source.{Source}
+use Rattle.mn_pe.specs.Edge.{Edge}
+use Rattle.mn_pe.specs.Held.{held_by}
+use Rattle.mn_pe.specs.Pe.{PeNow, found_in}
+use Rattle.mn_bgp_spelling.specs.Spelling.{Labels, session_in}
+use Rattle.mn_bgp_session.specs.declared.session.BgpSession.{BgpSession}
+use Rattle.mn_routing_model.specs.Laws.{AllFindTheBest}
+use Rattle.mn_routing_model.specs.Routed.{working}
+use Rattle.mn_routing_model.specs.Sending.{state_by}
+use Rattle.mn_routing_model.specs.Sources.{as_held}
+use Rattle.mn_routing_model.specs.Standing.{vrf_in, edge_in}
+use Rattle.mn_routing_model.specs.Whole.{routes_in, edge_or_none, session_or_none}
+use Rattle.mn_routing_model.proofs.Tables.{map_numbers_at}
+use Rattle.mn_net_refusal.specs.Refusal.{asked}
+use Rattle.mn_net_refusal.proofs.Vrfs.{vrf_is}
+use Rattle.mn_net_now.specs.Now.{NetNow, IsNet}
+
+-- 1. Sessions
+
+by_life : (c : Config) (p : Peerings) (a b : ℕ) (session : BgpSession) → session.state ≡ state_of c p a b → (live : Bool) → peers_live c a b ≡ live →
+    state_by (if live then Some session else None) ≡ state_of c p a b
+by_life c p a b session e true h = e
+by_life c p a b session e false h = sym (ap (λ l. if l then state_heard (p.heard a b) else Idle) h)
+
+pub session_told : (net : NetNow) → IsNet net → (a b : ℕ) → a < length net.topology.loopbacks → b < length net.topology.loopbacks →
+    state_by (slice_index_or (slice_index_or net.routes.sessions a []) b None)
+    ≡ state_of (world_of net.topology net.journal).config (world_of net.topology net.journal).peerings a b
+session_told net is a b below other =
+    let t : Network = net.topology in
+    let c : Config = (world_of t net.journal).config in
+    let p : Peerings = (world_of t net.journal).peerings in
+    ap (λ rows. state_by (slice_index_or (slice_index_or rows a []) b None)) is.stands.routes.sessions
+    ∙ ap (λ row. state_by (slice_index_or row b None))
+    (map_numbers_at (λ node. map (session_or_none t c p node) (nodes_of (wiring_of t))) (length t.loopbacks) a [] below)
+    ∙ ap state_by (map_numbers_at (session_or_none t c p a) (length t.loopbacks) b None other)
+    ∙ by_life c p a b (session_in t c p a b) refl (peers_live c a b) refl
+
+pub rows_length : (net : NetNow) → IsNet net → length net.routes.sessions ≡ length net.topology.loopbacks
+rows_length net is = ap length is.stands.routes.sessions ∙ length_range _ 0 (length net.topology.loopbacks)
+
+pub row_length : (net : NetNow) → IsNet net →
+    (a : ℕ) → a < length net.topology.loopbacks → length (slice_index_or net.routes.sessions a []) ≡ length net.topology.loopbacks
+row_length net is a below =
+    let t : Network = net.topology in
+    let c : Config = (world_of t net.journal).config in
+    let p : Peerings = (world_of t net.journal).peerings in
+    ap (λ rows. length (slice_index_or rows a [])) is.stands.routes.sessions
+    ∙ ap length (map_numbers_at (λ node. map (session_or_none t c p node) (nodes_of (wiring_of t))) (length t.loopbacks) a [] below)
+    ∙ length_range (session_or_none t c p a) 0 (length t.loopbacks)
+
+-- 2. Edges
+
+at_edge_of : (vrfs : List VrfDef) (v : ℕ) (d : VrfDef) → v < length vrfs → is_edge vrfs (slice_index_or vrfs v d).node.0 ≡ true
+at_edge_of [] v d h = absurd (let none : v < 0 → ⊥ = (λ g. omega (arith, g)) in none h)
+at_edge_of (x ∷ xs) zero d h = ap (λ b. b || list_any (λ vrf. x.node.0 == vrf.node.0) xs) (same_test x.node.0)
+at_edge_of (x ∷ xs) (suc v) d h = or_on ((slice_index_or xs v d).node.0 == x.node.0) (at_edge_of xs v d (omega (arith, h)))
+  where
+    or_on : {r : Bool} (b : Bool) → r ≡ true → (b || r) ≡ true
+    or_on true e = refl
+    or_on false e = e
+
+pub edges_length : (net : NetNow) → IsNet net → length net.routes.edges ≡ length net.topology.loopbacks
+edges_length net is = ap length is.stands.routes.edges ∙ length-map _ (option_map working) ∙ length_range _ 0 (length net.topology.loopbacks)
+
+mapped_at : {A B : Type 0} (f : A → B) (xs : List (Option A)) (k : ℕ) → slice_index_or (map (option_map f) xs) k None ≡ option_map f (slice_index_or xs k None)
+mapped_at f [] zero = refl
+mapped_at f [] (suc k) = refl
+mapped_at f (x ∷ xs) zero = refl
+mapped_at f (x ∷ xs) (suc k) = mapped_at f xs k
+
+module _ (net : NetNow) (lawful : IsLawful net.topology) (is : IsNet net) (v : ℕ) (h : v < length net.topology.vrfs) where
+  abbrev t : Network
+  t = net.topology
+
+  abbrev l : Labels
+  l = labels_of net.topology net.journal
+
+  abbrev c : Config
+  c = (world_of net.topology net.journal).config
+
+  abbrev p : Peerings
+  p = (world_of net.topology net.journal).peerings
+
+  abbrev its : Edge
+  its = edge_in t l c p (edge_of t v)
+
+  its_edge : slice_index_or (routes_in t l c p).edges (edge_of t v) None ≡ Some its
+  its_edge =
+      map_numbers_at (edge_or_none t l c p) (length t.loopbacks) (edge_of t v) None (edge_there t v lawful h)
+      ∙ ap (λ b. if b then Some its else None) (at_edge_of t.vrfs v _ h)
+
+  pub edge_told : slice_index_or net.routes.edges (edge_of t v) None ≡ Some (working its)
+  edge_told = ap (λ es. slice_index_or es (edge_of t v) None) is.stands.routes.edges
+      ∙ mapped_at working (routes_in t l c p).edges (edge_of t v) ∙ ap (option_map working) its_edge
+
+  abbrev question : ℕ → VrfState → Option (AddressBlock × Source)
+  question address vrf = longest_match address (held_by its vrf)
+
+  found : (address : ℕ) → found_in v (question address) its.vrfs ≡ question address (vrf_in t c v)
+  found address = sym (ap (asked (λ (edge : Edge). found_in v (question address) edge.vrfs)) its_edge) ∙ vrf_is t l c p lawful v (question address) h
+
+  pub lookup_told : AllFindTheBest →
+      (address : ℕ) (pe : PeNow) (result : Option (AddressBlock × Source)) → Some pe ≡ slice_index_or net.routes.edges (edge_of t v) None →
+      (pe.failed ≡ false → result ≡ found_in v (λ (vrf : VrfState). longest_match address (held_by pe.edge vrf)) pe.edge.vrfs) →
+      result ≡ option_map (as_held l) (best (held t c p (edge_of t v) v) address)
+  lookup_told finds address pe result at tells =
+      let same : pe ≡ working its = same_Some pe (working its) (at ∙ edge_told) in
+      let told =
+      subst (λ (x : PeNow). x.failed ≡ false →
+      result ≡ found_in v (λ (vrf : VrfState). longest_match address (held_by x.edge vrf)) x.edge.vrfs) same tells in
+      told refl ∙ found address ∙ finds t l net.journal is.inputs (edge_of t v) v address lawful is.stands.stands.lawful refl
+
+  pub some_edge : None ≡ slice_index_or net.routes.edges (edge_of t v) None → ⊥
+  some_edge e = let none : None ≡ Some (working its) → ⊥ = (λ q. cc) in none (e ∙ edge_told)

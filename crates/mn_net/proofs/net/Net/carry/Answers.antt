@@ -1,0 +1,63 @@
+use Rattle.std.proofs.Common.{[], ap, ◌∙◌, ◌+◌, ◌<◌, subst, sym, length}
+use Rattle.std.specs.Prelude.{slice_index}
+use Rattle.mn_flight.specs.Flying.{IsFlight}
+use Rattle.mn_net_tally.specs.Tallies.{Tally, frame_of}
+use Rattle.mn_topo.specs.declared.steps.Step.TheVariants as step
+use Rattle.mn_net_moves.proofs.Moves.{net_may, net_done, as_it_is, numbers, frame_there, one_more, counted_so, few_frames, carry_done}
+use Rattle.mn_net.proofs.net.Net.carry.Goals as goal
+
+pub carry-flies-requires-clause-there : goal.carry-flies-requires-clause-there
+carry-flies-requires-clause-there c =
+    let may = net_may _ _ (step.Carry c.args.link c.args.dir c.args.place) [] c.self.view_is c.requires.may in
+    frame_there _ (c.self.invariant may.works) c.args.link c.args.dir c.args.place may
+
+pub carry-flies-requires-clause-number : goal.carry-flies-requires-clause-number
+carry-flies-requires-clause-number c =
+    let may = net_may _ _ (step.Carry c.args.link c.args.dir c.args.place) [] c.self.view_is c.requires.may in
+    numbers _ (c.self.invariant may.works)
+
+pub count_frame-requires-clause-flight : goal.count_frame-requires-clause-flight
+count_frame-requires-clause-flight c =
+    let may = net_may _ _ (step.Carry c.args.link c.args.dir c.args.place) [] c.self.view_is c.requires.may in
+    let is = c.self.invariant may.works in
+    subst (λ n. IsFlight n c.carry-flies.new.self.flying) (c.carry-flies.ensures.counts.channels ∙ is.channels) c.laws-2.ensures.flight
+
+pub count_frame-requires-clause-each : goal.count_frame-requires-clause-each
+count_frame-requires-clause-each c =
+    let may = net_may _ _ (step.Carry c.args.link c.args.dir c.args.place) [] c.self.view_is c.requires.may in
+    let is = c.self.invariant may.works in
+    ap (λ (t : Tally). length t.sent) c.in_ok-reserve-2.ensures.kept ∙ is.stands.tally.each
+
+pub count_frame-requires-clause-few : goal.count_frame-requires-clause-few
+count_frame-requires-clause-few c = λ n below.
+    let may = net_may _ _ (step.Carry c.args.link c.args.dir c.args.place) [] c.self.view_is c.requires.may in
+    let is = c.self.invariant may.works in
+    subst (λ (t : Tally). slice_index t.sent n < 4000000) (sym c.in_ok-reserve-2.ensures.kept)
+    (few_frames _ (step.Carry c.args.link c.args.dir c.args.place) [] c.laws.ensures is may n below)
+
+pub invariant_of-self-2 : goal.invariant_of-self-2
+invariant_of-self-2 c = λ works.
+    let may = net_may _ _ (step.Carry c.args.link c.args.dir c.args.place) [] c.self.view_is c.requires.may in
+    (as_it_is _ _ (step.Carry c.args.link c.args.dir c.args.place) [] c.reserve.new.self.items c.push_reserved.new.self.items
+    (carry_done _ c.carry-flies.new.self c.count_frame.new.tally c.args.link c.args.dir c.args.place c.carry-flies.result
+    (c.self.inside.made + c.from.result) c.receiver-node.result.0
+    c.node.result.now c.table-table.result.now c.a_transport_goes_on_as_it_was.ensures c.routes_stay_as_they_were.ensures c.laws.ensures
+    (c.self.invariant may.works) may c.receiver-node.ensures.end
+    c.node.ensures c.table-table.ensures.uses c.carry-flies.ensures.moved c.carry-flies.ensures.made c.carry-flies.ensures.counts
+    (ap (λ n. c.self.inside.made + n) (c.from.ensures ∙ one_more c.carry-flies.result))
+    (counted_so c.self.inside.topology (frame_of c.self.inside.made c.carry-flies.new.self.flying) c.self.inside.tally c.reserve-2.new.self
+    c.count_frame.new.tally c.in_ok-reserve-2.ensures.kept c.count_frame.ensures)) may.works c.reserve.ensures.items c.push_reserved.ensures.items).is
+
+pub returns-clause-done : goal.returns-clause-done
+returns-clause-done c =
+    let may = net_may _ _ (step.Carry c.args.link c.args.dir c.args.place) [] c.self.view_is c.requires.may in
+    net_done _ _ _ (step.Carry c.args.link c.args.dir c.args.place) [] c.self.view_is
+    (as_it_is _ _ (step.Carry c.args.link c.args.dir c.args.place) [] c.reserve.new.self.items c.push_reserved.new.self.items
+    (carry_done _ c.carry-flies.new.self c.count_frame.new.tally c.args.link c.args.dir c.args.place c.carry-flies.result
+    (c.self.inside.made + c.from.result) c.receiver-node.result.0
+    c.node.result.now c.table-table.result.now c.a_transport_goes_on_as_it_was.ensures c.routes_stay_as_they_were.ensures c.laws.ensures
+    (c.self.invariant may.works) may c.receiver-node.ensures.end
+    c.node.ensures c.table-table.ensures.uses c.carry-flies.ensures.moved c.carry-flies.ensures.made c.carry-flies.ensures.counts
+    (ap (λ n. c.self.inside.made + n) (c.from.ensures ∙ one_more c.carry-flies.result))
+    (counted_so c.self.inside.topology (frame_of c.self.inside.made c.carry-flies.new.self.flying) c.self.inside.tally c.reserve-2.new.self
+    c.count_frame.new.tally c.in_ok-reserve-2.ensures.kept c.count_frame.ensures)) may.works c.reserve.ensures.items c.push_reserved.ensures.items)

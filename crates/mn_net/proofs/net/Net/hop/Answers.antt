@@ -1,0 +1,35 @@
+use Rattle.std.proofs.Common.{◌∙◌, ap, subst, sym, length, ◌<◌}
+use Rattle.std.specs.Prelude.{option_map, Option}
+use Rattle.mn_base.specs.declared.numbers.NodeNo.{NodeNo}
+use Rattle.mn_ledger.specs.Transport.{usable}
+use Rattle.mn_frames.specs.Given.{given}
+use Rattle.mn_net_moves.specs.Told.{hop_to}
+use Rattle.mn_net_moves.proofs.Told.{net_is, hop_of}
+use Rattle.std.proofs.Common.{ℕ}
+use Rattle.mn_ledger.specs.Ledger.{world_of}
+use Rattle.mn_net_now.specs.Now.{NetNow}
+use Rattle.mn_net.proofs.net.Net.hop.Goals as goal
+
+pub outer-requires-clause-node : goal.outer-requires-clause-node
+outer-requires-clause-node c = subst (λ (n : NetNow). c.args.node.0 < length n.topology.loopbacks) (sym c.self.view_is) c.requires.node
+
+pub outer-requires-clause-edge : goal.outer-requires-clause-edge
+outer-requires-clause-edge c = subst (λ (n : NetNow). c.args.edge.0 < length n.topology.loopbacks) (sym c.self.view_is) c.requires.edge
+
+pub outer-requires-clause-stands : goal.outer-requires-clause-stands
+outer-requires-clause-stands c =
+    let is = net_is _ _ c.self.view_is c.self.invariant c.requires.works in
+    (c.self.inside.journal.items, is.stands.transport)
+
+pub returns : goal.returns
+returns c =
+    let is = net_is _ _ c.self.view_is c.self.invariant c.requires.works in
+    let t = c.self.inside.topology in
+    let es = c.self.inside.journal.items in
+    let w = world_of t es in
+    record {
+      told = λ apart. c.next_hop.ensures
+          ∙ ap (λ o. option_map (λ (h : NodeNo × Option ℕ). h.0) o) (c.outer.ensures.told es is.stands.transport apart)
+          ∙ hop_of (given t es) c.args.edge.0 (usable t w.config w.views w.sessions c.args.node.0 c.args.edge.0)
+          ∙ ap (λ (n : NetNow). hop_to n.topology (world_of n.topology n.journal) c.args.node.0 c.args.edge.0) c.self.view_is;
+    }

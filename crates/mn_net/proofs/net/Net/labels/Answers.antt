@@ -1,0 +1,19 @@
+use Rattle.std.proofs.Common.{◌∙◌, ap}
+use Rattle.mn_labels.specs.Labels.{LabelTable}
+use Rattle.mn_frames.specs.Given.{given}
+use Rattle.mn_net_moves.proofs.Told.{net_is, node_in}
+use Rattle.mn_net_now.specs.Now.{NetNow}
+use Rattle.mn_net.proofs.net.Net.labels.Goals as goal
+
+pub node-requires : goal.node-requires
+node-requires c = node_in _ _ c.self.view_is (net_is _ _ c.self.view_is c.self.invariant c.requires.works) c.args.node.0 c.requires.node
+
+pub returns : goal.returns
+returns c =
+    let is = net_is _ _ c.self.view_is c.self.invariant c.requires.works in
+    record {
+      told =
+          c.table.ensures.whole ∙ ap (λ (t : LabelTable). t.given) c.labels.ensures.value
+          ∙ (is.stands.transport.nodes c.args.node.0 c.node.result.now c.node.ensures).labels
+          ∙ ap (λ (n : NetNow). given n.topology n.journal c.args.node.0) c.self.view_is;
+    }

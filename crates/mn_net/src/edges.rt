@@ -1,0 +1,42 @@
+//! What is told of edges: the states of their sessions, and the routes that their VRFs hold.
+ghost use Rattle.std.specs.Prelude.{◌≡◌, ◌<◌, false, length, option_map};
+ghost use Rattle.mn_ledger.specs.Ledger.{world_of};
+ghost use Rattle.mn_ledger.specs.Places.{edge_of};
+ghost use Rattle.mn_ledger.specs.Vpn.{state_of, held, best};
+ghost use Rattle.mn_frames.specs.Numbers.{labels_of};
+ghost use Rattle.mn_routing_model.specs.Sources.{as_held};
+
+use crate::ends::edge_at;
+use crate::net::Net;
+use mn_base::{BgpState, NodeNo, VrfNo};
+use mn_prefix::Prefix;
+use mn_routing_model::an_edge_stands_for_the_ledger;
+use mn_vrf::Source;
+
+impl Net {
+    /// How far an edge's session with a peer has come: Idle where none lives.
+    pub fn bgp_state(&self, at: NodeNo, peer: NodeNo) -> BgpState
+        requires works { self.now.failed ≡ false }
+        requires at { at.0 < length self.now.topology.loopbacks }
+        requires peer { peer.0 < length self.now.topology.loopbacks }
+        ensures told { result ≡ state_of (world_of self.now.topology self.now.journal).config (world_of self.now.topology self.now.journal).peerings at.0 peer.0 }
+    {
+        self.routes.bgp_state(at, peer)
+    }
+
+    /// The best route of a VRF for an address, with its prefix: of the longest prefix that contains it, the preferred one.
+    pub fn lookup(&self, vrf: VrfNo, address: u32) -> Option<(Prefix, Source)>
+        requires works { self.now.failed ≡ false }
+        requires vrf { vrf.0 < length self.now.topology.vrfs }
+        ensures told { result ≡ option_map (as_held (labels_of self.now.topology self.now.journal))
+            (best (held self.now.topology (world_of self.now.topology self.now.journal).config (world_of self.now.topology self.now.journal).peerings (edge_of self.now.topology vrf.0) vrf.0) address) }
+    {
+        self.topology.laws();
+        an_edge_stands_for_the_ledger();
+        let node = edge_at(&self.topology, vrf);
+        match self.routes.edge(node) {
+            Some(edge) => edge.lookup(vrf, address),
+            None => None,
+        }
+    }
+}

@@ -1,0 +1,207 @@
+//! What is kept, and the clock.
+ghost use Rattle.std.specs.Prelude.{◌≡◌, ◌≤◌, ◌^◌, ℕ, List, [], true, false, IfOk, OnOk, OnErr, IsErrOf};
+ghost use Rattle.mn_topo.specs.Steps.{fits};
+ghost use Rattle.mn_topo.specs.declared.steps.Step.TheVariants as step;
+ghost use Rattle.mn_ledger.specs.Refusal.{refusal};
+ghost use Rattle.mn_ledger.specs.OneMore.{with_packet};
+ghost use Rattle.mn_ledger.specs.declared.refused.Refused.TheVariants as why;
+ghost use Rattle.mn_net_now.specs.Now.{StandsFor};
+ghost use Rattle.mn_net_now.specs.Labels.{LabelsMean};
+ghost use Rattle.mn_net_now.specs.Done.{Answers, Refuses, IsLonger, HasFailed, Leaves, MayBeDone, IsDone};
+
+use mn_ledger::Refused;
+use mn_net_look::refusal;
+use mn_net_tally::Tally;
+use mn_routing::Routes;
+use mn_topo::{JournalEntry, Step, Topology};
+use mn_transit::Transit;
+use mn_transport::Transport;
+use std::alloc::{AllocError, Global};
+use std::marker::Model;
+
+/// The numbers of the items that a step made: from the first on, up to the end.
+#[derive(Clone, Copy, Debug, PartialEq, Eq)]
+pub struct Done {
+    pub first: u64,
+    pub end: u64,
+}
+
+/// All nodes, sessions, items in flight and packets.
+pub struct Net {
+    pub(crate) alloc: Global,
+    pub(crate) topology: Topology,
+    pub(crate) journal: Vec<JournalEntry>,
+    pub(crate) tick: u64,
+    pub(crate) made: u64,
+    /// It has wanted memory, and its parts may not fit together any more.
+    pub(crate) failed: bool,
+    pub(crate) transport: Transport,
+    pub(crate) routes: Routes,
+    pub(crate) transit: Transit,
+    pub(crate) tally: Tally,
+}
+
+impl Model for Net {
+    ghost use Rattle.mn_net_now.specs.Now.{NetNow, WorksAsNet};
+
+    ghost Value = { NetNow };
+
+    ghost view = { λ a. record {
+      topology = a.topology;
+      journal = a.journal.items;
+      tick = a.tick;
+      made = a.made;
+      failed = a.failed;
+      transport = a.transport;
+      routes = a.routes;
+      moving = a.transit;
+      tally = a.tally;
+    } };
+
+    ghost invariant = { λ a. WorksAsNet (record {
+      topology = a.topology;
+      journal = a.journal.items;
+      tick = a.tick;
+      made = a.made;
+      failed = a.failed;
+      transport = a.transport;
+      routes = a.routes;
+      moving = a.transit;
+      tally = a.tally;
+    }) };
+}
+
+impl Net {
+    /// The start: every link and session is down, and nothing flies.
+    pub fn new(alloc: Global, topology: Topology) -> Result<Net, AllocError>
+        ensures stands { IfOk result (λ net. StandsFor net []) }
+        ensures labels { IfOk result (λ net. LabelsMean net []) }
+        ensures topology { IfOk result (λ net. net.topology ≡ topology) }
+        ensures journal { IfOk result (λ net. net.journal ≡ []) }
+        ensures tick { IfOk result (λ net. net.tick ≡ 0) }
+        ensures made { IfOk result (λ net. net.made ≡ 0) }
+    {
+        let transport = Transport::new(alloc, &topology)?;
+        let routes = Routes::new(alloc, &topology)?;
+        let transit = Transit::new(alloc, &topology)?;
+        let tally = Tally::new(alloc, &topology)?;
+        Ok(Net {
+            alloc,
+            topology,
+            journal: Vec::new(alloc),
+            tick: 0,
+            made: 0,
+            failed: false,
+            transport,
+            routes,
+            transit,
+            tally,
+        })
+    }
+
+    /// Its topology.
+    pub fn topology(&self) -> &Topology
+        ensures { result.now ≡ self.now.topology }
+    {
+        &self.topology
+    }
+
+    /// The steps that were done.
+    pub fn journal(&self) -> &[JournalEntry]
+        ensures { result.now ≡ self.now.journal }
+    {
+        &self.journal
+    }
+
+    /// The clock.
+    pub fn tick(&self) -> u64
+        ensures { result ≡ self.now.tick }
+    {
+        self.tick
+    }
+
+    /// The clock goes on to a tick.
+    pub fn advance(&mut self, tick: u64)
+        requires later { self.old.tick ≤ tick }
+        requires within { tick ≤ 2 ^ 62 }
+        ensures stands { (inputs : List (List ℕ)) → StandsFor self.old inputs → StandsFor self.new inputs }
+        ensures set { self.new ≡ record self.old { tick = tick } }
+    {
+        self.tick = tick;
+    }
+
+    /// Does a step, or refuses it by the first cause that holds. Only an injection looks at the packet.
+    ///
+    /// After want of memory the journal, verdicts and paths are as before, and each later step answers it too.
+    pub fn step(&mut self, step: Step, packet: &[u8]) -> Result<Done, Refused>
+        requires fits { fits self.old.topology step ≡ true }
+        ensures answer { (inputs : List (List ℕ)) → StandsFor self.old inputs → Answers (refusal self.old.topology self.old.journal inputs step packet.now) result }
+        ensures longer { OnOk result (IsLonger self.old self.new step) }
+        ensures stands { OnOk result ((inputs : List (List ℕ)) → StandsFor self.old inputs → StandsFor self.new (with_packet step packet.now inputs)) }
+        ensures labels { OnOk result ((inputs : List (List ℕ)) → StandsFor self.new inputs → LabelsMean self.new inputs) }
+        ensures first { IfOk result (λ done. done.first ≡ self.old.made) }
+        ensures end { IfOk result (λ done. done.end ≡ self.new.made) }
+        ensures left { self.old.failed ≡ false → Leaves self.old self.new result }
+        ensures for_good { self.old.failed ≡ true → (IsErrOf result why.NoMemory) × (self.new ≡ self.old) }
+    {
+        if self.failed {
+            return Err(Refused::NoMemory);
+        }
+        self.refusal(&step, packet)?;
+        let first = self.made;
+        let Ok(()) = self.perform(step, packet) else {
+            return Err(Refused::NoMemory);
+        };
+        let end = self.made;
+        Ok(Done { first, end })
+    }
+
+    /// A step that nothing refuses.
+    fn perform(&mut self, step: Step, packet: &[u8]) -> Result<(), AllocError>
+        requires may { MayBeDone self.old step packet.now }
+        ensures done { OnOk result (IsDone self.old self.new step packet.now) }
+        ensures failed { OnErr result (HasFailed self.old self.new) }
+    {
+        match step {
+            Step::LinkUp(_) => self.turn_link(step),
+            Step::LdpAdmin(_, _) => self.turn_link(step),
+            Step::Learn(_, _) => self.turn_link(step),
+            Step::HearLdp(_, _) => self.turn_link(step),
+            Step::LinkDown(link) => self.link_down(link),
+            Step::BgpUp(_, _) => self.turn_route(step),
+            Step::BgpDown(_, _) => self.turn_route(step),
+            Step::HearBgp(_, _) => self.turn_route(step),
+            Step::AddRoute(_, _) => self.turn_route(step),
+            Step::DelRoute(_, _) => self.turn_route(step),
+            Step::Import(_, _, _) => self.turn_route(step),
+            Step::Export(_, _, _) => self.turn_route(step),
+            Step::Attach(site) => self.attach(site),
+            Step::Detach(site) => self.detach(site),
+            Step::Inject(site, number) => self.inject(site, number, packet),
+            Step::Carry(link, dir, place) => self.carry(link, dir, place),
+            Step::Lose(link, dir, place) => self.lose(link, dir, place),
+        }
+    }
+
+    /// Why a step is refused, by the first cause that holds.
+    fn refusal(&self, step: &Step, packet: &[u8]) -> Result<(), Refused>
+        requires works { self.now.failed ≡ false }
+        requires fits { fits self.now.topology step.now ≡ true }
+        ensures exact { (inputs : List (List ℕ)) → StandsFor self.now inputs → Refuses (refusal self.now.topology self.now.journal inputs step.now packet.now) result }
+    {
+        let cause = refusal(
+            &self.topology,
+            &self.transport,
+            &self.routes,
+            &self.transit,
+            &self.tally,
+            self.journal.len(),
+            step,
+            packet,
+        );
+        match cause {
+            Some(why) => Err(why),
+            None => Ok(()),
+        }
+    }
+}

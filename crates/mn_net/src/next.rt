@@ -1,0 +1,36 @@
+//! What comes next.
+ghost use Rattle.std.specs.Prelude.{◌≡◌, ◌≤◌, ◌+◌, ℕ, List, true, false, IfSome};
+ghost use Rattle.mn_topo.specs.Steps.{fits};
+ghost use Rattle.mn_ledger.specs.Ledger.{injects};
+ghost use Rattle.mn_laws.specs.Flight.{IsOpen};
+ghost use Rattle.mn_course.specs.Coming.{coming as ledgers, delivery};
+ghost use Rattle.mn_net_now.specs.Now.{StandsFor};
+
+use crate::net::Net;
+use mn_course::{Coming, Kind};
+use mn_net_look::coming;
+
+impl Net {
+    /// What comes next of a kind, if it is due by the limit: the item of the least due tick and, of these, of the least number,
+    /// with the step that delivers it, and whether its link loses it. Nothing comes after want of memory.
+    pub fn coming(&self, kind: Kind, limit: u64) -> Option<Coming>
+        ensures value { (inputs : List (List ℕ)) → StandsFor self.now inputs → result ≡ ledgers self.now.topology self.now.journal inputs kind limit }
+        ensures within { IfSome result (λ item. item.due ≤ limit) }
+        ensures soon { IfSome result (λ item. item.due ≤ self.now.tick + 1000) }
+        ensures fits { IfSome result (λ item. (fits self.now.topology (delivery item) ≡ true) × (injects (delivery item) ≡ false)) }
+        ensures opens { (inputs : List (List ℕ)) → StandsFor self.now inputs → IfSome result (λ item. IsOpen self.now.topology self.now.journal inputs (delivery item)) }
+    {
+        if self.failed {
+            return None;
+        }
+        coming(
+            &self.topology,
+            &self.transport,
+            &self.routes,
+            &self.transit,
+            &self.tally,
+            kind,
+            limit,
+        )
+    }
+}

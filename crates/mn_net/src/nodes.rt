@@ -1,0 +1,119 @@
+//! What is told of links, and of the transport of nodes.
+ghost use Rattle.std.specs.Prelude.{◌≡◌, ◌≢◌, ◌<◌, ◌≤◌, false, not, length, map, option_map};
+ghost use Rattle.mn_base.specs.Wiring.{links_of, sender};
+ghost use Rattle.mn_linkdb.specs.Trees.{IsTree};
+ghost use Rattle.mn_topo.specs.Network.{wiring_of};
+ghost use Rattle.mn_ledger.specs.Ledger.{world_of};
+ghost use Rattle.mn_ledger.specs.Transport.{view_of};
+ghost use Rattle.mn_frames.specs.Given.{given};
+ghost use Rattle.mn_transport_model.specs.Stands.{IsNode};
+ghost use Rattle.mn_net_moves.specs.Told.{hop_to, state_at};
+
+use crate::ends::sender;
+use crate::net::Net;
+use mn_base::{Dir, LdpState, LinkNo, NodeNo};
+use mn_labels::Bind;
+use mn_linkdb::{Tree, View};
+use mn_lsr::Lsr;
+
+/// The node that a way leads to next.
+fn next_hop(way: Option<(NodeNo, Option<u32>)>) -> Option<NodeNo>
+    ensures { result ≡ option_map (λ hop. hop.0) way }
+{
+    match way {
+        Some((hop, _)) => Some(hop),
+        None => None,
+    }
+}
+
+impl Net {
+    /// Whether no step has wanted memory. What follows is told of a network that works.
+    pub fn works(&self) -> bool
+        ensures { result ≡ not self.now.failed }
+    {
+        !self.failed
+    }
+
+    /// What holds of every network that works: at most 4,000,000 steps were done, and so no more packets were injected.
+    pub fn laws(&self)
+        ensures steps { self.now.failed ≡ false → length self.now.journal ≤ 4000000 }
+        ensures packets { self.now.failed ≡ false → length self.now.moving.verdicts ≤ 4000000 }
+    {
+        self.topology.laws();
+    }
+
+    /// A node's transport: what it has learned and heard, the labels that it gave and heard, and where its labels lead.
+    pub fn transport(&self, node: NodeNo) -> &Lsr
+        requires works { self.now.failed ≡ false }
+        requires node { node.0 < length self.now.topology.loopbacks }
+        ensures told { IsNode self.now.topology (given self.now.topology self.now.journal) (world_of self.now.topology self.now.journal) node.0 result.now }
+    {
+        self.transport.node(node)
+    }
+
+    /// How often a link came up or went down.
+    pub fn link_changes(&self, link: LinkNo) -> u32
+        requires works { self.now.failed ≡ false }
+        requires link { link.0 < length self.now.topology.links }
+        ensures told { result ≡ (world_of self.now.topology self.now.journal).views.changes link.0 }
+    {
+        self.transport.link_changes(link)
+    }
+
+    /// Whether a link is up.
+    pub fn link_up(&self, link: LinkNo) -> bool
+        requires works { self.now.failed ≡ false }
+        requires link { link.0 < length self.now.topology.links }
+        ensures told { result ≡ (world_of self.now.topology self.now.journal).config.is_up link.0 }
+    {
+        self.transport.is_link_up(link)
+    }
+
+    /// How many changes of each link a node has learned.
+    pub fn view(&self, node: NodeNo) -> &View
+        requires works { self.now.failed ≡ false }
+        requires node { node.0 < length self.now.topology.loopbacks }
+        ensures ends { result.now.ends ≡ self.now.topology.links }
+        ensures told { result.now.counts ≡ map ((world_of self.now.topology self.now.journal).views.learned node.0) (links_of (wiring_of self.now.topology)) }
+    {
+        self.transport.node(node).view()
+    }
+
+    /// The least walks from a node over the links that are up in its view.
+    pub fn tree(&self, node: NodeNo) -> &Tree
+        requires works { self.now.failed ≡ false }
+        requires node { node.0 < length self.now.topology.loopbacks }
+        ensures told { IsTree (wiring_of self.now.topology) (view_of (wiring_of self.now.topology) (world_of self.now.topology self.now.journal).views node.0) node.0 result.now }
+    {
+        self.transport.node(node).tree()
+    }
+
+    /// The next hop from a node towards another where it can send there.
+    pub fn hop(&self, node: NodeNo, edge: NodeNo) -> Option<NodeNo>
+        requires works { self.now.failed ≡ false }
+        requires node { node.0 < length self.now.topology.loopbacks }
+        requires edge { edge.0 < length self.now.topology.loopbacks }
+        ensures told { node.0 ≢ edge.0 → result ≡ hop_to self.now.topology (world_of self.now.topology self.now.journal) node.0 edge.0 }
+    {
+        next_hop(self.transport.outer(&self.topology, node, edge))
+    }
+
+    /// The labels that a node gave, from 16 upward.
+    pub fn labels(&self, node: NodeNo) -> &[Bind]
+        requires works { self.now.failed ≡ false }
+        requires node { node.0 < length self.now.topology.loopbacks }
+        ensures told { result.now ≡ given self.now.topology self.now.journal node.0 }
+    {
+        self.transport.node(node).labels().table()
+    }
+
+    /// The state of the end of a link's LDP session that sends in a direction, and none where no session lives.
+    pub fn ldp_state(&self, link: LinkNo, dir: Dir) -> Option<LdpState>
+        requires works { self.now.failed ≡ false }
+        requires link { link.0 < length self.now.topology.links }
+        ensures told { result ≡ state_at self.now.topology (world_of self.now.topology self.now.journal) link.0 (sender (wiring_of self.now.topology) link.0 dir) }
+    {
+        let end = sender(&self.topology, link, dir);
+        self.transport.node(end).session_state(link)
+    }
+}

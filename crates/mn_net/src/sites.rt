@@ -1,0 +1,65 @@
+//! The steps that attach and detach sites.
+ghost use Rattle.std.specs.Prelude.{[], OnOk, OnErr};
+ghost use Rattle.mn_topo.specs.declared.steps.Step.TheVariants as step;
+ghost use Rattle.mn_net_now.specs.Done.{MayBeDone, IsDone, HasFailed};
+
+use crate::ends::number_after;
+use crate::net::Net;
+use mn_base::SiteNo;
+use mn_routing::Clock;
+use mn_topo::{JournalEntry, Step};
+use std::alloc::AllocError;
+
+impl Net {
+    /// A site is attached anew: its edge's node gives a label, and the edge announces the routes over the site with it.
+    pub(crate) fn attach(&mut self, site: SiteNo) -> Result<(), AllocError>
+        requires may { MayBeDone self.old (step.Attach site) [] }
+        ensures done { OnOk result (IsDone self.old self.new (step.Attach site) []) }
+        ensures failed { OnErr result (HasFailed self.old self.new) }
+    {
+        self.topology.laws();
+        let clock = Clock {
+            tick: self.tick,
+            number: self.made,
+        };
+        self.failed = true;
+        self.journal.reserve(1)?;
+        let Ok(label) = self.transport.attach(&self.topology, site) else {
+            return Err(AllocError);
+        };
+        let more = self.routes.attach(&self.topology, site, label, clock)?;
+        self.made = number_after(self.made, more)?;
+        self.transit.begin();
+        self.journal.push_reserved(JournalEntry {
+            tick: self.tick,
+            step: Step::Attach(site),
+        });
+        self.failed = false;
+        Ok(())
+    }
+
+    /// A site is detached: its label leads nowhere any more, and its edge withdraws the routes over it.
+    pub(crate) fn detach(&mut self, site: SiteNo) -> Result<(), AllocError>
+        requires may { MayBeDone self.old (step.Detach site) [] }
+        ensures done { OnOk result (IsDone self.old self.new (step.Detach site) []) }
+        ensures failed { OnErr result (HasFailed self.old self.new) }
+    {
+        self.topology.laws();
+        let clock = Clock {
+            tick: self.tick,
+            number: self.made,
+        };
+        self.failed = true;
+        self.journal.reserve(1)?;
+        let more = self.routes.detach(&self.topology, site, clock)?;
+        self.transport.detach(&self.topology, site);
+        self.made = number_after(self.made, more)?;
+        self.transit.begin();
+        self.journal.push_reserved(JournalEntry {
+            tick: self.tick,
+            step: Step::Detach(site),
+        });
+        self.failed = false;
+        Ok(())
+    }
+}

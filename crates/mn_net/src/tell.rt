@@ -1,0 +1,51 @@
+//! What became of packets.
+ghost use Rattle.std.specs.Prelude.{◌≡◌, ◌<◌, ◌^◌, List, ℕ, [], length, map, option_map, slice_index_or};
+ghost use Rattle.mn_ledger.specs.Ledger.{packets_of};
+ghost use Rattle.mn_ledger.specs.Packets.{flying_on};
+ghost use Rattle.mn_ledger.specs.Verdicts.{verdict_on};
+ghost use Rattle.mn_net_now.specs.Now.{StandsFor};
+
+use crate::net::Net;
+use mn_base::{Dir, LinkNo, NodeNo};
+use mn_ledger::Verdict;
+
+impl Net {
+    /// How many packets were injected.
+    pub fn packets(&self) -> u32
+        requires { length self.now.moving.verdicts < 2 ^ 32 }
+        ensures counted { result ≡ length self.now.moving.verdicts }
+        ensures told { (inputs : List (List ℕ)) → StandsFor self.now inputs → result ≡ length inputs }
+    {
+        self.transit.packets()
+    }
+
+    /// What became of a packet.
+    pub fn verdict(&self, packet: u32) -> Verdict
+        requires { packet < length self.now.moving.verdicts }
+        ensures told { (inputs : List (List ℕ)) → StandsFor self.now inputs → result ≡ verdict_on (packets_of self.now.topology self.now.journal inputs) packet }
+    {
+        self.transit.verdict(packet)
+    }
+
+    /// The nodes at which a packet was, from the entry on.
+    pub fn path(&self, packet: u32) -> &[NodeNo]
+        requires { packet < length self.now.moving.verdicts }
+        ensures told { (inputs : List (List ℕ)) → StandsFor self.now inputs → map (λ node. node.0) result.now ≡ slice_index_or (packets_of self.now.topology self.now.journal inputs).paths packet [] }
+    {
+        self.transit.path(packet)
+    }
+
+    /// How many frames fly on a direction of a link.
+    pub fn flying(&self, link: LinkNo, dir: Dir) -> u64
+        ensures told { (inputs : List (List ℕ)) → StandsFor self.now inputs → result ≡ length (flying_on (packets_of self.now.topology self.now.journal inputs) link.0 dir) }
+    {
+        self.transit.flying(link, dir)
+    }
+
+    /// The packet that the last step delivered.
+    pub fn delivered(&self) -> Option<&[u8]>
+        ensures told { (inputs : List (List ℕ)) → StandsFor self.now inputs → option_map (λ bytes. bytes.now) result ≡ (packets_of self.now.topology self.now.journal inputs).delivered }
+    {
+        self.transit.delivered()
+    }
+}
