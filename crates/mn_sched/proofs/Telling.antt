@@ -1,0 +1,452 @@
+-- What a step comes to for the net and the watch.
+use Rattle.std.proofs.Common.{◌≡◌, ℕ, ◌+◌, ◌-◌, ◌≤◌, max, arith, Bool, true, false, List, [], ◌∷◌, ◌++◌, length, take, Option, Some, None, IfSome, Result}
+use Rattle.std.proofs.Common.{Ok, Err, OnOk, OnErr, refl, sym, ◌∙◌, ap, subst, length-append, if◌then◌else◌}
+use Rattle.std.proofs.lemmas.List.{append-nil, take-append-le, take_all}
+use Rattle.std.specs.Option.{ForSome}
+use Rattle.mn_topo.specs.Network.{Network}
+use Rattle.mn_topo.specs.declared.steps.Step.{Step}
+use Rattle.mn_topo.specs.declared.steps.Step.TheVariants.{Inject}
+use Rattle.mn_topo.specs.declared.steps.JournalEntry.{JournalEntry}
+use Rattle.mn_ledger.specs.declared.refused.Refused.{Refused}
+use Rattle.mn_ledger.specs.declared.refused.Refused.TheVariants as cause
+use Rattle.mn_ledger.specs.Refusal.{refusal, where_holds}
+use Rattle.mn_ledger.specs.Ledger.{injects}
+use Rattle.mn_course.specs.declared.coming.Arrivals.{Arrivals}
+use Rattle.mn_course.specs.declared.coming.Arrivals.TheVariants.{DueBy, News, AllFrames}
+use Rattle.mn_course.specs.declared.coming.Coming.{Coming}
+use Rattle.mn_course.specs.declared.coming.Ending.{Ending}
+use Rattle.mn_course.specs.declared.coming.Ending.TheVariants as ending
+use Rattle.mn_script.specs.declared.command.Command.TheVariants.{Do}
+use Rattle.mn_base.specs.declared.numbers.SiteNo.{SiteNo}
+use Rattle.mn_course.specs.Coming.{delivery, earlier, comes_before}
+use Rattle.mn_course.specs.Course.{Past, Course, ends, as_due, arrived, with_step, one_by_one, is_full, inputs_of, input_before, bytes_of, record_of}
+use Rattle.mn_course.specs.Course.{injected, tried, stepped, refusal_now, until, on_to}
+use Rattle.mn_net.specs.declared.net.Done.{Done}
+use Rattle.mn_ledger.specs.OneMore.{added, with_packet}
+use Rattle.mn_laws.specs.Flight.{IsOpen}
+use Rattle.mn_timetable.specs.Steps.{pushed}
+use Rattle.mn_net_now.specs.Now.{NetNow, StandsFor}
+use Rattle.std.specs.Prelude.{IsErrOf}
+use Rattle.mn_net_now.specs.Done.{IsLonger, HasFailed, Leaves, Answers}
+use Rattle.mn_sched.specs.declared.line.Played.{Played}
+use Rattle.mn_sched.specs.declared.line.Played.TheVariants as played
+use Rattle.mn_sched.specs.declared.line.Stopped.{Stopped}
+use Rattle.mn_sched.specs.declared.line.Stopped.TheVariants.{TooManySteps, Read, Write, NoMemory}
+use Rattle.mn_sched.specs.declared.watch.WatchBad.{WatchBad}
+use Rattle.mn_sched.specs.declared.watch.WatchBad.TheVariants as bad
+use Rattle.mn_sched.specs.Watching.{Together, Stood, Begun, but_last}
+use Rattle.mn_sched.specs.Playing.{past_of, IsFirstPart, Arrives, Takes, After, Caused, Finished, MissingIff, names_no_record, arrived_by, stopped_by}
+use Rattle.mn_sched.specs.Playing.{as_played, IsPaced}
+use Rattle.mn_sched.proofs.Delivering.{first_part_refl, one_more}
+
+-- what holds of two holds of the earlier
+pub earlier_has : (P : Coming → Type 0) (one other : Option Coming) → IfSome one P → IfSome other P → IfSome (earlier one other) P
+earlier_has P None other a b = b
+earlier_has P (Some x) None a b = a
+earlier_has P (Some x) (Some y) a b = pick (comes_before y.due y.number x.due x.number)
+  where
+    pick : (t : Bool) → IfSome (if t then Some y else Some x) P
+    pick true = b
+    pick false = a
+
+pub on_ok : {T E : Type 0} (r : Result T E) (P : Type 0) → P → OnOk r P
+on_ok (Ok x) P p = p
+on_ok (Err e) P p = tt
+
+pub ok_then : {T E : Type 0} (r : Result T E) (P Q : Type 0) → OnOk r P → (P → Q) → OnOk r Q
+ok_then (Ok x) P Q p f = f p
+ok_then (Err e) P Q p f = tt
+
+pub err_then : {T E : Type 0} (r : Result T E) (P Q : Type 0) → OnErr r P → (P → Q) → OnErr r Q
+err_then (Ok x) P Q p f = tt
+err_then (Err e) P Q p f = f p
+
+-- 1. The packets of a longer journal
+
+input_before-append : (capture : List (List ℕ)) (step : Step) (later tail : List (List ℕ)) →
+    input_before capture step (later ++ tail) ≡ input_before capture step later ++ tail
+input_before-append capture (Inject s n) later tail = refl
+input_before-append capture _ later tail = refl
+
+pub inputs_of-push : (capture : List (List ℕ)) (entries : List JournalEntry) (entry : JournalEntry) →
+    inputs_of capture (entries ++ entry ∷ []) ≡ inputs_of capture entries ++ input_before capture entry.step []
+inputs_of-push capture [] entry = refl
+inputs_of-push capture (e ∷ es) entry =
+    ap (input_before capture e.step) (inputs_of-push capture es entry)
+    ∙ input_before-append capture e.step (inputs_of capture es) (input_before capture entry.step [])
+
+no_input : (capture : List (List ℕ)) (step : Step) → injects step ≡ false → input_before capture step [] ≡ []
+no_input capture (Inject s n) h = absurd (let e : true ≡ false = h in cc)
+no_input capture _ h = refl
+
+same_inputs : (step : Step) (bytes : List ℕ) (inputs : List (List ℕ)) → injects step ≡ false → with_packet step bytes inputs ≡ inputs
+same_inputs step bytes inputs h = ap (λ t. added t bytes inputs) h
+
+-- a step that injects nothing takes no packet
+pub takes_no_input : (capture : List (List ℕ)) (entries : List JournalEntry) (tick : ℕ) (step : Step) (bytes : List ℕ) → injects step ≡ false →
+    with_packet step bytes (inputs_of capture entries) ≡ inputs_of capture (entries ++ record { tick = tick; step = step } ∷ [])
+takes_no_input capture entries tick step bytes h =
+    same_inputs step bytes (inputs_of capture entries) h
+    ∙ sym (inputs_of-push capture entries (record { tick = tick; step = step }) ∙ ap (λ l. inputs_of capture entries ++ l) (no_input capture step h)
+    ∙ append-nil (inputs_of capture entries))
+
+pub but_last-push : (entries : List JournalEntry) (entry : JournalEntry) → but_last (entries ++ entry ∷ []) ≡ entries
+but_last-push entries entry =
+    ap (λ n. take n (entries ++ entry ∷ [])) (let e : length (entries ++ entry ∷ []) - 1 ≡ length entries =
+    omega (arith, length-append entries (entry ∷ [])) in e)
+    ∙ take-append-le (length entries) entries (entry ∷ []) (let l : length entries ≤ length entries = omega arith in l)
+    ∙ take_all (length entries) entries (let l : length entries ≤ length entries = omega arith in l)
+
+-- 2. The net and the watch, before the watch is told
+
+-- they stand together where the clock was set on
+pub set_on : (old mid : NetNow) (packets : Option (List (List ℕ))) (stands : Network → List JournalEntry → List (List ℕ) → Type 0) →
+    mid.journal ≡ old.journal → mid.topology ≡ old.topology →
+    ((inputs : List (List ℕ)) → StandsFor old inputs → StandsFor mid inputs) → Together old packets stands → Together mid packets stands
+set_on old mid packets stands journal topology moves together = λ all told.
+    let both = together all told in (
+      subst (λ j. StandsFor mid (inputs_of all j)) (sym journal) (moves (inputs_of all old.journal) both.0),
+      subst (λ t. stands t mid.journal (inputs_of all mid.journal)) (sym topology) (subst (λ j. stands old.topology j (inputs_of all j)) (sym journal) both.1),
+    )
+
+pub stood : (stepped : Result Done Refused) (mid new : NetNow) (step : Step) (bytes : List ℕ) (packets : Option (List (List ℕ))) (stands : Network →
+    List JournalEntry → List (List ℕ) → Type 0) → Together mid packets stands →
+    ((all : List (List ℕ)) → packets ≡ Some all →
+    with_packet step bytes (inputs_of all mid.journal) ≡ inputs_of all (mid.journal ++ record { tick = mid.tick; step = step } ∷ [])) →
+    OnOk stepped (IsLonger mid new step) → OnOk stepped ((inputs : List (List ℕ)) → StandsFor mid inputs → StandsFor new (with_packet step bytes inputs)) →
+    OnOk stepped (Stood new packets stands)
+stood (Err why) mid new step bytes packets stands together named long moves = tt
+stood (Ok made) mid new step bytes packets stands together named long moves = λ all told.
+    let both = together all told in
+    let before : but_last new.journal ≡ mid.journal = ap but_last long.journal ∙ but_last-push mid.journal (record { tick = mid.tick; step = step }) in (
+      subst (StandsFor new) (named all told ∙ ap (inputs_of all) (sym long.journal)) (moves (inputs_of all mid.journal) both.0),
+      subst (λ t. stands t (but_last new.journal) (inputs_of all (but_last new.journal))) (sym long.topology)
+          (subst (λ j. stands mid.topology j (inputs_of all j)) (sym before) both.1),
+    )
+
+pub after_fault : (fault : WatchBad) (net : NetNow) (packets : Option (List (List ℕ))) (stands begins : Network → List JournalEntry → List (List ℕ) →
+    Type 0) → ForSome packets (λ all. StandsFor net (inputs_of all net.journal)) → Begun net packets begins →
+    After {T = Played} net packets stands begins (Err (stopped_by fault))
+after_fault bad.Read net packets stands begins s b = λ all told. (s all told, b all told)
+after_fault bad.Write net packets stands begins s b = λ all told. (s all told, b all told)
+after_fault bad.NoMemory net packets stands begins s b = b
+
+-- 3. One item that arrives
+
+as_due_entries : (arrivals : Arrivals) (due : ℕ) (past : Past) → (as_due arrivals due past).entries ≡ past.entries
+as_due_entries News due past = refl
+as_due_entries (DueBy end) due past = refl
+as_due_entries AllFrames due past = refl
+
+pub same_journal : (arrivals : Arrivals) (due : ℕ) (old mid : NetNow) → past_of mid ≡ as_due arrivals due (past_of old) → mid.journal ≡ old.journal
+same_journal arrivals due old mid e = ap (λ p. p.entries) e ∙ as_due_entries arrivals due (past_of old)
+
+not_full : (full : Bool) → where_holds full cause.TooManySteps ≡ None → full ≡ false
+not_full false h = refl
+not_full true h = absurd (let e : Some cause.TooManySteps ≡ None = h in cc)
+
+full_is : (full : Bool) (why : Refused) → where_holds full cause.TooManySteps ≡ Some why → (full ≡ true) × (cause.TooManySteps ≡ why)
+full_is true why h = (refl, let e : Some cause.TooManySteps ≡ Some why = h in cc)
+full_is false why h = absurd (let e : None ≡ Some why = h in cc)
+
+longer : (mid new : NetNow) (step : Step) → IsLonger mid new step → past_of new ≡ with_step (past_of mid) step
+longer mid new step l = ap (λ t. record { clock = t; entries = new.journal }) l.tick ∙ ap (λ j. record { clock = mid.tick; entries = j }) l.journal
+
+done_is : (arrivals : Arrivals) (item : Coming) (old mid new : NetNow) (step : Step) → past_of mid ≡ as_due arrivals item.due (past_of old) →
+    step ≡ delivery item → IsLonger mid new step → past_of new ≡ arrived arrivals (past_of old) item
+done_is arrivals item old mid new step past is l =
+    longer mid new step l ∙ ap (λ p. with_step p step) past ∙ ap (with_step (as_due arrivals item.due (past_of old))) is ∙ unroll arrivals
+  where
+    unroll : (a : Arrivals) → with_step (as_due a item.due (past_of old)) (delivery item) ≡ arrived a (past_of old) item
+    unroll a = refl
+
+pub one_arrives : (arrivals : Arrivals) (item : Coming) (old mid new : NetNow) (step : Step) (stepped : Result Done Refused)
+    (ended : Result Played Stopped) → past_of mid ≡ as_due arrivals item.due (past_of old) → step ≡ delivery item →
+    Answers (where_holds (is_full (past_of old)) cause.TooManySteps) stepped → OnOk stepped (IsLonger mid new step) → Leaves mid new stepped →
+    Finished stepped ended → Arrives (one_by_one arrivals (ends ending.All) (past_of old) (is_full (past_of old)) (Some item)) new (arrived_by ended)
+one_arrives arrivals item old mid new step (Ok made) ended past is answer long left finished =
+    subst (λ b. Arrives (one_by_one arrivals (ends ending.All) (past_of old) b (Some item)) new (arrived_by ended))
+    (sym (not_full (is_full (past_of old)) answer)) (by ended finished)
+  where
+    now : past_of new ≡ arrived arrivals (past_of old) item
+    now = done_is arrivals item old mid new step past is long
+
+    part : IsFirstPart new.journal (arrived arrivals (past_of old) item).entries
+    part = subst (λ p. IsFirstPart new.journal p.entries) now (first_part_refl new.journal)
+
+    by : (e : Result Played Stopped) → Finished (let s : Result Done Refused = Ok made in s) e →
+        Arrives (one_by_one arrivals (ends ending.All) (past_of old) false (Some item)) new (arrived_by e)
+    by (Ok played.All) f = (refl, now)
+    by (Ok (played.Refused why)) f = absurd f
+    by (Ok played.NoRecord) f = absurd f
+    by (Err TooManySteps) f = absurd f
+    by (Err Read) f = part
+    by (Err Write) f = part
+    by (Err NoMemory) f = part
+one_arrives arrivals item old mid new step (Err cause.TooManySteps) ended past is answer long left finished =
+    subst (λ e. Arrives (one_by_one arrivals (ends ending.All) (past_of old) (is_full (past_of old)) (Some item)) new (arrived_by e)) (sym finished)
+    (subst (λ b. Arrives (one_by_one arrivals (ends ending.All) (past_of old) b (Some item)) new (Err TooManySteps))
+    (sym (full_is (is_full (past_of old)) cause.TooManySteps answer).0)
+    (refl, ap (λ n. n.journal) left ∙ same_journal arrivals item.due old mid past))
+one_arrives arrivals item old mid new step (Err cause.NoMemory) ended past is answer long left finished =
+    subst (λ e. Arrives (one_by_one arrivals (ends ending.All) (past_of old) (is_full (past_of old)) (Some item)) new (arrived_by e)) (sym finished)
+    (subst (λ j. IsFirstPart j (one_by_one arrivals (ends ending.All) (past_of old) (is_full (past_of old)) (Some item)).past.entries)
+    (sym (left.journal ∙ same_journal arrivals item.due old mid past))
+    (one_more arrivals (ends ending.All) (past_of old) (is_full (past_of old)) (Some item) (λ later. first_part_refl later.entries)))
+one_arrives arrivals item old mid new step (Err why) ended past is answer long left finished =
+    absurd (let e = (full_is (is_full (past_of old)) why answer).1 in cc)
+
+-- the net and the watch after it
+pub after_one : (stepped : Result Done Refused) (ended : Result Played Stopped) (mid new : NetNow) (packets : Option (List (List ℕ)))
+    (stands stands_then begins_then : Network → List JournalEntry → List (List ℕ) → Type 0) → Together mid packets stands → Leaves mid new stepped →
+    Finished stepped ended → OnOk stepped (After new packets stands_then begins_then ended) →
+    OnErr stepped ((t : Network) (j : List JournalEntry) (i : List (List ℕ)) → stands t j i → stands_then t j i) →
+    OnErr stepped ((t : Network) (j : List JournalEntry) (i : List (List ℕ)) → stands t j i → begins_then t j i) →
+    After new packets stands_then begins_then (arrived_by ended)
+after_one (Ok made) ended mid new packets stands stands_then begins_then together left finished after s b = by ended finished after
+  where
+    by : (e : Result Played Stopped) → Finished (let x : Result Done Refused = Ok made in x) e → After new packets stands_then begins_then e →
+        After new packets stands_then begins_then (arrived_by e)
+    by (Ok played.All) f a = a
+    by (Ok (played.Refused why)) f a = absurd f
+    by (Ok played.NoRecord) f a = absurd f
+    by (Err TooManySteps) f a = a
+    by (Err Read) f a = a
+    by (Err Write) f a = a
+    by (Err NoMemory) f a = a
+after_one (Err cause.NoMemory) ended mid new packets stands stands_then begins_then together left finished after s b =
+    subst (λ e. After new packets stands_then begins_then (arrived_by e)) (sym finished) (λ all told.
+    subst (λ t. begins_then t new.journal (inputs_of all new.journal)) (sym left.topology)
+    (subst (λ j. begins_then mid.topology j (inputs_of all j)) (sym left.journal)
+    (b mid.topology mid.journal (inputs_of all mid.journal) (together all told).1)))
+after_one (Err why) ended mid new packets stands stands_then begins_then together left finished after s b =
+    subst (λ e. After new packets stands_then begins_then (arrived_by e)) (sym finished) (λ all told.
+    subst (λ n. StandsFor n (inputs_of all n.journal) × stands_then n.topology n.journal (inputs_of all n.journal)) (sym left)
+    ((together all told).0, s mid.topology mid.journal (inputs_of all mid.journal) (together all told).1))
+
+-- what refuses an item's step once the clock is set on
+pub opens_then : (old mid : NetNow) (inputs : List (List ℕ)) (step item_step : Step) (stepped : Result Done Refused) → mid.journal ≡ old.journal →
+    mid.topology ≡ old.topology → step ≡ item_step → IsOpen old.topology old.journal inputs item_step →
+    Answers (refusal mid.topology mid.journal inputs step []) stepped → Answers (where_holds (is_full (past_of old)) cause.TooManySteps) stepped
+opens_then old mid inputs step item_step stepped journal topology is opens answer =
+    let P : Option Refused → Type 0 = λ r. Answers r stepped in
+    subst P (ap (λ t. refusal t mid.journal inputs step []) topology ∙ ap (λ j. refusal old.topology j inputs step []) journal
+    ∙ ap (λ s. refusal old.topology old.journal inputs s []) is ∙ opens.refused) answer
+
+-- 4. A step of a line
+
+tried_more : (past : Past) (step : Step) (why : Option Refused) → IsFirstPart past.entries (tried past step why).past.entries
+tried_more past step None = (_, refl)
+tried_more past step (Some cause.TooManySteps) = first_part_refl past.entries
+tried_more past step (Some _) = first_part_refl past.entries
+
+pub step_takes : (old new : NetNow) (step : Step) (why : Option Refused) (stepped : Result Done Refused) (ended : Result Played Stopped) →
+    Answers why stepped → OnOk stepped (IsLonger old new step) → Leaves old new stepped → Finished stepped ended →
+    Takes (tried (past_of old) step why) new ended
+step_takes old new step why (Ok made) ended answer long left finished =
+    subst (λ w. Takes (tried (past_of old) step w) new ended) (sym answer) (by ended finished)
+  where
+    now : past_of new ≡ with_step (past_of old) step
+    now = longer old new step long
+
+    part : IsFirstPart new.journal (with_step (past_of old) step).entries
+    part = subst (λ p. IsFirstPart new.journal p.entries) now (first_part_refl new.journal)
+
+    by : (e : Result Played Stopped) → Finished (let s : Result Done Refused = Ok made in s) e → Takes (tried (past_of old) step None) new e
+    by (Ok played.All) f = (refl, now)
+    by (Ok (played.Refused q)) f = absurd f
+    by (Ok played.NoRecord) f = absurd f
+    by (Err TooManySteps) f = absurd f
+    by (Err Read) f = part
+    by (Err Write) f = part
+    by (Err NoMemory) f = part
+step_takes old new step why (Err cause.TooManySteps) ended answer long left finished =
+    subst (λ e. Takes (tried (past_of old) step why) new e) (sym finished)
+    (subst (λ w. Takes (tried (past_of old) step w) new (Err TooManySteps)) (sym answer) (refl, ap (λ n. n.journal) left))
+step_takes old new step why (Err cause.NoMemory) ended answer long left finished =
+    subst (λ e. Takes (tried (past_of old) step why) new e) (sym finished)
+    (subst (λ j. IsFirstPart j (tried (past_of old) step why).past.entries) (sym left.journal) (tried_more (past_of old) step why))
+step_takes old new step why (Err q) ended answer long left finished =
+    subst (λ e. Takes (tried (past_of old) step why) new e) (sym finished)
+    (subst (λ w. Takes (tried (past_of old) step w) new (Ok (played.Refused q))) (sym answer) (refl, ap past_of left))
+
+pub after_step : (stepped : Result Done Refused) (ended : Result Played Stopped) (mid new : NetNow) (packets : Option (List (List ℕ)))
+    (stands stands_then begins_then : Network → List JournalEntry → List (List ℕ) → Type 0) → Together mid packets stands → Leaves mid new stepped →
+    Finished stepped ended → OnOk stepped (After new packets stands_then begins_then ended) →
+    OnErr stepped ((t : Network) (j : List JournalEntry) (i : List (List ℕ)) → stands t j i → stands_then t j i) →
+    OnErr stepped ((t : Network) (j : List JournalEntry) (i : List (List ℕ)) → stands t j i → begins_then t j i) →
+    After new packets stands_then begins_then ended
+after_step (Ok made) ended mid new packets stands stands_then begins_then together left finished after s b = after
+after_step (Err cause.NoMemory) ended mid new packets stands stands_then begins_then together left finished after s b =
+    subst (λ e. After new packets stands_then begins_then e) (sym finished) (λ all told.
+    subst (λ t. begins_then t new.journal (inputs_of all new.journal)) (sym left.topology)
+    (subst (λ j. begins_then mid.topology j (inputs_of all j)) (sym left.journal)
+    (b mid.topology mid.journal (inputs_of all mid.journal) (together all told).1)))
+after_step (Err why) ended mid new packets stands stands_then begins_then together left finished after s b =
+    subst (λ e. After new packets stands_then begins_then e) (sym finished) (λ all told.
+    subst (λ n. StandsFor n (inputs_of all n.journal) × stands_then n.topology n.journal (inputs_of all n.journal)) (sym left)
+    ((together all told).0, s mid.topology mid.journal (inputs_of all mid.journal) (together all told).1))
+
+pub finished_missing : (stepped : Result Done Refused) (ended : Result Played Stopped) → Finished stepped ended → MissingIff false ended
+finished_missing (Ok made) (Ok played.All) f = refl
+finished_missing (Ok made) (Ok (played.Refused q)) f = refl
+finished_missing (Ok made) (Ok played.NoRecord) f = absurd f
+finished_missing (Ok made) (Err TooManySteps) f = refl
+finished_missing (Ok made) (Err Read) f = tt
+finished_missing (Ok made) (Err Write) f = tt
+finished_missing (Ok made) (Err NoMemory) f = tt
+finished_missing (Err cause.TooManySteps) ended f = subst (MissingIff false) (sym f) refl
+finished_missing (Err cause.NoMemory) ended f = subst (MissingIff false) (sym f) tt
+finished_missing (Err q) ended f = subst (MissingIff false) (sym f) refl
+
+-- a step that injects nothing takes its course without a packet
+pub stepped_plain : (topology : Network) (capture : List (List ℕ)) (past : Past) (step : Step) → injects step ≡ false →
+    tried past step (refusal_now topology capture past step []) ≡ stepped topology capture past step
+stepped_plain topology capture past (Inject s n) h = absurd (let e : true ≡ false = h in cc)
+stepped_plain topology capture past _ h = refl
+
+pub names_plain : (records : ℕ) (step : Step) → injects step ≡ false → names_no_record records (Do step) ≡ false
+names_plain records (Inject s n) h = absurd (let e : true ≡ false = h in cc)
+names_plain records _ h = refl
+
+pub not_inject : (step : Step) → ((s : SiteNo) (n : ℕ) → step ≡ Inject s n → ⊥) → injects step ≡ false
+not_inject (Inject s n) h = absurd (h s n refl)
+not_inject _ h = refl
+
+-- 5. Items that arrived, as a line
+
+pub arrived_takes : (course : Course) (net : NetNow) (r : Result (Unit {0}) Stopped) → Arrives course net r → Takes course net (as_played r)
+arrived_takes course net (Ok x) h = h
+arrived_takes course net (Err why) h = h
+
+pub arrived_after : (net : NetNow) (packets : Option (List (List ℕ))) (stands begins : Network → List JournalEntry → List (List ℕ) →
+    Type 0) (r : Result (Unit {0}) Stopped) → After net packets stands begins r → After net packets stands begins (as_played r)
+arrived_after net packets stands begins (Ok x) h = h
+arrived_after net packets stands begins (Err TooManySteps) h = h
+arrived_after net packets stands begins (Err Read) h = h
+arrived_after net packets stands begins (Err Write) h = h
+arrived_after net packets stands begins (Err NoMemory) h = h
+
+pub arrived_missing : (r : Result (Unit {0}) Stopped) → MissingIff false (as_played r)
+arrived_missing (Ok x) = refl
+arrived_missing (Err TooManySteps) = refl
+arrived_missing (Err Read) = tt
+arrived_missing (Err Write) = tt
+arrived_missing (Err NoMemory) = tt
+
+pub arrived_cause : (old new : ℕ × ℕ) (r : Result (Unit {0}) Stopped) → Caused old new r → Caused old new (as_played r)
+arrived_cause old new (Ok x) h = h
+arrived_cause old new (Err TooManySteps) h = h
+arrived_cause old new (Err Read) h = h
+arrived_cause old new (Err Write) h = h
+arrived_cause old new (Err NoMemory) h = h
+
+-- ticks pass after all that was due has arrived
+pub run_takes : (end : ℕ) (course : Course) (mid new : NetNow) → Arrives course mid (Ok tt) → past_of new ≡ on_to end (past_of mid) →
+    Takes (until end course.past course.ending) new (Ok played.All)
+run_takes end course mid new h on =
+    subst (λ e. Takes (until end course.past e) new (Ok played.All)) (sym h.0) (refl, on ∙ ap (on_to end) h.1)
+
+until_entries : (end : ℕ) (past : Past) (how : Ending) → (until end past how).past.entries ≡ past.entries
+until_entries end past ending.All = refl
+until_entries end past _ = refl
+
+pub run_stops : (end : ℕ) (course : Course) (net : NetNow) (why : Stopped) → Arrives course net (Err why) →
+    Takes (until end course.past course.ending) net (Err why)
+run_stops end course net TooManySteps h = subst (λ e. Takes (until end course.past e) net (Err TooManySteps)) (sym h.0) (refl, h.1)
+run_stops end course net Read h = subst (λ l. IsFirstPart net.journal l) (sym (until_entries end course.past course.ending)) h
+run_stops end course net Write h = subst (λ l. IsFirstPart net.journal l) (sym (until_entries end course.past course.ending)) h
+run_stops end course net NoMemory h = subst (λ l. IsFirstPart net.journal l) (sym (until_entries end course.past course.ending)) h
+
+-- 6. A step that injects a packet
+
+pub takes_input : (capture : List (List ℕ)) (entries : List JournalEntry) (tick : ℕ) (step : Step) (s : SiteNo) (number : ℕ) (bytes : List ℕ) →
+    step ≡ Inject s number → record_of capture number ≡ Some bytes →
+    with_packet step bytes (inputs_of capture entries) ≡ inputs_of capture (entries ++ record { tick = tick; step = step } ∷ [])
+takes_input capture entries tick step s number bytes is found =
+    subst (λ x. with_packet x bytes (inputs_of capture entries) ≡ inputs_of capture (entries ++ record { tick = tick; step = x } ∷ [])) (sym is)
+    (sym (inputs_of-push capture entries (record { tick = tick; step = Inject s number }) ∙ ap (λ o. inputs_of capture entries ++ bytes_of o ∷ []) found))
+
+pub stepped_inject : (topology : Network) (capture : List (List ℕ)) (past : Past) (step : Step) (s : SiteNo) (number : ℕ) (bytes : List ℕ) →
+    step ≡ Inject s number → record_of capture number ≡ Some bytes →
+    tried past step (refusal_now topology capture past step bytes) ≡ stepped topology capture past step
+stepped_inject topology capture past step s number bytes is found =
+    subst (λ x. tried past x (refusal_now topology capture past x bytes) ≡ stepped topology capture past x) (sym is)
+    (sym (ap (injected topology capture past (Inject s number)) found))
+
+injected_more : (topology : Network) (capture : List (List ℕ)) (past : Past) (step : Step) (packet : Option (List ℕ)) →
+    IsFirstPart past.entries (injected topology capture past step packet).past.entries
+injected_more topology capture past step None = first_part_refl past.entries
+injected_more topology capture past step (Some bytes) = tried_more past step (refusal_now topology capture past step bytes)
+
+pub stepped_more : (topology : Network) (capture : List (List ℕ)) (past : Past) (step : Step) →
+    IsFirstPart past.entries (stepped topology capture past step).past.entries
+stepped_more topology capture past (Inject s n) = injected_more topology capture past (Inject s n) (record_of capture n)
+stepped_more topology capture past step = tried_more past step (refusal_now topology capture past step [])
+
+pub fault_takes : (course : Course) (net : NetNow) (fault : WatchBad) → IsFirstPart net.journal course.past.entries → Takes course net (Err (stopped_by fault))
+fault_takes course net bad.Read h = h
+fault_takes course net bad.Write h = h
+fault_takes course net bad.NoMemory h = h
+
+pub fault_missing : (missing : Bool) (fault : WatchBad) → MissingIff missing (Err (stopped_by fault))
+fault_missing missing bad.Read = tt
+fault_missing missing bad.Write = tt
+fault_missing missing bad.NoMemory = tt
+
+-- 7. The clock
+
+one_more_entry : (old mid new : NetNow) (step : Step) → mid.journal ≡ old.journal → IsLonger mid new step → length new.journal ≡ length old.journal + 1
+one_more_entry old mid new step journal long =
+    ap length long.journal ∙ length-append mid.journal (record { tick = mid.tick; step = step } ∷ []) ∙ ap (λ j. length j + 1) journal
+
+pub one_paced : (stepped : Result Done Refused) (ended : Result Played Stopped) (old mid new : NetNow) (step : Step) (due : ℕ) →
+    mid.tick ≤ max old.tick due → due ≤ old.tick + 1000 → mid.journal ≡ old.journal → OnOk stepped (IsLonger mid new step) → Finished stepped ended →
+    OnOk (arrived_by ended) (IsPaced 0 old new)
+one_paced (Ok made) ended old mid new step due le soon journal long finished = by ended
+  where
+    by : (e : Result Played Stopped) → OnOk (arrived_by e) (IsPaced 0 old new)
+    by (Ok played.All) = let more = one_more_entry old mid new step journal long in (omega (arith, more), omega (arith, more, long.tick))
+    by (Ok (played.Refused why)) = tt
+    by (Ok played.NoRecord) = tt
+    by (Err why) = tt
+one_paced (Err cause.TooManySteps) ended old mid new step due le soon journal long finished =
+    subst (λ e. OnOk (arrived_by e) (IsPaced 0 old new)) (sym finished) tt
+one_paced (Err cause.NoMemory) ended old mid new step due le soon journal long finished = subst (λ e. OnOk (arrived_by e) (IsPaced 0 old new)) (sym finished) tt
+one_paced (Err why) ended old mid new step due le soon journal long finished = subst (λ e. OnOk (arrived_by e) (IsPaced 0 old new)) (sym finished) tt
+
+pub step_paced : (stepped : Result Done Refused) (ended : Result Played Stopped) (old new : NetNow) (step : Step) → OnOk stepped (IsLonger old new step) →
+    Leaves old new stepped → Finished stepped ended → OnOk ended (IsPaced 1000000 old new)
+step_paced (Ok made) ended old new step long left finished = on_ok ended (IsPaced 1000000 old new) (let more = one_more_entry old old new step refl long in
+    (omega (arith, more), omega (arith, more, long.tick)))
+step_paced (Err cause.TooManySteps) ended old new step long left finished = subst (λ e. OnOk e (IsPaced 1000000 old new)) (sym finished) tt
+step_paced (Err cause.NoMemory) ended old new step long left finished = subst (λ e. OnOk e (IsPaced 1000000 old new)) (sym finished) tt
+step_paced (Err why) ended old new step long left finished =
+    subst (λ e. OnOk e (IsPaced 1000000 old new)) (sym finished) (subst (λ n. IsPaced 1000000 old n) (sym left) (omega arith, omega arith))
+
+pub arrived_paced : (r : Result (Unit {0}) Stopped) (old new : NetNow) → OnOk r (IsPaced 0 old new) → OnOk (as_played r) (IsPaced 1000000 old new)
+arrived_paced (Ok x) old new h = (h.0, omega (arith, h.1))
+arrived_paced (Err why) old new h = tt
+
+pub run_paced : (old mid new : NetNow) (ticks : ℕ) → ticks ≤ 1000000 → IsPaced 0 old mid → new.tick ≡ max mid.tick (old.tick + ticks) →
+    new.journal ≡ mid.journal → IsPaced 1000000 old new
+run_paced old mid new ticks few paced tick journal =
+    let same : length new.journal ≡ length mid.journal = ap length journal in
+    (omega (arith, same, paced.0), omega (arith, same, paced.0, paced.1, tick, few))
+
+-- 7. What a step leaves, whether or not the net had failed before it
+
+has_failed : (old new : NetNow) → old.failed ≡ true → new ≡ old → HasFailed old new
+has_failed old new failed same =
+    let stayed : HasFailed old old = record { topology = refl; journal = refl; tick = refl; failed = failed; verdicts = refl; paths = refl } in
+    subst (λ later. HasFailed old later) (sym same) stayed
+
+by_failed : {T : Type 0} (failed : Bool) (result : Result T Refused) (old new : NetNow) → old.failed ≡ failed →
+    (old.failed ≡ false → Leaves old new result) → (old.failed ≡ true → IsErrOf result cause.NoMemory × (new ≡ old)) → Leaves old new result
+by_failed false result old new is left for_good = left is
+by_failed true result old new is left for_good =
+    subst (λ r. Leaves old new r) (sym (for_good is).0) (has_failed old new is (for_good is).1)
+
+pub leaves : {T : Type 0} (result : Result T Refused) (old new : NetNow) → (old.failed ≡ false → Leaves old new result) →
+    (old.failed ≡ true → IsErrOf result cause.NoMemory × (new ≡ old)) → Leaves old new result
+leaves result old new left for_good = by_failed old.failed result old new refl left for_good

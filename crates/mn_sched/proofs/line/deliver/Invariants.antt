@@ -1,0 +1,21 @@
+use Rattle.std.proofs.Common.{◌≡◌, ◌≤◌, ◌^◌, ◌-◌, ℕ, List, Some}
+use Rattle.mn_course.specs.Course.{deliver}
+use Rattle.mn_sched.specs.Watching.{Together}
+use Rattle.mn_sched.specs.Playing.{past_of, IsPaced}
+use Rattle.mn_sched.proofs.line.deliver.Given as goal
+
+abbrev pub invariant-loop-turn : goal.invariant-loop-turn
+invariant-loop-turn g l = record {
+  course : (capture : List (List ℕ)) → g.W.Watch.packets l.fn.watch ≡ Some capture →
+      deliver l.fn.net.topology capture l.arrivals (l.most - l.turn) (past_of l.net) ≡ deliver l.fn.net.topology capture l.arrivals l.most
+      (past_of l.fn.net);
+  together : Together l.net (g.W.Watch.packets l.watch) (g.W.Watch.stands l.watch);
+  topology : l.net.topology ≡ l.fn.net.topology;
+  clock : IsPaced 0 l.fn.net l.net;
+  early : l.net.tick ≤ 2 ^ 62;
+  records : g.W.Watch.records l.watch ≡ g.W.Watch.records l.fn.watch;
+  packets : g.W.Watch.packets l.watch ≡ g.W.Watch.packets l.fn.watch;
+  goes_on : g.W.Watch.goes_on l.fn.watch l.watch;
+  reads : g.W.Watch.reads l.watch ≡ g.W.Watch.reads l.fn.watch;
+  writes : g.W.Watch.writes l.watch ≡ g.W.Watch.writes l.fn.watch;
+}

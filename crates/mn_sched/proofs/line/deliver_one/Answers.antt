@@ -1,0 +1,53 @@
+use Rattle.std.proofs.Common.{◌≡◌, ℕ, List, [], false, sym, ◌∙◌, ap, subst}
+use Rattle.mn_ledger.specs.Ledger.{injects}
+use Rattle.mn_course.specs.Coming.{delivery}
+use Rattle.mn_course.specs.Course.{inputs_of}
+use Rattle.mn_sched.proofs.Telling.{leaves, err_then, set_on, stood, same_journal, takes_no_input, one_arrives, after_one, opens_then, one_paced}
+use Rattle.mn_sched.proofs.line.deliver_one.Goals as goal
+
+pub finish-played-requires : goal.finish-played-requires
+finish-played-requires g c =
+    let journal = same_journal c.args.arrivals c.args.item.due c.args.net.now c.set_clock.new.net c.set_clock.ensures.past in
+    let plain : injects c.delivery-step.result ≡ false = ap injects c.delivery-step.ensures ∙ c.requires.fits.1 in
+    record {
+      stood = stood c.step-stepped.result c.set_clock.new.net c.step-stepped.new.self c.delivery-step.result [] (g.W.Watch.packets c.args.watch.now)
+          (g.W.Watch.stands c.args.watch.now)
+          (set_on c.args.net.now c.set_clock.new.net (g.W.Watch.packets c.args.watch.now)
+          (g.W.Watch.stands c.args.watch.now) journal c.set_clock.ensures.topology c.set_clock.ensures.stands c.requires.together)
+          (λ all told. takes_no_input all c.set_clock.new.net.journal c.set_clock.new.net.tick c.delivery-step.result [] plain)
+          c.step-stepped.ensures.longer c.step-stepped.ensures.stands;
+    }
+
+pub returns-clause-course : goal.returns-clause-course
+returns-clause-course g c = λ all told.
+    let journal = same_journal c.args.arrivals c.args.item.due c.args.net.now c.set_clock.new.net c.set_clock.ensures.past in
+    let inputs : List (List ℕ) = inputs_of all c.args.net.now.journal in
+    let before = (c.requires.together all told).0 in
+    let answer =
+    opens_then c.args.net.now c.set_clock.new.net inputs c.delivery-step.result
+    (delivery c.args.item) c.step-stepped.result journal c.set_clock.ensures.topology c.delivery-step.ensures (c.requires.opens inputs before)
+    (c.step-stepped.ensures.answer inputs (c.set_clock.ensures.stands inputs before)) in
+    rw c.arrived_by.ensures
+    (one_arrives c.args.arrivals c.args.item c.args.net.now c.set_clock.new.net c.step-stepped.new.self c.delivery-step.result c.step-stepped.result
+    c.finish-played.result c.set_clock.ensures.past c.delivery-step.ensures answer c.step-stepped.ensures.longer (leaves _ _ _ c.step-stepped.ensures.left c.step-stepped.ensures.for_good)
+    c.finish-played.ensures.ended)
+
+pub returns-clause-after : goal.returns-clause-after
+returns-clause-after g c =
+    let journal = same_journal c.args.arrivals c.args.item.due c.args.net.now c.set_clock.new.net c.set_clock.ensures.past in
+    rw c.arrived_by.ensures
+    (after_one c.step-stepped.result c.finish-played.result c.set_clock.new.net c.step-stepped.new.self (g.W.Watch.packets c.args.watch.now)
+    (g.W.Watch.stands c.args.watch.now) (g.W.Watch.stands c.finish-played.new.watch) (g.W.Watch.begins c.finish-played.new.watch)
+    (set_on c.args.net.now c.set_clock.new.net (g.W.Watch.packets c.args.watch.now)
+    (g.W.Watch.stands c.args.watch.now) journal c.set_clock.ensures.topology c.set_clock.ensures.stands c.requires.together)
+    (leaves _ _ _ c.step-stepped.ensures.left c.step-stepped.ensures.for_good) c.finish-played.ensures.ended c.finish-played.ensures.after
+    (err_then c.step-stepped.result _ _ c.finish-played.ensures.untouched (λ same t j i s. subst (λ w. g.W.Watch.stands w t j i) (sym same) s))
+    (err_then c.step-stepped.result _ _ c.finish-played.ensures.untouched
+    (λ same t j i s. subst (λ w. g.W.Watch.begins w t j i) (sym same) (g.met.W.Watch.begun c.args.watch.now t j i s))))
+
+pub returns-clause-clock : goal.returns-clause-clock
+returns-clause-clock g c =
+    let journal = same_journal c.args.arrivals c.args.item.due c.args.net.now c.set_clock.new.net c.set_clock.ensures.past in
+    rw c.arrived_by.ensures
+    (one_paced c.step-stepped.result c.finish-played.result c.args.net.now c.set_clock.new.net c.step-stepped.new.self c.delivery-step.result
+    c.args.item.due c.set_clock.ensures.clock c.requires.soon journal c.step-stepped.ensures.longer c.finish-played.ensures.ended)

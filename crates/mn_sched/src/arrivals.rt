@@ -1,0 +1,85 @@
+ghost use Rattle.std.specs.Prelude.{◌≡◌, ◌≤◌, ◌+◌, ◌^◌, max, ℕ, List, true, false, IfSome, OnOk, OnErr, Some};
+ghost use Rattle.std.specs.Option.{ForSome};
+ghost use Rattle.mn_ledger.specs.Ledger.{injects};
+ghost use Rattle.mn_topo.specs.Steps.{fits};
+ghost use Rattle.mn_course.specs.Coming.{earlier, delivery, next_arrival, ever};
+ghost use Rattle.mn_course.specs.Course.{as_due, deliver, ends, one_by_one, is_full};
+ghost use Rattle.mn_course.specs.declared.coming.Ending.TheVariants as ending;
+ghost use Rattle.mn_laws.specs.Flight.{IsOpen};
+ghost use Rattle.mn_net_now.specs.Now.{StandsFor};
+ghost use Rattle.mn_sched.specs.Watching.{Together};
+ghost use Rattle.mn_sched.specs.Playing.{past_of, IsDelivery, Arrives, After, Caused, limit_of};
+
+use mn_course::{Arrivals, Coming, Kind};
+use mn_net::Net;
+use mn_topo::Step;
+
+/// A tick that the clock doesn't reach.
+const EVER: u64 = 1 << 62;
+
+/// The earlier of two.
+fn earlier(one: Option<Coming>, other: Option<Coming>) -> Option<Coming>
+    ensures { result ≡ earlier one other }
+{
+    match (one, other) {
+        (None, other) => other,
+        (Some(one), None) => Some(one),
+        (Some(one), Some(other)) => {
+            if other.due < one.due || (other.due == one.due && other.number < one.number) {
+                Some(other)
+            } else {
+                Some(one)
+            }
+        }
+    }
+}
+
+/// The step that is done as the item comes: a frame that is lost doesn't arrive.
+pub(crate) fn delivery(item: Coming) -> Step
+    ensures { result ≡ delivery item }
+{
+    match item.step {
+        Step::Carry(link, dir, place) if item.lossy => Step::Lose(link, dir, place),
+        step => step,
+    }
+}
+
+/// What arrives next.
+pub(crate) fn next_arrival(net: &Net, arrivals: Arrivals) -> Option<Coming>
+    ensures value { (inputs : List (List ℕ)) → StandsFor net.now inputs → result ≡ next_arrival net.now.topology net.now.journal inputs arrivals }
+    ensures within { IfSome result (λ item. item.due ≤ limit_of arrivals) }
+    ensures soon { IfSome result (λ item. item.due ≤ net.now.tick + 1000) }
+    ensures fits { IfSome result (λ item. IsDelivery net.now.topology (delivery item)) }
+    ensures opens { (inputs : List (List ℕ)) → StandsFor net.now inputs → IfSome result (λ item. IsOpen net.now.topology net.now.journal inputs (delivery item)) }
+{
+    match arrivals {
+        Arrivals::DueBy(end) => {
+            let message_or_frame = earlier(
+                net.coming(Kind::Message, end),
+                net.coming(Kind::Frame, end),
+            );
+            earlier(net.coming(Kind::Notice, end), message_or_frame)
+        }
+        Arrivals::News => match net.coming(Kind::Notice, EVER) {
+            Some(item) => Some(item),
+            None => net.coming(Kind::Message, EVER),
+        },
+        Arrivals::AllFrames => net.coming(Kind::Frame, EVER),
+    }
+}
+
+/// The clock goes on to the tick at which an item is due, and never back; by `drain` it stands still.
+pub(crate) fn set_clock(net: &mut Net, arrivals: Arrivals, due: u64)
+    requires early { net.old.tick ≤ 2 ^ 62 }
+    requires within { due ≤ 2 ^ 62 }
+    ensures past { past_of net.new ≡ as_due arrivals due (past_of net.old) }
+    ensures topology { net.new.topology ≡ net.old.topology }
+    ensures early { net.new.tick ≤ 2 ^ 62 }
+    ensures clock { net.new.tick ≤ max net.old.tick due }
+    ensures stands { (inputs : List (List ℕ)) → StandsFor net.old inputs → StandsFor net.new inputs }
+{
+    if let Arrivals::News = arrivals {
+        return;
+    }
+    net.advance(net.tick().max(due));
+}

@@ -1,0 +1,283 @@
+ghost use Rattle.std.specs.Prelude.{◌≡◌, ◌≤◌, ◌+◌, ◌^◌, ℕ, List, [], true, false, Some, OnOk, OnErr};
+ghost use Rattle.std.specs.Option.{ForSome};
+ghost use Rattle.mn_script.specs.Lines.{command_fits};
+ghost use Rattle.mn_course.specs.Coming.{delivery, next_arrival};
+ghost use Rattle.mn_course.specs.Course.{ends, one_by_one, is_full, deliver, played, stepped, all, most_of};
+ghost use Rattle.mn_ledger.specs.Ledger.{injects};
+ghost use Rattle.mn_topo.specs.Steps.{fits};
+ghost use Rattle.mn_course.specs.declared.coming.Ending.TheVariants as ending;
+ghost use Rattle.mn_laws.specs.Flight.{IsOpen};
+ghost use Rattle.mn_net_now.specs.Now.{StandsFor};
+ghost use Rattle.mn_sched.specs.Watching.{Together, Stood};
+ghost use Rattle.mn_base.specs.declared.numbers.SiteNo.{SiteNo};
+
+use crate::arrivals::{delivery, next_arrival, set_clock};
+use crate::watch::{Watch, WatchBad};
+use mn_course::{Arrivals, Coming};
+use mn_ledger::Refused;
+use mn_net::{Done, Net};
+use mn_script::Command;
+use mn_topo::Step;
+
+/// What became of a line.
+#[derive(Clone, Copy, Debug, PartialEq, Eq)]
+pub enum Played {
+    /// All that it asks for was done.
+    All,
+    /// Its step was refused: never for a full journal or want of memory.
+    Refused(Refused),
+    /// It injects a record that the capture hasn't.
+    NoRecord,
+}
+
+/// Why playing stopped.
+#[derive(Clone, Copy, Debug, PartialEq, Eq)]
+pub enum Stopped {
+    /// A step that nothing else refuses met a full journal.
+    TooManySteps,
+    /// A fetch of a record failed.
+    Read,
+    /// What is to be kept of a step could not be written.
+    Write,
+    /// Memory ran out.
+    NoMemory,
+}
+
+ghost use Rattle.mn_sched.specs.Playing.{past_of, IsDelivery, Takes, Arrives, After, Caused, Finished, limit_of, stopped_by, arrived_by, as_played, IsPaced, names_no_record, MissingIff, is_show};
+
+fn stopped_by(bad: WatchBad) -> Stopped
+    ensures { result ≡ stopped_by bad }
+{
+    match bad {
+        WatchBad::Read => Stopped::Read,
+        WatchBad::Write => Stopped::Write,
+        WatchBad::NoMemory => Stopped::NoMemory,
+    }
+}
+
+/// What an item's step came to. Nothing refuses it but a full journal.
+fn arrived_by(played: Result<Played, Stopped>) -> Result<(), Stopped>
+    ensures { result ≡ arrived_by played }
+{
+    match played {
+        Ok(Played::All) => Ok(()),
+        Ok(_) => Err(Stopped::TooManySteps),
+        Err(stopped) => Err(stopped),
+    }
+}
+
+/// Tells the watch of a step that was done.
+fn finish<W: Watch>(
+    net: &Net,
+    stepped: Result<Done, Refused>,
+    watch: &mut W,
+) -> Result<Played, Stopped>
+    requires stood { OnOk stepped (Stood net.now (W.packets watch.old) (W.stands watch.old)) }
+    ensures ended { Finished stepped result }
+    ensures after { OnOk stepped (After net.now (W.packets watch.old) (W.stands watch.new) (W.begins watch.new) result) }
+    ensures untouched { OnErr stepped (watch.new ≡ watch.old) }
+    ensures records { W.records watch.new ≡ W.records watch.old }
+    ensures packets { W.packets watch.new ≡ W.packets watch.old }
+    ensures goes_on { W.goes_on watch.old watch.new }
+    ensures cause { Caused (W.reads watch.old, W.writes watch.old) (W.reads watch.new, W.writes watch.new) result }
+{
+    match stepped {
+        Ok(made) => match watch.done(net, made) {
+            Ok(()) => Ok(Played::All),
+            Err(bad) => Err(stopped_by(bad)),
+        },
+        Err(Refused::TooManySteps) => Err(Stopped::TooManySteps),
+        Err(Refused::NoMemory) => Err(Stopped::NoMemory),
+        Err(why) => Ok(Played::Refused(why)),
+    }
+}
+
+/// An item arrives, and the watch is told.
+fn deliver_one<W: Watch>(
+    net: &mut Net,
+    arrivals: Arrivals,
+    item: Coming,
+    watch: &mut W,
+) -> Result<(), Stopped>
+    requires early { net.old.tick ≤ 2 ^ 62 }
+    requires within { item.due ≤ 2 ^ 62 }
+    requires soon { item.due ≤ net.old.tick + 1000 }
+    requires fits { IsDelivery net.old.topology (delivery item) }
+    requires opens { (inputs : List (List ℕ)) → StandsFor net.old inputs → IsOpen net.old.topology net.old.journal inputs (delivery item) }
+    requires together { Together net.old (W.packets watch.old) (W.stands watch.old) }
+    ensures course { ForSome (W.packets watch.old) (λ capture. Arrives (one_by_one arrivals (ends ending.All) (past_of net.old) (is_full (past_of net.old)) (Some item)) net.new result) }
+    ensures after { After net.new (W.packets watch.old) (W.stands watch.new) (W.begins watch.new) result }
+    ensures topology { net.new.topology ≡ net.old.topology }
+    ensures early { net.new.tick ≤ 2 ^ 62 }
+    ensures clock { OnOk result (IsPaced 0 net.old net.new) }
+    ensures records { W.records watch.new ≡ W.records watch.old }
+    ensures packets { W.packets watch.new ≡ W.packets watch.old }
+    ensures goes_on { W.goes_on watch.old watch.new }
+    ensures cause { Caused (W.reads watch.old, W.writes watch.old) (W.reads watch.new, W.writes watch.new) result }
+{
+    set_clock(net, arrivals, item.due);
+    let step = delivery(item);
+    let stepped = net.step(step, &[]);
+    let played = finish(net, stepped, watch);
+    arrived_by(played)
+}
+
+/// At most so many items arrive, one after another.
+fn deliver<W: Watch>(
+    net: &mut Net,
+    arrivals: Arrivals,
+    most: u32,
+    watch: &mut W,
+) -> Result<(), Stopped>
+    requires early { net.old.tick ≤ 2 ^ 62 }
+    requires within { limit_of arrivals ≤ 2 ^ 62 }
+    requires together { Together net.old (W.packets watch.old) (W.stands watch.old) }
+    ensures course { ForSome (W.packets watch.old) (λ capture. Arrives (deliver net.old.topology capture arrivals most (past_of net.old)) net.new result) }
+    ensures after { After net.new (W.packets watch.old) (W.stands watch.new) (W.begins watch.new) result }
+    ensures topology { net.new.topology ≡ net.old.topology }
+    ensures early { net.new.tick ≤ 2 ^ 62 }
+    ensures clock { OnOk result (IsPaced 0 net.old net.new) }
+    ensures records { W.records watch.new ≡ W.records watch.old }
+    ensures packets { W.packets watch.new ≡ W.packets watch.old }
+    ensures goes_on { W.goes_on watch.old watch.new }
+    ensures cause { Caused (W.reads watch.old, W.writes watch.old) (W.reads watch.new, W.writes watch.new) result }
+{
+    for turn in 0..most {
+        let Some(item) = next_arrival(net, arrivals) else {
+            return Ok(());
+        };
+        match deliver_one(net, arrivals, item, watch) {
+            Ok(()) => {}
+            Err(stopped) => return Err(stopped),
+        }
+    }
+    Ok(())
+}
+
+fn as_played(arrived: Result<(), Stopped>) -> Result<Played, Stopped>
+    ensures { result ≡ as_played arrived }
+{
+    match arrived {
+        Ok(()) => Ok(Played::All),
+        Err(stopped) => Err(stopped),
+    }
+}
+
+/// More items than a journal has room for.
+fn all_items() -> u32
+    ensures { result ≡ all }
+{
+    4_000_001
+}
+
+fn most_of(most: Option<u32>) -> u32
+    ensures { result ≡ most_of most }
+{
+    match most {
+        Some(most) => most,
+        None => all_items(),
+    }
+}
+
+/// Does a step that injects the packet of a record.
+fn inject<W: Watch>(
+    net: &mut Net,
+    step: Step,
+    number: u32,
+    watch: &mut W,
+) -> Result<Played, Stopped>
+    requires fits { fits net.old.topology step ≡ true }
+    requires injects { (s : SiteNo) × (step ≡ Step.Inject s number) }
+    requires together { Together net.old (W.packets watch.old) (W.stands watch.old) }
+    ensures course { ForSome (W.packets watch.old) (λ capture. Takes (stepped net.old.topology capture (past_of net.old) step) net.new result) }
+    ensures after { After net.new (W.packets watch.old) (W.stands watch.new) (W.begins watch.new) result }
+    ensures missing { MissingIff (names_no_record (W.records watch.old) (Command.Do step)) result }
+    ensures topology { net.new.topology ≡ net.old.topology }
+    ensures clock { OnOk result (IsPaced 1000000 net.old net.new) }
+    ensures records { W.records watch.new ≡ W.records watch.old }
+    ensures packets { W.packets watch.new ≡ W.packets watch.old }
+    ensures goes_on { W.goes_on watch.old watch.new }
+    ensures cause { Caused (W.reads watch.old, W.writes watch.old) (W.reads watch.new, W.writes watch.new) result }
+{
+    let stepped = match watch.packet(number) {
+        Ok(Some(bytes)) => net.step(step, bytes),
+        Ok(None) => return Ok(Played::NoRecord),
+        Err(bad) => return Err(stopped_by(bad)),
+    };
+    finish(net, stepped, watch)
+}
+
+/// Does a step that injects nothing.
+fn step_plainly<W: Watch>(net: &mut Net, step: Step, watch: &mut W) -> Result<Played, Stopped>
+    requires fits { fits net.old.topology step ≡ true }
+    requires plain { injects step ≡ false }
+    requires together { Together net.old (W.packets watch.old) (W.stands watch.old) }
+    ensures course { ForSome (W.packets watch.old) (λ capture. Takes (stepped net.old.topology capture (past_of net.old) step) net.new result) }
+    ensures after { After net.new (W.packets watch.old) (W.stands watch.new) (W.begins watch.new) result }
+    ensures missing { MissingIff (names_no_record (W.records watch.old) (Command.Do step)) result }
+    ensures topology { net.new.topology ≡ net.old.topology }
+    ensures clock { OnOk result (IsPaced 1000000 net.old net.new) }
+    ensures records { W.records watch.new ≡ W.records watch.old }
+    ensures packets { W.packets watch.new ≡ W.packets watch.old }
+    ensures goes_on { W.goes_on watch.old watch.new }
+    ensures cause { Caused (W.reads watch.old, W.writes watch.old) (W.reads watch.new, W.writes watch.new) result }
+{
+    let stepped = net.step(step, &[]);
+    finish(net, stepped, watch)
+}
+
+/// Ticks pass, and what is due in them arrives.
+fn run<W: Watch>(net: &mut Net, ticks: u32, watch: &mut W) -> Result<Played, Stopped>
+    requires few { ticks ≤ 1000000 }
+    requires early { net.old.tick ≤ 2 ^ 61 }
+    requires together { Together net.old (W.packets watch.old) (W.stands watch.old) }
+    ensures course { ForSome (W.packets watch.old) (λ capture. Takes (played net.old.topology capture (past_of net.old) (Command.Run ticks)) net.new result) }
+    ensures after { After net.new (W.packets watch.old) (W.stands watch.new) (W.begins watch.new) result }
+    ensures missing { MissingIff false result }
+    ensures topology { net.new.topology ≡ net.old.topology }
+    ensures clock { OnOk result (IsPaced 1000000 net.old net.new) }
+    ensures records { W.records watch.new ≡ W.records watch.old }
+    ensures packets { W.packets watch.new ≡ W.packets watch.old }
+    ensures goes_on { W.goes_on watch.old watch.new }
+    ensures cause { Caused (W.reads watch.old, W.writes watch.old) (W.reads watch.new, W.writes watch.new) result }
+{
+    let end = net.tick() + u64::from(ticks);
+    match deliver(net, Arrivals::DueBy(end), all_items(), watch) {
+        Ok(()) => {
+            net.advance(net.tick().max(end));
+            Ok(Played::All)
+        }
+        Err(stopped) => Err(stopped),
+    }
+}
+
+/// Does what a line of a script asks for, and tells the watch of each step.
+pub fn play<W: Watch>(net: &mut Net, command: &Command, watch: &mut W) -> Result<Played, Stopped>
+    requires fits { command_fits net.old.topology command.now ≡ true }
+    requires shows { is_show command.now ≡ false }
+    requires early { net.old.tick ≤ 2 ^ 61 }
+    requires together { Together net.old (W.packets watch.old) (W.stands watch.old) }
+    // The journal grows by exactly what the line's course says, or by a first part of it.
+    ensures course { ForSome (W.packets watch.old) (λ capture. Takes (played net.old.topology capture (past_of net.old) command.now) net.new result) }
+    // Net and watch stand together afterwards; after a fault or want of memory the watch begins the journal.
+    ensures after { After net.new (W.packets watch.old) (W.stands watch.new) (W.begins watch.new) result }
+    // That there is no such record is answered exactly there.
+    ensures missing { MissingIff (names_no_record (W.records watch.old) command.now) result }
+    ensures topology { net.new.topology ≡ net.old.topology }
+    ensures clock { OnOk result (IsPaced 1000000 net.old net.new) }
+    ensures records { W.records watch.new ≡ W.records watch.old }
+    ensures packets { W.packets watch.new ≡ W.packets watch.old }
+    ensures goes_on { W.goes_on watch.old watch.new }
+    ensures cause { Caused (W.reads watch.old, W.writes watch.old) (W.reads watch.new, W.writes watch.new) result }
+{
+    match *command {
+        Command::Do(step) => match step {
+            Step::Inject(_, number) => inject(net, step, number, watch),
+            _ => step_plainly(net, step, watch),
+        },
+        Command::Run(ticks) => run(net, ticks, watch),
+        Command::Drain(most) => as_played(deliver(net, Arrivals::News, most_of(most), watch)),
+        Command::Flush => as_played(deliver(net, Arrivals::AllFrames, all_items(), watch)),
+        Command::Show(_) => Ok(Played::All),
+    }
+}
