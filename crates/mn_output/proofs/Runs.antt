@@ -26,7 +26,7 @@ use Rattle.mn_frames.specs.Given.{given}
 use Rattle.mn_frames.specs.Numbers.{labels_of}
 use Rattle.mn_course.specs.Course.{all}
 use Rattle.mn_course.specs.Expansion.{expanded}
-use Rattle.mn_report.specs.Lines.{verdict_text, path_text, sent_text, packet_line, refused_line, verdicts_text, total_line}
+use Rattle.mn_lines.specs.Lines.{verdict_text, path_text, sent_text, packet_line, refused_line, verdicts_text, total_line}
 use Rattle.mn_output.specs.Files.{OutputFile, Journal, Labels, Deliveries, Frames, Said, Told}
 use Rattle.mn_output.specs.Contents.{whole}
 use Rattle.mn_output.specs.Tables.{table_text}

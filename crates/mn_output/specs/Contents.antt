@@ -22,7 +22,7 @@ use Rattle.mn_frames.specs.Given.{Labelling, given}
 use Rattle.mn_frames.specs.Numbers.{labels_of}
 use Rattle.mn_frames.specs.Frames.{stack_of}
 use Rattle.mn_bgp_spelling.specs.Spelling.{bytes_in}
-use Rattle.mn_report.specs.Lines.{text}
+use Rattle.mn_lines.specs.Lines.{text}
 use Rattle.mn_output.specs.Moments.{Moment, moments_of, journal_then, world_then, packets_then, made}
 use Rattle.mn_output.specs.Files.{OutputFile, Journal, Labels, Deliveries, Frames, Said, Told, files_of, file_name, node_name}
 

@@ -3,46 +3,28 @@ use Rattle.std.specs.Prelude.{ℕ, ◌+◌, Bool, true, false, cond, List, [], �
 use Rattle.std.specs.List.{flat_map}
 use Rattle.mn_topo.specs.Network.{Network}
 use Rattle.mn_script.specs.declared.command.Line.{Line}
-use Rattle.mn_ledger.specs.declared.refused.Refused.{Refused}
-use Rattle.mn_ledger.specs.declared.refused.Refused.TheVariants as why
 use Rattle.mn_ledger.specs.declared.verdict.Verdict.{Verdict}
 use Rattle.mn_ledger.specs.declared.verdict.Verdict.TheVariants.{Delivered, Dropped, Flying}
 use Rattle.mn_ledger.specs.Packets.{Packets}
 use Rattle.mn_ledger.specs.Ledger.{packets_of}
 use Rattle.mn_course.specs.Course.{inputs_of}
 use Rattle.mn_course.specs.Expansion.{Note, Refusal, Missing, Table, Sending, Expansion, expanded}
-use Rattle.mn_report.specs.declared.lines.Sent.{Sent}
-use Rattle.mn_report.specs.declared.lines.Totals.{Totals}
-use Rattle.mn_report.specs.Names.{NameLists, pairs_of}
-use Rattle.mn_report.specs.Lines.{text, refused_line, packet_line, total_line}
+use Rattle.mn_lines.specs.declared.lines.Sent.{Sent}
+use Rattle.mn_lines.specs.declared.lines.Totals.{Totals}
+use Rattle.mn_lines.specs.Names.{names_of}
+use Rattle.mn_lines.specs.Lines.{cause_text, refused_line, packet_line, total_line}
 use Rattle.mn_output.specs.Contents.{output}
-use Rattle.mn_output.specs.Tables.{site_name, table_text}
+use Rattle.mn_output.specs.Tables.{table_text}
 
 -- 1. Refused lines and tables
 
--- a cause by its name
-abbrev pub cause_text : Network → Refused → List ℕ
-cause_text topology why.Unchanged = codes "Unchanged"
-cause_text topology why.Empty = codes "Empty"
-cause_text topology (why.PrefixTaken site) = text (codes "PrefixTaken " ∷ site_name topology site.0 ∷ [])
-cause_text topology why.NoRouteThere = codes "NoRouteThere"
-cause_text topology why.RoutesFull = codes "RoutesFull"
-cause_text topology why.TargetsFull = codes "TargetsFull"
-cause_text topology why.LabelsSpent = codes "LabelsSpent"
-cause_text topology why.NetFull = codes "NetFull"
-cause_text topology why.TooManySteps = codes "TooManySteps"
-cause_text topology why.NoMemory = codes "NoMemory"
-
 -- a table is told as it stood after what had happened then
 abbrev pub note_text : Network → List (List ℕ) → Note → List ℕ
-note_text topology capture (Refusal line cause) = refused_line line (cause_text topology cause)
+note_text topology capture (Refusal line cause) = refused_line line (cause_text topology.site_names cause)
 note_text topology capture (Missing line) = refused_line line (codes "NoRecord")
 note_text topology capture (Table table past) = table_text topology past.entries (inputs_of capture past.entries) table
 
 -- 2. Packets
-
-abbrev pub names_of : Network → NameLists
-names_of topology = record { nodes = topology.node_names; sites = topology.site_names; links = pairs_of topology.links }
 
 abbrev pub sent_by : Sending → Sent
 sent_by sending = record { line = sending.line; site = sending.site; «record» = sending.number }

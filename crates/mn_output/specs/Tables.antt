@@ -30,7 +30,7 @@ use Rattle.mn_frames.specs.Given.{Labelling, given, label_at}
 use Rattle.mn_course.specs.declared.coming.Kind.{Kind}
 use Rattle.mn_course.specs.declared.coming.Kind.TheVariants.{Notice, Message}
 use Rattle.mn_course.specs.Coming.{is_kind, kind_of}
-use Rattle.mn_report.specs.Lines.{text}
+use Rattle.mn_lines.specs.Lines.{text}
 use Rattle.mn_output.specs.Files.{node_name}
 
 abbrev pub vrf_name : Network → ℕ → List ℕ

@@ -8,8 +8,8 @@ use Rattle.mn_edge.specs.Written.{laid, bytes_for}
 use Rattle.mn_pcap.specs.Format.{header}
 use Rattle.mn_ledger.specs.Deliveries.{verdicts_after, delivered_packets}
 use Rattle.mn_ledger.proofs.Accounted.{accounted}
-use Rattle.mn_report.specs.declared.lines.Sent.{Sent}
-use Rattle.mn_report.specs.Lines.{total_line}
+use Rattle.mn_lines.specs.declared.lines.Sent.{Sent}
+use Rattle.mn_lines.specs.Lines.{total_line}
 use Rattle.mn_run.specs.declared.outcome.Input.{Input}
 use Rattle.mn_run.specs.declared.outcome.Input.TheVariants.{Topology, Script}
 use Rattle.mn_run.specs.declared.outcome.Outcome.{Outcome}

@@ -6,7 +6,7 @@ use Rattle.std.specs.Cmp.{nat_cmp_is}
 use Rattle.std.specs.declared.cmp.Ordering.TheVariants.{Equal}
 use Rattle.std.specs.Cmp.Lexicographic.{slice_cmp}
 use Rattle.mn_edge.specs.Written.{all_known, written}
-use Rattle.mn_report.specs.declared.lines.Sent.{Sent}
+use Rattle.mn_lines.specs.declared.lines.Sent.{Sent}
 use Rattle.mn_run.specs.declared.outcome.Outcome.TheVariants.{Done}
 use Rattle.mn_run.specs.Service.{AllNumbered, packets_of, delivered_records}
 use Rattle.mn_run.specs.Network.{NetworkView}

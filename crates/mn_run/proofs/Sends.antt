@@ -11,7 +11,7 @@ use Rattle.mn_script.specs.declared.command.Command.TheVariants.{Do}
 use Rattle.mn_script.specs.declared.command.Line.{Line}
 use Rattle.mn_script.specs.Lines.{command_fits}
 use Rattle.mn_script.specs.Script.{AllFit}
-use Rattle.mn_report.specs.declared.lines.Sent.{Sent}
+use Rattle.mn_lines.specs.declared.lines.Sent.{Sent}
 use Rattle.mn_run.specs.Service.{AllNumbered}
 use Rattle.mn_run.specs.Sending.{sent_by, with_first, all_sent}
 

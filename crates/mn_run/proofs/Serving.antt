@@ -12,7 +12,7 @@ use Rattle.mn_ledger.specs.declared.verdict.Verdict.TheVariants.{Delivered}
 use Rattle.mn_ledger.specs.Entry.{arrival}
 use Rattle.mn_ledger.specs.Deliveries.{arrives, verdict_after, verdicts_after, delivered_packets}
 use Rattle.mn_run.specs.declared.service.Service.{Service}
-use Rattle.mn_report.specs.declared.lines.Sent.{Sent}
+use Rattle.mn_lines.specs.declared.lines.Sent.{Sent}
 use Rattle.mn_run.specs.Service.{contents, packet_of, packets_of, the_node, delivered_records, Arrives, Delivers, Serves, ServesAll}
 
 -- a packet that reaches a site is one that was sent

@@ -11,10 +11,10 @@ use Rattle.mn_pcap.specs.declared.refusal.PcapBad.{PcapBad}
 use Rattle.mn_pcap.specs.declared.refusal.PcapBad.TheVariants as bad
 use Rattle.mn_ledger.specs.declared.verdict.Verdict.{Verdict}
 use Rattle.mn_ledger.specs.Deliveries.{verdicts_after}
-use Rattle.mn_report.specs.declared.lines.Sent.{Sent}
-use Rattle.mn_report.specs.declared.lines.Totals.{Totals}
-use Rattle.mn_report.specs.Names.{NameLists}
-use Rattle.mn_report.specs.Lines.{text, packet_line, refused_line, total_line}
+use Rattle.mn_lines.specs.declared.lines.Sent.{Sent}
+use Rattle.mn_lines.specs.declared.lines.Totals.{Totals}
+use Rattle.mn_lines.specs.Names.{NameLists}
+use Rattle.mn_lines.specs.Lines.{text, packet_line, refused_line, total_line}
 use Rattle.std.specs.Str.Lines.{lines}
 use Rattle.mn_script.specs.declared.refusal.ScriptRule.{ScriptRule}
 use Rattle.mn_script.specs.declared.command.Line.{Line}

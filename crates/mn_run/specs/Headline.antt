@@ -9,8 +9,8 @@ use Rattle.mn_topo.specs.Network.{Network}
 use Rattle.mn_topo.specs.Topology.{topology_of}
 use Rattle.mn_ledger.specs.declared.verdict.Verdict.{Verdict}
 use Rattle.mn_ledger.specs.Accounts.{Accounts}
-use Rattle.mn_report.specs.declared.lines.Sent.{Sent}
-use Rattle.mn_report.specs.Lines.{total_line}
+use Rattle.mn_lines.specs.declared.lines.Sent.{Sent}
+use Rattle.mn_lines.specs.Lines.{total_line}
 use Rattle.mn_run.specs.declared.outcome.Outcome.{Outcome}
 use Rattle.mn_run.specs.declared.outcome.Outcome.TheVariants.{Done}
 use Rattle.mn_run.specs.Words.{word, is_run, is_check}

@@ -9,7 +9,7 @@ use Rattle.mn_topo.specs.declared.refusal.Place.{Place}
 use Rattle.mn_topo.specs.declared.refusal.Place.TheVariants.{Top, Node, Link, Vrf, Site}
 use Rattle.mn_script.specs.declared.refusal.ScriptRule.{ScriptRule}
 use Rattle.mn_script.specs.declared.refusal.ScriptRule.TheVariants as script
-use Rattle.mn_report.specs.Lines.{text}
+use Rattle.mn_lines.specs.Lines.{text}
 use Rattle.mn_run.specs.declared.outcome.Input.TheVariants as input
 use Rattle.mn_run.specs.declared.outcome.Limit.{Limit}
 use Rattle.mn_run.specs.declared.outcome.Limit.TheVariants.{TopologyBytes, ScriptBytes, ScriptLines, CaptureBytes, CaptureRecords}

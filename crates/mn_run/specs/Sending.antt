@@ -4,7 +4,7 @@ use Rattle.mn_topo.specs.declared.steps.Step.TheVariants.{Inject}
 use Rattle.mn_script.specs.declared.command.Command.{Command}
 use Rattle.mn_script.specs.declared.command.Command.TheVariants.{Do}
 use Rattle.mn_script.specs.declared.command.Line.{Line}
-use Rattle.mn_report.specs.declared.lines.Sent.{Sent}
+use Rattle.mn_lines.specs.declared.lines.Sent.{Sent}
 
 -- what a command on this line sends
 abbrev pub sent_by : ℕ → Command → Option Sent

@@ -14,7 +14,7 @@ use Rattle.mn_ledger.specs.Entry.{arrival}
 use Rattle.mn_ledger.specs.Deliveries.{arrives, verdict_after, verdicts_after, delivered_packets}
 use Rattle.mn_run.specs.declared.service.Service.{Service}
 use Rattle.mn_pcap.specs.Format.{record_of}
-use Rattle.mn_report.specs.declared.lines.Sent.{Sent}
+use Rattle.mn_lines.specs.declared.lines.Sent.{Sent}
 
 -- the bytes of some vectors
 abbrev pub contents : List (Vec ℕ Global) → List (List ℕ)

@@ -18,7 +18,7 @@ use crate::sending::all_sent;
 use crate::words::is_run;
 use mn_edge::{Content, DeviceBad, Shelf, read_all};
 use mn_pcap::{PcapBad, PcapRule, count_records};
-use mn_report::Sent;
+use mn_lines::Sent;
 use mn_script::{Line, ScriptBad, ScriptRule, count_lines, read_script};
 use mn_topo::{TopoBad, Topology, read_topology};
 use std::alloc::Global;

@@ -1,7 +1,7 @@
 //! The report of a run, and the files that it writes.
 ghost use Rattle.std.specs.Prelude.{◌≡◌, ◌++◌, ◌∷◌, [], ◌≤◌, ◌<◌, ◌^◌, true, length, map, IfOk, OnOk, codes, string_bytes};
 ghost use Rattle.mn_edge.specs.Written.{texts, pairs, all_known};
-ghost use Rattle.mn_report.specs.Lines.{refused_line, total_line};
+ghost use Rattle.mn_lines.specs.Lines.{refused_line, total_line};
 ghost use Rattle.mn_run.specs.Service.{contents, packets_of, AllNumbered, ServesAll};
 ghost use Rattle.mn_run.specs.Answer.{has_record, sends, misses, refused_lines, packet_lines, totals_of, delivered_name, delivered_pieces, report_lines, done_answer};
 ghost use Rattle.mn_run.specs.Jobs.{answer_by};
@@ -11,7 +11,7 @@ use crate::network::Network;
 use crate::service::{NODE, Service, serve_all};
 use mn_ledger::Verdict;
 use mn_pcap::put_header;
-use mn_report::{Names, Sent, Totals, packet_line, refused_line, total_line};
+use mn_lines::{Names, Sent, Totals, packet_line, refused_line, total_line};
 use std::alloc::{AllocError, Global};
 
 /// Link type 228 of a capture: its records are IPv4 packets.

@@ -5,7 +5,7 @@ ghost use Rattle.mn_script.specs.Script.{AllFit};
 ghost use Rattle.mn_run.specs.Service.{AllNumbered};
 ghost use Rattle.mn_run.specs.Sending.{sent_by, all_sent};
 
-use mn_report::Sent;
+use mn_lines::Sent;
 use mn_script::{Command, Line};
 use mn_topo::{Step, Topology};
 use std::alloc::{AllocError, Global};

@@ -11,7 +11,7 @@ use mn_base::{NodeNo, Rule, SiteNo};
 use mn_ipv4::{Bad, Head, age, check};
 use mn_ledger::{Route, Verdict};
 use mn_pcap::put_record;
-use mn_report::Sent;
+use mn_lines::Sent;
 use std::alloc::{AllocError, Global};
 
 /// The one node.

@@ -1,6 +1,6 @@
 use Rattle.std.proofs.Common.{◌≡◌, ◌++◌, map, take, codes}
 use Rattle.mn_edge.specs.Written.{texts}
-use Rattle.mn_report.specs.Lines.{refused_line}
+use Rattle.mn_lines.specs.Lines.{refused_line}
 use Rattle.mn_run.proofs.plan.push_refused.Given as goal
 
 abbrev pub invariant-loop-one : goal.invariant-loop-one

@@ -1,0 +1,4 @@
+pub mod Putting
+mod Waiting
+mod Pieces
+mod Naming
