@@ -1,5 +1,5 @@
 // Text that goes to a sink by few puts.
-ghost use Rattle.std.specs.Prelude.{◌≡◌, ◌+◌, ◌≤◌, ◌++◌, [], length, IfOk, OnOk, OnErr};
+ghost use Rattle.std.specs.Prelude.{◌≡◌, ◌+◌, ◌<◌, ◌≤◌, ◌++◌, [], length, IfOk, OnOk, OnErr};
 ghost use Rattle.mn_edge.specs.Faults.{Counted};
 ghost use Rattle.mn_lines.specs.Putting.{Puts, PutsPart};
 
@@ -49,6 +49,10 @@ impl Page {
         // Where there is room for the piece, the sink isn't called, and the piece waits.
         ensures untouched { length self.old + length piece.now ≤ 65536 → out.new ≡ out.old }
         ensures waits { length self.old + length piece.now ≤ 65536 → self.new ≡ self.old ++ piece.now }
+
+        // Where there isn't, the piece waits behind a put of all that waited, unless it alone is too long.
+        ensures alone { OnOk result (65536 < length self.old + length piece.now →
+            length piece.now ≤ 65536 → self.new ≡ piece.now) }
         ensures room { length self.new ≤ 65536 }
         ensures dropped { OnErr result (self.new ≡ []) }
         ensures cause { Counted (O.faults out.old) (O.faults out.new) result }
