@@ -1,9 +1,11 @@
 -- What a step comes to for the net and the watch.
-use Rattle.std.proofs.Common.{◌≡◌, ℕ, ◌+◌, ◌-◌, ◌≤◌, max, arith, Bool, true, false, List, [], ◌∷◌, ◌++◌, length, take, Option, Some, None, IfSome, Result}
-use Rattle.std.proofs.Common.{Ok, Err, OnOk, OnErr, refl, sym, ◌∙◌, ap, subst, length-append, if◌then◌else◌}
+use Rattle.std.proofs.Common.{◌≡◌, ℕ, ◌+◌, ◌-◌, ◌≤◌, max, arith, Bool, true, false, List, [], ◌∷◌, ◌++◌, length, take, Option, Some, None, IfSome}
+use Rattle.std.proofs.Common.{slice_get, Result}
+use Rattle.std.proofs.Common.{Ok, Err, IfOk, OnOk, OnErr, refl, sym, ◌∙◌, ap, subst, length-append, if◌then◌else◌}
 use Rattle.std.proofs.lemmas.List.{append-nil, take-append-le, take_all}
 use Rattle.std.specs.Option.{ForSome}
 use Rattle.mn_topo.specs.Network.{Network}
+use Rattle.mn_topo.specs.Steps.{fits}
 use Rattle.mn_topo.specs.declared.steps.Step.{Step}
 use Rattle.mn_topo.specs.declared.steps.Step.TheVariants.{Inject}
 use Rattle.mn_topo.specs.declared.steps.JournalEntry.{JournalEntry}
@@ -34,7 +36,7 @@ use Rattle.mn_sched.specs.declared.line.Stopped.{Stopped}
 use Rattle.mn_sched.specs.declared.line.Stopped.TheVariants.{TooManySteps, Read, Write, NoMemory}
 use Rattle.mn_sched.specs.declared.watch.WatchBad.{WatchBad}
 use Rattle.mn_sched.specs.declared.watch.WatchBad.TheVariants as bad
-use Rattle.mn_sched.specs.Watching.{Together, Stood, Begun, but_last}
+use Rattle.mn_sched.specs.Watching.{Together, Stood, Begun, but_last, made_over, MadeLast, LastFits}
 use Rattle.mn_sched.specs.Playing.{past_of, IsFirstPart, Arrives, Takes, After, Caused, Finished, MissingIff, names_no_record, arrived_by, stopped_by}
 use Rattle.mn_sched.specs.Playing.{as_played, IsPaced}
 use Rattle.mn_sched.proofs.Delivering.{first_part_refl, one_more}
@@ -123,6 +125,48 @@ stood (Ok made) mid new step bytes packets stands together named long moves = λ
       subst (λ t. stands t (but_last new.journal) (inputs_of all (but_last new.journal))) (sym long.topology)
           (subst (λ j. stands mid.topology j (inputs_of all j)) (sym before) both.1),
     )
+
+-- the net stands for the packets that its journal's steps name, once a step is done
+standing_then : (mid new : NetNow) (step : Step) (bytes : List ℕ) (all : List (List ℕ)) →
+    with_packet step bytes (inputs_of all mid.journal) ≡ inputs_of all (mid.journal ++ record { tick = mid.tick; step = step } ∷ []) →
+    IsLonger mid new step → ((inputs : List (List ℕ)) → StandsFor mid inputs → StandsFor new (with_packet step bytes inputs)) →
+    StandsFor mid (inputs_of all mid.journal) → StandsFor new (inputs_of all new.journal)
+standing_then mid new step bytes all named long moves before =
+    subst (StandsFor new) (named ∙ ap (inputs_of all) (sym long.journal)) (moves (inputs_of all mid.journal) before)
+
+-- and what it has made by then is numbered on from what it had made
+pub made_last : (stepped : Result Done Refused) (mid new : NetNow) (step : Step) (bytes : List ℕ) (packets : Option (List (List ℕ))) (stands : Network →
+    List JournalEntry → List (List ℕ) → Type 0) → Together mid packets stands →
+    ((all : List (List ℕ)) → packets ≡ Some all →
+    with_packet step bytes (inputs_of all mid.journal) ≡ inputs_of all (mid.journal ++ record { tick = mid.tick; step = step } ∷ [])) →
+    OnOk stepped (IsLonger mid new step) → OnOk stepped ((inputs : List (List ℕ)) → StandsFor mid inputs → StandsFor new (with_packet step bytes inputs)) →
+    IfOk stepped (λ made. made.first ≡ mid.made) → IfOk stepped (λ made. made.end ≡ new.made) → IfOk stepped (λ made. MadeLast new packets made)
+made_last (Err why) mid new step bytes packets stands together named long moves first end = tt
+made_last (Ok made) mid new step bytes packets stands together named long moves first end = λ all told.
+    let before = (together all told).0 in
+    let was : but_last new.journal ≡ mid.journal = ap but_last long.journal ∙ but_last-push mid.journal (record { tick = mid.tick; step = step }) in (
+      first ∙ before.stands.made ∙ sym (ap (λ t. made_over t all (but_last new.journal)) long.topology ∙ ap (made_over mid.topology all) was),
+      end ∙ (standing_then mid new step bytes all (named all told) long moves before).stands.made,
+    )
+
+pushed_last : (entries : List JournalEntry) (entry : JournalEntry) → slice_get (entries ++ entry ∷ []) (length (entries ++ entry ∷ []) - 1) ≡ Some entry
+pushed_last entries entry =
+    ap (slice_get (entries ++ entry ∷ [])) (let e : length (entries ++ entry ∷ []) - 1 ≡ length entries =
+        omega (arith, length-append entries (entry ∷ [])) in e)
+    ∙ there entries
+  where
+    there : (es : List JournalEntry) → slice_get (es ++ entry ∷ []) (length es) ≡ Some entry
+    there [] = refl
+    there (e ∷ es) = there es
+
+-- the step that was done fits
+pub last_fits : (stepped : Result Done Refused) (mid new : NetNow) (step : Step) → fits mid.topology step ≡ true → OnOk stepped (IsLonger mid new step) →
+    OnOk stepped (LastFits new)
+last_fits (Err why) mid new step fit long = tt
+last_fits (Ok made) mid new step fit long =
+    subst (λ t. IfSome (slice_get new.journal (length new.journal - 1)) (λ entry. fits t entry.step ≡ true)) (sym long.topology)
+    (subst (λ o. IfSome o (λ entry. fits mid.topology entry.step ≡ true))
+    (sym (ap (λ j. slice_get j (length j - 1)) long.journal ∙ pushed_last mid.journal (record { tick = mid.tick; step = step }))) fit)
 
 pub after_fault : (fault : WatchBad) (net : NetNow) (packets : Option (List (List ℕ))) (stands begins : Network → List JournalEntry → List (List ℕ) →
     Type 0) → ForSome packets (λ all. StandsFor net (inputs_of all net.journal)) → Begun net packets begins →

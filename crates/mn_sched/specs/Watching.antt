@@ -1,11 +1,14 @@
 -- What a watch is told, and what it tells.
-use Rattle.std.specs.Prelude.{◌≡◌, ◌≤◌, ◌-◌, ℕ, Bool, true, false, ◌&&◌, nat_le, List, length, take, Option, Some, None, Result, Ok, Err}
+use Rattle.std.specs.Prelude.{◌≡◌, ◌≤◌, ◌-◌, ℕ, Bool, true, false, ◌&&◌, nat_le, List, length, take, slice_get, IfSome, Option, Some, None, Result, Ok, Err}
 use Rattle.std.specs.Option.{ForSome}
 use Rattle.std.specs.Borrow.{Bor}
 use Rattle.mn_edge.specs.Faults.{Grew}
 use Rattle.mn_topo.specs.Network.{Network}
+use Rattle.mn_topo.specs.Steps.{fits}
 use Rattle.mn_topo.specs.declared.steps.JournalEntry.{JournalEntry}
 use Rattle.mn_course.specs.Course.{record_of, inputs_of}
+use Rattle.mn_ledger.specs.Items.{flight_of}
+use Rattle.mn_net.specs.declared.net.Done.{Done}
 use Rattle.mn_net_now.specs.Now.{NetNow, StandsFor}
 use Rattle.mn_sched.specs.declared.watch.WatchBad.{WatchBad}
 use Rattle.mn_sched.specs.declared.watch.WatchBad.TheVariants.{Read, Write, NoMemory}
@@ -50,3 +53,16 @@ Stood net packets stands =
 -- the watch begins the net's journal
 abbrev pub Begun : NetNow → Option (List (List ℕ)) → (Network → List JournalEntry → List (List ℕ) → Type 0) → Type 0
 Begun net packets begins = ForSome packets (λ all. begins net.topology net.journal (inputs_of all net.journal))
+
+-- how many items the ledger's journal of these steps has made
+abbrev pub made_over : Network → List (List ℕ) → List JournalEntry → ℕ
+made_over topology all entries = (flight_of topology entries (inputs_of all entries)).made
+
+-- where packets are told, these are the numbers of the items that the last step of the net's journal made
+abbrev pub MadeLast : NetNow → Option (List (List ℕ)) → Done → Type 0
+MadeLast net packets made =
+    ForSome packets (λ all. (made.first ≡ made_over net.topology all (but_last net.journal)) × (made.end ≡ made_over net.topology all net.journal))
+
+-- the last step is one of the topology
+abbrev pub LastFits : NetNow → Type 0
+LastFits net = IfSome (slice_get net.journal (length net.journal - 1)) (λ entry. fits net.topology entry.step ≡ true)

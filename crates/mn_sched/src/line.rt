@@ -1,4 +1,4 @@
-ghost use Rattle.std.specs.Prelude.{◌≡◌, ◌≤◌, ◌+◌, ◌^◌, ℕ, List, [], true, false, Some, OnOk, OnErr};
+ghost use Rattle.std.specs.Prelude.{◌≡◌, ◌≤◌, ◌+◌, ◌^◌, ℕ, List, [], true, false, Some, IfOk, OnOk, OnErr};
 ghost use Rattle.std.specs.Option.{ForSome};
 ghost use Rattle.mn_script.specs.Lines.{command_fits};
 ghost use Rattle.mn_course.specs.Coming.{delivery, next_arrival};
@@ -8,7 +8,7 @@ ghost use Rattle.mn_topo.specs.Steps.{fits};
 ghost use Rattle.mn_course.specs.declared.coming.Ending.TheVariants as ending;
 ghost use Rattle.mn_laws.specs.Flight.{IsOpen};
 ghost use Rattle.mn_net_now.specs.Now.{StandsFor};
-ghost use Rattle.mn_sched.specs.Watching.{Together, Stood};
+ghost use Rattle.mn_sched.specs.Watching.{Together, Stood, MadeLast, LastFits};
 ghost use Rattle.mn_base.specs.declared.numbers.SiteNo.{SiteNo};
 
 use crate::arrivals::{delivery, next_arrival, set_clock};
@@ -73,6 +73,8 @@ fn finish<W: Watch>(
     watch: &mut W,
 ) -> Result<Played, Stopped>
     requires stood { OnOk stepped (Stood net.now (W.packets watch.old) (W.stands watch.old)) }
+    requires made { IfOk stepped (λ made. MadeLast net.now (W.packets watch.old) made) }
+    requires fitting { OnOk stepped (LastFits net.now) }
     ensures ended { Finished stepped result }
     ensures after { OnOk stepped (After net.now (W.packets watch.old) (W.stands watch.new) (W.begins watch.new) result) }
     ensures untouched { OnErr stepped (watch.new ≡ watch.old) }

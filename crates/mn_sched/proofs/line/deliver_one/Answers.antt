@@ -1,14 +1,17 @@
-use Rattle.std.proofs.Common.{◌≡◌, ℕ, List, [], false, sym, ◌∙◌, ap, subst}
+use Rattle.std.proofs.Common.{◌≡◌, ℕ, List, [], true, false, sym, ◌∙◌, ap, subst}
+use Rattle.mn_topo.specs.Steps.{fits}
 use Rattle.mn_ledger.specs.Ledger.{injects}
 use Rattle.mn_course.specs.Coming.{delivery}
 use Rattle.mn_course.specs.Course.{inputs_of}
-use Rattle.mn_sched.proofs.Telling.{leaves, err_then, set_on, stood, same_journal, takes_no_input, one_arrives, after_one, opens_then, one_paced}
+use Rattle.mn_sched.proofs.Telling.{leaves, made_last, last_fits, err_then, set_on, stood, same_journal, takes_no_input, one_arrives, after_one, opens_then, one_paced}
 use Rattle.mn_sched.proofs.line.deliver_one.Goals as goal
 
 pub finish-played-requires : goal.finish-played-requires
 finish-played-requires g c =
     let journal = same_journal c.args.arrivals c.args.item.due c.args.net.now c.set_clock.new.net c.set_clock.ensures.past in
     let plain : injects c.delivery-step.result ≡ false = ap injects c.delivery-step.ensures ∙ c.requires.fits.1 in
+    let fit : fits c.set_clock.new.net.topology c.delivery-step.result ≡ true =
+    ap (λ t. fits t c.delivery-step.result) c.set_clock.ensures.topology ∙ ap (fits c.args.net.now.topology) c.delivery-step.ensures ∙ c.requires.fits.0 in
     record {
       stood = stood c.step-stepped.result c.set_clock.new.net c.step-stepped.new.self c.delivery-step.result [] (g.W.Watch.packets c.args.watch.now)
           (g.W.Watch.stands c.args.watch.now)
@@ -16,6 +19,13 @@ finish-played-requires g c =
           (g.W.Watch.stands c.args.watch.now) journal c.set_clock.ensures.topology c.set_clock.ensures.stands c.requires.together)
           (λ all told. takes_no_input all c.set_clock.new.net.journal c.set_clock.new.net.tick c.delivery-step.result [] plain)
           c.step-stepped.ensures.longer c.step-stepped.ensures.stands;
+      made = made_last c.step-stepped.result c.set_clock.new.net c.step-stepped.new.self c.delivery-step.result [] (g.W.Watch.packets c.args.watch.now)
+          (g.W.Watch.stands c.args.watch.now)
+          (set_on c.args.net.now c.set_clock.new.net (g.W.Watch.packets c.args.watch.now)
+          (g.W.Watch.stands c.args.watch.now) journal c.set_clock.ensures.topology c.set_clock.ensures.stands c.requires.together)
+          (λ all told. takes_no_input all c.set_clock.new.net.journal c.set_clock.new.net.tick c.delivery-step.result [] plain)
+          c.step-stepped.ensures.longer c.step-stepped.ensures.stands c.step-stepped.ensures.first c.step-stepped.ensures.end;
+      fitting = last_fits c.step-stepped.result c.set_clock.new.net c.step-stepped.new.self c.delivery-step.result fit c.step-stepped.ensures.longer;
     }
 
 pub returns-clause-course : goal.returns-clause-course

@@ -2,7 +2,7 @@ use Rattle.std.proofs.Common.{sym, ◌∙◌, subst}
 use Rattle.mn_course.specs.Course.{inputs_of, refusal_now, stepped}
 use Rattle.mn_sched.specs.Playing.{past_of, Takes}
 use Rattle.mn_sched.specs.Playing.{After}
-use Rattle.mn_sched.proofs.Telling.{leaves, step_paced, err_then, stood, takes_input, step_takes, stepped_inject, stepped_more, after_step, after_fault}
+use Rattle.mn_sched.proofs.Telling.{leaves, made_last, last_fits, step_paced, err_then, stood, takes_input, step_takes, stepped_inject, stepped_more, after_step, after_fault}
 use Rattle.mn_sched.proofs.Telling.{fault_takes, fault_missing}
 use Rattle.mn_sched.proofs.line.inject.Goals as goal
 
@@ -38,6 +38,13 @@ finish-requires g c =
           (λ all told. takes_input all net.journal net.tick c.args.step c.requires.injects.0 c.args.number c.in-Ok-Some.bytes.now c.requires.injects.1
           (found.1 all (sym held.2 ∙ told)))
           c.step-stepped.ensures.longer c.step-stepped.ensures.stands;
+      made = made_last c.step-stepped.result net c.step-stepped.new.self c.args.step c.in-Ok-Some.bytes.now (g.W.Watch.packets rested)
+          (g.W.Watch.stands rested)
+          (λ all told. let both = c.requires.together all (sym held.2 ∙ told) in (both.0, held.3 _ _ _ both.1))
+          (λ all told. takes_input all net.journal net.tick c.args.step c.requires.injects.0 c.args.number c.in-Ok-Some.bytes.now c.requires.injects.1
+          (found.1 all (sym held.2 ∙ told)))
+          c.step-stepped.ensures.longer c.step-stepped.ensures.stands c.step-stepped.ensures.first c.step-stepped.ensures.end;
+      fitting = last_fits c.step-stepped.result net c.step-stepped.new.self c.args.step c.requires.fits c.step-stepped.ensures.longer;
     }
 
 pub returns-clause-course : goal.returns-clause-course

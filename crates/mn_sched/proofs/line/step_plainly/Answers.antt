@@ -1,7 +1,7 @@
 use Rattle.std.proofs.Common.{[], sym, subst}
 use Rattle.mn_course.specs.Course.{inputs_of, refusal_now}
 use Rattle.mn_sched.specs.Playing.{past_of, Takes}
-use Rattle.mn_sched.proofs.Telling.{leaves, step_paced, err_then, stood, takes_no_input, step_takes, stepped_plain, after_step}
+use Rattle.mn_sched.proofs.Telling.{leaves, made_last, last_fits, step_paced, err_then, stood, takes_no_input, step_takes, stepped_plain, after_step}
 use Rattle.mn_sched.proofs.line.step_plainly.Goals as goal
 
 pub finish-requires : goal.finish-requires
@@ -11,6 +11,11 @@ finish-requires g c =
           (g.W.Watch.stands c.args.watch.now) c.requires.together
           (λ all told. takes_no_input all c.args.net.now.journal c.args.net.now.tick c.args.step [] c.requires.plain) c.step-stepped.ensures.longer
           c.step-stepped.ensures.stands;
+      made = made_last c.step-stepped.result c.args.net.now c.step-stepped.new.self c.args.step [] (g.W.Watch.packets c.args.watch.now)
+          (g.W.Watch.stands c.args.watch.now) c.requires.together
+          (λ all told. takes_no_input all c.args.net.now.journal c.args.net.now.tick c.args.step [] c.requires.plain) c.step-stepped.ensures.longer
+          c.step-stepped.ensures.stands c.step-stepped.ensures.first c.step-stepped.ensures.end;
+      fitting = last_fits c.step-stepped.result c.args.net.now c.step-stepped.new.self c.args.step c.requires.fits c.step-stepped.ensures.longer;
     }
 
 pub returns-clause-course : goal.returns-clause-course
