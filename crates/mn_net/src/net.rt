@@ -71,6 +71,23 @@ impl Model for Net {
     }) };
 }
 
+impl Drop for Net {
+    fn drop(self) {
+        let Net {
+            alloc: _,
+            topology: _,
+            journal: _,
+            tick: _,
+            made: _,
+            failed: _,
+            transport: _,
+            routes: _,
+            transit: _,
+            tally: _,
+        } = self;
+    }
+}
+
 impl Net {
     /// The start: every link and session is down, and nothing flies.
     pub fn new(alloc: Global, topology: Topology) -> Result<Net, AllocError>

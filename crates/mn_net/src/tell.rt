@@ -2,6 +2,7 @@
 ghost use Rattle.std.specs.Prelude.{◌≡◌, ◌<◌, ◌^◌, List, ℕ, [], length, map, option_map, slice_index_or};
 ghost use Rattle.mn_ledger.specs.Ledger.{packets_of};
 ghost use Rattle.mn_ledger.specs.Packets.{flying_on};
+ghost use Rattle.mn_ledger.specs.Items.{Frames, items_on, flight_of};
 ghost use Rattle.mn_ledger.specs.Verdicts.{verdict_on};
 ghost use Rattle.mn_net_now.specs.Now.{StandsFor};
 
@@ -38,6 +39,7 @@ impl Net {
     /// How many frames fly on a direction of a link.
     pub fn flying(&self, link: LinkNo, dir: Dir) -> u64
         ensures told { (inputs : List (List ℕ)) → StandsFor self.now inputs → result ≡ length (flying_on (packets_of self.now.topology self.now.journal inputs) link.0 dir) }
+        ensures items { (inputs : List (List ℕ)) → StandsFor self.now inputs → result ≡ length (items_on (Frames link.0 dir) (flight_of self.now.topology self.now.journal inputs).items) }
     {
         self.transit.flying(link, dir)
     }

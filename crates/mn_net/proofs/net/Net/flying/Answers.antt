@@ -1,16 +1,26 @@
-use Rattle.std.proofs.Common.{sym, ap, subst}
+use Rattle.std.proofs.Common.{◌∙◌, sym, ap, subst, length}
+use Rattle.mn_base.specs.declared.links.Dir.{Dir}
+use Rattle.mn_flight.specs.Flying.{on_channel}
 use Rattle.mn_transit.specs.Stands as transit
 use Rattle.mn_net_now.specs.Now.{NetNow}
 use Rattle.mn_frames.specs.Given.{given}
 use Rattle.mn_ledger.specs.Ledger.{packets_of}
+use Rattle.mn_ledger.specs.Packets.{channel}
+use Rattle.mn_ledger.specs.Items.{flight_of}
+use Rattle.mn_net_model.proofs.Counted.{count_on, counted_in, counted_on}
 use Rattle.mn_net.proofs.net.Net.flying.Goals as goal
 
-pub returns : goal.returns
-returns c =
-    record {
-      told =
-          λ inputs h. c.flying.ensures.told c.args.self.now.topology (given c.args.self.now.topology c.args.self.now.journal)
-          (packets_of c.args.self.now.topology c.args.self.now.journal inputs)
-          (subst (λ m. transit.StandsFor c.args.self.now.topology (given c.args.self.now.topology c.args.self.now.journal) m
-          (packets_of c.args.self.now.topology c.args.self.now.journal inputs)) (ap (λ (n : NetNow). n.moving) (sym c.self.view_is)) h.stands.packets);
-    }
+pub returns-clause-told : goal.returns-clause-told
+returns-clause-told c = λ inputs h.
+    c.flying.ensures.told c.args.self.now.topology (given c.args.self.now.topology c.args.self.now.journal)
+    (packets_of c.args.self.now.topology c.args.self.now.journal inputs)
+    (subst (λ m. transit.StandsFor c.args.self.now.topology (given c.args.self.now.topology c.args.self.now.journal) m
+    (packets_of c.args.self.now.topology c.args.self.now.journal inputs)) (ap (λ (n : NetNow). n.moving) (sym c.self.view_is)) h.stands.packets)
+
+pub returns-clause-items : goal.returns-clause-items
+returns-clause-items c = λ inputs h.
+    c.flying.ensures.counted
+    ∙ ap (λ (n : NetNow). length (on_channel (channel c.args.link.0 c.args.dir) n.moving.flying)) c.self.view_is
+    ∙ counted_in (channel c.args.link.0 c.args.dir) c.args.self.now.moving.flying
+    ∙ ap (count_on (channel c.args.link.0 c.args.dir)) h.stands.frames
+    ∙ sym (counted_on c.args.link.0 c.args.dir (flight_of c.args.self.now.topology c.args.self.now.journal inputs).items)
