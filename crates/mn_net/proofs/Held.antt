@@ -1,13 +1,14 @@
 -- What edges hold in a network that works.
-use Rattle.std.proofs.Common.{ℕ, zero, suc, ◌≡◌, ◌<◌, Bool, true, false, List, [], ◌∷◌, length, map, refl, arith, sym, ap, ◌∙◌, subst, Option, Some, None}
-use Rattle.std.specs.Prelude.{◌==◌, ◌||◌, if◌then◌else◌, slice_index_or, option_map}
-use Rattle.std.specs.List.{list_any}
+use Rattle.std.proofs.Common.{ℕ, zero, suc, ◌≡◌, ◌<◌, Bool, true, false, List, [], ◌∷◌, length, map, refl, arith, sym, ap, ◌∙◌, subst, Option, Some, None, inl}
+use Rattle.std.specs.Prelude.{◌==◌, ◌||◌, not, filter, if◌then◌else◌, slice_get, slice_index_or, option_map}
+use Rattle.std.specs.List.{Contains, list_any}
 use Rattle.std.proofs.lemmas.List.{length-map}
 use Rattle.std.proofs.lemmas.Option.{same_Some}
 use Rattle.mn_base.specs.Wiring.{nodes_of}
 use Rattle.mn_base.specs.declared.states.BgpState.TheVariants.{Idle}
 use Rattle.mn_base.proofs.Bools.{same_test}
-use Rattle.mn_prefix.specs.Prefix.{AddressBlock}
+use Rattle.mn_base.proofs.Members.{In, in_filter, contained_in}
+use Rattle.mn_prefix.specs.Prefix.{AddressBlock, same_prefix}
 use Rattle.mn_prefix.specs.Table.{longest_match}
 use Rattle.mn_topo.specs.Network.{Network, wiring_of}
 use Rattle.mn_topo.specs.Lawful.{IsLawful}
@@ -16,27 +17,37 @@ use Rattle.mn_topo.specs.declared.vrfs.VrfDef.{VrfDef}
 use Rattle.mn_ledger.specs.World.{Config, Peerings}
 use Rattle.mn_ledger.specs.Ledger.{world_of}
 use Rattle.mn_ledger.specs.Places.{edge_of}
-use Rattle.mn_ledger.specs.Vpn.{peers_live, state_heard, state_of, held, best}
+use Rattle.mn_ledger.specs.Vpn.{peers_live, state_heard, state_of, HeldRoute, is_better, unbeaten, first_of, held, best}
+use Rattle.mn_ledger.specs.Vpn as vpn
+use Rattle.mn_ledger.proofs.Held.{one_held}
 use Rattle.mn_laws.proofs.There.{edge_there}
 use Rattle.mn_laws.proofs.Holding.{length_range}
+use Rattle.mn_frames.specs.Given.{given, label_at, attachment_of}
 use Rattle.mn_frames.specs.Numbers.{labels_of}
-use Rattle.mn_vrf.specs.Vrf.{VrfState}
+use Rattle.mn_frames.proofs.Anew.{by_table, gives_to_no_other}
+use Rattle.mn_frames.proofs.Named.{all_have_labels}
+use Rattle.mn_vrf.specs.Vrf.{VrfState, heads}
 use Rattle.mn_vrf.specs.declared.source.Source.{Source}
 use Rattle.mn_pe.specs.Edge.{Edge}
-use Rattle.mn_pe.specs.Held.{held_by}
+use Rattle.mn_pe.specs.Entries as entry
+use Rattle.mn_pe.specs.Held.{held_by, far_over}
 use Rattle.mn_pe.specs.Pe.{PeNow, found_in}
 use Rattle.mn_bgp_spelling.specs.Spelling.{Labels, session_in}
 use Rattle.mn_bgp_session.specs.declared.session.BgpSession.{BgpSession}
 use Rattle.mn_routing_model.specs.Laws.{AllFindTheBest}
 use Rattle.mn_routing_model.specs.Routed.{working}
 use Rattle.mn_routing_model.specs.Sending.{state_by}
-use Rattle.mn_routing_model.specs.Sources.{as_held}
+use Rattle.mn_routing_model.specs.Sources.{as_held, source_from}
 use Rattle.mn_routing_model.specs.Standing.{vrf_in, edge_in}
 use Rattle.mn_routing_model.specs.Whole.{routes_in, edge_or_none, session_or_none}
+use Rattle.mn_routing_model.proofs.Holding.{Stands, holds}
+use Rattle.mn_routing_model.proofs.Lawful.{rests, stands}
 use Rattle.mn_routing_model.proofs.Tables.{map_numbers_at}
 use Rattle.mn_net_refusal.specs.Refusal.{asked}
 use Rattle.mn_net_refusal.proofs.Vrfs.{vrf_is}
 use Rattle.mn_net_now.specs.Now.{NetNow, IsNet}
+use Rattle.mn_net.specs.Tables.{prefixes_of, best_at, held_at}
+use Rattle.mn_net.proofs.Prefixes.{place_told}
 
 -- 1. Sessions
 
@@ -132,6 +143,62 @@ module _ (net : NetNow) (lawful : IsLawful net.topology) (is : IsNet net) (v : �
       subst (λ (x : PeNow). x.failed ≡ false →
       result ≡ found_in v (λ (vrf : VrfState). longest_match address (held_by x.edge vrf)) x.edge.vrfs) same tells in
       told refl ∙ found address ∙ finds t l net.journal is.inputs (edge_of t v) v address lawful is.stands.stands.lawful refl
+
+  pub held_told : (k : ℕ) (pe : PeNow) (result : Option (AddressBlock × Source)) → Some pe ≡ slice_index_or net.routes.edges (edge_of t v) None →
+      (pe.failed ≡ false → result ≡ found_in v (λ (vrf : VrfState). slice_get (heads (held_by pe.edge vrf)) k) pe.edge.vrfs) →
+      result ≡ option_map (as_held l) (held_at (held t c p (edge_of t v) v) k)
+  held_told k pe result at tells =
+      let same : pe ≡ working its = same_Some pe (working its) (at ∙ edge_told) in
+      let told =
+      subst (λ (x : PeNow). x.failed ≡ false →
+      result ≡ found_in v (λ (vrf : VrfState). slice_get (heads (held_by x.edge vrf)) k) x.edge.vrfs) same tells in
+      let all : Stands t c p (edge_of t v) v =
+      stands t (world_of t net.journal) (edge_of t v) v lawful (rests t net.journal is.inputs lawful is.stands.stands.lawful) refl in
+      told refl
+      ∙ sym (ap (asked (λ (edge : Edge). found_in v (λ (vrf : VrfState). slice_get (heads (held_by its vrf)) k) edge.vrfs)) its_edge)
+      ∙ vrf_is t l c p lawful v (λ (vrf : VrfState). slice_get (heads (held_by its vrf)) k) h
+      ∙ place_told l (held t c p (edge_of t v) v) (held_by its (vrf_in t c v)) (holds t l c p (edge_of t v) v all)
+      (λ a b i j source prefix. one_held t c p (edge_of t v) v a b all.lawful all.apart all.statics all.good i j source prefix) k
+
+  -- a held route's label is the one that its edge gave
+  abbrev routes : List HeldRoute
+  routes = held t c p (edge_of t v) v
+
+  label_is : (route : HeldRoute) → In routes route → l route.site route.attachment ≡ label_at (given t net.journal) route.edge route.site route.attachment
+  label_is route i =
+      let journal = is.stands.stands.lawful in
+      let there = (all_have_labels t net.journal is.inputs lawful journal).held v route h (contained_in routes route i) in
+      let at = gives_to_no_other t net.journal is.inputs route.edge route.site route.attachment journal there in
+      sym (ap (λ e. label_at (given t net.journal) e route.site route.attachment) (sym at.home)
+      ∙ by_table t net.journal is.inputs route.site route.attachment lawful journal
+      (subst (λ e. Contains (given t net.journal e) (attachment_of route.site route.attachment)) (sym at.home) there))
+
+  given_as : (route : HeldRoute) → In routes route → as_held l route ≡ entry.as_held (given t net.journal) route
+  given_as route i = ap (λ (s : Source). let pair : AddressBlock × Source = (route.prefix, s) in pair) (by route.source)
+    where
+      by : (source : vpn.Source) →
+          source_from l route.edge route.site route.attachment source ≡ entry.source_of (given t net.journal) route source
+      by vpn.Own = refl
+      by (vpn.Near v) = refl
+      by (vpn.Far address rd) = ap (far_over address rd route.edge) (label_is route i)
+
+  first_in : (xs : List HeldRoute) (x : HeldRoute) → first_of xs ≡ Some x → In xs x
+  first_in [] x e = absurd (let none : None ≡ Some x → ⊥ = (λ e. cc) in none e)
+  first_in (y ∷ ys) x e = inl (same_Some y x e)
+
+  best_in : (o : Option AddressBlock) (x : HeldRoute) → best_at routes o ≡ Some x → In routes x
+  best_in None x e = absurd (let none : None ≡ Some x → ⊥ = (λ e. cc) in none e)
+  best_in (Some q) x e =
+      let its : List HeldRoute = filter (λ (route : HeldRoute). same_prefix route.prefix q) routes in
+      let f = in_filter (λ route. not (list_any (λ other. is_better other route) its)) its x (first_in (unbeaten its) x e) in
+      (in_filter (λ (route : HeldRoute). same_prefix route.prefix q) routes x f.0).0
+
+  pub given_told : (k : ℕ) → option_map (as_held l) (held_at routes k) ≡ option_map (entry.as_held (given t net.journal)) (held_at routes k)
+  given_told k = by (held_at routes k) refl
+    where
+      by : (o : Option HeldRoute) → held_at routes k ≡ o → option_map (as_held l) o ≡ option_map (entry.as_held (given t net.journal)) o
+      by None e = refl
+      by (Some x) e = ap Some (given_as x (best_in (slice_get (prefixes_of routes) k) x e))
 
   pub some_edge : None ≡ slice_index_or net.routes.edges (edge_of t v) None → ⊥
   some_edge e = let none : None ≡ Some (working its) → ⊥ = (λ q. cc) in none (e ∙ edge_told)

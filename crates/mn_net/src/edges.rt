@@ -3,8 +3,11 @@ ghost use Rattle.std.specs.Prelude.{◌≡◌, ◌<◌, false, length, option_ma
 ghost use Rattle.mn_ledger.specs.Ledger.{world_of};
 ghost use Rattle.mn_ledger.specs.Places.{edge_of};
 ghost use Rattle.mn_ledger.specs.Vpn.{state_of, held, best};
+ghost use Rattle.mn_frames.specs.Given.{given};
 ghost use Rattle.mn_frames.specs.Numbers.{labels_of};
+ghost use Rattle.mn_pe.specs.Entries.{as_held as given_held};
 ghost use Rattle.mn_routing_model.specs.Sources.{as_held};
+ghost use Rattle.mn_net.specs.Tables.{held_at};
 
 use crate::ends::edge_at;
 use crate::net::Net;
@@ -36,6 +39,24 @@ impl Net {
         let node = edge_at(&self.topology, vrf);
         match self.routes.edge(node) {
             Some(edge) => edge.lookup(vrf, address),
+            None => None,
+        }
+    }
+
+    /// The prefix at a place, from 0, among those that a VRF holds, with the best of its routes; prefixes go by address and
+    /// then by length.
+    pub fn held(&self, vrf: VrfNo, place: u32) -> Option<(Prefix, Source)>
+        requires works { self.now.failed ≡ false }
+        requires vrf { vrf.0 < length self.now.topology.vrfs }
+        ensures told { result ≡ option_map (as_held (labels_of self.now.topology self.now.journal))
+            (held_at (held self.now.topology (world_of self.now.topology self.now.journal).config (world_of self.now.topology self.now.journal).peerings (edge_of self.now.topology vrf.0) vrf.0) place) }
+        ensures labels { result ≡ option_map (given_held (given self.now.topology self.now.journal))
+            (held_at (held self.now.topology (world_of self.now.topology self.now.journal).config (world_of self.now.topology self.now.journal).peerings (edge_of self.now.topology vrf.0) vrf.0) place) }
+    {
+        self.topology.laws();
+        let node = edge_at(&self.topology, vrf);
+        match self.routes.edge(node) {
+            Some(edge) => edge.held(vrf, place),
             None => None,
         }
     }

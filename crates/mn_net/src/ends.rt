@@ -1,8 +1,9 @@
-//! The ends of a link, the edge of a site or VRF, and the number after the items that a step made.
+//! The ends of a link, the direction of a channel, the edge of a site or VRF, and the number after the items that a step made.
 ghost use Rattle.std.specs.Prelude.{◌≡◌, ◌<◌, ◌+◌, length, IfOk};
 ghost use Rattle.mn_base.specs.Wiring.{receiver, sender};
 ghost use Rattle.mn_topo.specs.Network.{wiring_of};
 ghost use Rattle.mn_ledger.specs.Places.{edge_of, home_of};
+ghost use Rattle.mn_net_refusal.specs.Coming.{dir_of};
 
 use mn_base::{Dir, LinkNo, NodeNo, SiteNo, VrfNo};
 use mn_topo::Topology;
@@ -33,6 +34,17 @@ pub(crate) fn sender(topology: &Topology, link: LinkNo, dir: Dir) -> NodeNo
     match dir {
         Dir::Forth => ends.a,
         Dir::Back => ends.b,
+    }
+}
+
+/// The direction of a channel, of which a link has two.
+pub(crate) fn direction(channel: u32) -> Dir
+    ensures { result ≡ dir_of channel }
+{
+    if channel % 2 == 0 {
+        Dir::Forth
+    } else {
+        Dir::Back
     }
 }
 

@@ -17,12 +17,16 @@
 //! - `next`: what comes next
 //! - `nodes`: what is told of links and of the transport of nodes
 //! - `edges`: what is told of sessions and routes
+//! - `flight`: what is told of items in flight
+//! - `made`: a law: the items of a step are told by their numbers
 //! - `tell`: what became of packets
 #![tactic(auto)]
 
 mod edges;
 mod ends;
+mod flight;
 mod links;
+mod made;
 mod moving;
 mod net;
 mod next;
@@ -31,4 +35,6 @@ mod sessions;
 mod sites;
 mod tell;
 
+pub use flight::{Channel, Flying};
+pub use made::what_a_step_made_is_told;
 pub use net::{Done, Net};

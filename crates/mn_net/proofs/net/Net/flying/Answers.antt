@@ -1,5 +1,4 @@
 use Rattle.std.proofs.Common.{◌∙◌, sym, ap, subst, length}
-use Rattle.mn_base.specs.declared.links.Dir.{Dir}
 use Rattle.mn_flight.specs.Flying.{on_channel}
 use Rattle.mn_transit.specs.Stands as transit
 use Rattle.mn_net_now.specs.Now.{NetNow}
