@@ -1,5 +1,6 @@
 -- Lines, from their pieces.
-use Rattle.std.proofs.Common.{◌≡◌, ◌+◌, ◌<◌, ℕ, Bool, true, false, List, [], ◌∷◌, ◌++◌, length, Option, Some, None, refl, ap, sym, ◌∙◌, subst, append_assoc, arith, ◌⊎◌, inl, inr}
+use Rattle.std.proofs.Common.{◌≡◌, ◌+◌, ◌<◌, ℕ, Bool, true, false, List, [], ◌∷◌, ◌++◌, length, Option, Some, None, refl, ap, sym, ◌∙◌, subst, append_assoc}
+use Rattle.std.proofs.Common.{arith, ◌⊎◌, inl, inr}
 use Rattle.std.specs.Prelude.{codes, decimal, if◌then◌else◌}
 use Rattle.mn_base.specs.Wiring.{View, link, sender, receiver}
 use Rattle.mn_base.specs.Paths.{dist_in, dists_to, next}
@@ -19,7 +20,8 @@ use Rattle.mn_frames.specs.Given.{Labelling, label_at}
 use Rattle.mn_ledger.specs.Items.{Item, Frames, items_on}
 use Rattle.mn_lines.specs.Lines.{text}
 use Rattle.mn_output.specs.Files.{node_name}
-use Rattle.mn_output.specs.Tables.{up_or_down, link_line, walk_text, tree_line, ldp_name, ldp_text, ldp_line, bgp_name, bgp_line, frames_line, route_line, vrf_name, site_name}
+use Rattle.mn_output.specs.Tables.{up_or_down, link_line, walk_text, tree_line, ldp_name, ldp_text, ldp_line, bgp_name, bgp_line, frames_line, route_line}
+use Rattle.mn_output.specs.Tables.{vrf_name, site_name}
 use Rattle.mn_tables.specs.States.{state_at, state_name}
 
 pub link_row : (topology : Network) (world : World) (l : ℕ) (a b up cost changes : List ℕ)
@@ -50,7 +52,8 @@ tree_row topology view node to cost hop a b d h is_a is_b is_d is_h is_dist is_t
     ∙ ap (λ w. codes "tree " ++ (node_name topology node ++ (codes " to " ++ (node_name topology to ++ w))))
     (walk_row topology (dist_in (dists_to (wiring_of topology) view to) node) (next (wiring_of topology) view node to) cost hop d h is_dist is_to is_d is_h)
 
-no_walk_row : (topology : Network) (dist : Option ℕ) (to : Option (ℕ × ℕ)) → (dist ≡ None) ⊎ (hop_alone to ≡ None) → codes " unreachable\n" ≡ walk_text topology dist to
+no_walk_row : (topology : Network) (dist : Option ℕ) (to : Option (ℕ × ℕ)) →
+    (dist ≡ None) ⊎ (hop_alone to ≡ None) → codes " unreachable\n" ≡ walk_text topology dist to
 no_walk_row topology None to none = refl
 no_walk_row topology (Some least) None none = refl
 no_walk_row topology (Some least) (Some far) (inl none) = cc
@@ -96,7 +99,8 @@ no_frames_row topology l dir [] none = refl
 no_frames_row topology l dir (item ∷ items) none = absurd (omega arith)
 
 pub frames_row : (topology : Network) (l : ℕ) (dir : Dir) (items : List Item) (count : ℕ) (a b many : List ℕ)
-    → 0 < count → count ≡ length items → a ≡ node_name topology (sender (wiring_of topology) l dir) → b ≡ node_name topology (receiver (wiring_of topology) l dir)
+    → 0 < count → count ≡ length items → a ≡ node_name topology (sender (wiring_of topology) l dir) →
+    b ≡ node_name topology (receiver (wiring_of topology) l dir)
     → many ≡ decimal count
     → text (codes "frames " ∷ a ∷ codes " " ∷ b ∷ codes " " ∷ many ∷ codes "\n" ∷ []) ≡ frames_line topology l dir items
 frames_row topology l dir [] count a b many some is_count is_a is_b is_many = absurd (omega arith)

@@ -1,5 +1,6 @@
 -- Text that is put piece by piece.
-use Rattle.std.proofs.Common.{◌≡◌, ◌+◌, ◌<◌, ◌≤◌, ℕ, List, [], ◌∷◌, ◌++◌, length, get_or, take, drop, Option, Some, Result, Ok, Err, IsErr, refl, ap, sym, ◌∙◌, subst, append_assoc, arith, Bool, true, false}
+use Rattle.std.proofs.Common.{◌≡◌, ◌+◌, ◌<◌, ◌≤◌, ℕ, List, [], ◌∷◌, ◌++◌, length, get_or, take, drop, Option, Some, Result, Ok, Err, IsErr, refl, ap, sym}
+use Rattle.std.proofs.Common.{◌∙◌, subst, append_assoc, arith, Bool, true, false}
 use Rattle.std.specs.Prelude.{filter, if◌then◌else◌}
 use Rattle.std.specs.Result.{IsErrAnd}
 use Rattle.std.proofs.lemmas.List.{append-nil, take_all, take_more, take-append-drop}
@@ -45,7 +46,8 @@ part_longer text more before now p =
 
 part_more : (a b more : List ℕ) (s t u : Stand) → Told a s t → PutsPart b t.waits t.written u.written → PutsPart (a ++ (b ++ more)) s.waits s.written u.written
 part_more a b more s t u x y = λ before so_far on.
-    part_as (((so_far ++ a) ++ b) ++ more) (so_far ++ (a ++ (b ++ more))) before u.written (append_assoc (so_far ++ a) b more ∙ append_assoc so_far a (b ++ more))
+    part_as (((so_far ++ a) ++ b) ++ more) (so_far ++ (a ++ (b ++ more))) before u.written
+    (append_assoc (so_far ++ a) b more ∙ append_assoc so_far a (b ++ more))
     (part_longer ((so_far ++ a) ++ b) more before u.written (y before (so_far ++ a) (x.puts before so_far on)))
 
 counted_as : (before other now : ℕ) (e : DeviceBad) → before ≡ other → Counted {T = Unit {0}} before now (Err e) → Counted {T = Unit {0}} other now (Err e)
@@ -94,7 +96,8 @@ tells_within a b more whole s t u e r from before this is = tells_err whole s u 
 })
 
 -- the counts of faults alone
-pub counted_err : (before mid now : ℕ) (e : DeviceBad) (r : Answer) → IsErrOnly r e → mid ≡ before → Counted {T = Unit {0}} mid now (Err e) → Counted before now r
+pub counted_err : (before mid now : ℕ) (e : DeviceBad) (r : Answer) → IsErrOnly r e → mid ≡ before → Counted {T = Unit {0}} mid now (Err e) →
+    Counted before now r
 counted_err before mid now e (Ok x) from same this = absurd from.1
 counted_err before mid now e (Err other) from same this =
     subst (λ y. Counted {T = Unit {0}} before now (Err y)) (sym from.1) (counted_as mid before now e same this)
@@ -112,9 +115,11 @@ tells_want a s = record {
 
 -- 3. One text after another, over a list
 
-more_of : {X : Type 0} (f : X → List ℕ) (xs : List X) (i : ℕ) (d : X) → i < length xs → flat_map f (take (i + 1) xs) ≡ flat_map f (take i xs) ++ f (get_or xs i d)
+more_of : {X : Type 0} (f : X → List ℕ) (xs : List X) (i : ℕ) (d : X) → i < length xs →
+    flat_map f (take (i + 1) xs) ≡ flat_map f (take i xs) ++ f (get_or xs i d)
 more_of f xs i d below =
-    ap (flat_map f) (take_more xs i d below) ∙ flat_map-append f (take i xs) (get_or xs i d ∷ []) ∙ ap (λ ys. flat_map f (take i xs) ++ ys) (append-nil (f (get_or xs i d)))
+    ap (flat_map f) (take_more xs i d below) ∙ flat_map-append f (take i xs) (get_or xs i d ∷ [])
+    ∙ ap (λ ys. flat_map f (take i xs) ++ ys) (append-nil (f (get_or xs i d)))
 
 all_of : {X : Type 0} (f : X → List ℕ) (xs : List X) (i : ℕ) (d : X) → i < length xs
     → flat_map f (take i xs) ++ (f (get_or xs i d) ++ flat_map f (drop (i + 1) xs)) ≡ flat_map f xs
@@ -138,10 +143,21 @@ tells_cut f xs i d s t u e r from below before this =
     tells_within (flat_map f (take i xs)) (f (get_or xs i d)) (flat_map f (drop (i + 1) xs)) (flat_map f xs) s t u e r from before this (all_of f xs i d below)
 
 -- none is left
-pub tells_all : {X : Type 0} (f : X → List ℕ) (xs : List X) (i : ℕ) (s t : Stand) → length xs ≤ i → Told (flat_map f (take i xs)) s t → Tells {T = Unit {0}} (flat_map f xs) s t (Ok tt)
+pub tells_all : {X : Type 0} (f : X → List ℕ) (xs : List X) (i : ℕ) (s t : Stand) → length xs ≤ i → Told (flat_map f (take i xs)) s t →
+    Tells {T = Unit {0}} (flat_map f xs) s t (Ok tt)
 tells_all f xs i s t past before =
     let whole : Told (flat_map f xs) s t = subst (λ words. Told (flat_map f words) s t) (take_all i xs past) before in
     record { put = whole.puts; part = tt; cause = whole.faults }
+
+-- memory was wanted after some of the texts
+pub tells_want_after : {X : Type 0} (f : X → List ℕ) (xs : List X) (i : ℕ) (s t : Stand) → Told (flat_map f (take i xs)) s t →
+    Tells {T = Unit {0}} (flat_map f xs) s t (Err NoMemory)
+tells_want_after f xs i s t before = record {
+  put = tt;
+  part = subst (λ words. PutsPart words s.waits s.written t.written) (sym (flat_map-append f (take i xs) (drop i xs)) ∙ ap (flat_map f) (take-append-drop i xs))
+      (part_more (flat_map f (take i xs)) [] (flat_map f (drop i xs)) s t t before (tells_want [] t).part);
+  cause = before.faults;
+}
 
 -- 4. Over the numbers below another
 

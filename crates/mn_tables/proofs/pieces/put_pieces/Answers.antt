@@ -19,5 +19,6 @@ loop-piece-preserved g c =
 
 pub returns : goal.returns
 returns g c =
-    tells_as _ _ _ _ _ (tells_all (λ (piece : Bor (List ℕ)). piece.now) c.args.pieces.now c.loop-piece.piece-index _ _ c.loop-piece-test.false c.loop-piece.invariant)
+    tells_as _ _ _ _ _
+    (tells_all (λ (piece : Bor (List ℕ)). piece.now) c.args.pieces.now c.loop-piece.piece-index _ _ c.loop-piece-test.false c.loop-piece.invariant)
     (text_flat c.args.pieces.now)
