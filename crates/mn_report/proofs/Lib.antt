@@ -1,0 +1,6 @@
+pub mod Standing
+pub mod Rows
+pub mod Walks
+pub mod Routed
+pub mod PacketLines
+pub mod Holding

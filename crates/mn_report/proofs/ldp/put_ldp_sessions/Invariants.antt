@@ -1,0 +1,12 @@
+use Rattle.std.proofs.Common.{take}
+use Rattle.std.specs.Prelude.{length}
+use Rattle.std.specs.List.{flat_map, range_with_len}
+use Rattle.mn_ledger.specs.Ledger.{world_of}
+use Rattle.mn_output.specs.Tables.{ldp_line}
+use Rattle.mn_tables.specs.Telling.{standing, Told}
+use Rattle.mn_report.proofs.ldp.put_ldp_sessions.Given as goal
+
+abbrev pub invariant-loop-link : goal.invariant-loop-link
+invariant-loop-link g l =
+    Told (flat_map (ldp_line l.net.topology (world_of l.net.topology l.net.journal)) (take l.link (range_with_len 0 (length l.net.topology.links))))
+    (standing l.fn.page (g.O.Sink.written l.fn.out) (g.O.Sink.faults l.fn.out)) (standing l.page (g.O.Sink.written l.out) (g.O.Sink.faults l.out))

@@ -1,0 +1,48 @@
+//! The table of LDP sessions.
+ghost use Rattle.std.specs.Prelude.{◌≡◌, ◌<◌, false, length};
+ghost use Rattle.std.specs.List.{flat_map};
+ghost use Rattle.mn_base.specs.Wiring.{links_of};
+ghost use Rattle.mn_topo.specs.Network.{wiring_of};
+ghost use Rattle.mn_ledger.specs.Ledger.{world_of};
+ghost use Rattle.mn_output.specs.Tables.{ldp_line};
+ghost use Rattle.mn_tables.specs.Telling.{standing, Tells};
+
+use crate::counts::link_count;
+use mn_base::{Dir, LinkNo};
+use mn_edge::{DeviceBad, Sink};
+use mn_lines::Page;
+use mn_net::Net;
+use mn_tables::put_ldp;
+
+/// Puts the line of a link's session.
+fn put_session_of<O: Sink>(
+    out: &mut O,
+    page: &mut Page,
+    net: &Net,
+    link: LinkNo,
+) -> Result<(), DeviceBad>
+    requires works { net.now.failed ≡ false }
+    requires link { link.0 < length net.now.topology.links }
+    ensures { Tells (ldp_line net.now.topology (world_of net.now.topology net.now.journal) link.0)
+        (standing page.old (O.written out.old) (O.faults out.old)) (standing page.new (O.written out.new) (O.faults out.new)) result }
+{
+    let one = net.ldp_state(link, Dir::Forth);
+    let other = net.ldp_state(link, Dir::Back);
+    put_ldp(out, page, net.topology(), link, one, other)
+}
+
+/// Puts the lines of the sessions of all links, in order.
+pub(crate) fn put_ldp_sessions<O: Sink>(
+    out: &mut O,
+    page: &mut Page,
+    net: &Net,
+) -> Result<(), DeviceBad>
+    requires { net.now.failed ≡ false }
+    ensures { Tells (flat_map (ldp_line net.now.topology (world_of net.now.topology net.now.journal)) (links_of (wiring_of net.now.topology)))
+        (standing page.old (O.written out.old) (O.faults out.old)) (standing page.new (O.written out.new) (O.faults out.new)) result }
+{
+    for link in 0..link_count(net) {
+        put_session_of(out, page, net, LinkNo(link))?;
+    }
+    Ok(())
+}

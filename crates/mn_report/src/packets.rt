@@ -1,0 +1,97 @@
+//! What became of each packet.
+ghost use Rattle.std.specs.Prelude.{◌≡◌, ◌≤◌, ◌<◌, ◌++◌, false, length, map, min, List, ℕ, OnOk, OnErr};
+ghost use Rattle.mn_edge.specs.Faults.{Counted};
+ghost use Rattle.mn_ledger.specs.Ledger.{packets_of};
+ghost use Rattle.mn_lines.specs.Putting.{Puts, PutsPart};
+ghost use Rattle.mn_net_now.specs.Now.{StandsFor};
+ghost use Rattle.mn_output.specs.Report.{packet_lines};
+ghost use Rattle.mn_tables.specs.Telling.{standing, Tells};
+ghost use Rattle.mn_report.specs.Packets.{packet_row};
+ghost use Rattle.mn_report.specs.Shown.{sending_of};
+
+use crate::written::put_line;
+use mn_edge::{DeviceBad, Sink};
+use mn_lines::{Page, Sent, write_packet};
+use mn_net::Net;
+
+/// Puts the line of the packet of a number, from 0, which this injection sent.
+fn put_packet<O: Sink>(
+    out: &mut O,
+    page: &mut Page,
+    line: &mut Vec<u8>,
+    net: &Net,
+    packet: u32,
+    sent: Sent,
+) -> Result<(), DeviceBad>
+    requires there { packet < length net.now.moving.verdicts }
+    requires few { length net.now.moving.verdicts ≤ 4000000 }
+    ensures told { (inputs : List (List ℕ)) → StandsFor net.now inputs →
+        Tells (packet_row net.now.topology (packets_of net.now.topology net.now.journal inputs) packet sent)
+        (standing page.old (O.written out.old) (O.faults out.old)) (standing page.new (O.written out.new) (O.faults out.new)) result }
+    ensures cause { Counted (O.faults out.old) (O.faults out.new) result }
+{
+    line.clear();
+    let verdict = net.verdict(packet);
+    let path = net.path(packet);
+    write_packet(line, net.topology(), packet + 1, sent, verdict, path)?;
+    put_line(out, page, line.as_slice())
+}
+
+/// The lesser of two numbers.
+fn lesser(packets: u32, sendings: usize) -> usize
+    ensures { result ≡ min packets sendings }
+{
+    let packets = packets as usize;
+    if packets < sendings {
+        packets
+    } else {
+        sendings
+    }
+}
+
+/// Puts the lines of packets, each with the injection that sent it.
+fn put_each<O: Sink>(
+    out: &mut O,
+    page: &mut Page,
+    line: &mut Vec<u8>,
+    net: &Net,
+    sendings: &[Sent],
+) -> Result<(), DeviceBad>
+    requires { length net.now.moving.verdicts ≤ 4000000 }
+    ensures told { (inputs : List (List ℕ)) → StandsFor net.now inputs →
+        Tells (packet_lines net.now.topology 1 (map sending_of sendings.now)
+        (packets_of net.now.topology net.now.journal inputs).verdicts (packets_of net.now.topology net.now.journal inputs).paths)
+        (standing page.old (O.written out.old) (O.faults out.old)) (standing page.new (O.written out.new) (O.faults out.new)) result }
+    ensures cause { Counted (O.faults out.old) (O.faults out.new) result }
+{
+    for packet in 0..lesser(net.packets(), sendings.len()) {
+        put_packet(out, page, line, net, packet as u32, sendings[packet])?;
+    }
+    Ok(())
+}
+
+/// Puts a line for each packet, with the injections that sent them in order, of which the first was the first packet's: where
+/// it entered, what became of it, and at which nodes it was. `line` is written anew. A network that has failed is want of memory.
+pub fn put_packets<O: Sink>(
+    out: &mut O,
+    page: &mut Page,
+    line: &mut Vec<u8>,
+    net: &Net,
+    sendings: &[Sent],
+) -> Result<(), DeviceBad>
+    ensures put { OnOk result ((inputs : List (List ℕ)) → StandsFor net.now inputs →
+        Puts (packet_lines net.now.topology 1 (map sending_of sendings.now)
+        (packets_of net.now.topology net.now.journal inputs).verdicts (packets_of net.now.topology net.now.journal inputs).paths)
+        page.old page.new (O.written out.old) (O.written out.new)) }
+    ensures part { OnErr result ((inputs : List (List ℕ)) → StandsFor net.now inputs →
+        PutsPart (packet_lines net.now.topology 1 (map sending_of sendings.now)
+        (packets_of net.now.topology net.now.journal inputs).verdicts (packets_of net.now.topology net.now.journal inputs).paths)
+        page.old (O.written out.old) (O.written out.new)) }
+    ensures cause { Counted (O.faults out.old) (O.faults out.new) result }
+{
+    if !net.works() {
+        return Err(DeviceBad::NoMemory);
+    }
+    net.laws();
+    put_each(out, page, line, net, sendings)
+}

@@ -1,0 +1,66 @@
+//! The tables that a script asks for.
+ghost use Rattle.std.specs.Prelude.{◌≡◌, true, false, List, ℕ, OnOk, OnErr};
+ghost use Rattle.mn_edge.specs.Faults.{Counted};
+ghost use Rattle.mn_script.specs.Lines.{command_fits, show_fits};
+ghost use Rattle.mn_script.specs.declared.command.Command.TheVariants as command;
+ghost use Rattle.mn_lines.specs.Putting.{Puts, PutsPart};
+ghost use Rattle.mn_net_now.specs.Now.{StandsFor};
+ghost use Rattle.mn_output.specs.Tables.{table_text};
+ghost use Rattle.mn_tables.specs.Telling.{standing, Tells};
+
+use crate::bgp::put_bgp_sessions;
+use crate::flight::put_flight;
+use crate::ldp::put_ldp_sessions;
+use crate::links::put_links;
+use crate::routes::put_routes;
+use crate::tree::put_tree;
+use mn_edge::{DeviceBad, Sink};
+use mn_lines::Page;
+use mn_net::Net;
+use mn_script::Show;
+
+/// Puts a table of a network that works.
+fn put_rows<O: Sink>(
+    out: &mut O,
+    page: &mut Page,
+    line: &mut Vec<u8>,
+    net: &Net,
+    table: Show,
+) -> Result<(), DeviceBad>
+    requires works { net.now.failed ≡ false }
+    requires fits { show_fits net.now.topology table ≡ true }
+    ensures told { (inputs : List (List ℕ)) → StandsFor net.now inputs →
+        Tells (table_text net.now.topology net.now.journal inputs table)
+        (standing page.old (O.written out.old) (O.faults out.old)) (standing page.new (O.written out.new) (O.faults out.new)) result }
+    ensures cause { Counted (O.faults out.old) (O.faults out.new) result }
+{
+    match table {
+        Show::Links => put_links(out, page, net),
+        Show::Tree(node) => put_tree(out, page, net, node),
+        Show::Ldp => put_ldp_sessions(out, page, net),
+        Show::Bgp => put_bgp_sessions(out, page, net),
+        Show::Vrf(vrf) => put_routes(out, page, line, net, vrf),
+        Show::Flight => put_flight(out, page, net),
+    }
+}
+
+/// Puts a table as the network stands. `line` is written anew. A network that has failed is want of memory.
+pub fn put_table<O: Sink>(
+    out: &mut O,
+    page: &mut Page,
+    line: &mut Vec<u8>,
+    net: &Net,
+    table: Show,
+) -> Result<(), DeviceBad>
+    requires fits { command_fits net.now.topology (command.Show table) ≡ true }
+    ensures put { OnOk result ((inputs : List (List ℕ)) → StandsFor net.now inputs →
+        Puts (table_text net.now.topology net.now.journal inputs table) page.old page.new (O.written out.old) (O.written out.new)) }
+    ensures part { OnErr result ((inputs : List (List ℕ)) → StandsFor net.now inputs →
+        PutsPart (table_text net.now.topology net.now.journal inputs table) page.old (O.written out.old) (O.written out.new)) }
+    ensures cause { Counted (O.faults out.old) (O.faults out.new) result }
+{
+    if !net.works() {
+        return Err(DeviceBad::NoMemory);
+    }
+    put_rows(out, page, line, net, table)
+}

@@ -1,0 +1,74 @@
+//! The LDP sessions of links (RFC 5036, section 2.5.4).
+ghost use Rattle.std.specs.Prelude.{◌≡◌, ◌<◌, length};
+ghost use Rattle.mn_base.specs.Wiring.{sender};
+ghost use Rattle.mn_base.specs.declared.links.Dir.TheVariants.{Forth, Back};
+ghost use Rattle.mn_topo.specs.Network.{wiring_of};
+ghost use Rattle.mn_ledger.specs.World.{World};
+ghost use Rattle.mn_output.specs.Tables.{ldp_line};
+ghost use Rattle.mn_tables.specs.Telling.{standing, Tells};
+ghost use Rattle.mn_tables.specs.States.{state_at, state_name};
+
+use crate::names::end_names;
+use crate::pieces::put_pieces;
+use mn_base::{Dir, LdpState, LinkNo};
+use mn_edge::{DeviceBad, Sink};
+use mn_lines::Page;
+use mn_topo::Topology;
+
+/// The state of a session's end by its name, and `none` where no session lives.
+fn state_name(state: Option<LdpState>) -> &'static str
+    ensures { result.now ≡ state_name state }
+{
+    match state {
+        None => "none",
+        Some(LdpState::Initialized) => "initialized",
+        Some(LdpState::OpenSent) => "opensent",
+        Some(LdpState::OpenRec) => "openrec",
+        Some(LdpState::Operational) => "operational",
+    }
+}
+
+/// Puts the line of a link's session, of which the states come as their texts.
+fn put_states<O: Sink>(
+    out: &mut O,
+    page: &mut Page,
+    topology: &Topology,
+    link: LinkNo,
+    one: &[u8],
+    other: &[u8],
+) -> Result<(), DeviceBad>
+    requires { link.0 < length topology.now.links }
+    ensures { (world : World) →
+        one.now ≡ state_name (state_at topology.now world link.0 (sender (wiring_of topology.now) link.0 Forth)) →
+        other.now ≡ state_name (state_at topology.now world link.0 (sender (wiring_of topology.now) link.0 Back)) →
+        Tells (ldp_line topology.now world link.0)
+        (standing page.old (O.written out.old) (O.faults out.old)) (standing page.new (O.written out.new) (O.faults out.new)) result }
+{
+    let (from, to) = end_names(topology, link, Dir::Forth);
+    put_pieces(
+        out,
+        page,
+        &[b"ldp ", from, b" ", one, b" ", to, b" ", other, b"\n"],
+    )
+}
+
+/// Puts the line of a link's LDP session: its two ends, each with its state.
+pub fn put_ldp<O: Sink>(
+    out: &mut O,
+    page: &mut Page,
+    topology: &Topology,
+    link: LinkNo,
+    first: Option<LdpState>,
+    second: Option<LdpState>,
+) -> Result<(), DeviceBad>
+    requires { link.0 < length topology.now.links }
+    ensures { (world : World) →
+        first ≡ state_at topology.now world link.0 (sender (wiring_of topology.now) link.0 Forth) →
+        second ≡ state_at topology.now world link.0 (sender (wiring_of topology.now) link.0 Back) →
+        Tells (ldp_line topology.now world link.0)
+        (standing page.old (O.written out.old) (O.faults out.old)) (standing page.new (O.written out.new) (O.faults out.new)) result }
+{
+    let one = state_name(first).as_bytes();
+    let other = state_name(second).as_bytes();
+    put_states(out, page, topology, link, one, other)
+}

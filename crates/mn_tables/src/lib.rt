@@ -1,0 +1,36 @@
+//! The lines of the tables that a script asks for, put on a page.
+//!
+//! ```text
+//! link pe1 p up cost 10 changes 1
+//! tree pe1 to pe2 cost 20 next p
+//! ldp pe1 operational p operational
+//! bgp pe1 established pe2 established
+//! route red1 10.2.0.0/16 edge pe2 label 18
+//! frames pe1 p 3
+//! ```
+//!
+//! Each call puts one line of what it is given, and takes no memory.
+//!
+//! - `pieces`: pieces of text, one after another
+//! - `names`: nodes, VRFs and sites by their names, and the ends of a link
+//! - `links`, `tree`, `ldp`, `bgp`, `flight`, `routes`: the lines of these tables
+#![tactic(auto)]
+
+mod bgp;
+mod flight;
+mod ldp;
+mod links;
+mod names;
+mod pieces;
+mod routes;
+#[cfg(test)]
+mod tests;
+mod tree;
+
+pub use bgp::put_bgp;
+pub use flight::{put_counts, put_frames};
+pub use ldp::put_ldp;
+pub use links::put_link;
+pub use pieces::put_pieces;
+pub use routes::{put_far_route, put_near_route, put_own_route};
+pub use tree::put_walk;

@@ -1,0 +1,91 @@
+//! The routes of a VRF (RFC 4364, section 3).
+ghost use Rattle.std.specs.Prelude.{◌≡◌, ℕ};
+ghost use Rattle.mn_text.specs.Addresses.{prefix_text};
+ghost use Rattle.mn_ledger.specs.Vpn.{HeldRoute, Own, Near, Far};
+ghost use Rattle.mn_frames.specs.Given.{Labelling, label_at};
+ghost use Rattle.mn_output.specs.Tables.{route_line};
+ghost use Rattle.mn_tables.specs.Telling.{standing, Tells};
+
+use crate::names::{digits, node_or_nothing, site_or_nothing, vrf_or_nothing};
+use crate::pieces::put_pieces;
+use itoa::Buffer;
+use mn_base::{NodeNo, SiteNo, VrfNo};
+use mn_edge::{DeviceBad, Sink};
+use mn_lines::Page;
+use mn_topo::Topology;
+
+/// Puts the line of a route over a site of the VRF itself. The prefix comes as its text.
+pub fn put_own_route<O: Sink>(
+    out: &mut O,
+    page: &mut Page,
+    topology: &Topology,
+    vrf: VrfNo,
+    prefix: &[u8],
+    site: SiteNo,
+) -> Result<(), DeviceBad>
+    ensures { (given : Labelling) (route : HeldRoute) → prefix.now ≡ prefix_text route.prefix → route.source ≡ Own → site.0 ≡ route.site →
+        Tells (route_line topology.now given vrf.0 (Some route))
+        (standing page.old (O.written out.old) (O.faults out.old)) (standing page.new (O.written out.new) (O.faults out.new)) result }
+{
+    let table = vrf_or_nothing(topology, vrf);
+    let place = site_or_nothing(topology, site);
+    put_pieces(
+        out,
+        page,
+        &[b"route ", table, b" ", prefix, b" site ", place, b"\n"],
+    )
+}
+
+/// Puts the line of a route over a site of another VRF of the edge.
+pub fn put_near_route<O: Sink>(
+    out: &mut O,
+    page: &mut Page,
+    topology: &Topology,
+    vrf: VrfNo,
+    prefix: &[u8],
+    from: VrfNo,
+    site: SiteNo,
+) -> Result<(), DeviceBad>
+    ensures { (given : Labelling) (route : HeldRoute) → prefix.now ≡ prefix_text route.prefix → route.source ≡ Near from.0 → site.0 ≡ route.site →
+        Tells (route_line topology.now given vrf.0 (Some route))
+        (standing page.old (O.written out.old) (O.faults out.old)) (standing page.new (O.written out.new) (O.faults out.new)) result }
+{
+    let table = vrf_or_nothing(topology, vrf);
+    let other = vrf_or_nothing(topology, from);
+    let place = site_or_nothing(topology, site);
+    put_pieces(
+        out,
+        page,
+        &[
+            b"route ", table, b" ", prefix, b" vrf ", other, b" site ", place, b"\n",
+        ],
+    )
+}
+
+/// Puts the line of a route that another edge told, by the label that it gave.
+pub fn put_far_route<O: Sink>(
+    out: &mut O,
+    page: &mut Page,
+    topology: &Topology,
+    vrf: VrfNo,
+    prefix: &[u8],
+    edge: NodeNo,
+    label: u32,
+) -> Result<(), DeviceBad>
+    ensures { (given : Labelling) (route : HeldRoute) (address rd : ℕ) → prefix.now ≡ prefix_text route.prefix → route.source ≡ Far address rd → edge.0 ≡ route.edge →
+        label ≡ label_at given route.edge route.site route.attachment →
+        Tells (route_line topology.now given vrf.0 (Some route))
+        (standing page.old (O.written out.old) (O.faults out.old)) (standing page.new (O.written out.new) (O.faults out.new)) result }
+{
+    let table = vrf_or_nothing(topology, vrf);
+    let teller = node_or_nothing(topology, edge);
+    let mut buffer = Buffer::new();
+    let number = digits(&mut buffer, label);
+    put_pieces(
+        out,
+        page,
+        &[
+            b"route ", table, b" ", prefix, b" edge ", teller, b" label ", number, b"\n",
+        ],
+    )
+}
