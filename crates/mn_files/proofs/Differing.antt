@@ -59,12 +59,12 @@ is_file t out i = elim i [
       | inr rest ↦ elim
           (in_append (map (λ l. Frames l) (links_of (wiring_of t)))
           (flat_map (λ l. Said l Forth ∷ Said l Back ∷ []) (links_of (wiring_of t)) ++ flat_map (told_files t) (edges t)) out rest) [
-        | inl f ↦ frames_file t out f
-        | inr more ↦ elim (in_append (flat_map (λ l. Said l Forth ∷ Said l Back ∷ []) (links_of (wiring_of t))) (flat_map (told_files t) (edges t)) out more) [
-          | inl s ↦ said_file t out s
-          | inr b ↦ told_file t out b
-        ]
-      ]
+            | inl f ↦ frames_file t out f
+            | inr more ↦ elim (in_append (flat_map (λ l. Said l Forth ∷ Said l Back ∷ []) (links_of (wiring_of t))) (flat_map (told_files t) (edges t)) out more) [
+              | inl s ↦ said_file t out s
+              | inr b ↦ told_file t out b
+            ]
+          ]
     ]
   ]
 ]
@@ -82,8 +82,8 @@ at_mapped g (out ∷ outs) (suc k) h = at_mapped g outs k (omega (arith, h))
 one_name : (folder : List ℕ) (t : Network) (a b : OutputFile) → IsLawful t → IsFile t a → IsFile t b → file_name folder t a ≡ file_name folder t b → a ≡ b
 one_name folder t a b lawful a_is b_is same =
     let base : base_name t a ≡ base_name t b =
-        append_cancel_left (codes "/") (base_name t a) (base_name t b)
-        (append_cancel_left folder (codes "/" ++ base_name t a) (codes "/" ++ base_name t b) same) in
+    append_cancel_left (codes "/") (base_name t a) (base_name t b)
+    (append_cancel_left folder (codes "/" ++ base_name t a) (codes "/" ++ base_name t b) same) in
     sym (read-is t a lawful a_is) ∙ ap (read t) base ∙ read-is t b lawful b_is
 
 pub names_differ : (folder : List ℕ) (t : Network) → IsLawful t → all_differ (map (file_name folder t) (files_of t)) ≡ true
@@ -93,6 +93,6 @@ names_differ folder t lawful =
     let other = at_mapped (file_name folder t) (files_of t) j wj in
     let names : file_name folder t one.0 ≡ file_name folder t other.0 = sym one.2 ∙ e ∙ other.2 in
     let same : one.0 ≡ other.0 =
-        one_name folder t one.0 other.0 lawful (is_file t one.0 (in_at (files_of t) i one.0 one.1))
-        (is_file t other.0 (in_at (files_of t) j other.0 other.1)) names in
+    one_name folder t one.0 other.0 lawful (is_file t one.0 (in_at (files_of t) i one.0 one.1))
+    (is_file t other.0 (in_at (files_of t) j other.0 other.1)) names in
     sym (number_is t i one.0 one.1) ∙ ap (number t) same ∙ number_is t j other.0 other.1)

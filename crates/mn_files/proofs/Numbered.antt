@@ -185,7 +185,7 @@ others-numbered r e a (x ∷ xs) h i = elim (two_ways (e == x)) [
 -- for each one its others
 pub others-of-each : {A : Type 0} (f : A → ℕ) (g : ℕ → ℕ → A) (r : ℕ → ℕ) (all : List ℕ) (base count k a : ℕ) (es : List ℕ)
     → ((e x : ℕ) → f (g e x) ≡ base + count * r e + skipping r e x) → Numbered r 0 all → count + 1 ≡ length all →
-        ((e : ℕ) → In es e → In all e) → Numbered r k es → a ≡ base + count * k
+    ((e : ℕ) → In es e → In all e) → Numbered r k es → a ≡ base + count * k
     → Numbered f a (flat_map (λ e. map (g e) (others e all)) es)
 others-of-each f g r all base count k a [] h numbered many there es_are at = tt
 others-of-each f g r all base count k a (e ∷ es) h numbered many there es_are at =
@@ -194,7 +194,7 @@ others-of-each f g r all base count k a (e ∷ es) h numbered many there es_are 
     let here : r e ≡ k = es_are.0 in
     let start : base + count * r e ≡ a = ap (λ n. base + count * n) here ∙ sym at in
     let first : Numbered f (a + 0) (map (g e) (others e all)) =
-        numbered-over f (g e) (skipping r e) a 0 (others e all) (λ x. h e x ∙ ap (λ n. n + skipping r e x) start) mine.0 in
+    numbered-over f (g e) (skipping r e) a 0 (others e all) (λ x. h e x ∙ ap (λ n. n + skipping r e x) start) mine.0 in
     let from : a + 0 ≡ a = omega arith in
     let size : length (map (g e) (others e all)) ≡ length (others e all) = length-map (others e all) (g e) in
     let times : count * (k + 1) ≡ count * k + count = ap (λ n. count * n) (let s : k + 1 ≡ suc k = omega arith in s) ∙ mul-suc count k in

@@ -117,13 +117,13 @@ link_in t l h = range_in 0 (length t.links) l (omega arith) (omega (arith, h))
 pub frames_in : (t : Network) (l : ℕ) → l < length t.links → In (files_of t) (Frames l)
 frames_in t l h =
     inr (inr (inr (in_front (map (λ k. Frames k) (links_of (wiring_of t)))
-        (flat_map (λ k. Said k Forth ∷ Said k Back ∷ []) (links_of (wiring_of t)) ++ flat_map (told_files t) (edges t)) (Frames l)
+    (flat_map (λ k. Said k Forth ∷ Said k Back ∷ []) (links_of (wiring_of t)) ++ flat_map (told_files t) (edges t)) (Frames l)
     (map_in (λ k. Frames k) (links_of (wiring_of t)) l (link_in t l h)))))
 
 pub said_in : (t : Network) (l : ℕ) (dir : Dir) → l < length t.links → In (files_of t) (Said l dir)
 said_in t l dir h =
     inr (inr (inr (in_rest (map (λ k. Frames k) (links_of (wiring_of t)))
-        (flat_map (λ k. Said k Forth ∷ Said k Back ∷ []) (links_of (wiring_of t)) ++ flat_map (told_files t) (edges t)) (Said l dir)
+    (flat_map (λ k. Said k Forth ∷ Said k Back ∷ []) (links_of (wiring_of t)) ++ flat_map (told_files t) (edges t)) (Said l dir)
     (in_front (flat_map (λ k. Said k Forth ∷ Said k Back ∷ []) (links_of (wiring_of t))) (flat_map (told_files t) (edges t)) (Said l dir)
     (flat_map_in (λ k. Said k Forth ∷ Said k Back ∷ []) (links_of (wiring_of t)) l (Said l dir) (link_in t l h) (either dir))))))
   where
@@ -135,7 +135,7 @@ pub told_in : (t : Network) (edge peer : ℕ) → IsLawful t → is_edge t.vrfs 
     In (files_of t) (Told edge peer)
 told_in t edge peer lawful one other apart =
     inr (inr (inr (in_rest (map (λ k. Frames k) (links_of (wiring_of t)))
-        (flat_map (λ k. Said k Forth ∷ Said k Back ∷ []) (links_of (wiring_of t)) ++ flat_map (told_files t) (edges t)) (Told edge peer)
+    (flat_map (λ k. Said k Forth ∷ Said k Back ∷ []) (links_of (wiring_of t)) ++ flat_map (told_files t) (edges t)) (Told edge peer)
     (in_rest (flat_map (λ k. Said k Forth ∷ Said k Back ∷ []) (links_of (wiring_of t))) (flat_map (told_files t) (edges t)) (Told edge peer)
     (flat_map_in (told_files t) (edges t) edge (Told edge peer) (edge_in t edge lawful one)
     (map_in (λ p. Told edge p) (others edge (edges t)) peer
@@ -222,6 +222,6 @@ told_is t edge peer n links all place peer_place rest lawful one other apart lin
     ∙ ap (λ k. first_told t + (length (edges t) - 1) * k + rest) place_is
     ∙ ap (λ k. first_told t + (length (edges t) - 1) * edges_before t edge + k)
     (rest_is ∙ ap (λ k. cond (nat_lt k place) k (k - 1)) peer_is
-        ∙ ap (λ k. cond (nat_lt (edges_before t peer) k) (edges_before t peer) (edges_before t peer - 1)) place_is)
+    ∙ ap (λ k. cond (nat_lt (edges_before t peer) k) (edges_before t peer) (edges_before t peer - 1)) place_is)
     in
     subst (λ k. IsNumber t k (Told edge peer)) (sym all') (has_number t (Told edge peer) (told_in t edge peer lawful one other apart))

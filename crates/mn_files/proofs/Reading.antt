@@ -108,8 +108,8 @@ read_pair t a b c ending lawful a_node b_node told long =
     let behind : back s ≡ node_name t b ++ ending = back-is (node_name t a) (node_name t b ++ ending) (bytes_at t a lawful a_node) in
     let its : letter s ≡ c = ap (λ xs. slice_index_or (reverse xs) 1 0) behind ∙ told (node_name t b) in
     let count : length (node_name t b ++ ending) - size c ≡ length (node_name t b) =
-        (let sum : length (node_name t b ++ ending) ≡ length (node_name t b) + length ending = length-append (node_name t b) ending in
-        omega (arith, sum, long)) in
+    (let sum : length (node_name t b ++ ending) ≡ length (node_name t b) + length ending = length-append (node_name t b) ending in
+    omega (arith, sum, long)) in
     let rest : stem (letter s) s ≡ node_name t b =
     ap (λ k. stem k s) its
     ∙ ap (λ xs. take (length xs - size c) xs) behind
@@ -150,12 +150,12 @@ read-is t Deliveries lawful h = refl
 read-is t (Frames l) lawful h =
     let ends = ends_below t l Forth lawful h in
     read_pair t (sender (wiring_of t) l Forth) (receiver (wiring_of t) l Forth) 97 (codes ".pcap") lawful ends.0 ends.1
-        (λ name. ends_in name 112 97 (codes ".pc")) refl
+    (λ name. ends_in name 112 97 (codes ".pc")) refl
     ∙ ap (λ found. Frames found.0.0) (joined-is t l Forth lawful h)
 read-is t (Said l dir) lawful h =
     let ends = ends_below t l dir lawful h in
     read_pair t (sender (wiring_of t) l dir) (receiver (wiring_of t) l dir) 100 (codes ".ldp") lawful ends.0 ends.1
-        (λ name. ends_in name 112 100 (codes ".l")) refl
+    (λ name. ends_in name 112 100 (codes ".l")) refl
     ∙ ap (λ found. Said found.0.0 found.1) (joined-is t l dir lawful h)
 read-is t (Told edge peer) lawful h =
     read_pair t edge peer 103 (codes ".bgp") lawful h.0 h.1 (λ name. ends_in name 112 103 (codes ".b")) refl

@@ -58,13 +58,13 @@ pub pushed_thrice : (old new newer newest : List (String Global)) (text other la
     → string_bytes text ≡ name → string_bytes other ≡ next → string_bytes last ≡ final → texts newest ≡ texts old ++ name ∷ next ∷ final ∷ []
 pushed_thrice old new newer newest text other last name next final e g h is also ends =
     pushed newer newest last final h ends ∙ ap (λ names. names ++ final ∷ []) (pushed_twice old new newer text other name next e g is also)
-        ∙ append_assoc (texts old) (name ∷ next ∷ []) (final ∷ [])
+    ∙ append_assoc (texts old) (name ∷ next ∷ []) (final ∷ [])
 
 pub grown : (f : OutputFile → List ℕ) (start olds news : List (List ℕ)) (xs ys zs : List OutputFile) → olds ≡ start ++ map f xs → news ≡ olds ++ map f ys →
     zs ≡ xs ++ ys → news ≡ start ++ map f zs
 grown f start olds news xs ys zs before more all =
     more ∙ ap (λ names. names ++ map f ys) before ∙ append_assoc start (map f xs) (map f ys)
-        ∙ ap (λ names. start ++ names) (sym (map-append f xs ys) ∙ ap (map f) (sym all))
+    ∙ ap (λ names. start ++ names) (sym (map-append f xs ys) ∙ ap (map f) (sym all))
 
 pub none_yet : (f : OutputFile → List ℕ) (start : List (List ℕ)) → start ≡ start ++ map f []
 none_yet f start = sym (append-nil start)
@@ -108,7 +108,7 @@ told-below : (t : Network) (edge n : ℕ) (b : Bool) →
 told-below t edge n b h =
     ap (λ es. map (λ peer. Told edge peer) (filter (λ peer. not (edge == peer)) es)) (edges-more t n (is_edge t.vrfs n) refl)
     ∙ ap (map (λ peer. Told edge peer)) (filter-append (λ peer. not (edge == peer)) (edges_below t n) (cond (is_edge t.vrfs n) (n ∷ []) [])
-        ∙ ap (λ es. filter (λ peer. not (edge == peer)) (edges_below t n) ++ es) (last (is_edge t.vrfs n) h))
+    ∙ ap (λ es. filter (λ peer. not (edge == peer)) (edges_below t n) ++ es) (last (is_edge t.vrfs n) h))
     ∙ map-append (λ peer. Told edge peer) (filter (λ peer. not (edge == peer)) (edges_below t n)) (cond b (n ∷ []) [])
   where
     last : (d : Bool) → (d && not (edge == n)) ≡ b → filter (λ peer. not (edge == peer)) (cond d (n ∷ []) []) ≡ cond b (n ∷ []) []
@@ -128,6 +128,6 @@ pub all_names : (f : OutputFile → List ℕ) (lone links said told : List Outpu
 all_names f lone links said told a b c d is more after last =
     last ∙ ap (λ names. names ++ map f told) after ∙ append_assoc b (map f said) (map f told)
     ∙ ap (λ names. b ++ names) (sym (map-append f said told)) ∙ ap (λ names. names ++ map f (said ++ told)) more
-        ∙ append_assoc a (map f links) (map f (said ++ told))
+    ∙ append_assoc a (map f links) (map f (said ++ told))
     ∙ ap (λ names. a ++ names) (sym (map-append f links (said ++ told))) ∙ ap (λ names. names ++ map f (links ++ (said ++ told))) is
-        ∙ sym (map-append f lone (links ++ (said ++ told)))
+    ∙ sym (map-append f lone (links ++ (said ++ told)))

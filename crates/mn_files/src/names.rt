@@ -42,7 +42,9 @@ fn lone_name(alloc: Global, folder: &str, base: &str) -> Result<String, AllocErr
 
 /// Adds the files that each run has once.
 fn push_lone(alloc: Global, folder: &str, names: &mut Vec<String>) -> Result<(), AllocError>
-    ensures { OnOk result ((topology : Network) → texts names.new.items ≡ texts names.old.items ++ map (file_name folder.now topology) (Journal ∷ Labels ∷ Deliveries ∷ [])) }
+    ensures { OnOk result ((topology : Network) →
+        texts names.new.items ≡ texts names.old.items
+        ++ map (file_name folder.now topology) (Journal ∷ Labels ∷ Deliveries ∷ [])) }
 {
     names.push(lone_name(alloc, folder, "journal.txt")?)?;
     names.push(lone_name(alloc, folder, "labels.txt")?)?;
@@ -90,7 +92,8 @@ fn link_name(
     ending: &str,
 ) -> Result<String, AllocError>
     requires { link.0 < length topology.now.links }
-    ensures { IfOk result (λ name. string_bytes name ≡ folder.now ++ (codes "/" ++ link_name topology.now link.0 dir ending.now)) }
+    ensures { IfOk result (λ name.
+        string_bytes name ≡ folder.now ++ (codes "/" ++ link_name topology.now link.0 dir ending.now)) }
 {
     topology.laws();
     let ends = &topology.links()[link.0 as usize];
@@ -107,7 +110,9 @@ fn push_frames(
     folder: &str,
     names: &mut Vec<String>,
 ) -> Result<(), AllocError>
-    ensures { OnOk result (texts names.new.items ≡ texts names.old.items ++ map (file_name folder.now topology.now) (map (λ l. Frames l) (links_of (wiring_of topology.now)))) }
+    ensures { OnOk result (
+        texts names.new.items ≡ texts names.old.items
+        ++ map (file_name folder.now topology.now) (map (λ l. Frames l) (links_of (wiring_of topology.now)))) }
 {
     topology.laws();
     for number in 0..topology.links().len() {
@@ -124,7 +129,9 @@ fn push_said(
     folder: &str,
     names: &mut Vec<String>,
 ) -> Result<(), AllocError>
-    ensures { OnOk result (texts names.new.items ≡ texts names.old.items ++ map (file_name folder.now topology.now) (flat_map (λ l. Said l Forth ∷ Said l Back ∷ []) (links_of (wiring_of topology.now)))) }
+    ensures { OnOk result (
+        texts names.new.items ≡ texts names.old.items
+        ++ map (file_name folder.now topology.now) (flat_map (λ l. Said l Forth ∷ Said l Back ∷ []) (links_of (wiring_of topology.now)))) }
 {
     topology.laws();
     for number in 0..topology.links().len() {
@@ -142,7 +149,9 @@ fn push_told(
     folder: &str,
     names: &mut Vec<String>,
 ) -> Result<(), AllocError>
-    ensures { OnOk result (texts names.new.items ≡ texts names.old.items ++ map (file_name folder.now topology.now) (flat_map (told_files topology.now) (edges topology.now))) }
+    ensures { OnOk result (
+        texts names.new.items ≡ texts names.old.items
+        ++ map (file_name folder.now topology.now) (flat_map (told_files topology.now) (edges topology.now))) }
 {
     topology.laws();
     for number in 0..topology.nodes().len() {
@@ -170,7 +179,9 @@ fn push_told_by(
     names: &mut Vec<String>,
 ) -> Result<(), AllocError>
     requires { edge.0 < length topology.now.loopbacks }
-    ensures { OnOk result (texts names.new.items ≡ texts names.old.items ++ map (file_name folder.now topology.now) (told_files topology.now edge.0)) }
+    ensures { OnOk result (
+        texts names.new.items ≡ texts names.old.items
+        ++ map (file_name folder.now topology.now) (told_files topology.now edge.0)) }
 {
     topology.laws();
     for number in 0..topology.nodes().len() {

@@ -11,14 +11,14 @@ loop-number-preserved c =
     elim c.if-is_edge.branch [
       | then-is_edge+in_ok-push_told_by w ↦
           grown (file_name c.args.folder.now c.args.topology.now) (texts c.args.names.now.items) (texts c.loop-number.names.items)
-              (texts c.if-is_edge.names.items)
+          (texts c.if-is_edge.names.items)
           (flat_map (told_files c.args.topology.now) (edges_below c.args.topology.now c.loop-number.number))
-              (told_files c.args.topology.now c.loop-number.number) _
+          (told_files c.args.topology.now c.loop-number.number) _
           c.loop-number.invariant
           (ap (λ (ns : Vec (String Global) Global). texts ns.items) w.names-is ∙ w.in_ok-push_told_by.ensures)
           (told-more c.args.topology.now c.loop-number.number (sym c.is_edge.ensures ∙ w.if-is_edge.true))
       | else-is_edge w ↦
           ap (λ (ns : Vec (String Global) Global). texts ns.items) w.names-is ∙ c.loop-number.invariant
           ∙ ap (λ files. texts c.args.names.now.items ++ map (file_name c.args.folder.now c.args.topology.now) files)
-              (sym (told-same c.args.topology.now c.loop-number.number (sym c.is_edge.ensures ∙ w.if-is_edge.false)))
+          (sym (told-same c.args.topology.now c.loop-number.number (sym c.is_edge.ensures ∙ w.if-is_edge.false)))
     ]

@@ -12,10 +12,10 @@ before-others-requires c =
 pub overflow_sub-others : goal.overflow_sub-others
 overflow_sub-others c =
     let all =
-        all_at c.args.topology.now c.nodes.result.now c.args.places.now c.before-others.result c.nodes.ensures c.requires.places
-        c.before-others.ensures.count in
+    all_at c.args.topology.now c.nodes.result.now c.args.places.now c.before-others.result c.nodes.ensures c.requires.places
+    c.before-others.ensures.count in
     let some : 1 ≤ edges_before c.args.topology.now (length c.args.topology.now.loopbacks) =
-        some_edge c.args.topology.now c.args.edge.0 c.laws.ensures c.requires.edge in
+    some_edge c.args.topology.now c.args.edge.0 c.laws.ensures c.requires.edge in
     omega (arith, all, some)
 
 pub before-place-requires : goal.before-place-requires
@@ -35,27 +35,27 @@ place_without-requires c =
     let edge : c.args.edge.0 < length c.args.topology.now.loopbacks = edge_below c.args.topology.now c.args.edge.0 c.laws.ensures c.requires.edge in
     let peer : c.args.peer.0 < length c.args.topology.now.loopbacks = edge_below c.args.topology.now c.args.peer.0 c.laws.ensures c.requires.peer in
     let place =
-        table_at c.args.topology.now c.args.places.now c.args.edge.0 c.before-place.result c.requires.places
-        (omega (arith, edge)) c.before-place.ensures.count in
+    table_at c.args.topology.now c.args.places.now c.args.edge.0 c.before-place.result c.requires.places
+    (omega (arith, edge)) c.before-place.ensures.count in
     let other =
-        table_at c.args.topology.now c.args.places.now c.args.peer.0 c.before-peer_place.result c.requires.places
-        (omega (arith, peer)) c.before-peer_place.ensures.count in
+    table_at c.args.topology.now c.args.places.now c.args.peer.0 c.before-peer_place.result c.requires.places
+    (omega (arith, peer)) c.before-peer_place.ensures.count in
     λ same. places_apart c.args.topology.now c.args.edge.0 c.args.peer.0 c.laws.ensures c.requires.edge c.requires.peer c.requires.apart
-        (sym other ∙ same ∙ place)
+    (sym other ∙ same ∙ place)
 
 pub returns : goal.returns
 returns c =
     let edge : c.args.edge.0 < length c.args.topology.now.loopbacks = edge_below c.args.topology.now c.args.edge.0 c.laws.ensures c.requires.edge in
     let peer : c.args.peer.0 < length c.args.topology.now.loopbacks = edge_below c.args.topology.now c.args.peer.0 c.laws.ensures c.requires.peer in
     let place =
-        table_at c.args.topology.now c.args.places.now c.args.edge.0 c.before-place.result c.requires.places
-        (omega (arith, edge)) c.before-place.ensures.count in
+    table_at c.args.topology.now c.args.places.now c.args.edge.0 c.before-place.result c.requires.places
+    (omega (arith, edge)) c.before-place.ensures.count in
     let other =
-        table_at c.args.topology.now c.args.places.now c.args.peer.0 c.before-peer_place.result c.requires.places
-        (omega (arith, peer)) c.before-peer_place.ensures.count in
+    table_at c.args.topology.now c.args.places.now c.args.peer.0 c.before-peer_place.result c.requires.places
+    (omega (arith, peer)) c.before-peer_place.ensures.count in
     let all =
-        all_at c.args.topology.now c.nodes.result.now c.args.places.now c.before-others.result c.nodes.ensures c.requires.places
-        c.before-others.ensures.count in
+    all_at c.args.topology.now c.nodes.result.now c.args.places.now c.before-others.result c.nodes.ensures c.requires.places
+    c.before-others.ensures.count in
     told_is c.args.topology.now c.args.edge.0 c.args.peer.0 _
-        (length c.links.result.now) c.before-others.result c.before-place.result c.before-peer_place.result c.place_without.result
+    (length c.links.result.now) c.before-others.result c.before-place.result c.before-peer_place.result c.place_without.result
     c.laws.ensures c.requires.edge c.requires.peer c.requires.apart (ap length c.links.ensures) all place other c.place_without.ensures.value refl
