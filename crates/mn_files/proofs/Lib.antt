@@ -1,0 +1,5 @@
+pub mod Numbered
+pub mod Places
+pub mod Reading
+pub mod Differing
+pub mod Texts
