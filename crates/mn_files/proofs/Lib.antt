@@ -3,3 +3,4 @@ pub mod Places
 pub mod Reading
 pub mod Differing
 pub mod Texts
+pub mod Finding

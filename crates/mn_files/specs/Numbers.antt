@@ -1,5 +1,5 @@
 -- The number of a file of a run: its place, from 0, in the order in which the files are begun.
-use Rattle.std.specs.Prelude.{◌≡◌, ◌<◌, ◌+◌, ℕ, List, length, map, filter, slice_index_or}
+use Rattle.std.specs.Prelude.{◌≡◌, ◌≢◌, ◌<◌, ◌+◌, ℕ, List, length, map, filter, slice_index_or, Option, Some, None}
 use Rattle.std.specs.List.{range_with_len}
 use Rattle.mn_topo.specs.VrfTable.{is_edge}
 use Rattle.mn_topo.specs.Network.{Network}
@@ -12,6 +12,11 @@ file_at topology number = slice_index_or (files_of topology) number Journal
 pub record IsNumber (topology : Network) (number : ℕ) (out : OutputFile) : Type 0 where
   pub within : number < length (files_of topology)
   pub is : file_at topology number ≡ out
+
+-- the number of a file, or that there is no such file
+abbrev pub IsPlace : Network → OutputFile → Option ℕ → Type 0
+IsPlace topology out None = (number : ℕ) → number < length (files_of topology) → file_at topology number ≢ out
+IsPlace topology out (Some number) = IsNumber topology number out
 
 -- how many edges come before a node
 abbrev pub edges_before : Network → ℕ → ℕ

@@ -1,5 +1,5 @@
 //! The place of each edge.
-ghost use Rattle.std.specs.Prelude.{◌≡◌, ◌<◌, ◌^◌, length, slice_index, IfOk};
+ghost use Rattle.std.specs.Prelude.{◌≡◌, ◌<◌, ◌^◌, length, slice_index, slice_index_or, IfOk};
 ghost use Rattle.mn_files.specs.Numbers.{edge_places};
 
 use mn_base::NodeNo;
@@ -46,5 +46,16 @@ impl EdgePlaces {
         ensures small { result < 2 ^ 16 }
     {
         u32::from(self.before[node])
+    }
+
+    /// The same of any node, and 0 where the table has none.
+    pub(crate) fn count(&self, node: usize) -> u32
+        ensures count { result ≡ slice_index_or self.now node 0 }
+        ensures small { result < 2 ^ 16 }
+    {
+        match self.before.get(node) {
+            Some(count) => u32::from(*count),
+            None => 0,
+        }
     }
 }

@@ -16,11 +16,13 @@
 //! No two files have the same name: a node's name has no `+` and no `/`, the endings differ, and two nodes have at most
 //! one link.
 //!
-//! - `names`: the names of all files; `numbers`: the number of a file; `edges`: the place of each edge
+//! - `names`: the names of all files; `numbers`: the number of a file; `edges`: the place of each edge; `find`: the
+//!   number of a file, if there is one
 //! - `laws`: what follows from the definitions
 #![tactic(auto)]
 
 mod edges;
+mod find;
 mod laws;
 mod names;
 mod numbers;
@@ -28,6 +30,7 @@ mod numbers;
 mod tests;
 
 pub use edges::EdgePlaces;
+pub use find::{find_frames, find_said, find_told};
 pub use laws::{names_differ, one_number};
 pub use names::file_names;
 pub use numbers::{deliveries_file, frames_file, journal_file, labels_file, said_file, told_file};

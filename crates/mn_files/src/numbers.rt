@@ -10,7 +10,7 @@ use mn_base::{Dir, LinkNo, NodeNo};
 use mn_topo::Topology;
 
 /// The first of the files of links.
-const FIRST: u32 = 3;
+pub(crate) const FIRST: u32 = 3;
 
 /// The journal.
 #[tactic(auto, using(crate::proofs::Places::journal_is))]
@@ -73,7 +73,7 @@ pub fn told_file(topology: &Topology, places: &EdgePlaces, edge: NodeNo, peer: N
 }
 
 /// A place among others, once the one at the other place is left out.
-fn place_without(place: u32, other: u32) -> u32
+pub(crate) fn place_without(place: u32, other: u32) -> u32
     requires { place ≢ other }
     ensures value { result ≡ (if nat_lt place other then place else place - 1) }
     ensures least { result ≤ place }

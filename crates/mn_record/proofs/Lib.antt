@@ -1,0 +1,10 @@
+pub mod Low
+pub mod Adding
+pub mod Same
+pub mod Flying
+pub mod Loads
+pub mod Steps
+pub mod Opening
+pub mod Recording
+pub mod Stepping
+pub mod Closing

@@ -1,0 +1,33 @@
+use Rattle.std.proofs.Common.{◌≡◌, [], ◌++◌, ◌∙◌, sym, ap, subst, refl, List, ℕ, OnOk, OnErr, Some, None, length, arith, ◌-◌, ◌+◌, ◌<◌, ◌≤◌}
+use Rattle.mn_edge.specs.KeptLaws.{begins_on}
+use Rattle.mn_course.specs.Course.{inputs_of}
+use Rattle.mn_record.specs.Laws.{same_packets}
+use Rattle.mn_record.proofs.Adding.{still_for}
+use Rattle.mn_record.proofs.Recording.{step_holds, step_begins}
+use Rattle.mn_record.proofs.recorder.RecorderWatch.done.Goals as goal
+
+pub returns-in-Ok-clause-stands : goal.returns-in-Ok-clause-stands
+returns-in-Ok-clause-stands g c = λ all told.
+    let before = c.requires.stood all told in
+    let made = c.requires.made all told in (
+      before.0,
+      step_holds c.args.net.now all c.args.self.now.output.now c.write_step.new.output c.args.self.now.capture.now _ _ told
+          c.in-Ok.ensures.names c.in-Ok.ensures.places c.in-Ok.ensures.framed before.1
+          (λ for. c.in-Ok.ensures.records all before.0 made for),
+    )
+
+pub returns-in-Err-Failed-clause-begins : goal.returns-in-Err-Failed-clause-begins
+returns-in-Err-Failed-clause-begins g c = λ all told.
+    let before = c.requires.stood all told in
+    let made = c.requires.made all told in
+    step_begins c.args.net.now all c.args.self.now.output.now c.write_step.new.output c.args.self.now.capture.now _ _ told
+    c.write_step.ensures.names c.write_step.ensures.framed before.1
+    (λ for. c.in-Err-Failed.ensures.may all before.0 made for)
+
+pub returns-in-Err-NoMemory-clause-begins : goal.returns-in-Err-NoMemory-clause-begins
+returns-in-Err-NoMemory-clause-begins g c = λ all told.
+    let before = c.requires.stood all told in
+    let made = c.requires.made all told in
+    step_begins c.args.net.now all c.args.self.now.output.now c.write_step.new.output c.args.self.now.capture.now _ _ told
+    c.write_step.ensures.names c.write_step.ensures.framed before.1
+    (λ for. c.in-Err-NoMemory.ensures.may all before.0 made for)

@@ -1,0 +1,29 @@
+//! The files of a run, written as its steps are done.
+//!
+//! ```text
+//!  a line --play--> step --done--> journal.txt     the step's line
+//!                                  delivered.pcap  the packet that it delivered
+//!                                  A+B.pcap        each frame that it sent (RFC 3032, section 4.1)
+//!                                  A+B.ldp         each PDU that it said (RFC 5036, section 3.1)
+//!                                  A+B.bgp         each message that it told (RFC 4271, section 4.1)
+//! ```
+//!
+//! Nothing is kept of a step once it is written but bytes that wait for their files, 64 KiB at most.
+//!
+//! - `output`: the files, and what waits for them
+//! - `capture_record`: the header of a record of a capture
+//! - `step`: what a step adds to the files
+//! - `recorder`: a watch that writes them, and hands out the packets of a capture; a line of a script
+//! - `labels`: the lines of labels.txt
+//! - `books`: files that are begun, and ended
+#![tactic(auto)]
+
+mod books;
+mod capture_record;
+mod labels;
+mod output;
+mod recorder;
+mod step;
+
+pub use books::Books;
+pub use recorder::record_line;

@@ -1,0 +1,251 @@
+//! The files, by number, and what waits for them.
+ghost use Rattle.std.specs.Prelude.{◌≡◌, ◌++◌, ◌<◌, ℕ, List, [], true, length, replicate, IfOk, OnOk, OnErr, IsTrue};
+ghost use Rattle.mn_edge.specs.Faults.{Counted};
+ghost use Rattle.mn_edge.specs.Files.{Files};
+ghost use Rattle.mn_edge.specs.Kept.{Framed, HoldsOn, BeginsOn, none_held};
+ghost use Rattle.mn_edge.specs.Memory.{all_differ};
+ghost use Rattle.mn_edge.specs.Written.{texts};
+ghost use Rattle.mn_topo.specs.Steps.{fits};
+ghost use Rattle.mn_journal.specs.Lines.{line_of};
+ghost use Rattle.mn_pcap.specs.Format.{header, record_of};
+ghost use Rattle.mn_files.specs.Numbers.{edge_places};
+ghost use Rattle.mn_record.specs.Labels.{label_line};
+ghost use Rattle.mn_record.specs.Adding.{Adds, MayAdd, only_in};
+ghost use Rattle.mn_record.specs.Parts.{file_for, IsFileOf};
+
+use crate::capture_record::record_header;
+use crate::labels::put_label;
+use mn_base::NodeNo;
+use mn_edge::{DeviceBad, Gather, Shelf};
+use mn_files::{EdgePlaces, find_frames, find_said, find_told, journal_file, labels_file};
+use mn_journal::put_step;
+use mn_labels::Bind;
+use mn_net::Channel;
+use mn_pcap::put_header;
+use mn_topo::{JournalEntry, Topology};
+use std::alloc::{AllocError, Global};
+use std::marker::Model;
+
+/// The files of a run.
+#[derive(Drop)]
+pub(crate) struct Output {
+    names: Vec<String>,
+    gather: Gather,
+    places: EdgePlaces,
+    /// A line on its way into its file.
+    line: Vec<u8>,
+}
+
+impl Model for Output {
+    ghost use Rattle.std.specs.Prelude.{◌≡◌, length, IsTrue};
+    ghost use Rattle.mn_edge.specs.Memory.{all_differ};
+    ghost use Rattle.mn_edge.specs.Written.{texts};
+    ghost use Rattle.mn_record.specs.Recorded.{BooksNow};
+
+    ghost Value = { BooksNow };
+
+    ghost view = { λ o. record { names = texts o.names.items; held = o.gather; places = o.places } };
+
+    ghost invariant = { λ o. (length o.names.items ≡ length o.gather) × IsTrue (all_differ (texts o.names.items)) };
+}
+
+/// A file grows by a piece, if it is one of these.
+fn put_piece<S: Shelf>(
+    gather: &mut Gather,
+    shelf: &mut S,
+    names: &[String],
+    file: u32,
+    piece: &[u8],
+) -> Result<(), DeviceBad>
+    requires names { length names.now ≡ length gather.old }
+    requires differ { IsTrue (all_differ (texts names.now)) }
+    ensures adds { OnOk result (Adds (only_in file piece.now) (record { names = texts names.now; held = gather.old; places = [] })
+        (record { names = texts names.now; held = gather.new; places = [] }) (S.files shelf.old) (S.files shelf.new)) }
+    ensures may { OnErr result (MayAdd (only_in file piece.now) (record { names = texts names.now; held = gather.old; places = [] })
+        (record { names = texts names.now; held = gather.new; places = [] }) (S.files shelf.old) (S.files shelf.new)) }
+    ensures files { length gather.new ≡ length gather.old }
+    ensures framed { Framed (texts names.now) (S.files shelf.old) (S.files shelf.new) }
+    ensures writes { Counted (S.write_faults shelf.old) (S.write_faults shelf.new) result }
+    ensures reads { S.read_faults shelf.new ≡ S.read_faults shelf.old }
+{
+    if file as usize >= names.len() {
+        return Ok(());
+    }
+    gather.put(shelf, names, file, piece)
+}
+
+impl Output {
+    /// Nothing waits for any of these files.
+    pub(crate) fn new(
+        alloc: Global,
+        names: Vec<String>,
+        places: EdgePlaces,
+    ) -> Result<Output, AllocError>
+        requires { IsTrue (all_differ (texts names.items)) }
+        ensures { IfOk result (λ output. output ≡ record { names = texts names.items; held = replicate (length names.items) []; places = places }) }
+    {
+        let Ok(count) = u32::try_from(names.len()) else {
+            return Err(AllocError);
+        };
+        Ok(Output {
+            gather: Gather::new(alloc, count)?,
+            names,
+            places,
+            line: Vec::new(alloc),
+        })
+    }
+
+    /// The names of the files.
+    pub(crate) fn names(&self) -> &[String]
+        ensures { texts result.now ≡ self.now.names }
+    {
+        &self.names
+    }
+
+    /// The number of the file of a channel, if it has one.
+    pub(crate) fn file_of(&self, topology: &Topology, channel: Channel) -> Option<u32>
+        ensures { self.now.places ≡ edge_places topology.now → IsFileOf topology.now (file_for channel) result }
+    {
+        match channel {
+            Channel::Notice(_, _) => None,
+            Channel::Ldp(link, dir) => find_said(topology, link, dir),
+            Channel::Bgp(edge, peer) => find_told(topology, &self.places, edge, peer),
+            Channel::Frame(link, _) => find_frames(topology, link),
+        }
+    }
+
+    /// A file grows by a piece, if it is one of these.
+    pub(crate) fn put<S: Shelf>(
+        &mut self,
+        shelf: &mut S,
+        file: u32,
+        piece: &[u8],
+    ) -> Result<(), DeviceBad>
+        ensures adds { OnOk result (Adds (only_in file piece.now) self.old self.new (S.files shelf.old) (S.files shelf.new)) }
+        ensures may { OnErr result (MayAdd (only_in file piece.now) self.old self.new (S.files shelf.old) (S.files shelf.new)) }
+        ensures names { self.new.names ≡ self.old.names }
+        ensures places { self.new.places ≡ self.old.places }
+        ensures framed { Framed self.old.names (S.files shelf.old) (S.files shelf.new) }
+        ensures writes { Counted (S.write_faults shelf.old) (S.write_faults shelf.new) result }
+        ensures reads { S.read_faults shelf.new ≡ S.read_faults shelf.old }
+    {
+        put_piece(&mut self.gather, shelf, &self.names, file, piece)
+    }
+
+    /// The journal grows by the line of a step.
+    pub(crate) fn put_entry<S: Shelf>(
+        &mut self,
+        shelf: &mut S,
+        topology: &Topology,
+        entry: &JournalEntry,
+    ) -> Result<(), DeviceBad>
+        requires { fits topology.now entry.now.step ≡ true }
+        ensures adds { OnOk result (Adds (only_in 0 (line_of topology.now entry.now)) self.old self.new (S.files shelf.old) (S.files shelf.new)) }
+        ensures may { OnErr result (MayAdd (only_in 0 (line_of topology.now entry.now)) self.old self.new (S.files shelf.old) (S.files shelf.new)) }
+        ensures names { self.new.names ≡ self.old.names }
+        ensures places { self.new.places ≡ self.old.places }
+        ensures framed { Framed self.old.names (S.files shelf.old) (S.files shelf.new) }
+        ensures writes { Counted (S.write_faults shelf.old) (S.write_faults shelf.new) result }
+        ensures reads { S.read_faults shelf.new ≡ S.read_faults shelf.old }
+    {
+        let tick = entry.tick;
+        self.line.clear();
+        put_step(&mut self.line, topology, tick, &entry.step)?;
+        put_piece(
+            &mut self.gather,
+            shelf,
+            &self.names,
+            journal_file(),
+            &self.line,
+        )
+    }
+
+    /// A capture begins with its header.
+    pub(crate) fn put_header<S: Shelf>(
+        &mut self,
+        shelf: &mut S,
+        file: u32,
+        link: u32,
+    ) -> Result<(), DeviceBad>
+        ensures adds { OnOk result (Adds (only_in file (header link)) self.old self.new (S.files shelf.old) (S.files shelf.new)) }
+        ensures may { OnErr result (MayAdd (only_in file (header link)) self.old self.new (S.files shelf.old) (S.files shelf.new)) }
+        ensures names { self.new.names ≡ self.old.names }
+        ensures places { self.new.places ≡ self.old.places }
+        ensures framed { Framed self.old.names (S.files shelf.old) (S.files shelf.new) }
+        ensures writes { Counted (S.write_faults shelf.old) (S.write_faults shelf.new) result }
+        ensures reads { S.read_faults shelf.new ≡ S.read_faults shelf.old }
+    {
+        self.line.clear();
+        put_header(&mut self.line, link)?;
+        put_piece(&mut self.gather, shelf, &self.names, file, &self.line)
+    }
+
+    /// The labels grow by the line of one.
+    pub(crate) fn put_label<S: Shelf>(
+        &mut self,
+        shelf: &mut S,
+        topology: &Topology,
+        node: NodeNo,
+        label: u64,
+        bind: Bind,
+    ) -> Result<(), DeviceBad>
+        requires { node.0 < length topology.now.loopbacks }
+        ensures adds { OnOk result (Adds (only_in 1 (label_line topology.now node.0 label bind)) self.old self.new (S.files shelf.old) (S.files shelf.new)) }
+        ensures may { OnErr result (MayAdd (only_in 1 (label_line topology.now node.0 label bind)) self.old self.new (S.files shelf.old) (S.files shelf.new)) }
+        ensures names { self.new.names ≡ self.old.names }
+        ensures places { self.new.places ≡ self.old.places }
+        ensures framed { Framed self.old.names (S.files shelf.old) (S.files shelf.new) }
+        ensures writes { Counted (S.write_faults shelf.old) (S.write_faults shelf.new) result }
+        ensures reads { S.read_faults shelf.new ≡ S.read_faults shelf.old }
+    {
+        self.line.clear();
+        put_label(&mut self.line, topology, node, label, bind)?;
+        put_piece(
+            &mut self.gather,
+            shelf,
+            &self.names,
+            labels_file(),
+            &self.line,
+        )
+    }
+
+    /// A capture grows by the record of a packet of two parts.
+    pub(crate) fn put_record<S: Shelf>(
+        &mut self,
+        shelf: &mut S,
+        file: u32,
+        tick: u64,
+        front: &[u8],
+        packet: &[u8],
+    ) -> Result<(), DeviceBad>
+        ensures adds { OnOk result (Adds (only_in file (record_of tick (front.now ++ packet.now))) self.old self.new (S.files shelf.old) (S.files shelf.new)) }
+        ensures may { OnErr result (MayAdd (only_in file (record_of tick (front.now ++ packet.now))) self.old self.new (S.files shelf.old) (S.files shelf.new)) }
+        ensures names { self.new.names ≡ self.old.names }
+        ensures places { self.new.places ≡ self.old.places }
+        ensures framed { Framed self.old.names (S.files shelf.old) (S.files shelf.new) }
+        ensures writes { Counted (S.write_faults shelf.old) (S.write_faults shelf.new) result }
+        ensures reads { S.read_faults shelf.new ≡ S.read_faults shelf.old }
+    {
+        self.put(
+            shelf,
+            file,
+            &record_header(tick, front.len() + packet.len()),
+        )?;
+        self.put(shelf, file, front)?;
+        self.put(shelf, file, packet)
+    }
+
+    /// Appends all that waits.
+    pub(crate) fn end<S: Shelf>(&mut self, shelf: &mut S) -> Result<(), DeviceBad>
+        ensures ended { self.new ≡ record self.old { held = none_held self.old.held } }
+        ensures kept { OnOk result ((contents : ℕ → List ℕ) → HoldsOn self.old.names contents self.old.held (S.files shelf.old) →
+            HoldsOn self.old.names contents self.new.held (S.files shelf.new)) }
+        ensures part { OnErr result ((contents : ℕ → List ℕ) → HoldsOn self.old.names contents self.old.held (S.files shelf.old) →
+            BeginsOn self.old.names contents (S.files shelf.new)) }
+        ensures framed { Framed self.old.names (S.files shelf.old) (S.files shelf.new) }
+        ensures writes { Counted (S.write_faults shelf.old) (S.write_faults shelf.new) result }
+        ensures reads { S.read_faults shelf.new ≡ S.read_faults shelf.old }
+    {
+        self.gather.end(shelf, &self.names)
+    }
+}

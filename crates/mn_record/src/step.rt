@@ -1,0 +1,130 @@
+//! What a step adds to the files.
+ghost use Rattle.std.specs.Prelude.{◌≡◌, ◌-◌, ℕ, List, OnOk, OnErr};
+ghost use Rattle.mn_edge.specs.Faults.{Counted};
+ghost use Rattle.mn_edge.specs.Kept.{Framed};
+ghost use Rattle.mn_ledger.specs.Ledger.{packets_of};
+ghost use Rattle.mn_net.specs.Told.{told_at};
+ghost use Rattle.mn_net_now.specs.Now.{StandsFor};
+ghost use Rattle.mn_course.specs.Course.{inputs_of};
+ghost use Rattle.mn_output.specs.Contents.{delivery_record};
+ghost use Rattle.mn_sched.specs.Watching.{LastFits};
+ghost use Rattle.mn_record.specs.Recorded.{IsFor};
+ghost use Rattle.mn_record.specs.Adding.{Adds, MayAdd, only_in};
+ghost use Rattle.mn_record.specs.Parts.{by_number, item_part, items_part, IsMade, RecordsLast, MayRecordLast};
+
+use crate::output::Output;
+use mn_edge::{DeviceBad, Shelf};
+use mn_files::deliveries_file;
+use mn_net::{Channel, Done, Net};
+
+/// A PPP frame that carries MPLS begins with its protocol's number: RFC 3032, section 4.1.
+const MPLS_OVER_PPP: [u8; 2] = [0x02, 0x81];
+
+/// Writes the packet that the net's last step delivered, if it did.
+fn write_delivery<S: Shelf>(
+    net: &Net,
+    tick: u64,
+    shelf: &mut S,
+    output: &mut Output,
+) -> Result<(), DeviceBad>
+    ensures adds { OnOk result ((inputs : List (List ℕ)) → StandsFor net.now inputs →
+        Adds (only_in 2 (delivery_record tick (packets_of net.now.topology net.now.journal inputs).delivered)) output.old output.new (S.files shelf.old) (S.files shelf.new)) }
+    ensures may { OnErr result ((inputs : List (List ℕ)) → StandsFor net.now inputs →
+        MayAdd (only_in 2 (delivery_record tick (packets_of net.now.topology net.now.journal inputs).delivered)) output.old output.new (S.files shelf.old) (S.files shelf.new)) }
+    ensures names { output.new.names ≡ output.old.names }
+    ensures places { output.new.places ≡ output.old.places }
+    ensures framed { Framed output.old.names (S.files shelf.old) (S.files shelf.new) }
+    ensures writes { Counted (S.write_faults shelf.old) (S.write_faults shelf.new) result }
+    ensures reads { S.read_faults shelf.new ≡ S.read_faults shelf.old }
+{
+    match net.delivered() {
+        Some(packet) => output.put_record(shelf, deliveries_file(), tick, &[], packet),
+        None => Ok(()),
+    }
+}
+
+/// Writes an item that the net has made.
+fn write_item<S: Shelf>(
+    net: &Net,
+    tick: u64,
+    number: u64,
+    shelf: &mut S,
+    output: &mut Output,
+) -> Result<(), DeviceBad>
+    ensures adds { OnOk result ((inputs : List (List ℕ)) → StandsFor net.now inputs → IsFor output.old net.now.topology →
+        Adds (by_number net.now.topology (item_part tick (told_at net.now.topology net.now.journal inputs number))) output.old output.new (S.files shelf.old) (S.files shelf.new)) }
+    ensures may { OnErr result ((inputs : List (List ℕ)) → StandsFor net.now inputs → IsFor output.old net.now.topology →
+        MayAdd (by_number net.now.topology (item_part tick (told_at net.now.topology net.now.journal inputs number))) output.old output.new (S.files shelf.old) (S.files shelf.new)) }
+    ensures names { output.new.names ≡ output.old.names }
+    ensures places { output.new.places ≡ output.old.places }
+    ensures framed { Framed output.old.names (S.files shelf.old) (S.files shelf.new) }
+    ensures writes { Counted (S.write_faults shelf.old) (S.write_faults shelf.new) result }
+    ensures reads { S.read_faults shelf.new ≡ S.read_faults shelf.old }
+{
+    let Some(item) = net.item(number) else {
+        return Ok(());
+    };
+    let Some(file) = output.file_of(net.topology(), item.channel) else {
+        return Ok(());
+    };
+    match item.channel {
+        Channel::Frame(_, _) => output.put_record(shelf, file, tick, &MPLS_OVER_PPP, item.bytes),
+        _ => output.put(shelf, file, item.bytes),
+    }
+}
+
+/// Writes the items that the net's last step made, in order.
+fn write_items<S: Shelf>(
+    net: &Net,
+    tick: u64,
+    made: Done,
+    shelf: &mut S,
+    output: &mut Output,
+) -> Result<(), DeviceBad>
+    ensures adds { OnOk result ((inputs : List (List ℕ)) → StandsFor net.now inputs → IsFor output.old net.now.topology →
+        Adds (by_number net.now.topology (items_part net.now.topology net.now.journal inputs tick made.first (made.end - made.first))) output.old output.new (S.files shelf.old) (S.files shelf.new)) }
+    ensures may { OnErr result ((inputs : List (List ℕ)) → StandsFor net.now inputs → IsFor output.old net.now.topology →
+        MayAdd (by_number net.now.topology (items_part net.now.topology net.now.journal inputs tick made.first (made.end - made.first))) output.old output.new (S.files shelf.old) (S.files shelf.new)) }
+    ensures names { output.new.names ≡ output.old.names }
+    ensures places { output.new.places ≡ output.old.places }
+    ensures framed { Framed output.old.names (S.files shelf.old) (S.files shelf.new) }
+    ensures writes { Counted (S.write_faults shelf.old) (S.write_faults shelf.new) result }
+    ensures reads { S.read_faults shelf.new ≡ S.read_faults shelf.old }
+{
+    for number in made.first..made.end {
+        match write_item(net, tick, number, shelf, output) {
+            Ok(()) => {}
+            Err(bad) => return Err(bad),
+        }
+    }
+    Ok(())
+}
+
+/// Writes what the net's last step adds to each file: its line, the packet that it delivered, and the items that it made.
+pub(crate) fn write_step<S: Shelf>(
+    net: &Net,
+    made: Done,
+    shelf: &mut S,
+    output: &mut Output,
+) -> Result<(), DeviceBad>
+    requires fitting { LastFits net.now }
+    ensures records { OnOk result ((all : List (List ℕ)) → StandsFor net.now (inputs_of all net.now.journal) → IsMade net.now all made → IsFor output.old net.now.topology →
+        RecordsLast net.now all output.old output.new (S.files shelf.old) (S.files shelf.new)) }
+    ensures may { OnErr result ((all : List (List ℕ)) → StandsFor net.now (inputs_of all net.now.journal) → IsMade net.now all made → IsFor output.old net.now.topology →
+        MayRecordLast net.now all output.old output.new (S.files shelf.old) (S.files shelf.new)) }
+    ensures names { output.new.names ≡ output.old.names }
+    ensures places { output.new.places ≡ output.old.places }
+    ensures framed { Framed output.old.names (S.files shelf.old) (S.files shelf.new) }
+    ensures writes { Counted (S.write_faults shelf.old) (S.write_faults shelf.new) result }
+    ensures reads { S.read_faults shelf.new ≡ S.read_faults shelf.old }
+{
+    let Some(entry) = net.journal().last() else {
+        return Ok(());
+    };
+    let tick = entry.tick;
+    let topology = net.topology();
+    topology.laws();
+    output.put_entry(shelf, topology, entry)?;
+    write_delivery(net, tick, shelf, output)?;
+    write_items(net, tick, made, shelf, output)
+}
