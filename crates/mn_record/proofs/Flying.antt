@@ -1,6 +1,6 @@
 -- What is told of an item among those in flight.
 use Rattle.std.proofs.Common.{◌≡◌, ℕ, suc, ◌+◌, ◌≤◌, ◌<◌, ◌==◌, ◌&&◌, nat_lt, Bool, true, false, if◌then◌else◌, List, [], ◌∷◌, ◌++◌, filter, find, length}
-use Rattle.std.proofs.Common.{Option, Some, None, refl, sym, ◌∙◌, ap, arith}
+use Rattle.std.proofs.Common.{Some, refl, ◌∙◌, ap, arith}
 use Rattle.mn_base.proofs.Bools.{and_false, same_test, other_test, less_is, not_less}
 use Rattle.mn_topo.specs.Network.{Network}
 use Rattle.mn_ledger.specs.Items.{Channel, Load, Item, same_channel, items_on, numbered, delay_on}

@@ -1,18 +1,18 @@
 -- What each load that a step made adds to a file.
-use Rattle.std.proofs.Common.{◌≡◌, ◌≢◌, ℕ, ◌<◌, ◌==◌, ◌&&◌, ◌||◌, Bool, true, false, if◌then◌else◌, List, [], ◌∷◌, ◌++◌, length, Option, Some, None, refl}
-use Rattle.std.proofs.Common.{sym, ◌∙◌, ap, arith}
+use Rattle.std.proofs.Common.{◌≡◌, ◌≢◌, ℕ, ◌<◌, ◌==◌, ◌&&◌, ◌||◌, true, false, if◌then◌else◌, List, [], ◌∷◌, ◌++◌, length, Option, Some, None, refl}
+use Rattle.std.proofs.Common.{sym, ◌∙◌, ap}
 use Rattle.std.proofs.lemmas.List.{append-nil}
 use Rattle.std.specs.List.{flat_map}
 use Rattle.mn_base.specs.Wiring.{is_end, link, sender, receiver}
 use Rattle.mn_base.specs.declared.links.Dir.{Dir}
 use Rattle.mn_base.specs.declared.links.Dir.TheVariants.{Forth, Back}
-use Rattle.mn_base.proofs.Bools.{same_test, same_numbers, other_test, other_numbers, and_left, and_right}
+use Rattle.mn_base.proofs.Bools.{same_test, same_numbers, other_test, other_numbers, and_left}
 use Rattle.mn_pcap.specs.Format.{record_of}
 use Rattle.mn_topo.specs.Network.{Network, wiring_of}
 use Rattle.mn_topo.specs.Lawful.{IsLawful}
 use Rattle.mn_topo.specs.declared.steps.JournalEntry.{JournalEntry}
 use Rattle.mn_ledger.specs.Packets.{away_from}
-use Rattle.mn_ledger.specs.World.{Message, Telling}
+use Rattle.mn_ledger.specs.World.{Telling}
 use Rattle.mn_ledger.specs.Items.{Channel, Load, Notice, Says, Tells, Carries}
 use Rattle.mn_ledger.specs.Items as on
 use Rattle.mn_laws.specs.Flight.{IsOfChannel}
@@ -24,7 +24,7 @@ use Rattle.mn_bgp_spelling.specs.Spelling.{bytes_in}
 use Rattle.mn_net.specs.Told.{channel_of, bytes_on}
 use Rattle.mn_output.specs.Files.{OutputFile, Journal, Labels, Deliveries, Frames, Said}
 use Rattle.mn_output.specs.Files as file
-use Rattle.mn_output.specs.Contents.{frame_record, over_ppp, said_on, told_on}
+use Rattle.mn_output.specs.Contents.{frame_record, over_ppp, told_on}
 use Rattle.mn_record.specs.Parts.{in_file, same_file, is_dir, file_for, piece_of}
 use Rattle.mn_record.proofs.Same.{by_test}
 

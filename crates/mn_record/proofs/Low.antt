@@ -1,5 +1,5 @@
 -- The low bytes of a number.
-use Rattle.std.proofs.Common.{◌≡◌, ℕ, ◌%◌, ◌/◌, ◌^◌, List, ◌∷◌, [], ap, ◌∙◌, arith}
+use Rattle.std.proofs.Common.{◌≡◌, ℕ, ◌%◌, arith}
 use Rattle.byteorder.specs.Endian.{little_bytes}
 
 -- four bytes have nothing of what stands above them

@@ -19,7 +19,7 @@ use Rattle.mn_output.specs.Files.{OutputFile, Journal, Labels, Deliveries, Frame
 use Rattle.mn_output.specs.Files as file
 use Rattle.mn_output.specs.Contents.{contents, whole, output, head_of, label_lines, raw_ipv4, ppp}
 use Rattle.mn_files.specs.Numbers.{file_at}
-use Rattle.mn_record.specs.Recorded.{contents_at, whole_at}
+use Rattle.mn_record.specs.Recorded.{whole_at}
 use Rattle.mn_record.specs.Labels.{frame_heads, label_line}
 use Rattle.mn_record.specs.Parts.{in_file}
 use Rattle.mn_record.proofs.Same.{by_test}

@@ -1,23 +1,20 @@
 -- What a recorder hands out, and what stands after a line.
-use Rattle.std.proofs.Common.{◌≡◌, ℕ, suc, ◌-◌, ◌≤◌, ◌&&◌, nat_le, Bool, true, List, length, slice_get, Option, Some, Result, Ok, Err, refl, sym, ◌∙◌, ap}
+use Rattle.std.proofs.Common.{◌≡◌, ℕ, suc, ◌-◌, ◌≤◌, nat_le, true, List, slice_get, Option, Some, Result, Ok, Err, sym, ◌∙◌, ap}
 use Rattle.std.proofs.Common.{subst, arith}
 use Rattle.std.specs.Option.{ForSome}
 use Rattle.mn_base.proofs.Bools.{and_left, and_right, at_most_tells}
 use Rattle.mn_edge.specs.Files.{Files, file}
 use Rattle.mn_edge.specs.Kept.{BeginsOn, Framed}
-use Rattle.mn_pcap.specs.Reading.{packet_of}
-use Rattle.mn_topo.specs.Network.{Network}
-use Rattle.mn_topo.specs.declared.steps.JournalEntry.{JournalEntry}
 use Rattle.mn_course.specs.Course.{record_of, inputs_of}
 use Rattle.mn_capture.specs.Packets.{CaptureView, packets_in}
 use Rattle.mn_net_now.specs.Now.{NetNow, StandsFor}
-use Rattle.mn_sched.specs.Watching.{is_record, Together, Begun, but_last}
+use Rattle.mn_sched.specs.Watching.{is_record, Together, but_last}
 use Rattle.mn_sched.specs.Playing.{After}
 use Rattle.mn_sched.specs.declared.line.Stopped.{Stopped}
 use Rattle.mn_sched.specs.declared.line.Stopped.TheVariants.{TooManySteps, Read, Write, NoMemory}
 use Rattle.mn_record.specs.Recorded.{BooksNow, IsFor, Records, RecordedAfter, contents_at, told_packets}
 use Rattle.mn_record.specs.Watched.{Holding, Beginning}
-use Rattle.mn_record.specs.Laws.{AreThere, packets_are_there, same_packets}
+use Rattle.mn_record.specs.Laws.{packets_are_there, same_packets}
 use Rattle.mn_record.specs.Parts.{RecordsLast, MayRecordLast}
 use Rattle.mn_record.proofs.Adding.{still_for}
 

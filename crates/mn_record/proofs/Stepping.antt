@@ -1,10 +1,8 @@
 -- From what the calls of a step add to what the files are to hold.
-use Rattle.std.proofs.Common.{◌≡◌, ℕ, zero, suc, ◌+◌, ◌-◌, ◌<◌, ◌≤◌, ◌==◌, if◌then◌else◌, List, [], ◌∷◌, ◌++◌, length, take, slice_get, slice_index_or}
-use Rattle.std.proofs.Common.{Option, Some, None, option_map, refl, sym, ◌∙◌, ap, subst, append_assoc, length-append, arith}
-use Rattle.std.proofs.lemmas.List.{append-nil, take-append-drop}
-use Rattle.std.specs.List.{flat_map}
+use Rattle.std.proofs.Common.{◌≡◌, ℕ, suc, ◌+◌, ◌-◌, ◌<◌, List, [], ◌∷◌, ◌++◌, length, take, slice_get}
+use Rattle.std.proofs.Common.{Option, Some, None, refl, sym, ◌∙◌, ap, subst, arith}
 use Rattle.mn_edge.specs.Files.{Files}
-use Rattle.mn_edge.specs.Kept.{HoldsOn, BeginsOn}
+use Rattle.mn_edge.specs.Kept.{HoldsOn}
 use Rattle.mn_journal.specs.Lines.{line_of}
 use Rattle.mn_topo.specs.Network.{Network}
 use Rattle.mn_topo.specs.Lawful.{IsLawful}
@@ -17,7 +15,7 @@ use Rattle.mn_output.specs.Moments.{Moment, journal_then, made}
 use Rattle.mn_output.specs.Files.{OutputFile, Journal, Deliveries, files_of}
 use Rattle.mn_output.specs.Contents.{contents, adds, delivery_record}
 use Rattle.mn_output.proofs.Adding.{adding}
-use Rattle.mn_files.specs.Numbers.{IsNumber, file_at}
+use Rattle.mn_files.specs.Numbers.{file_at}
 use Rattle.mn_files.proofs.Places.{journal_is, deliveries_are}
 use Rattle.mn_net.specs.declared.net.Done.{Done}
 use Rattle.mn_net_now.specs.Now.{NetNow, StandsFor}

@@ -1,24 +1,23 @@
 -- What a step adds to each file is what is told of the items that it made, one after another.
-use Rattle.std.proofs.Common.{◌≡◌, ◌≢◌, ℕ, zero, suc, ◌+◌, ◌-◌, ◌≤◌, ◌<◌, ◌==◌, ◌&&◌, Bool, true, false, if◌then◌else◌, List, [], ◌∷◌, ◌++◌, map, drop}
-use Rattle.std.proofs.Common.{filter, find, length, Option, Some, None, option_map, refl, sym, ◌∙◌, ap, subst, append_assoc, length-append, arith}
+use Rattle.std.proofs.Common.{◌≡◌, ℕ, suc, ◌+◌, ◌-◌, ◌≤◌, ◌<◌, ◌==◌, ◌&&◌, Bool, true, false, if◌then◌else◌, List, [], ◌∷◌, ◌++◌, drop}
+use Rattle.std.proofs.Common.{find, length, Some, None, option_map, refl, sym, ◌∙◌, ap, subst, append_assoc, length-append, arith}
 use Rattle.std.proofs.lemmas.List.{append-nil, length-map, length-drop}
 use Rattle.std.proofs.lemmas.List.Elements.{Contains-append_right, filter-append}
 use Rattle.std.proofs.lemmas.Grind.{flat_map-append}
 use Rattle.std.specs.List.{flat_map, Contains, AllByRecursion}
-use Rattle.mn_base.specs.Wiring.{is_end, link, sender, receiver, across}
+use Rattle.mn_base.specs.Wiring.{is_end, sender, across}
 use Rattle.mn_base.specs.declared.links.Dir.{Dir}
-use Rattle.mn_base.specs.declared.links.Dir.TheVariants.{Forth, Back}
-use Rattle.mn_base.proofs.Bools.{same_test, same_numbers, and_left, and_right, or_true}
+use Rattle.mn_base.proofs.Bools.{same_test, same_numbers, and_left, and_right}
 use Rattle.mn_topo.specs.Network.{Network, wiring_of}
 use Rattle.mn_topo.specs.Lawful.{IsLawful}
 use Rattle.mn_topo.specs.declared.steps.Step.{Step}
 use Rattle.mn_topo.specs.declared.steps.Step.TheVariants.{Inject}
 use Rattle.mn_topo.specs.declared.steps.JournalEntry.{JournalEntry}
 use Rattle.mn_ldp_session.specs.Spelling.{pdu_in_network}
-use Rattle.mn_ledger.specs.World.{World, Message, Telling}
+use Rattle.mn_ledger.specs.World.{World, Message}
 use Rattle.mn_journal.specs.Lines.{line_of}
 use Rattle.mn_ledger.specs.Packets.{away_from}
-use Rattle.mn_ledger.specs.Ledger.{injects, next_of, world_of, packets_of, after}
+use Rattle.mn_ledger.specs.Ledger.{next_of, world_of, packets_of}
 use Rattle.mn_ledger.specs.Items.{Channel, Load, Item, Flight, Notice, Says, Tells, Carries, same_channel, items_on, loads_on, numbered, with_made}
 use Rattle.mn_ledger.specs.Items.{left_in_flight, delay_on, flight_of, made_by}
 use Rattle.mn_ledger.specs.Items as on
@@ -34,12 +33,11 @@ use Rattle.mn_frames.specs.Numbers.{labels_of}
 use Rattle.mn_bgp_spelling.specs.Spelling.{bytes_in}
 use Rattle.mn_course.specs.Course.{inputs_of, input_before}
 use Rattle.mn_course.proofs.Going.{a_packet_each, inputs_more, packet_at}
-use Rattle.mn_net.specs.Told.{Told, told_at, told_of, channel_of, bytes_on}
-use Rattle.mn_net_now.specs.Now.{NetNow}
+use Rattle.mn_net.specs.Told.{told_at, told_of, channel_of}
 use Rattle.mn_output.specs.Moments.{Moment, journal_then, made, injected, world_then, packets_then}
 use Rattle.mn_output.specs.Files.{OutputFile, Journal, Labels, Deliveries, Frames, Said}
 use Rattle.mn_output.specs.Files as file
-use Rattle.mn_output.specs.Contents.{delivery_record, frame_record, said_on, told_on, pdus, new_pdus, adds}
+use Rattle.mn_output.specs.Contents.{delivery_record, frame_record, said_on, told_on, pdus, adds}
 use Rattle.mn_record.specs.Parts.{in_file, item_part, items_part, is_dir, same_file, file_for}
 use Rattle.mn_record.proofs.Same.{by_test}
 use Rattle.mn_record.proofs.Flying.{found, place_is, numbered-append, item_made}

@@ -1,16 +1,15 @@
 -- What follows of what a recorder keeps.
-use Rattle.std.proofs.Common.{◌≡◌, ℕ, suc, ◌≤◌, ◌<◌, Bool, true, false, List, length, map, Option, Some, None, refl, sym, ◌∙◌, ap, subst}
+use Rattle.std.proofs.Common.{◌≡◌, ℕ, Bool, true, false, List, length, Option, Some, None, refl, sym, ◌∙◌, ap, subst}
 use Rattle.std.proofs.lemmas.List.{length-map}
-use Rattle.std.specs.Option.{ForSome}
 use Rattle.mn_edge.specs.Files.{Files, file}
 use Rattle.mn_edge.specs.Written.{is_known}
-use Rattle.mn_edge.specs.Kept.{HoldsOn, BeginsOn, Framed}
+use Rattle.mn_edge.specs.Kept.{Framed}
 use Rattle.mn_edge.specs.KeptLaws.{begins_on, framed_same, framed_both}
 use Rattle.mn_topo.specs.Network.{Network}
 use Rattle.mn_topo.specs.declared.steps.JournalEntry.{JournalEntry}
 use Rattle.mn_pcap.specs.Reading.{bytes_at, packet_of}
 use Rattle.mn_capture.specs.Packets.{CaptureView, packets_in}
-use Rattle.mn_record.specs.Recorded.{BooksNow, IsFor, Records, contents_at, told_packets, packets_there}
+use Rattle.mn_record.specs.Recorded.{BooksNow, told_packets, packets_there}
 use Rattle.mn_record.specs.Watched.{Holding, Beginning, GoesOn}
 
 same_some : {A : Type 0} (a b : A) → Some a ≡ Some b → a ≡ b

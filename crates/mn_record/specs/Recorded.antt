@@ -11,7 +11,6 @@ use Rattle.mn_output.specs.Files.{files_of}
 use Rattle.mn_output.specs.Contents.{contents, whole}
 use Rattle.mn_files.specs.Numbers.{file_at, edge_places}
 use Rattle.mn_net_now.specs.Now.{NetNow, StandsFor}
-use Rattle.mn_sched.specs.Watching.{but_last}
 use Rattle.mn_sched.specs.declared.line.Stopped.{Stopped}
 use Rattle.mn_sched.specs.declared.line.Stopped.TheVariants.{TooManySteps}
 

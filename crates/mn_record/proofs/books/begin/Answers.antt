@@ -1,8 +1,6 @@
-use Rattle.std.proofs.Common.{◌≡◌, [], ◌++◌, ◌∷◌, ◌∙◌, sym, ap, subst, refl, rules, List, ℕ, OnOk, OnErr, Some, None, length, map, arith}
-use Rattle.std.specs.Option.{ForSome}
-use Rattle.mn_edge.specs.Kept.{Framed}
+use Rattle.std.proofs.Common.{[], ◌∙◌, sym, subst, refl}
 use Rattle.mn_edge.specs.Laid.{begun_part}
-use Rattle.mn_edge.specs.Written.{Stands, texts, PartWritten, written}
+use Rattle.mn_edge.specs.Written.{Stands, texts}
 use Rattle.mn_output.specs.Contents.{output}
 use Rattle.mn_record.proofs.Adding.{on_err, ok_then, err_then, framed_then}
 use Rattle.mn_record.proofs.Closing.{names_of_output, framed_begun, heads_hold, heads_part}

@@ -1,4 +1,4 @@
-use Rattle.std.proofs.Common.{◌≡◌, [], ◌++◌, ◌∷◌, ◌∙◌, sym, ap, subst, refl, List, ℕ, OnOk, OnErr, Some, None, length, arith, ◌-◌, ◌+◌, ◌<◌, ◌≤◌}
+use Rattle.std.proofs.Common.{◌∙◌, sym, ap, subst, Some, length, ◌<◌}
 use Rattle.mn_pcap.specs.Format.{header}
 use Rattle.mn_output.specs.Files.{Frames}
 use Rattle.mn_output.specs.Contents.{ppp}

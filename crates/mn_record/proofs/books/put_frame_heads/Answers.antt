@@ -1,4 +1,4 @@
-use Rattle.std.proofs.Common.{◌≡◌, [], ◌++◌, ◌∷◌, ◌∙◌, sym, ap, subst, refl, rules, List, ℕ, OnOk, OnErr, Some, None, length, arith, ◌-◌, ◌+◌, ◌<◌, ◌≤◌}
+use Rattle.std.proofs.Common.{◌≡◌, ◌++◌, ◌∙◌, sym, ap, refl, Some, length, arith, ◌+◌, ◌<◌, ◌≤◌}
 use Rattle.mn_pcap.specs.Format.{header}
 use Rattle.mn_edge.specs.KeptLaws.{framed_same}
 use Rattle.mn_output.specs.Files.{Frames}

@@ -1,4 +1,4 @@
-use Rattle.std.proofs.Common.{◌≡◌, [], ◌++◌, ◌∷◌, ◌∙◌, sym, ap, subst, refl, rules, List, ℕ, OnOk, OnErr, Some, None, length, arith, ◌-◌, ◌+◌, ◌<◌, ◌≤◌}
+use Rattle.std.proofs.Common.{◌++◌, ◌∙◌, ap, subst, Some, length, ◌<◌}
 use Rattle.mn_pcap.specs.Format.{header}
 use Rattle.mn_output.specs.Files.{Deliveries}
 use Rattle.mn_output.specs.Contents.{head_of, raw_ipv4}

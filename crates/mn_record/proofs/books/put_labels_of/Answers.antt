@@ -1,4 +1,4 @@
-use Rattle.std.proofs.Common.{◌≡◌, [], ◌++◌, ◌∷◌, ◌∙◌, sym, ap, subst, refl, rules, List, ℕ, OnOk, OnErr, Some, None, length, take, arith, ◌-◌, ◌+◌, ◌<◌, ◌≤◌}
+use Rattle.std.proofs.Common.{◌++◌, ◌∙◌, ap, refl, take, arith, ◌+◌}
 use Rattle.std.proofs.Common.{get_or}
 use Rattle.mn_labels.specs.declared.meaning.Bind.TheVariants.{Fec}
 use Rattle.mn_edge.specs.KeptLaws.{framed_same}

@@ -1,4 +1,4 @@
-use Rattle.std.proofs.Common.{[], length, arith}
+use Rattle.std.proofs.Common.{[]}
 use Rattle.std.proofs.lemmas.List.{length-map}
 use Rattle.mn_edge.specs.Written.{texts}
 use Rattle.mn_record.specs.Adding.{only_in}

@@ -1,4 +1,4 @@
-use Rattle.std.proofs.Common.{◌≡◌, [], ◌++◌, ◌∷◌, ◌∙◌, sym, ap, subst, refl, rules, List, ℕ, OnOk, OnErr, Some, None, length, map, arith}
+use Rattle.std.proofs.Common.{sym, subst}
 use Rattle.std.specs.Option.{ForSome}
 use Rattle.mn_course.specs.Course.{inputs_of}
 use Rattle.mn_net_now.specs.Now.{StandsFor}

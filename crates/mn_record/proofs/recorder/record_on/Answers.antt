@@ -1,4 +1,4 @@
-use Rattle.std.proofs.Common.{◌≡◌, [], ◌++◌, ◌∷◌, ◌∙◌, sym, ap, subst, refl, rules, true, List, ℕ, OnOk, OnErr, Some, None, length, map, arith}
+use Rattle.std.proofs.Common.{◌≡◌, rules}
 use Rattle.mn_record.specs.Recorded.{told_packets}
 use Rattle.mn_record.specs.Laws.{goes_on_packets}
 use Rattle.mn_record.proofs.Recording.{together_is, recorded_after}

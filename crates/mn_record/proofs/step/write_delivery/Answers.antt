@@ -1,8 +1,5 @@
-use Rattle.std.proofs.Common.{◌≡◌, [], ◌++◌, ◌∙◌, sym, ap, subst, refl, List, ℕ, OnOk, OnErr, Some, None, length, arith, ◌-◌, ◌+◌, ◌<◌, ◌≤◌}
-use Rattle.mn_edge.specs.Written.{texts}
+use Rattle.std.proofs.Common.{◌≡◌, ◌∙◌, sym, ap, Some, None}
 use Rattle.std.proofs.Common.{option_map}
-use Rattle.std.specs.Prelude.{Option}
-use Rattle.mn_net_now.specs.Now.{StandsFor}
 use Rattle.mn_pcap.specs.Format.{record_of}
 use Rattle.mn_ledger.specs.Ledger.{packets_of}
 use Rattle.mn_output.specs.Files.{Deliveries}

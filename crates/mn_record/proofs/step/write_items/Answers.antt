@@ -1,8 +1,7 @@
-use Rattle.std.proofs.Common.{◌≡◌, [], ◌++◌, ◌∙◌, sym, ap, subst, refl, List, ℕ, OnOk, OnErr, Some, None, length, arith, ◌-◌, ◌+◌, ◌<◌, ◌≤◌}
+use Rattle.std.proofs.Common.{◌≡◌, ◌++◌, ◌∙◌, ap, refl, arith, ◌-◌, ◌+◌, ◌<◌, ◌≤◌}
 use Rattle.mn_net.specs.Told.{told_at}
-use Rattle.mn_edge.specs.KeptLaws.{begins_on_more, framed_same}
+use Rattle.mn_edge.specs.KeptLaws.{framed_same}
 use Rattle.mn_files.specs.Numbers.{file_at}
-use Rattle.mn_record.specs.Adding.{with_part}
 use Rattle.mn_record.specs.Parts.{by_number, item_part, items_part}
 use Rattle.mn_record.proofs.Adding.{both_add, second_may, adds_as, may_as, may_more, none_add, framed_then, still_for}
 use Rattle.mn_record.proofs.Same.{next_item, items_more}

@@ -1,4 +1,4 @@
-use Rattle.std.proofs.Common.{◌≡◌, [], ◌++◌, ◌∙◌, sym, ap, subst, refl, List, ℕ, OnOk, OnErr, Some, None, length, arith, ◌-◌, ◌+◌, ◌<◌, ◌≤◌}
+use Rattle.std.proofs.Common.{◌≡◌, ◌++◌, ◌∙◌, sym, ap, subst, Some, length, ◌-◌}
 use Rattle.std.proofs.Common.{slice_get}
 use Rattle.std.specs.Option.{option_copied}
 use Rattle.mn_journal.specs.Lines.{line_of}

@@ -1,4 +1,4 @@
-use Rattle.std.proofs.Common.{◌≡◌, [], ◌++◌, ◌∷◌, ◌∙◌, sym, ap, subst, refl, rules, List, ℕ, OnOk, OnErr, Some, None, length, map, arith}
+use Rattle.std.proofs.Common.{ap}
 use Rattle.mn_record.proofs.Adding.{on_err, ok_then, err_then}
 use Rattle.mn_record.proofs.Closing.{labels_part, end_part, end_whole, end_framed}
 use Rattle.mn_record.proofs.books.Books.close.Goals as goal

@@ -1,4 +1,4 @@
-use Rattle.std.proofs.Common.{◌≡◌, [], ◌++◌, ◌∙◌, sym, ap, subst, refl, List, ℕ, OnOk, OnErr, Some, None, length, arith, ◌-◌, ◌+◌, ◌<◌, ◌≤◌}
+use Rattle.std.proofs.Common.{◌≡◌, ◌∙◌, sym, ap, subst}
 use Rattle.mn_edge.specs.Written.{texts}
 use Rattle.mn_edge.specs.Kept.{HoldsOn, BeginsOn}
 use Rattle.mn_record.proofs.Adding.{ok_then, err_then}

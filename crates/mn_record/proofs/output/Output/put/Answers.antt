@@ -1,4 +1,4 @@
-use Rattle.std.proofs.Common.{◌≡◌, [], ◌++◌, ◌∙◌, sym, ap, subst, refl, List, ℕ, OnOk, OnErr, Some, None, length, arith, ◌-◌, ◌+◌, ◌<◌, ◌≤◌}
+use Rattle.std.proofs.Common.{ap, refl}
 use Rattle.mn_edge.specs.Written.{texts}
 use Rattle.mn_record.proofs.Adding.{ok_then, err_then, seen_adds, seen_may}
 use Rattle.mn_record.proofs.output.Output.put.Goals as goal

@@ -1,5 +1,4 @@
-use Rattle.std.proofs.Common.{◌≡◌, [], ◌++◌, ◌∙◌, sym, ap, subst, refl, rules, List, ℕ, OnOk, OnErr, Some, None, length, arith, ◌-◌, ◌+◌, ◌<◌, ◌≤◌}
-use Rattle.mn_edge.specs.Written.{texts}
+use Rattle.std.proofs.Common.{◌++◌, ◌∙◌}
 use Rattle.mn_pcap.specs.Format.{record_of}
 use Rattle.mn_record.specs.Adding.{only_in}
 use Rattle.mn_record.proofs.Adding.{on_err, ok_then, err_then, both_add, first_may, second_may, adds_as, may_as, three_in, framed_then}

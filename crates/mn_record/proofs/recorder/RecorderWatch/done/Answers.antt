@@ -1,8 +1,3 @@
-use Rattle.std.proofs.Common.{◌≡◌, [], ◌++◌, ◌∙◌, sym, ap, subst, refl, List, ℕ, OnOk, OnErr, Some, None, length, arith, ◌-◌, ◌+◌, ◌<◌, ◌≤◌}
-use Rattle.mn_edge.specs.KeptLaws.{begins_on}
-use Rattle.mn_course.specs.Course.{inputs_of}
-use Rattle.mn_record.specs.Laws.{same_packets}
-use Rattle.mn_record.proofs.Adding.{still_for}
 use Rattle.mn_record.proofs.Recording.{step_holds, step_begins}
 use Rattle.mn_record.proofs.recorder.RecorderWatch.done.Goals as goal
 

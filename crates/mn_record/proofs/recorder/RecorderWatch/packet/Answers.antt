@@ -1,4 +1,4 @@
-use Rattle.std.proofs.Common.{◌≡◌, [], ◌++◌, ◌∷◌, ◌∙◌, sym, ap, subst, refl, rules, true, List, ℕ, OnOk, OnErr, Some, None, length, map, arith}
+use Rattle.std.proofs.Common.{◌≡◌, ◌∙◌, sym, ap, refl, true, Some, length}
 use Rattle.mn_pcap.specs.Reading.{packet_of}
 use Rattle.mn_sched.specs.Watching.{is_record}
 use Rattle.mn_record.specs.Laws.{goes_on_same, goes_on_stays, packets_stay, holding_stays}
