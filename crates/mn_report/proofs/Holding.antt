@@ -1,14 +1,14 @@
 -- Each prefix that a VRF holds has a best route.
-use Rattle.std.proofs.Common.{◌≡◌, ◌<◌, ◌≤◌, ℕ, zero, suc, ◌⊎◌, inl, inr, Bool, true, false, List, [], ◌∷◌, length, Option, Some, None, refl, ap, sym, ◌∙◌}
+use Rattle.std.proofs.Common.{◌≡◌, ◌<◌, ◌≤◌, ℕ, zero, suc, inl, inr, Bool, true, List, [], ◌∷◌, length, Some, None, refl, ap, sym, ◌∙◌}
 use Rattle.std.proofs.Common.{subst, arith}
-use Rattle.std.specs.Prelude.{◌==◌, ◌&&◌, map, filter, fold, slice_get, nat_le, if◌then◌else◌}
+use Rattle.std.specs.Prelude.{◌==◌, map, filter, fold, slice_get, nat_le, if◌then◌else◌}
 use Rattle.mn_base.specs.Ordered.{with_one}
-use Rattle.mn_base.proofs.Bools.{two_ways, and_parts, and_on, same_numbers, test_same, same_test, at_most_tells, not_at_most_tells}
+use Rattle.mn_base.proofs.Bools.{two_ways, and_on, same_test, at_most_tells, not_at_most_tells}
 use Rattle.mn_base.proofs.Members.{In, in_map, in_filter, filter_in}
 use Rattle.mn_base.proofs.Kept.{fold_in}
 use Rattle.mn_prefix.specs.Prefix.{AddressBlock, same_prefix, contains, first_bits}
 use Rattle.mn_prefix.proofs.Tables.{same_exact}
-use Rattle.mn_ledger.specs.Vpn.{HeldRoute, comes_before, matching, unbeaten, first_of, best}
+use Rattle.mn_ledger.specs.Vpn.{HeldRoute, comes_before, matching, unbeaten, first_of}
 use Rattle.mn_ledger.proofs.Choice.{none_matches}
 use Rattle.mn_net.specs.Tables.{prefixes_of, best_for, best_at}
 

@@ -1,5 +1,5 @@
 -- The lines of packets, one after another, and what verdicts come to.
-use Rattle.std.proofs.Common.{◌≡◌, ◌+◌, ◌<◌, ◌≤◌, ◌⊎◌, inl, inr, ℕ, zero, suc, Bool, true, false, List, [], ◌∷◌, ◌++◌, length, get_or, take, drop, Result}
+use Rattle.std.proofs.Common.{◌≡◌, ◌+◌, ◌<◌, ◌≤◌, ◌⊎◌, inl, inr, ℕ, Bool, true, false, List, [], ◌∷◌, ◌++◌, length, get_or, take, drop}
 use Rattle.std.proofs.Common.{Ok, Err, refl, ap, sym, ◌∙◌, subst, append_assoc, add-one, arith}
 use Rattle.std.specs.Prelude.{map, filter, min, nat_le, slice_index_or, if◌then◌else◌}
 use Rattle.std.proofs.Math.Seq.{drop-cons}
@@ -42,9 +42,6 @@ packet_is topology other packets packet sent verdict path same is_verdict is_pat
 
 drop_more : {X : Type 0} (xs : List X) (i : ℕ) (d : X) → i < length xs → drop i xs ≡ get_or xs i d ∷ drop (i + 1) xs
 drop_more xs i d below = rw add-one (drop-cons xs i d below)
-
-no_verdict : Verdict
-no_verdict = Delivered (record { 0 = 0 }) 0 0
 
 row_left : (topology : Network) (packets : Packets) (sendings : List Sent) (i : ℕ) (d : Sent) → i < length sendings → i < length packets.verdicts
     → length packets.paths ≡ length packets.verdicts

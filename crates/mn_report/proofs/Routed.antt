@@ -1,7 +1,6 @@
 -- The routes that a VRF holds, one after another.
-use Rattle.std.proofs.Common.{◌≡◌, ◌<◌, ◌≤◌, ◌+◌, ℕ, zero, suc, List, [], ◌∷◌, ◌++◌, length, get_or, take, Option, Some, None, refl, ap, sym, ◌∙◌, subst, arith}
+use Rattle.std.proofs.Common.{◌≡◌, ◌<◌, ℕ, zero, suc, List, [], ◌∷◌, length, get_or, Option, Some, None, refl, ap, sym, arith}
 use Rattle.std.specs.Prelude.{slice_get, option_map}
-use Rattle.std.specs.List.{flat_map}
 use Rattle.mn_prefix.specs.Prefix.{AddressBlock}
 use Rattle.mn_vrf.specs.declared.source.Source.{Source}
 use Rattle.mn_vrf.specs.declared.source.Source.TheVariants as from
@@ -15,7 +14,7 @@ use Rattle.mn_base.specs.declared.numbers.Rd.{Rd}
 use Rattle.mn_pe.specs.Entries.{as_held, source_of}
 use Rattle.mn_net.specs.Tables.{prefixes_of, best_for, best_at, held_at}
 use Rattle.mn_topo.specs.Network.{Network}
-use Rattle.mn_output.specs.Tables.{route_line, route_lines}
+use Rattle.mn_output.specs.Tables.{route_line}
 
 -- 1. A source tells the ledger's
 

@@ -1,7 +1,7 @@
 -- Tables, line by line.
-use Rattle.std.proofs.Common.{◌≡◌, ℕ, Bool, true, false, List, [], ◌∷◌, ◌++◌, length, Option, Some, None, refl, ap, sym, ◌∙◌, subst}
+use Rattle.std.proofs.Common.{◌≡◌, ℕ, Bool, true, false, List, [], ◌∷◌, length, refl, ap, sym, ◌∙◌}
 use Rattle.mn_lines.specs.Lines.{text}
-use Rattle.std.specs.Prelude.{codes, decimal, ◌==◌, ◌&&◌, not, nat_lt, filter, if◌then◌else◌}
+use Rattle.std.specs.Prelude.{codes, decimal, ◌==◌, ◌&&◌, not, nat_lt, if◌then◌else◌}
 use Rattle.std.specs.List.{flat_map, range_with_len}
 use Rattle.mn_base.specs.Wiring.{nodes_of}
 use Rattle.mn_topo.specs.Network.{Network, wiring_of}

@@ -1,11 +1,9 @@
 -- What a call tells, in other words.
-use Rattle.std.proofs.Common.{◌≡◌, ℕ, List, Result, Ok, Err, OnOk, OnErr, refl, ap, sym, ◌∙◌, subst}
+use Rattle.std.proofs.Common.{◌≡◌, ℕ, List, Ok, Err, OnOk, OnErr, sym, subst}
 use Rattle.mn_topo.specs.Network.{Network}
 use Rattle.mn_topo.specs.declared.steps.JournalEntry.{JournalEntry}
 use Rattle.mn_script.specs.declared.command.Show.{Show}
 use Rattle.mn_output.specs.Tables.{table_text}
-use Rattle.mn_edge.specs.declared.device.DeviceBad.{DeviceBad}
-use Rattle.mn_edge.specs.Faults.{Counted}
 use Rattle.mn_lines.specs.Putting.{Puts, PutsPart}
 use Rattle.mn_tables.specs.Telling.{Stand, Tells}
 use Rattle.mn_tables.proofs.Telling.{Answer}

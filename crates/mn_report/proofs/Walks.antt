@@ -1,7 +1,7 @@
 -- The least walks that a network's tree tells.
-use Rattle.std.proofs.Common.{◌≡◌, ◌<◌, ◌≢◌, ℕ, Bool, true, false, List, length, Option, Some, None, refl, ap, sym, ◌∙◌, subst}
+use Rattle.std.proofs.Common.{◌≡◌, ◌<◌, ◌≢◌, ℕ, Bool, true, false, length, Option, Some, None, sym, ◌∙◌, subst}
 use Rattle.std.specs.Prelude.{◌==◌, if◌then◌else◌, IfSome}
-use Rattle.mn_base.specs.Wiring.{Wiring, View, JoinsNodes, link, across}
+use Rattle.mn_base.specs.Wiring.{Wiring, View, JoinsNodes, link}
 use Rattle.mn_base.specs.Paths.{dist_in, dists_to, next}
 use Rattle.mn_base.specs.declared.numbers.NodeNo.{NodeNo}
 use Rattle.mn_linkdb.specs.PathTable.{PathTable, dist_at, next_at}

@@ -1,5 +1,5 @@
 -- Lines, from their pieces.
-use Rattle.std.proofs.Common.{◌≡◌, ◌+◌, ◌<◌, ℕ, Bool, true, false, List, [], ◌∷◌, ◌++◌, length, Option, Some, None, refl, ap, sym, ◌∙◌, subst, append_assoc}
+use Rattle.std.proofs.Common.{◌≡◌, ◌+◌, ◌<◌, ℕ, true, false, List, [], ◌∷◌, ◌++◌, length, Option, Some, None, refl, ap, ◌∙◌, append_assoc}
 use Rattle.std.proofs.Common.{arith, ◌⊎◌, inl, inr}
 use Rattle.std.specs.Prelude.{codes, decimal, if◌then◌else◌}
 use Rattle.mn_base.specs.Wiring.{View, link, sender, receiver}
@@ -7,8 +7,6 @@ use Rattle.mn_base.specs.Paths.{dist_in, dists_to, next}
 use Rattle.mn_base.specs.declared.links.Dir.{Dir}
 use Rattle.mn_base.specs.declared.links.Dir.TheVariants.{Forth, Back}
 use Rattle.mn_base.specs.declared.numbers.NodeNo.{NodeNo}
-use Rattle.mn_base.specs.declared.states.LdpState.{LdpState}
-use Rattle.mn_base.specs.declared.states.BgpState.{BgpState}
 use Rattle.mn_linkdb.specs.Trees.{hop_alone}
 use Rattle.mn_topo.specs.Network.{Network, wiring_of}
 use Rattle.mn_ledger.specs.World.{World}
@@ -17,7 +15,7 @@ use Rattle.mn_ledger.specs.Transport as transport
 use Rattle.mn_ledger.specs.Vpn.{state_of, HeldRoute, Own, Near, Far}
 use Rattle.mn_text.specs.Addresses.{prefix_text}
 use Rattle.mn_frames.specs.Given.{Labelling, label_at}
-use Rattle.mn_ledger.specs.Items.{Item, Frames, items_on}
+use Rattle.mn_ledger.specs.Items.{Item}
 use Rattle.mn_lines.specs.Lines.{text}
 use Rattle.mn_output.specs.Files.{node_name}
 use Rattle.mn_output.specs.Tables.{up_or_down, link_line, walk_text, tree_line, ldp_name, ldp_text, ldp_line, bgp_name, bgp_line, frames_line, route_line}

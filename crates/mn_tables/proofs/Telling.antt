@@ -1,5 +1,5 @@
 -- Text that is put piece by piece.
-use Rattle.std.proofs.Common.{◌≡◌, ◌+◌, ◌<◌, ◌≤◌, ℕ, List, [], ◌∷◌, ◌++◌, length, get_or, take, drop, Option, Some, Result, Ok, Err, IsErr, refl, ap, sym}
+use Rattle.std.proofs.Common.{◌≡◌, ◌+◌, ◌<◌, ◌≤◌, ℕ, List, [], ◌∷◌, ◌++◌, length, get_or, take, drop, Option, Result, Ok, Err, IsErr, refl, ap, sym}
 use Rattle.std.proofs.Common.{◌∙◌, subst, append_assoc, arith, Bool, true, false}
 use Rattle.std.specs.Prelude.{filter, if◌then◌else◌}
 use Rattle.std.specs.Result.{IsErrAnd}
@@ -12,7 +12,7 @@ use Rattle.mn_edge.specs.declared.device.DeviceBad.{DeviceBad}
 use Rattle.mn_edge.specs.declared.device.DeviceBad.TheVariants.{Failed, NoMemory}
 use Rattle.mn_edge.specs.Faults.{Counted}
 use Rattle.mn_lines.specs.Lines.{pieces_of, text}
-use Rattle.mn_lines.specs.Putting.{PutOn, PartPut, Puts, PutsPart}
+use Rattle.mn_lines.specs.Putting.{PartPut, PutsPart}
 use Rattle.mn_tables.specs.Telling.{Stand, Tells, Told}
 
 -- what a call answers

@@ -1,4 +1,4 @@
-use Rattle.std.proofs.Common.{◌≡◌, ◌<◌, ◌≤◌, refl, ◌∙◌, arith}
+use Rattle.std.proofs.Common.{◌<◌, ◌≤◌, refl, ◌∙◌, arith}
 use Rattle.std.specs.Prelude.{length}
 use Rattle.mn_ledger.specs.Items.{flight_of}
 use Rattle.mn_output.specs.Tables.{frames_lines}

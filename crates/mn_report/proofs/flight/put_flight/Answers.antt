@@ -1,9 +1,4 @@
-use Rattle.std.proofs.Common.{◌≡◌, ◌∷◌, [], ap, ◌∙◌, refl}
-use Rattle.std.specs.Prelude.{codes, decimal}
-use Rattle.mn_course.specs.declared.coming.Kind.TheVariants.{Notice, Message}
-use Rattle.mn_ledger.specs.Items.{flight_of}
-use Rattle.mn_lines.specs.Lines.{text}
-use Rattle.mn_output.specs.Tables.{count_of}
+use Rattle.std.proofs.Common.{refl}
 use Rattle.mn_tables.proofs.Telling.{told_by, tells_as, tells_then, tells_first, counted_err, counted_then}
 use Rattle.mn_report.proofs.Rows.{counts_as}
 use Rattle.mn_report.proofs.flight.put_flight.Goals as goal

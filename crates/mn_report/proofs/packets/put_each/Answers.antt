@@ -1,8 +1,7 @@
-use Rattle.std.proofs.Common.{◌≡◌, ◌<◌, ◌≤◌, List, ℕ, length, refl, ap, sym, ◌∙◌, arith}
+use Rattle.std.proofs.Common.{◌≡◌, ◌<◌, ◌≤◌, length, refl, ap, sym, ◌∙◌, arith}
 use Rattle.std.specs.Prelude.{min}
 use Rattle.mn_ledger.specs.Ledger.{packets_of}
 use Rattle.mn_ledger.proofs.OnePlace.{in_one_place}
-use Rattle.mn_net_now.specs.Now.{StandsFor}
 use Rattle.mn_tables.proofs.Telling.{counted_err}
 use Rattle.mn_report.proofs.PacketLines.{none_so_far, one_more, one_cut, all_put}
 use Rattle.mn_report.proofs.packets.put_each.Goals as goal

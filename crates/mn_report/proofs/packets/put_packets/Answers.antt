@@ -1,4 +1,3 @@
-use Rattle.std.proofs.Common.{List, ℕ}
 use Rattle.std.specs.Prelude.{map}
 use Rattle.mn_ledger.specs.Ledger.{packets_of}
 use Rattle.mn_net_now.specs.Now.{StandsFor}

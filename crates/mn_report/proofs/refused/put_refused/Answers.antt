@@ -1,4 +1,4 @@
-use Rattle.std.proofs.Common.{◌≡◌, ◌++◌, ◌∙◌, ap}
+use Rattle.std.proofs.Common.{◌++◌, ◌∙◌, ap}
 use Rattle.mn_edge.specs.declared.device.DeviceBad.TheVariants.{NoMemory}
 use Rattle.mn_tables.proofs.Telling.{tells_as, tells_err, tells_want}
 use Rattle.mn_report.specs.Shown.{shown_text}

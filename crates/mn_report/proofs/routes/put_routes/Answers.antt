@@ -1,4 +1,4 @@
-use Rattle.std.proofs.Common.{◌≡◌, ◌≤◌, ap, sym, ◌∙◌, Some, arith}
+use Rattle.std.proofs.Common.{◌≤◌, Some}
 use Rattle.std.specs.Prelude.{length}
 use Rattle.mn_ledger.specs.Ledger.{world_of}
 use Rattle.mn_frames.specs.Given.{given}

@@ -1,4 +1,3 @@
-use Rattle.std.proofs.Common.{sym}
 use Rattle.mn_report.proofs.Standing.{as_shown}
 use Rattle.mn_report.proofs.table.put_rows.Goals as goal
 

@@ -1,6 +1,4 @@
-use Rattle.std.proofs.Common.{◌≡◌, ◌<◌, ◌≢◌, ◌∙◌, sym, ap, subst, arith}
-use Rattle.std.specs.Prelude.{length, ◌==◌}
-use Rattle.mn_topo.specs.Network.{Network, wiring_of}
+use Rattle.mn_topo.specs.Network.{wiring_of}
 use Rattle.mn_ledger.specs.Ledger.{world_of}
 use Rattle.mn_ledger.specs.Transport.{view_of}
 use Rattle.mn_tables.proofs.Telling.{tells_as, tells_nothing}
