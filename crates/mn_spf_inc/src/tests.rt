@@ -73,11 +73,11 @@ fn learn_up(rt: &impl Abort, db: &mut LinkDb, view: &mut View, link: LinkNo)
 
 /// The view in which the same links are up as for the tree.
 fn view_of(rt: &impl Abort, alloc: Global, tree: &MendTree) -> Result<View, Fail> {
-    let ends = tree.ends();
-    assert!(rt; is_network(tree.nodes(), ends));
-    let mut view = View::new(alloc, tree.nodes(), ends)?;
-    let mut db = LinkDb::new(alloc, ends.len() as u32)?;
-    for number in 0..ends.len() {
+    let links = tree.ends().len();
+    assert!(rt; is_network(tree.nodes(), tree.ends()));
+    let mut view = View::new(alloc, tree.nodes(), tree.ends())?;
+    let mut db = LinkDb::new(alloc, links as u32)?;
+    for number in 0..links {
         if tree.up(LinkNo(number as u16)) {
             learn_up(rt, &mut db, &mut view, LinkNo(number as u16));
         }
