@@ -1,0 +1,11 @@
+pub mod Entries
+pub mod Nets
+pub mod Held
+pub mod Costs
+pub mod Growing
+pub mod Cutting
+pub mod Places
+pub mod Lost
+pub mod Started
+pub mod Turned
+pub mod Ends

@@ -1,0 +1,4 @@
+pub mod Ways
+pub mod Nets
+pub mod Mending
+pub mod Mended
