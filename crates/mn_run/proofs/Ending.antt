@@ -6,9 +6,10 @@ use Rattle.std.proofs.lemmas.Grind.{flat_map-append}
 use Rattle.mn_edge.specs.Files.{Files}
 use Rattle.mn_edge.specs.Written.{texts, laid, IsPart, PartWritten}
 use Rattle.mn_run.specs.declared.outcome.Outcome.{Outcome}
-use Rattle.mn_run.specs.declared.outcome.Outcome.TheVariants.{Done, Usage, ReadFault, WriteFault, NoMemory, NotBuilt, BadTopology, BadScript, BadCapture, TooLarge}
-use Rattle.mn_run.specs.Answer.{Answer, joined, refusal}
-use Rattle.mn_run.specs.Endings.{PartPut, PartText, PartFiles, OutcomeIs, CausedBy, Completes, Counts, UsageIff}
+use Rattle.mn_run.specs.declared.outcome.Outcome.TheVariants.{Done, Usage, ReadFault, WriteFault, NoMemory, BadTopology, BadScript, BadCapture, TooLarge}
+use Rattle.mn_lines.specs.Putting.{PartPut}
+use Rattle.mn_run.specs.Answer.{Answer, refusal}
+use Rattle.mn_run.specs.Endings.{PartText, PartFiles, OutcomeIs, FilesAre, IsLate, CausedBy, Completes, Counts, UsageIff}
 
 -- the first bytes of the next piece
 pub part_put : (done piece rest t : List ℕ) (n : ℕ) (after : Option (List ℕ)) → after ≡ Some ((t ++ done) ++ take n piece) → PartPut (done ++ (piece ++ rest)) t after
@@ -58,7 +59,6 @@ completes a old new WriteFault h c x e none = elim c.1 [ inl p ↦ absurd (none.
 completes a old new NoMemory h c x e none = inr refl
 completes a old new Done h c x e none = inl (given a Done h x e)
 completes a old new Usage h c x e none = inl (given a Usage h x e)
-completes a old new (NotBuilt what) h c x e none = inl (given a (NotBuilt what) h x e)
 completes a old new (BadTopology rule place) h c x e none = inl (given a (BadTopology rule place) h x e)
 completes a old new (BadScript rule line) h c x e none = inl (given a (BadScript rule line) h x e)
 completes a old new (BadCapture rule place) h c x e none = inl (given a (BadCapture rule place) h x e)
@@ -71,30 +71,39 @@ of_input good o WriteFault e i h = tt
 of_input good o NoMemory e i h = tt
 of_input good o ReadFault e i h = e
 of_input good o Done e i h = e
-of_input good o (NotBuilt what) e i h = e
 of_input good o (BadTopology rule place) e i h = e
 of_input good o (BadScript rule line) e i h = e
 of_input good o (BadCapture rule place) e i h = e
 of_input good o (TooLarge which limit) e i h = e
 
--- lines before one of them, that line, and those after it
-joined_at : (lines : List (String Global)) (i : ℕ) (default : String Global) → i < length lines → joined (texts lines) ≡ joined (texts (take i lines)) ++ (string_bytes (get_or lines i default) ++ joined (texts (drop (suc i) lines)))
-joined_at [] i default h = absurd (omega arith)
-joined_at (l ∷ ls) zero default h = refl
-joined_at (l ∷ ls) (suc i) default h = ap (λ r. string_bytes l ++ r) (joined_at ls i default (omega arith)) ∙ sym (append_assoc (string_bytes l) (joined (texts (take i ls))) (string_bytes (get_or ls i default) ++ joined (texts (drop (suc i) ls))))
+-- the words were a command line
+pub not_usage : (good : Bool) (o : Outcome) → good ≡ true → (o ≡ Usage → ⊥) → UsageIff good o
+not_usage good Usage e i = absurd (i refl)
+not_usage good WriteFault e i = tt
+not_usage good NoMemory e i = tt
+not_usage good ReadFault e i = e
+not_usage good Done e i = e
+not_usage good (BadTopology rule place) e i = e
+not_usage good (BadScript rule line) e i = e
+not_usage good (BadCapture rule place) e i = e
+not_usage good (TooLarge which limit) e i = e
 
--- a first part of the lines was put: those before one of them, and a first part of that one
-pub put_part_of : (lines : List (String Global)) (i : ℕ) (line : String Global) (bytes before : List ℕ) (n : ℕ) (after : Option (List ℕ)) → i < length lines → line ≡ get_or lines i line → bytes ≡ string_bytes line
-    → after ≡ Some ((before ++ joined (texts (take i lines))) ++ take n bytes) → PartPut (joined (texts lines)) before after
-put_part_of lines i line bytes before n after within is text e =
-    subst (λ all. PartPut all before after)
-    (ap (λ b. joined (texts (take i lines)) ++ (b ++ joined (texts (drop (suc i) lines)))) (text ∙ ap string_bytes is) ∙ sym (joined_at lines i line within))
-    (part_put (joined (texts (take i lines))) bytes (joined (texts (drop (suc i) lines))) before n after e)
+-- an answer that writes nothing, where no file changed
+pub files_untouched : (a : Answer) (m : Files) (after : Option Files) (o : Outcome) → a.files ≡ [] → after ≡ Some m → FilesAre (Some a) m after o
+files_untouched a m after ReadFault none same = none_part a.files m after same
+files_untouched a m after WriteFault none same = none_part a.files m after same
+files_untouched a m after NoMemory none same = none_part a.files m after same
+files_untouched a m after Usage none same = same ∙ ap (λ f. Some (laid f m)) (sym none)
+files_untouched a m after Done none same = same ∙ ap (λ f. Some (laid f m)) (sym none)
+files_untouched a m after (BadTopology rule place) none same = same ∙ ap (λ f. Some (laid f m)) (sym none)
+files_untouched a m after (BadScript rule line) none same = same ∙ ap (λ f. Some (laid f m)) (sym none)
+files_untouched a m after (BadCapture rule place) none same = same ∙ ap (λ f. Some (laid f m)) (sym none)
+files_untouched a m after (TooLarge which limit) none same = same ∙ ap (λ f. Some (laid f m)) (sym none)
 
--- lines, and one more
-pub joined_more : (lines : List (String Global)) (i : ℕ) (line : String Global) → i < length lines → line ≡ get_or lines i line → joined (texts (take (i + 1) lines)) ≡ joined (texts (take i lines)) ++ string_bytes line
-joined_more lines i line h is =
-    ap (λ ls. joined (texts ls)) (take_more lines i line h ∙ ap (λ l. take i lines ++ l ∷ []) (sym is))
-    ∙ ap joined (map-append string_bytes (take i lines) (line ∷ []))
-    ∙ flat_map-append (λ l. l) (texts (take i lines)) (string_bytes line ∷ [])
-    ∙ ap (λ r. joined (texts (take i lines)) ++ r) (append-nil (string_bytes line))
+pub whole_untouched : (a : Answer) (m : Files) (after : Option Files) (before : List ℕ) (written : Option (List ℕ)) → a.files ≡ [] → after ≡ Some m → IsLate (Some a) m after before written
+whole_untouched a m after before written none same = inl (same ∙ ap (λ f. Some (laid f m)) (sym none))
+
+-- nothing was put
+pub nothing_put : (a : Option Answer) (m : Files) (after : Option Files) (before : List ℕ) (written : Option (List ℕ)) → written ≡ Some before → IsLate a m after before written
+nothing_put None m after before written is = tt
+nothing_put (Some x) m after before written is = inr ([], (x.early, refl), is ∙ ap Some (sym (append-nil before)))

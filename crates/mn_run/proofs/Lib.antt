@@ -1,11 +1,6 @@
 pub mod Results
-pub mod Arrivals
-pub mod Serving
-pub mod Planning
 pub mod Ending
 pub mod Loading
 pub mod Accounting
-pub mod Capturing
-pub mod Naming
-pub mod Sends
 pub mod Scripting
+pub mod Playing

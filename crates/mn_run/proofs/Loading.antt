@@ -1,10 +1,17 @@
 -- The answer, input by input.
-use Rattle.std.proofs.Common.{◌≡◌, ℕ, ◌<◌, true, List, length, get_or, [], ◌==◌, String, Global, string_bytes, sym, ◌∙◌, ap, arith}
+use Rattle.std.proofs.Common.{◌≡◌, ℕ, ◌<◌, true, List, length, get_or, [], ◌==◌, String, Global, string_bytes, Option, Some, Result, Ok, Err, sym, ◌∙◌, ap, subst, arith}
 use Rattle.std.proofs.lemmas.Bool.Decides.{nat_tests}
 use Rattle.std.proofs.lemmas.List.{get_or-map, length-map}
 use Rattle.mn_base.proofs.Bools.{and_left}
 use Rattle.mn_edge.specs.Written.{texts}
 use Rattle.mn_run.specs.Words.{word, is_run, is_check}
+use Rattle.mn_edge.specs.Files.{Files, file}
+use Rattle.mn_topo.specs.Network.{Network}
+use Rattle.mn_capture.specs.Packets.{packets_in}
+use Rattle.mn_run.specs.declared.load.Inputs.{Inputs}
+use Rattle.mn_run.specs.declared.outcome.Outcome.{Outcome}
+use Rattle.mn_run.specs.Answer.{run_done, answer_over, run_over, run_answer}
+use Rattle.mn_run.specs.Jobs.{TopologyIs, OverIs, LoadedIs, AreOver, AreRead}
 use Rattle.mn_run.proofs.Accounting.{is_two}
 
 pub word_at : (words : List (String Global)) (i : ℕ) (s : String Global) (name : List ℕ) → i < length words → s ≡ get_or words i s → name ≡ string_bytes s → word (texts words) i ≡ name
@@ -20,3 +27,25 @@ run_len words h = rw length-map at (is_five (length (texts words)) (and_left _ _
 -- a check has two words
 pub check_len : (words : List (String Global)) → is_check (texts words) ≡ true → length words ≡ 2
 check_len words h = rw length-map at (is_two (length (texts words)) (and_left _ _ h))
+
+-- a topology, and what was read over it
+pub loaded : (t : Network) (topology script capture : List ℕ) (files : Files) (l : Result Inputs Outcome) → TopologyIs (file files topology) (Ok t) → OverIs t script capture files l
+    → LoadedIs topology script capture files l
+loaded t topology script capture files (Ok inputs) read over = record {
+  over = subst (λ x. AreOver x script capture files inputs) (sym over.over) over;
+  topology_read = read.0 ∙ ap (λ x. Some (Ok x)) (sym over.over);
+  answer = λ folder. read.1 (answer_over folder files script capture) ∙ ap (answer_over folder files script capture) (sym over.over);
+}
+loaded t topology script capture files (Err outcome) read over = λ folder. read.1 (answer_over folder files script capture) ∙ over folder
+
+-- the answer over inputs that were read
+pub answer_is : (topology script capture : List ℕ) (files : Files) (inputs : Inputs) (read : AreRead topology script capture files inputs) (folder : List ℕ) →
+    run_over topology script capture folder files ≡ Some (run_done folder inputs.topology inputs.lines.items (packets_in inputs.capture read.over.bytes))
+answer_is topology script capture files inputs read folder = read.answer folder ∙ read.over.answer folder
+
+-- the answer to a run by the names that its words give
+pub run_names : (words : List (List ℕ)) (a b c d : List ℕ) (files : Files) → word words 1 ≡ a → word words 2 ≡ b → word words 3 ≡ c → word words 4 ≡ d
+    → run_answer words files ≡ run_over a b c d files
+run_names words a b c d files wa wb wc wd =
+    ap (λ n. run_over n (word words 2) (word words 3) (word words 4) files) wa ∙ ap (λ n. run_over a n (word words 3) (word words 4) files) wb
+    ∙ ap (λ n. run_over a b n (word words 4) files) wc ∙ ap (λ n. run_over a b c n files) wd

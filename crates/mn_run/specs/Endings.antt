@@ -5,11 +5,8 @@ use Rattle.mn_run.specs.declared.outcome.Outcome.TheVariants.{Usage, ReadFault, 
 use Rattle.mn_edge.specs.Files.{Files}
 use Rattle.mn_edge.specs.Faults.{Rose}
 use Rattle.mn_edge.specs.Written.{laid, IsPrefix, PartWritten}
+use Rattle.mn_lines.specs.Putting.{PartPut}
 use Rattle.mn_run.specs.Answer.{Answer}
-
--- a first part of the text was put
-abbrev pub PartPut : List ℕ → List ℕ → Option (List ℕ) → Type 0
-PartPut text before after = (part : List ℕ) × IsPrefix part text × (after ≡ Some (before ++ part))
 
 -- the call was cut off: the answer's files stand in part, or nothing was begun where there is no answer
 abbrev pub PartFiles : Option Answer → Files → Option Files → Type 0
@@ -39,6 +36,10 @@ TextIs answer before after ReadFault = PartText answer before after
 TextIs answer before after WriteFault = PartText answer before after
 TextIs answer before after NoMemory = PartText answer before after
 TextIs answer before after outcome = IsSomeAnd answer (λ a. after ≡ Some (before ++ a.text))
+
+-- more than the early part of the text was put only where every file is whole
+abbrev pub IsLate : Option Answer → Files → Option Files → List ℕ → Option (List ℕ) → Type 0
+IsLate answer files after before written = MatchOption answer ⊤ (λ a. (after ≡ Some (laid a.files files)) ⊎ PartPut a.early before written)
 
 -- the counts of faults: of the shelf's reads, of its writes, of the sink
 abbrev pub Counts : Type 0

@@ -1,25 +1,23 @@
 -- What reading the inputs tells.
-use Rattle.std.specs.Prelude.{◌≡◌, true, ℕ, List, Option, Some, ⊤}
-use Rattle.mn_run.specs.declared.outcome.Outcome.{Outcome}
-use Rattle.mn_run.specs.declared.outcome.Outcome.TheVariants.{Done, Usage, BadTopology, BadScript, BadCapture, TooLarge, NotBuilt}
-use Rattle.mn_run.specs.declared.job.Job.{Job}
-use Rattle.mn_run.specs.declared.job.Loaded.{Loaded}
-use Rattle.mn_run.specs.declared.job.Loaded.TheVariants.{Refused, Ready}
-use Rattle.mn_run.specs.Answer.{Answer, joined, refusal}
-use Rattle.mn_edge.specs.Written.{written, texts, pairs, all_known}
+use Rattle.std.specs.Prelude.{◌≡◌, ◌≢◌, ◌≤◌, ℕ, List, length, Option, Some, option_map, Result, Ok, Err, Vec, ⊤}
+use Rattle.std.specs.declared.alloc.Global.{Global}
+use Rattle.std.specs.Option.{ForSome}
+use Rattle.mn_edge.specs.Files.{Files, file}
+use Rattle.mn_capture.specs.Packets.{CaptureView, packets_in}
+use Rattle.mn_perform.specs.declared.ended.Ended.{Ended}
+use Rattle.mn_perform.specs.declared.ended.Ended.TheVariants as ended
+use Rattle.mn_perform.specs.declared.ended.Fault.{Fault}
+use Rattle.mn_perform.specs.declared.ended.Fault.TheVariants as fault
+use Rattle.mn_script.specs.declared.command.Line.{Line}
+use Rattle.mn_script.specs.Script.{script_of, AllFit}
+use Rattle.mn_pcap.specs.Reading as pcap
 use Rattle.mn_topo.specs.Network.{Network}
-use Rattle.mn_run.specs.declared.job.Taken.{Taken}
-use Rattle.mn_run.specs.declared.job.Taken.TheVariants as taken
-use Rattle.mn_run.specs.Answer.{with_topology}
-
--- the answer that a job is for
-abbrev pub answer_by : Job → Answer
-answer_by job = record { outcome = Done; files = written (texts job.names.items) (pairs job.pieces.items); text = joined (texts job.report.items) }
-
--- the answer is what was loaded
-abbrev pub LoadedIs : Option Answer → Loaded → Type 0
-LoadedIs answer (Refused outcome) = answer ≡ Some (refusal outcome)
-LoadedIs answer (Ready job) = answer ≡ Some (answer_by job)
+use Rattle.mn_topo.specs.Topology.{topology_of}
+use Rattle.mn_run.specs.declared.load.Inputs.{Inputs}
+use Rattle.mn_run.specs.declared.outcome.Limit.TheVariants.{Steps}
+use Rattle.mn_run.specs.declared.outcome.Outcome.{Outcome}
+use Rattle.mn_run.specs.declared.outcome.Outcome.TheVariants.{Done, Usage, ReadFault, WriteFault, NoMemory, BadTopology, BadScript, BadCapture, TooLarge}
+use Rattle.mn_run.specs.Answer.{Answer, refusal, run_done, answer_over, run_over, with_topology, with_script, with_capture}
 
 -- an outcome that refuses the words or an input
 abbrev pub IsRefusal : Outcome → Type 0
@@ -27,14 +25,12 @@ IsRefusal Usage = ⊤
 IsRefusal (BadTopology rule place) = ⊤
 IsRefusal (BadScript rule line) = ⊤
 IsRefusal (BadCapture rule place) = ⊤
-IsRefusal (TooLarge which limit) = ⊤
-IsRefusal (NotBuilt what) = ⊤
+IsRefusal (TooLarge which limit) = which ≢ Steps
 IsRefusal outcome = ⊥
 
--- an input was refused, or each piece of the job is for one of its files
-abbrev pub IsSound : Loaded → Type 0
-IsSound (Refused outcome) = IsRefusal outcome × (outcome ≡ Usage → ⊥)
-IsSound (Ready job) = all_known (texts job.names.items) (pairs job.pieces.items) ≡ true
+-- an outcome that refuses an input
+abbrev pub RefusesInput : Outcome → Type 0
+RefusesInput outcome = IsRefusal outcome × (outcome ≡ Usage → ⊥)
 
 -- an outcome other than the refusal of an input by one of its rules
 abbrev pub HasPlainLine : Outcome → Type 0
@@ -43,15 +39,74 @@ HasPlainLine (BadScript rule line) = ⊥
 HasPlainLine (BadCapture rule place) = ⊥
 HasPlainLine outcome = ⊤
 
--- an outcome that refuses an input
-abbrev pub RefusesInput : Outcome → Type 0
-RefusesInput outcome = IsRefusal outcome × (outcome ≡ Usage → ⊥)
+-- an input was read, or refused
+abbrev pub IsSound : {T : Type 0} → Result T Outcome → Type 0
+IsSound (Ok x) = ⊤
+IsSound (Err outcome) = RefusesInput outcome
 
 -- what follows a topology follows this one, or its refusal is the answer
-abbrev pub TakenIs : Option (List ℕ) → Taken → Type 0
-TakenIs input (taken.Refused outcome) = (next : Network → Option Answer) → with_topology input next ≡ Some (refusal outcome)
-TakenIs input (taken.Read topology) = (next : Network → Option Answer) → with_topology input next ≡ next topology
+abbrev pub TopologyIs : Option (List ℕ) → Result Network Outcome → Type 0
+TopologyIs input (Ok topology) =
+    (option_map topology_of input ≡ Some (Ok topology)) × ((next : Network → Option Answer) → with_topology input next ≡ next topology)
+TopologyIs input (Err outcome) = (next : Network → Option Answer) → with_topology input next ≡ Some (refusal outcome)
 
-abbrev pub IsSoundTaken : Taken → Type 0
-IsSoundTaken (taken.Refused outcome) = RefusesInput outcome
-IsSoundTaken (taken.Read topology) = ⊤
+-- the same of a script
+abbrev pub ScriptIs : Network → Option (List ℕ) → Result (Vec Line Global) Outcome → Type 0
+ScriptIs topology input (Ok script) =
+    (option_map (script_of topology) input ≡ Some (Ok script.items)) × ((next : List Line → Option Answer) → with_script topology input next ≡ next script.items)
+ScriptIs topology input (Err outcome) = (next : List Line → Option Answer) → with_script topology input next ≡ Some (refusal outcome)
+
+-- its lines fit the topology, and are few, also where the shelf tells no content
+abbrev pub ScriptFits : Network → Result (Vec Line Global) Outcome → Type 0
+ScriptFits topology (Ok script) = AllFit topology script.items × (length script.items ≤ 3000000)
+ScriptFits topology (Err outcome) = ⊤
+
+-- the same of a capture, by the places of its records
+abbrev pub CaptureIs : Option (List ℕ) → Result CaptureView Outcome → Type 0
+CaptureIs input (Ok capture) =
+    (bytes : List ℕ) × (input ≡ Some bytes) × (pcap.packets_of bytes ≡ Ok (packets_in capture bytes)) × ((next : List (List ℕ) → Option Answer) → with_capture input next ≡ next (packets_in capture bytes))
+CaptureIs input (Err outcome) = (next : List (List ℕ) → Option Answer) → with_capture input next ≡ Some (refusal outcome)
+
+abbrev pub CaptureOf : List ℕ → Result CaptureView Outcome → Type 0
+CaptureOf name (Ok capture) = capture.name ≡ name
+CaptureOf name (Err outcome) = ⊤
+
+-- script and capture over a topology, and all three inputs: they were read, and the answer is that of the run
+pub record AreOver (topology : Network) (script capture : List ℕ) (files : Files) (inputs : Inputs) : Type 0 where
+  pub bytes : List ℕ
+  pub there : file files capture ≡ Some bytes
+  pub over : inputs.topology ≡ topology
+  pub script_read : option_map (script_of topology) (file files script) ≡ Some (Ok inputs.lines.items)
+  pub capture_read : option_map pcap.packets_of (file files capture) ≡ Some (Ok (packets_in inputs.capture bytes))
+  pub answer : (folder : List ℕ) → answer_over folder files script capture topology ≡ Some (run_done folder topology inputs.lines.items (packets_in inputs.capture bytes))
+
+pub record AreRead (topology script capture : List ℕ) (files : Files) (inputs : Inputs) : Type 0 where
+  pub over : AreOver inputs.topology script capture files inputs
+  pub topology_read : option_map topology_of (file files topology) ≡ Some (Ok inputs.topology)
+  pub answer : (folder : List ℕ) → run_over topology script capture folder files ≡ answer_over folder files script capture inputs.topology
+
+-- or one was refused, and that is the answer
+abbrev pub OverIs : Network → List ℕ → List ℕ → Files → Result Inputs Outcome → Type 0
+OverIs topology script capture files (Ok inputs) = AreOver topology script capture files inputs
+OverIs topology script capture files (Err outcome) = (folder : List ℕ) → answer_over folder files script capture topology ≡ Some (refusal outcome)
+
+abbrev pub LoadedIs : List ℕ → List ℕ → List ℕ → Files → Result Inputs Outcome → Type 0
+LoadedIs topology script capture files (Ok inputs) = AreRead topology script capture files inputs
+LoadedIs topology script capture files (Err outcome) = (folder : List ℕ) → run_over topology script capture folder files ≡ Some (refusal outcome)
+
+abbrev pub InputsFit : List ℕ → Result Inputs Outcome → Type 0
+InputsFit name (Ok inputs) = AllFit inputs.topology inputs.lines.items × (length inputs.lines.items ≤ 3000000) × (inputs.capture.name ≡ name)
+InputsFit name (Err outcome) = ⊤
+
+-- how a call ends that played a script
+abbrev pub outcome_of : Result Ended Fault → Outcome
+outcome_of (Ok ended.All) = Done
+outcome_of (Ok ended.TooManySteps) = TooLarge Steps 4000000
+outcome_of (Err fault.Read) = ReadFault
+outcome_of (Err fault.Write) = WriteFault
+outcome_of (Err fault.NoMemory) = NoMemory
+
+-- where the shelf tells the capture's file, this holds of the answer of the run
+abbrev pub ForDone : (Option Answer → Files → Type 0) → List ℕ → Network → List Line → CaptureView → Option Files → Type 0
+ForDone P folder topology lines capture files =
+    ForSome files (λ m. ForSome (file m capture.name) (λ bytes. P (Some (run_done folder topology lines (packets_in capture bytes))) m))

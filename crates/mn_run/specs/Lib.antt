@@ -1,11 +1,7 @@
 pub mod Words
-pub mod Network
-pub mod Service
 pub mod Refusals
-pub mod Sending
 pub mod Answer
 pub mod Jobs
 pub mod Endings
 pub mod Status
 pub mod Headline
-pub mod Captured

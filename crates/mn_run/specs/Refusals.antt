@@ -10,11 +10,10 @@ use Rattle.mn_topo.specs.declared.refusal.Place.TheVariants.{Top, Node, Link, Vr
 use Rattle.mn_script.specs.declared.refusal.ScriptRule.{ScriptRule}
 use Rattle.mn_script.specs.declared.refusal.ScriptRule.TheVariants as script
 use Rattle.mn_lines.specs.Lines.{text}
-use Rattle.mn_run.specs.declared.outcome.Input.TheVariants as input
 use Rattle.mn_run.specs.declared.outcome.Limit.{Limit}
-use Rattle.mn_run.specs.declared.outcome.Limit.TheVariants.{TopologyBytes, ScriptBytes, ScriptLines, CaptureBytes, CaptureRecords}
+use Rattle.mn_run.specs.declared.outcome.Limit.TheVariants.{TopologyBytes, ScriptBytes, ScriptLines, CaptureBytes, CaptureRecords, Steps}
 use Rattle.mn_run.specs.declared.outcome.Outcome.{Outcome}
-use Rattle.mn_run.specs.declared.outcome.Outcome.TheVariants.{Usage, BadTopology, BadScript, BadCapture, TooLarge, NotBuilt}
+use Rattle.mn_run.specs.declared.outcome.Outcome.TheVariants.{Usage, BadTopology, BadScript, BadCapture, TooLarge}
 
 -- a rule of topologies by its number and name
 abbrev pub topo_rule_name : TopoRule → List ℕ
@@ -68,12 +67,11 @@ limit_line ScriptBytes = codes "too large script bytes\n"
 limit_line ScriptLines = codes "too large script lines\n"
 limit_line CaptureBytes = codes "too large capture bytes\n"
 limit_line CaptureRecords = codes "too large capture records\n"
+limit_line Steps = codes "too large steps\n"
 
 -- the line of an outcome that refuses
 abbrev pub refusal_line : Outcome → List ℕ
 refusal_line Usage = codes "usage: mplsnet run TOPOLOGY SCRIPT CAPTURE FOLDER | check TOPOLOGY | generate NUMBER\n"
-refusal_line (NotBuilt input.Topology) = codes "not built topology\n"
-refusal_line (NotBuilt input.Script) = codes "not built script\n"
 refusal_line (BadTopology rule place) = text (codes "topology refused " ∷ topo_rule_name rule ∷ codes " at " ∷ place_text place ∷ codes "\n" ∷ [])
 refusal_line (BadScript rule line) = text (codes "script refused " ∷ script_rule_name rule ∷ codes " at line " ∷ decimal line ∷ codes "\n" ∷ [])
 refusal_line (BadCapture rule place) = text (codes "capture refused " ∷ pcap_rule_name rule ∷ codes " at byte " ∷ decimal place ∷ codes "\n" ∷ [])

@@ -1,14 +1,11 @@
 -- The words of the command line.
-use Rattle.std.specs.Prelude.{ℕ, Bool, not, ◌&&◌, ◌||◌, ◌==◌, nat_lt, nat_eq, List, [], length, take, slice_index_or, codes}
+use Rattle.std.specs.Prelude.{ℕ, Bool, not, ◌&&◌, ◌||◌, ◌==◌, nat_eq, List, [], length, slice_index_or, codes}
 use lib.Pointwise.{pointwise}
+use Rattle.mn_perform.specs.Inside.{is_inside}
 
 -- the word at this place, which is there where there are enough words
 abbrev pub word : List (List ℕ) → ℕ → List ℕ
 word words k = slice_index_or words k []
-
--- the name begins with the folder's name and a slash
-abbrev pub is_inside : List ℕ → List ℕ → Bool
-is_inside name folder = nat_lt (length folder) (length name) && (pointwise nat_eq (take (length folder) name) folder && (slice_index_or name (length folder) 0 == 47))
 
 -- `run`, a topology, a script, a capture and a folder in which none of the three lies
 abbrev pub is_run : List (List ℕ) → Bool

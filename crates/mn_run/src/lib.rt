@@ -1,17 +1,23 @@
-//! The top call.
+//! The top call: what the words of a command line say, done over a shelf of files and a sink.
+//!
+//! `run` reads its three inputs (`load`) and plays the script (`mn_perform`); `check` reads a topology and tells how
+//! much it has. What is refused puts one line (`refusals`). [`command`] says how each call ends, which files it
+//! leaves, and what it puts, by definitions that know nothing of the program (`specs/Answer`).
+//!
+//! - `top`: [`command`]
+//! - `load`: the inputs and their limits
+//! - `check`: the line of `check`
+//! - `words`: the words of the command line
+//! - `refusals`: the lines of what is refused
+//! - `outcome`: how a call ends, with the program's status
 #![tactic(auto)]
 
-mod capture;
 mod check;
-mod job;
-mod network;
+mod load;
 mod outcome;
-mod plan;
 mod refusals;
-mod sending;
-mod service;
 mod top;
 mod words;
 
-pub use outcome::{Input, Limit, Outcome};
+pub use outcome::{Limit, Outcome};
 pub use top::command;

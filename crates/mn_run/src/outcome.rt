@@ -5,14 +5,7 @@ use mn_pcap::PcapRule;
 use mn_script::ScriptRule;
 use mn_topo::{Place, TopoRule};
 
-/// An input of `run`.
-#[derive(Clone, Copy, Debug, PartialEq, Eq)]
-pub enum Input {
-    Topology,
-    Script,
-}
-
-/// What an input may not pass.
+/// What an input, or a run, may not pass.
 #[derive(Clone, Copy, Debug, PartialEq, Eq)]
 pub enum Limit {
     /// 1 MiB.
@@ -25,6 +18,8 @@ pub enum Limit {
     CaptureBytes,
     /// 100,000 whole records.
     CaptureRecords,
+    /// 4,000,000 steps: a line asked for one more.
+    Steps,
 }
 
 /// How `command` ends, with the status of the program at each.
@@ -46,10 +41,8 @@ pub enum Outcome {
     WriteFault,
     /// 8: memory ran out.
     NoMemory,
-    /// 9: an input passes a limit, which is this number.
+    /// 9: an input, or the steps of the script, pass a limit, which is this number.
     TooLarge { which: Limit, limit: u64 },
-    /// 10: the input is none that the program can run yet.
-    NotBuilt { what: Input },
 }
 
 ghost use Rattle.mn_run.specs.Status.{status_of};
@@ -69,7 +62,6 @@ impl Outcome {
             Outcome::WriteFault => 7,
             Outcome::NoMemory => 8,
             Outcome::TooLarge { .. } => 9,
-            Outcome::NotBuilt { .. } => 10,
         }
     }
 }

@@ -3,7 +3,7 @@ ghost use Rattle.std.specs.Prelude.{◌≡◌, IfOk, string_bytes};
 ghost use Rattle.mn_run.specs.Refusals.{topo_rule_name, place_text, script_rule_name, pcap_rule_name, limit_line, refusal_line};
 ghost use Rattle.mn_run.specs.Jobs.{HasPlainLine};
 
-use crate::outcome::{Input, Limit, Outcome};
+use crate::outcome::{Limit, Outcome};
 use mn_pcap::PcapRule;
 use mn_script::ScriptRule;
 use mn_topo::{Place, TopoRule};
@@ -106,12 +106,6 @@ fn plain_line(outcome: Outcome) -> &'static str
             "usage: mplsnet run TOPOLOGY SCRIPT CAPTURE FOLDER | check TOPOLOGY | generate NUMBER\n"
         }
         Outcome::TooLarge { which, .. } => limit_line(which),
-        Outcome::NotBuilt {
-            what: Input::Topology,
-        } => "not built topology\n",
-        Outcome::NotBuilt {
-            what: Input::Script,
-        } => "not built script\n",
         Outcome::BadTopology { .. }
         | Outcome::BadScript { .. }
         | Outcome::BadCapture { .. }
@@ -132,5 +126,6 @@ fn limit_line(which: Limit) -> &'static str
         Limit::ScriptLines => "too large script lines\n",
         Limit::CaptureBytes => "too large capture bytes\n",
         Limit::CaptureRecords => "too large capture records\n",
+        Limit::Steps => "too large steps\n",
     }
 }

@@ -1,19 +1,26 @@
 //! The one call that does all that the program does.
-ghost use Rattle.std.specs.Prelude.{◌≡◌, ◌++◌, true, Some, OnOk, OnErr};
+ghost use Rattle.std.specs.Prelude.{◌≡◌, ◌≢◌, ◌++◌, ◌≤◌, true, false, length, IfOk, Some, OnOk, OnErr};
 ghost use Rattle.std.specs.Option.{ForSome};
 ghost use Rattle.mn_edge.specs.Faults.{Counted};
-ghost use Rattle.mn_edge.specs.Written.{texts, pairs, all_known};
-ghost use Rattle.mn_run.specs.Words.{is_command};
-ghost use Rattle.mn_run.specs.Answer.{answer_of, joined, refusal};
-ghost use Rattle.mn_run.specs.Endings.{OutcomeIs, FilesAre, TextIs, CausedBy, UsageIff, Completes, PartPut};
-ghost use Rattle.mn_run.specs.Headline.{HeadlineIs};
-ghost use Rattle.mn_run.specs.Jobs.{answer_by, IsRefusal};
+ghost use Rattle.mn_edge.specs.Written.{texts};
+ghost use Rattle.mn_lines.specs.Putting.{PartPut};
+ghost use Rattle.mn_perform.specs.Inside.{is_inside};
+ghost use Rattle.mn_script.specs.Script.{AllFit};
+ghost use Rattle.mn_run.specs.Words.{is_run, is_check, is_command};
+ghost use Rattle.mn_run.specs.Answer.{answer_of, run_answer, run_over, check_answer, checked, refusal};
+ghost use Rattle.mn_run.specs.Endings.{OutcomeIs, FilesAre, TextIs, CausedBy, UsageIff, Completes, IsLate};
+ghost use Rattle.mn_run.specs.Headline.{IsKept, HeadlineIs};
+ghost use Rattle.mn_run.specs.Words.{word};
+ghost use Rattle.mn_run.specs.Jobs.{IsRefusal, ForDone, outcome_of};
 
-use crate::job::{Job, Loaded, load};
-use crate::outcome::Outcome;
+use crate::check::check_line;
+use crate::load::{Inputs, load, load_topology};
+use crate::outcome::{Limit, Outcome};
 use crate::refusals::refusal_line;
-use crate::words::is_command;
-use mn_edge::{DeviceBad, Shelf, Sink, write_all};
+use crate::words::{is_check, is_run};
+use mn_edge::{DeviceBad, Shelf, Sink};
+use mn_perform::{Ended, Fault, perform};
+use mn_topo::Topology;
 use std::alloc::Global;
 
 /// Does what the words of a command line say, over a shelf of files and a sink for the report.
@@ -33,18 +40,21 @@ pub fn command<S: Shelf, O: Sink>(
     // What was put is the answer's text; after a fault or want of memory a first part of it.
     ensures text { ForSome (S.files shelf.old) (λ files. ForSome (O.written out.old) (λ before.
         TextIs (answer_of (texts words.now) files) before (O.written out.new) result)) }
+    // Nothing is told of a packet, and no total, but where every file is whole.
+    ensures late { ForSome (S.files shelf.old) (λ files. ForSome (O.written out.old) (λ before.
+        IsLate (answer_of (texts words.now) files) files (S.files shelf.new) before (O.written out.new))) }
     // A fault comes only where its count rose; every other count is as before, and no count falls.
     ensures cause { CausedBy (S.read_faults shelf.old, S.write_faults shelf.old, O.faults out.old)
         (S.read_faults shelf.new, S.write_faults shelf.new, O.faults out.new) result }
-    // Usage comes exactly where the words are no command line of the program, also over devices that tell no content.
+    // `Usage` is answered exactly where the words are no command line.
     ensures usage { UsageIff (is_command (texts words.now)) result }
     // Where the inputs are there and no count of faults rises, the answer comes, or want of memory.
     ensures complete { ForSome (S.files shelf.old) (λ files. Completes (answer_of (texts words.now) files)
         (S.read_faults shelf.old, S.write_faults shelf.old, O.faults out.old)
         (S.read_faults shelf.new, S.write_faults shelf.new, O.faults out.new) result) }
     // Where all was done by `run`, each packet that was sent has one line and is accounted for: it reached only the
-    // site of the longest route, unchanged but for TTL and checksum, or it fell to the first rule that applies. By
-    // `check`, the topology is lawful and its line tells how much it has.
+    // site of the best route that its VRF held, unchanged but for TTL and checksum, or it fell to the first rule that
+    // applies, or it is on its way. By `check`, the topology is lawful and its line tells how much it has.
     ensures headline { ForSome (S.files shelf.old) (λ files. ForSome (O.written out.old) (λ before.
         HeadlineIs (texts words.now) files before (S.files shelf.new) (O.written out.new) result)) }
 {
@@ -56,36 +66,171 @@ fn answer<S: Shelf, O: Sink>(alloc: Global, words: &[String], shelf: &mut S, out
     ensures files { ForSome (S.files shelf.old) (λ files. FilesAre (answer_of (texts words.now) files) files (S.files shelf.new) result) }
     ensures text { ForSome (S.files shelf.old) (λ files. ForSome (O.written out.old) (λ before.
         TextIs (answer_of (texts words.now) files) before (O.written out.new) result)) }
+    ensures kept { is_run (texts words.now) ≡ true → ForSome (S.files shelf.old) (λ files. ForSome (O.written out.old) (λ before.
+        IsKept (word (texts words.now) 1) (word (texts words.now) 2) (word (texts words.now) 3) (word (texts words.now) 4) files before
+        (S.files shelf.new) (O.written out.new) result)) }
+    ensures late { ForSome (S.files shelf.old) (λ files. ForSome (O.written out.old) (λ before.
+        IsLate (answer_of (texts words.now) files) files (S.files shelf.new) before (O.written out.new))) }
     ensures cause { CausedBy (S.read_faults shelf.old, S.write_faults shelf.old, O.faults out.old)
         (S.read_faults shelf.new, S.write_faults shelf.new, O.faults out.new) result }
     ensures usage { UsageIff (is_command (texts words.now)) result }
 {
-    if !is_command(words) {
-        return refuse(alloc, out, Outcome::Usage);
+    if is_run(words) {
+        run(alloc, words, shelf, out)
+    } else if is_check(words) {
+        check(alloc, words, shelf, out)
+    } else {
+        refuse(alloc, out, Outcome::Usage)
     }
-    match load(alloc, words, shelf) {
-        Ok(Loaded::Refused(outcome)) => refuse(alloc, out, outcome),
-        Ok(Loaded::Ready(job)) => perform(shelf, out, &job),
+}
+
+/// Plays a script, by the words `run TOPOLOGY SCRIPT CAPTURE FOLDER`.
+fn run<S: Shelf, O: Sink>(alloc: Global, words: &[String], shelf: &mut S, out: &mut O) -> Outcome
+    requires { is_run (texts words.now) ≡ true }
+    ensures outcome { ForSome (S.files shelf.old) (λ files. OutcomeIs (run_answer (texts words.now) files) result) }
+    ensures files { ForSome (S.files shelf.old) (λ files. FilesAre (run_answer (texts words.now) files) files (S.files shelf.new) result) }
+    ensures text { ForSome (S.files shelf.old) (λ files. ForSome (O.written out.old) (λ before.
+        TextIs (run_answer (texts words.now) files) before (O.written out.new) result)) }
+    ensures kept { ForSome (S.files shelf.old) (λ files. ForSome (O.written out.old) (λ before.
+        IsKept (word (texts words.now) 1) (word (texts words.now) 2) (word (texts words.now) 3) (word (texts words.now) 4) files before
+        (S.files shelf.new) (O.written out.new) result)) }
+    ensures late { ForSome (S.files shelf.old) (λ files. ForSome (O.written out.old) (λ before.
+        IsLate (run_answer (texts words.now) files) files (S.files shelf.new) before (O.written out.new))) }
+    ensures cause { CausedBy (S.read_faults shelf.old, S.write_faults shelf.old, O.faults out.old)
+        (S.read_faults shelf.new, S.write_faults shelf.new, O.faults out.new) result }
+    ensures usage { result ≢ Outcome.Usage }
+{
+    run_over(
+        alloc,
+        words[1].as_str(),
+        words[2].as_str(),
+        words[3].as_str(),
+        words[4].as_str(),
+        shelf,
+        out,
+    )
+}
+
+/// Reads the files of these names, and plays the script.
+fn run_over<S: Shelf, O: Sink>(
+    alloc: Global,
+    topology: &str,
+    script: &str,
+    capture: &str,
+    folder: &str,
+    shelf: &mut S,
+    out: &mut O,
+) -> Outcome
+    requires { is_inside capture.now folder.now ≡ false }
+    ensures outcome { ForSome (S.files shelf.old) (λ files. OutcomeIs (run_over topology.now script.now capture.now folder.now files) result) }
+    ensures files { ForSome (S.files shelf.old) (λ files. FilesAre (run_over topology.now script.now capture.now folder.now files) files (S.files shelf.new) result) }
+    ensures text { ForSome (S.files shelf.old) (λ files. ForSome (O.written out.old) (λ before.
+        TextIs (run_over topology.now script.now capture.now folder.now files) before (O.written out.new) result)) }
+    ensures kept { ForSome (S.files shelf.old) (λ files. ForSome (O.written out.old) (λ before.
+        IsKept topology.now script.now capture.now folder.now files before (S.files shelf.new) (O.written out.new) result)) }
+    ensures late { ForSome (S.files shelf.old) (λ files. ForSome (O.written out.old) (λ before.
+        IsLate (run_over topology.now script.now capture.now folder.now files) files (S.files shelf.new) before (O.written out.new))) }
+    ensures cause { CausedBy (S.read_faults shelf.old, S.write_faults shelf.old, O.faults out.old)
+        (S.read_faults shelf.new, S.write_faults shelf.new, O.faults out.new) result }
+    ensures usage { result ≢ Outcome.Usage }
+{
+    match load(alloc, topology, script, capture, shelf) {
+        Ok(Ok(inputs)) => {
+            inputs.topology.laws();
+            play(alloc, inputs, folder, shelf, out)
+        }
+        Ok(Err(outcome)) => refuse(alloc, out, outcome),
         Err(DeviceBad::Failed) => Outcome::ReadFault,
         Err(DeviceBad::NoMemory) => Outcome::NoMemory,
     }
 }
 
-/// Writes the files of a job, and then puts its report.
-fn perform<S: Shelf, O: Sink>(shelf: &mut S, out: &mut O, job: &Job) -> Outcome
-    requires { all_known (texts job.now.names.items) (pairs job.now.pieces.items) ≡ true }
-    ensures outcome { OutcomeIs (Some (answer_by job.now)) result }
-    ensures files { ForSome (S.files shelf.old) (λ files. FilesAre (Some (answer_by job.now)) files (S.files shelf.new) result) }
-    ensures text { ForSome (O.written out.old) (λ before. TextIs (Some (answer_by job.now)) before (O.written out.new) result) }
+/// How a call ends that played a script.
+fn outcome_of(ended: Result<Ended, Fault>) -> Outcome
+    ensures { result ≡ outcome_of ended }
+{
+    match ended {
+        Ok(Ended::All) => Outcome::Done,
+        Ok(Ended::TooManySteps) => Outcome::TooLarge {
+            which: Limit::Steps,
+            limit: 4_000_000,
+        },
+        Err(Fault::Read) => Outcome::ReadFault,
+        Err(Fault::Write) => Outcome::WriteFault,
+        Err(Fault::NoMemory) => Outcome::NoMemory,
+    }
+}
+
+/// Plays the script of inputs that were read.
+fn play<S: Shelf, O: Sink>(
+    alloc: Global,
+    inputs: Inputs,
+    folder: &str,
+    shelf: &mut S,
+    out: &mut O,
+) -> Outcome
+    requires fit { AllFit inputs.topology inputs.lines.items }
+    requires few { length inputs.lines.items ≤ 3000000 }
+    requires apart { is_inside inputs.capture.name folder.now ≡ false }
+    ensures outcome { ForDone (λ answer m. OutcomeIs answer result) folder.now inputs.topology inputs.lines.items inputs.capture (S.files shelf.old) }
+    ensures files { ForDone (λ answer m. FilesAre answer m (S.files shelf.new) result) folder.now inputs.topology inputs.lines.items inputs.capture (S.files shelf.old) }
+    ensures text { ForDone (λ answer m. ForSome (O.written out.old) (λ before. TextIs answer before (O.written out.new) result))
+        folder.now inputs.topology inputs.lines.items inputs.capture (S.files shelf.old) }
+    ensures late { ForDone (λ answer m. ForSome (O.written out.old) (λ before. IsLate answer m (S.files shelf.new) before (O.written out.new)))
+        folder.now inputs.topology inputs.lines.items inputs.capture (S.files shelf.old) }
     ensures cause { CausedBy (S.read_faults shelf.old, S.write_faults shelf.old, O.faults out.old)
         (S.read_faults shelf.new, S.write_faults shelf.new, O.faults out.new) result }
+    ensures usage { result ≢ Outcome.Usage }
 {
-    match write_all(shelf, &job.names, &job.pieces) {
-        Ok(()) => {}
-        Err(DeviceBad::Failed) => return Outcome::WriteFault,
-        Err(DeviceBad::NoMemory) => return Outcome::NoMemory,
+    let Inputs {
+        topology,
+        lines,
+        capture,
+    } = inputs;
+    let ended = perform(
+        alloc,
+        shelf,
+        out,
+        topology,
+        lines.as_slice(),
+        &capture,
+        folder,
+    );
+    outcome_of(ended)
+}
+
+/// Tells how much a topology has, by the words `check TOPOLOGY`.
+fn check<S: Shelf, O: Sink>(alloc: Global, words: &[String], shelf: &mut S, out: &mut O) -> Outcome
+    requires { is_check (texts words.now) ≡ true }
+    ensures outcome { ForSome (S.files shelf.old) (λ files. OutcomeIs (check_answer (texts words.now) files) result) }
+    ensures text { ForSome (S.files shelf.old) (λ files. ForSome (O.written out.old) (λ before.
+        TextIs (check_answer (texts words.now) files) before (O.written out.new) result)) }
+    ensures files { ForSome (S.files shelf.old) (λ files. FilesAre (check_answer (texts words.now) files) files (S.files shelf.new) result) }
+    ensures late { ForSome (S.files shelf.old) (λ files. ForSome (O.written out.old) (λ before.
+        IsLate (check_answer (texts words.now) files) files (S.files shelf.new) before (O.written out.new))) }
+    ensures cause { CausedBy (S.read_faults shelf.old, S.write_faults shelf.old, O.faults out.old)
+        (S.read_faults shelf.new, S.write_faults shelf.new, O.faults out.new) result }
+    ensures usage { result ≢ Outcome.Usage }
+{
+    match load_topology(alloc, words[1].as_str(), shelf) {
+        Ok(Ok(topology)) => tell(alloc, &topology, out),
+        Ok(Err(outcome)) => refuse(alloc, out, outcome),
+        Err(DeviceBad::Failed) => Outcome::ReadFault,
+        Err(DeviceBad::NoMemory) => Outcome::NoMemory,
     }
-    match put_lines(out, &job.report) {
+}
+
+/// Puts how much a topology has.
+fn tell<O: Sink>(alloc: Global, topology: &Topology, out: &mut O) -> Outcome
+    ensures outcome { OutcomeIs (Some (checked topology.now)) result }
+    ensures text { ForSome (O.written out.old) (λ before. TextIs (Some (checked topology.now)) before (O.written out.new) result) }
+    ensures cause { CausedBy (0, 0, O.faults out.old) (0, 0, O.faults out.new) result }
+    ensures usage { result ≢ Outcome.Usage }
+{
+    let Ok(line) = check_line(alloc, topology) else {
+        return Outcome::NoMemory;
+    };
+    match put_line(out, line.as_bytes()) {
         Ok(()) => Outcome::Done,
         Err(DeviceBad::Failed) => Outcome::WriteFault,
         Err(DeviceBad::NoMemory) => Outcome::NoMemory,
@@ -98,6 +243,8 @@ fn refuse<O: Sink>(alloc: Global, out: &mut O, outcome: Outcome) -> Outcome
     ensures outcome { OutcomeIs (Some (refusal outcome)) result }
     ensures text { ForSome (O.written out.old) (λ before. TextIs (Some (refusal outcome)) before (O.written out.new) result) }
     ensures cause { CausedBy (0, 0, O.faults out.old) (0, 0, O.faults out.new) result }
+    ensures usage { outcome ≢ Outcome.Usage → result ≢ Outcome.Usage }
+    ensures undone { result ≢ Outcome.Done }
 {
     let Ok(line) = refusal_line(alloc, outcome) else {
         return Outcome::NoMemory;
@@ -115,16 +262,4 @@ fn put_line<O: Sink>(out: &mut O, line: &[u8]) -> Result<(), DeviceBad>
     ensures cause { Counted (O.faults out.old) (O.faults out.new) result }
 {
     out.put(line)
-}
-
-/// Puts lines, one after another.
-fn put_lines<O: Sink>(out: &mut O, lines: &[String]) -> Result<(), DeviceBad>
-    ensures put { OnOk result (ForSome (O.written out.old) (λ before. O.written out.new ≡ Some (before ++ joined (texts lines.now)))) }
-    ensures part { OnErr result (ForSome (O.written out.old) (λ before. PartPut (joined (texts lines.now)) before (O.written out.new))) }
-    ensures cause { Counted (O.faults out.old) (O.faults out.new) result }
-{
-    for line in lines {
-        out.put(line.as_bytes())?;
-    }
-    Ok(())
 }

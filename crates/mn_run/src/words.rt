@@ -1,7 +1,8 @@
 //! The words of the command line.
 ghost use Rattle.std.specs.Prelude.{◌≡◌};
 ghost use Rattle.mn_edge.specs.Written.{texts};
-ghost use Rattle.mn_run.specs.Words.{is_run, is_inside, is_check, is_command};
+ghost use Rattle.mn_perform.specs.Inside.{is_inside};
+ghost use Rattle.mn_run.specs.Words.{is_run, is_check, is_command};
 
 /// Whether the words are `run TOPOLOGY SCRIPT CAPTURE FOLDER`, and no input lies in the folder that is written.
 pub(crate) fn is_run(words: &[String]) -> bool

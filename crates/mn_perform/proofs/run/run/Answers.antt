@@ -1,0 +1,27 @@
+use Rattle.std.proofs.Common.{sym, ap, ◌∙◌, subst}
+use Rattle.mn_course.specs.Expansion.{expanded}
+use Rattle.mn_edge.specs.Kept.{Framed}
+use Rattle.mn_edge.specs.KeptLaws.{framed_both}
+use Rattle.mn_perform.proofs.Ending.{run_files, run_text, run_late, run_ends, broken_files, notes_begin}
+use Rattle.mn_perform.proofs.run.run.Goals as goal
+
+pub returns-in-Ok-clause-files : goal.returns-in-Ok-clause-files
+returns-in-Ok-clause-files g c = λ all told base framed.
+    run_files _ _ _ c.args.lines.now c.in-Ok.how _ _ _ _ _ (c.in-Ok.ensures.went all told) c.args.books.now.names base _ _ c.play_lines.ensures.names
+    (framed_both _ _ _ _ framed c.play_lines.ensures.framed) c.finish.ensures.whole c.finish.ensures.part
+
+pub returns-in-Ok-clause-text : goal.returns-in-Ok-clause-text
+returns-in-Ok-clause-text g c = λ all told before is.
+    run_text _ _ _ c.args.lines.now c.in-Ok.how _ _ _ _ _ (c.in-Ok.ensures.went all told) before _ _ is c.finish.ensures.put c.finish.ensures.put_part
+
+pub returns-in-Ok-clause-late : goal.returns-in-Ok-clause-late
+returns-in-Ok-clause-late g c = λ all told base framed before is.
+    run_late _ _ _ c.args.lines.now c.in-Ok.how _ _ _ _ _ (c.in-Ok.ensures.went all told) c.args.books.now.names base before _ _ _ c.play_lines.ensures.names
+    (framed_both _ _ _ _ framed c.play_lines.ensures.framed) is c.finish.ensures.whole c.finish.ensures.late
+
+pub returns-in-Err-clause-files : goal.returns-in-Err-clause-files
+returns-in-Err-clause-files g c = λ all told base framed.
+    broken_files _ _ _ c.args.lines.now _ c.args.books.now.names base _ _ c.play_lines.ensures.names (c.in-Err.ensures.went all told) (framed_both _ _ _ _ framed c.play_lines.ensures.framed)
+
+pub returns-in-Err-clause-text : goal.returns-in-Err-clause-text
+returns-in-Err-clause-text g c = λ all told before is. notes_begin c.args.net.now.topology all (expanded c.args.net.now.topology all c.args.lines.now) before _ ((c.in-Err.ensures.went all told).text before is)

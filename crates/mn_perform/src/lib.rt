@@ -1,0 +1,18 @@
+//! A whole run: the lines of a script on a network, with its files and its report.
+//!
+//! Each line is played on the network, and what it adds to the files is written as its steps are done (`mn_record`).
+//! Refused lines and tables are put as they come; packets and the total are put once every file is whole.
+//!
+//! - `run`: the whole of it
+//! - `lines`: the lines of a script, one after another
+//! - `desk`: what is kept for the report
+//! - `ended`: how a run ends
+#![tactic(auto)]
+
+mod desk;
+mod ended;
+mod lines;
+mod run;
+
+pub use ended::{Ended, Fault};
+pub use run::perform;

@@ -1,0 +1,139 @@
+//! The lines of a script, one after another.
+ghost use Rattle.std.specs.Prelude.{◌≡◌, ◌-◌, ◌+◌, ◌*◌, ◌<◌, ◌≤◌, ◌^◌, true, false, [], List, ℕ, length, Option, IfOk, OnOk, OnErr};
+ghost use Rattle.std.specs.Option.{ForSome};
+ghost use Rattle.mn_edge.specs.Kept.{Framed};
+ghost use Rattle.mn_script.specs.Lines.{command_fits};
+ghost use Rattle.mn_script.specs.Script.{AllFit};
+ghost use Rattle.mn_course.specs.Course.{Past};
+ghost use Rattle.mn_course.specs.Expansion.{Expansion, with_line, start_of, expanded};
+ghost use Rattle.mn_sched.specs.Playing.{is_show, IsPaced};
+ghost use Rattle.mn_record.specs.Recorded.{IsFor, told_packets};
+ghost use Rattle.mn_perform.specs.Faults.{Blamed};
+ghost use Rattle.mn_perform.specs.Running.{Stands, Keeps, Went, IsAt};
+
+use crate::desk::Desk;
+use crate::ended::{Ended, Fault};
+use mn_capture::Capture;
+use mn_edge::{Shelf, Sink};
+use mn_net::Net;
+use mn_record::{Books, record_line};
+use mn_sched::Stopped;
+use mn_script::{Command, Line};
+
+/// Plays a line that isn't a table, and notes what became of it.
+fn play_steps<S: Shelf, O: Sink>(
+    net: &mut Net,
+    line: &Line,
+    shelf: &mut S,
+    out: &mut O,
+    books: &mut Books,
+    capture: &Capture,
+    desk: &mut Desk,
+) -> Result<Ended, Fault>
+    requires fits { command_fits net.old.topology line.now.command ≡ true }
+    requires shows { is_show line.now.command ≡ false }
+    requires early { net.old.tick ≤ 2 ^ 61 }
+    requires few { desk.old.refused < 2 ^ 32 - 1 }
+    requires files { IsFor books.old net.old.topology }
+    requires stands { ForSome (told_packets (S.files shelf.old) books.old.names capture.now) (λ all. Stands all net.old books.old (S.files shelf.old)) }
+    ensures names { books.new.names ≡ books.old.names }
+    ensures places { books.new.places ≡ books.old.places }
+    ensures topology { net.new.topology ≡ net.old.topology }
+    ensures clock { IfOk result (λ how. how ≡ Ended.All → IsPaced 1000000 net.old net.new) }
+    ensures refused { OnOk result (desk.new.refused ≤ desk.old.refused + 1) }
+    ensures framed { Framed books.old.names (S.files shelf.old) (S.files shelf.new) }
+    ensures told { told_packets (S.files shelf.new) books.old.names capture.now ≡ told_packets (S.files shelf.old) books.old.names capture.now }
+    ensures went { ForSome (told_packets (S.files shelf.old) books.old.names capture.now) (λ all. (begun : Option (List ℕ)) (run : Expansion) → run.is_stopped ≡ false →
+        Keeps net.old.topology all begun run net.old books.old desk.old (S.files shelf.old) (O.written out.old) →
+        Went net.old.topology all begun (with_line net.old.topology all run line.now) net.new books.new desk.new (S.files shelf.new) (O.written out.new) result) }
+    ensures cause { Blamed (S.read_faults shelf.old, S.write_faults shelf.old, O.faults out.old)
+        (S.read_faults shelf.new, S.write_faults shelf.new, O.faults out.new) result }
+{
+    match record_line(net, &line.command, shelf, books, capture) {
+        Ok(played) => match desk.note(out, net.topology(), line, played) {
+            Ok(()) => Ok(Ended::All),
+            Err(fault) => Err(fault),
+        },
+        Err(Stopped::TooManySteps) => Ok(Ended::TooManySteps),
+        Err(Stopped::Read) => Err(Fault::Read),
+        Err(Stopped::Write) => Err(Fault::Write),
+        Err(Stopped::NoMemory) => Err(Fault::NoMemory),
+    }
+}
+
+/// Plays a line, or puts the table that it asks for.
+fn play_line<S: Shelf, O: Sink>(
+    net: &mut Net,
+    line: &Line,
+    shelf: &mut S,
+    out: &mut O,
+    books: &mut Books,
+    capture: &Capture,
+    desk: &mut Desk,
+) -> Result<Ended, Fault>
+    requires fits { command_fits net.old.topology line.now.command ≡ true }
+    requires early { net.old.tick ≤ 2 ^ 61 }
+    requires few { desk.old.refused < 2 ^ 32 - 1 }
+    requires files { IsFor books.old net.old.topology }
+    requires stands { ForSome (told_packets (S.files shelf.old) books.old.names capture.now) (λ all. Stands all net.old books.old (S.files shelf.old)) }
+    ensures names { books.new.names ≡ books.old.names }
+    ensures places { books.new.places ≡ books.old.places }
+    ensures topology { net.new.topology ≡ net.old.topology }
+    ensures clock { IfOk result (λ how. how ≡ Ended.All → IsPaced 1000000 net.old net.new) }
+    ensures refused { OnOk result (desk.new.refused ≤ desk.old.refused + 1) }
+    ensures framed { Framed books.old.names (S.files shelf.old) (S.files shelf.new) }
+    ensures told { told_packets (S.files shelf.new) books.old.names capture.now ≡ told_packets (S.files shelf.old) books.old.names capture.now }
+    ensures went { ForSome (told_packets (S.files shelf.old) books.old.names capture.now) (λ all. (begun : Option (List ℕ)) (run : Expansion) → run.is_stopped ≡ false →
+        Keeps net.old.topology all begun run net.old books.old desk.old (S.files shelf.old) (O.written out.old) →
+        Went net.old.topology all begun (with_line net.old.topology all run line.now) net.new books.new desk.new (S.files shelf.new) (O.written out.new) result) }
+    ensures cause { Blamed (S.read_faults shelf.old, S.write_faults shelf.old, O.faults out.old)
+        (S.read_faults shelf.new, S.write_faults shelf.new, O.faults out.new) result }
+{
+    match line.command {
+        Command::Show(table) => match desk.show(out, net, table) {
+            Ok(()) => Ok(Ended::All),
+            Err(fault) => Err(fault),
+        },
+        _ => play_steps(net, line, shelf, out, books, capture, desk),
+    }
+}
+
+/// Plays the lines of a script, until one meets a full journal.
+pub(crate) fn play_lines<S: Shelf, O: Sink>(
+    net: &mut Net,
+    lines: &[Line],
+    shelf: &mut S,
+    out: &mut O,
+    books: &mut Books,
+    capture: &Capture,
+    desk: &mut Desk,
+) -> Result<Ended, Fault>
+    requires fit { AllFit net.old.topology lines.now }
+    requires few { length lines.now ≤ 3000000 }
+    requires tick { net.old.tick ≡ 0 }
+    requires refused { desk.old.refused ≡ 0 }
+    requires files { IsFor books.old net.old.topology }
+    requires start { ForSome (told_packets (S.files shelf.old) books.old.names capture.now) (λ all.
+        Keeps net.old.topology all (O.written out.old) (start_of (record { clock = 0; entries = [] })) net.old books.old desk.old (S.files shelf.old) (O.written out.old)) }
+    ensures names { books.new.names ≡ books.old.names }
+    ensures places { books.new.places ≡ books.old.places }
+    ensures topology { net.new.topology ≡ net.old.topology }
+    ensures framed { Framed books.old.names (S.files shelf.old) (S.files shelf.new) }
+    ensures went { ForSome (told_packets (S.files shelf.old) books.old.names capture.now) (λ all.
+        Went net.old.topology all (O.written out.old) (expanded net.old.topology all lines.now) net.new books.new desk.new (S.files shelf.new) (O.written out.new) result) }
+    ensures cause { Blamed (S.read_faults shelf.old, S.write_faults shelf.old, O.faults out.old)
+        (S.read_faults shelf.new, S.write_faults shelf.new, O.faults out.new) result }
+{
+    for line in lines {
+        if !net.works() {
+            return Err(Fault::NoMemory);
+        }
+        net.laws();
+        match play_line(net, line, shelf, out, books, capture, desk) {
+            Ok(Ended::All) => {}
+            Ok(Ended::TooManySteps) => return Ok(Ended::TooManySteps),
+            Err(fault) => return Err(fault),
+        }
+    }
+    Ok(Ended::All)
+}

@@ -1,0 +1,138 @@
+//! A whole run.
+ghost use Rattle.std.specs.Prelude.{◌≡◌, ◌⊎◌, ◌≤◌, ◌++◌, [], false, List, ℕ, length, Some, Ok, OnOk, OnErr};
+ghost use Rattle.std.specs.Option.{ForSome};
+ghost use Rattle.mn_edge.specs.Files.{Files};
+ghost use Rattle.mn_edge.specs.Kept.{Framed};
+ghost use Rattle.mn_edge.specs.Laid.{named};
+ghost use Rattle.mn_edge.specs.Written.{laid, PartWritten};
+ghost use Rattle.mn_script.specs.Script.{AllFit};
+ghost use Rattle.mn_ledger.specs.Ledger.{packets_of};
+ghost use Rattle.mn_course.specs.Course.{inputs_of};
+ghost use Rattle.mn_course.specs.Expansion.{expanded};
+ghost use Rattle.mn_lines.specs.Putting.{PutOn, PartPut};
+ghost use Rattle.mn_record.specs.Recorded.{whole_at};
+ghost use Rattle.mn_perform.specs.Faults.{Blamed, ShelfBlamed};
+ghost use Rattle.mn_perform.specs.Inside.{is_inside};
+ghost use Rattle.mn_record.specs.Recorded.{IsFor, told_packets};
+ghost use Rattle.mn_course.specs.Expansion.{start_of};
+ghost use Rattle.mn_perform.specs.Running.{Keeps, Stands, notes_text};
+ghost use Rattle.mn_perform.specs.Whole.{last_text, RunEnds, RunFiles, RunText, IsLate, ForRun, FilesOf, TextOf, EndsAs, TellsLate};
+
+use crate::desk::Desk;
+use crate::ended::{Ended, Fault};
+use crate::lines::play_lines;
+use mn_capture::Capture;
+use mn_edge::{Shelf, Sink};
+use mn_net::Net;
+use mn_record::Books;
+use mn_script::Line;
+use mn_topo::Topology;
+use std::alloc::Global;
+
+/// Ends the files, and then the report.
+fn finish<S: Shelf, O: Sink>(
+    net: &Net,
+    how: Ended,
+    shelf: &mut S,
+    out: &mut O,
+    books: &mut Books,
+    desk: &mut Desk,
+) -> Result<Ended, Fault>
+    requires files { IsFor books.old net.now.topology }
+    ensures same { OnOk result (result ≡ Ok how) }
+    ensures whole { OnOk result ((base : Files) (all : List (List ℕ)) → Framed books.old.names (Some base) (S.files shelf.old) → Stands all net.now books.old (S.files shelf.old) →
+        S.files shelf.new ≡ Some (laid (named books.old.names (whole_at net.now.topology all net.now.journal)) base)) }
+    ensures part { OnErr result ((base : Files) (all : List (List ℕ)) → Framed books.old.names (Some base) (S.files shelf.old) → Stands all net.now books.old (S.files shelf.old) →
+        PartWritten (named books.old.names (whole_at net.now.topology all net.now.journal)) base (S.files shelf.new)) }
+    ensures put { OnOk result ((all : List (List ℕ)) (before notes : List ℕ) → Stands all net.now books.old (S.files shelf.old) → PutOn before notes desk.old.page (O.written out.old) →
+        O.written out.new ≡ Some (before ++ (notes ++ last_text net.now desk.old how (packets_of net.now.topology net.now.journal (inputs_of all net.now.journal))))) }
+    ensures put_part { OnErr result ((all : List (List ℕ)) (before notes : List ℕ) → Stands all net.now books.old (S.files shelf.old) → PutOn before notes desk.old.page (O.written out.old) →
+        PartPut (notes ++ last_text net.now desk.old how (packets_of net.now.topology net.now.journal (inputs_of all net.now.journal))) before (O.written out.new)) }
+    ensures late { OnErr result ((base : Files) (all : List (List ℕ)) (before notes : List ℕ) → Framed books.old.names (Some base) (S.files shelf.old) →
+        Stands all net.now books.old (S.files shelf.old) → PutOn before notes desk.old.page (O.written out.old) →
+        (S.files shelf.new ≡ Some (laid (named books.old.names (whole_at net.now.topology all net.now.journal)) base)) ⊎ PartPut notes before (O.written out.new)) }
+    ensures cause { Blamed (S.read_faults shelf.old, S.write_faults shelf.old, O.faults out.old)
+        (S.read_faults shelf.new, S.write_faults shelf.new, O.faults out.new) result }
+{
+    match books.close(shelf, net) {
+        Ok(()) => {}
+        Err(bad) => return Err(Fault::from(bad)),
+    }
+    match desk.end(out, net, how) {
+        Ok(()) => Ok(how),
+        Err(fault) => Err(fault),
+    }
+}
+
+/// Plays a script on a network at its start, with the files begun and an empty desk.
+fn run<S: Shelf, O: Sink>(
+    net: &mut Net,
+    lines: &[Line],
+    shelf: &mut S,
+    out: &mut O,
+    books: &mut Books,
+    capture: &Capture,
+    desk: &mut Desk,
+) -> Result<Ended, Fault>
+    requires fit { AllFit net.old.topology lines.now }
+    requires few { length lines.now ≤ 3000000 }
+    requires tick { net.old.tick ≡ 0 }
+    requires refused { desk.old.refused ≡ 0 }
+    requires files { IsFor books.old net.old.topology }
+    requires start { ForSome (told_packets (S.files shelf.old) books.old.names capture.now) (λ all.
+        Keeps net.old.topology all (O.written out.old) (start_of (record { clock = 0; entries = [] })) net.old books.old desk.old (S.files shelf.old) (O.written out.old)) }
+    ensures ended { ForSome (told_packets (S.files shelf.old) books.old.names capture.now) (λ all. RunEnds net.old.topology all lines.now result) }
+    ensures files { ForSome (told_packets (S.files shelf.old) books.old.names capture.now) (λ all. (base : Files) → Framed books.old.names (Some base) (S.files shelf.old) →
+        RunFiles net.old.topology all lines.now books.old.names base (S.files shelf.new) result) }
+    ensures text { ForSome (told_packets (S.files shelf.old) books.old.names capture.now) (λ all. ForSome (O.written out.old) (λ before.
+        RunText net.old.topology all lines.now before (O.written out.new) result)) }
+    ensures late { ForSome (told_packets (S.files shelf.old) books.old.names capture.now) (λ all. (base : Files) → Framed books.old.names (Some base) (S.files shelf.old) →
+        ForSome (O.written out.old) (λ before. IsLate net.old.topology all lines.now books.old.names base (S.files shelf.new) before (O.written out.new))) }
+    ensures cause { Blamed (S.read_faults shelf.old, S.write_faults shelf.old, O.faults out.old)
+        (S.read_faults shelf.new, S.write_faults shelf.new, O.faults out.new) result }
+{
+    match play_lines(net, lines, shelf, out, books, capture, desk) {
+        Ok(how) => finish(net, how, shelf, out, books, desk),
+        Err(fault) => Err(fault),
+    }
+}
+
+/// Plays the lines of a script on the network of a topology, over the packets of a capture. Writes the files of the
+/// run into the folder, and puts its report.
+///
+/// Packets and total are put once every file is whole. After an error each begun file is a first part of its bytes,
+/// and what was put is a first part of the report.
+pub fn perform<S: Shelf, O: Sink>(
+    alloc: Global,
+    shelf: &mut S,
+    out: &mut O,
+    topology: Topology,
+    lines: &[Line],
+    capture: &Capture,
+    folder: &str,
+) -> Result<Ended, Fault>
+    requires fit { AllFit topology lines.now }
+    requires few { length lines.now ≤ 3000000 }
+    requires apart { is_inside capture.now.name folder.now ≡ false }
+    ensures ended { ForRun (λ answer m. EndsAs answer result) folder.now topology lines.now capture.now (S.files shelf.old) }
+    ensures files { ForRun (λ answer m. FilesOf answer m (S.files shelf.new) result) folder.now topology lines.now capture.now (S.files shelf.old) }
+    ensures text { ForRun (λ answer m. ForSome (O.written out.old) (λ before. TextOf answer before (O.written out.new) result))
+        folder.now topology lines.now capture.now (S.files shelf.old) }
+    // Nothing of packets and total is put but where every file is whole.
+    ensures late { ForRun (λ answer m. ForSome (O.written out.old) (λ before. TellsLate folder.now topology lines.now capture.now answer m (S.files shelf.new) before (O.written out.new)))
+        folder.now topology lines.now capture.now (S.files shelf.old) }
+    ensures cause { Blamed (S.read_faults shelf.old, S.write_faults shelf.old, O.faults out.old)
+        (S.read_faults shelf.new, S.write_faults shelf.new, O.faults out.new) result }
+{
+    let mut books = match Books::open(alloc, shelf, &topology, folder) {
+        Ok(books) => books,
+        Err(bad) => return Err(Fault::from(bad)),
+    };
+    let Ok(mut desk) = Desk::new(alloc) else {
+        return Err(Fault::NoMemory);
+    };
+    let Ok(mut net) = Net::new(alloc, topology) else {
+        return Err(Fault::NoMemory);
+    };
+    run(&mut net, lines, shelf, out, &mut books, capture, &mut desk)
+}

@@ -1,0 +1,67 @@
+-- The end of a played script as the end of the call.
+use Rattle.std.proofs.Common.{◌≡◌, ℕ, true, false, cond, List, ◌++◌, Option, Some, Ok, Err, Result, inl, inr, refl, sym, ◌∙◌, ap}
+use Rattle.std.specs.Prelude.{◌⊎◌}
+use Rattle.mn_edge.specs.Files.{Files, file}
+use Rattle.mn_topo.specs.Network.{Network}
+use Rattle.mn_script.specs.declared.command.Line.{Line}
+use Rattle.mn_capture.specs.Packets.{CaptureView, packets_in}
+use Rattle.mn_output.specs.Report as output
+use Rattle.mn_perform.specs.declared.ended.Ended.{Ended}
+use Rattle.mn_perform.specs.declared.ended.Ended.TheVariants as ended
+use Rattle.mn_perform.specs.declared.ended.Fault.{Fault}
+use Rattle.mn_perform.specs.declared.ended.Fault.TheVariants as fault
+use Rattle.mn_perform.specs.Faults.{Counts, Blamed}
+use Rattle.mn_perform.specs.Whole.{EndsAs, FilesOf, TextOf, TellsLate}
+use Rattle.mn_run.specs.declared.outcome.Outcome.{Outcome}
+use Rattle.mn_run.specs.declared.outcome.Outcome.TheVariants.{Done, Usage, TooLarge}
+use Rattle.mn_run.specs.declared.outcome.Limit.TheVariants.{Steps}
+use Rattle.mn_run.specs.Answer.{run_done}
+use Rattle.mn_run.specs.Endings.{OutcomeIs, FilesAre, TextIs, CausedBy, IsLate}
+use Rattle.mn_run.specs.Jobs.{outcome_of}
+
+module _ (folder : List ℕ) (t : Network) (lines : List Line) (packets : List (List ℕ)) where
+  pub ends : (result : Result Ended Fault) → EndsAs (output.run_answer folder t lines packets) result → OutcomeIs (Some (run_done folder t lines packets)) (outcome_of result)
+  unfolding run_done
+  ends (Ok ended.All) h = ap (λ b. cond b (TooLarge Steps 4000000) Done) h
+  ends (Ok ended.TooManySteps) h = ap (λ b. cond b (TooLarge Steps 4000000) Done) h
+  ends (Err fault.Read) h = tt
+  ends (Err fault.Write) h = tt
+  ends (Err fault.NoMemory) h = tt
+
+  pub leaves : (m : Files) (after : Option Files) (result : Result Ended Fault) → FilesOf (output.run_answer folder t lines packets) m after result
+      → FilesAre (Some (run_done folder t lines packets)) m after (outcome_of result)
+  unfolding run_done
+  leaves m after (Ok ended.All) h = h
+  leaves m after (Ok ended.TooManySteps) h = h
+  leaves m after (Err fault.Read) h = h
+  leaves m after (Err fault.Write) h = h
+  leaves m after (Err fault.NoMemory) h = h
+
+  pub tells : (before : List ℕ) (after : Option (List ℕ)) (result : Result Ended Fault) → TextOf (output.run_answer folder t lines packets) before after result
+      → TextIs (Some (run_done folder t lines packets)) before after (outcome_of result)
+  unfolding run_done
+  tells before after (Ok ended.All) h = h
+  tells before after (Ok ended.TooManySteps) h = h
+  tells before after (Err fault.Read) h = h
+  tells before after (Err fault.Write) h = h
+  tells before after (Err fault.NoMemory) h = h
+
+pub blames : (old new : Counts) (result : Result Ended Fault) → Blamed old new result → CausedBy old new (outcome_of result)
+blames old new (Ok ended.All) h = h
+blames old new (Ok ended.TooManySteps) h = h
+blames old new (Err fault.Read) h = h
+blames old new (Err fault.Write) h = h
+blames old new (Err fault.NoMemory) h = h
+
+pub no_usage : (result : Result Ended Fault) → outcome_of result ≡ Usage → ⊥
+no_usage (Ok ended.All) h = cc
+no_usage (Ok ended.TooManySteps) h = cc
+no_usage (Err fault.Read) h = cc
+no_usage (Err fault.Write) h = cc
+no_usage (Err fault.NoMemory) h = cc
+
+pub late : (folder : List ℕ) (t : Network) (lines : List Line) (capture : CaptureView) (m : Files) (bytes : List ℕ) (after : Option Files) (before : List ℕ) (written : Option (List ℕ))
+    → file m capture.name ≡ Some bytes → TellsLate folder t lines capture (output.run_answer folder t lines (packets_in capture bytes)) m after before written
+    → IsLate (Some (run_done folder t lines (packets_in capture bytes))) m after before written
+unfolding run_done
+late folder t lines capture m bytes after before written there h = elim h [ inl e ↦ inl e | inr p ↦ inr (p bytes there) ]
