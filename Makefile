@@ -1,6 +1,6 @@
 # make test   the whole gate: proofs from nothing, must-fail edits, tests, programs
 # make build  proves and builds the program, and prints where it is
-# make demo   runs the first example, in seconds, and says whether what ran was the proved build
+# make demo   runs an example (EXAMPLE=first; two-links where none is named), and says whether what ran was the proved build
 # make tools  tests the tools, the schema, the man page and the completions, in seconds
 # make clean  removes what was built
 
@@ -15,7 +15,7 @@ build:
 	@sh scripts/build
 
 demo:
-	@sh scripts/demo
+	@sh scripts/demo $(EXAMPLE)
 
 tools:
 	@python3 -m unittest discover -q -s tools/tests
