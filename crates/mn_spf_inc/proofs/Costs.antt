@@ -28,7 +28,8 @@ count_all : {X : Type 0} (p q : X → Bool) → ((x : X) → p x ≡ true → q 
 count_all p q f [] = omega arith
 count_all p q f (x ∷ xs) = omega (arith, count_cons p x xs, count_cons q x xs, counts (p x) (q x) (f x), count_all p q f xs)
 
-count_more : {X : Type 0} (p q : X → Bool) → ((x : X) → p x ≡ true → q x ≡ true) → (xs : List X) (i : ℕ) (d : X) → i < length xs → p (get_or xs i d) ≡ false → q (get_or xs i d) ≡ true → count_by p xs + 1 ≤ count_by q xs
+count_more : {X : Type 0} (p q : X → Bool) → ((x : X) → p x ≡ true → q x ≡ true) →
+    (xs : List X) (i : ℕ) (d : X) → i < length xs → p (get_or xs i d) ≡ false → q (get_or xs i d) ≡ true → count_by p xs + 1 ≤ count_by q xs
 count_more p q f [] i d less e g = absurd (none_below i less)
 count_more p q f (x ∷ xs) zero d less e g =
     let a : ◌≡◌ {A = ℕ} (cond (p x) 1 0) 0 = ap (λ b. cond b 1 0) e in
@@ -57,11 +58,14 @@ is_below : (a b : ℕ) (o : Option ℕ) → o ≡ Some a → a < b → below b o
 is_below a b None e p = absurd (none_some a e)
 is_below a b (Some c) e p = lt-ltb c b (omega (arith, some_is e, p))
 
-module _ (v : Learned) (root : ℕ) (net : IsNetwork v.nodes v.ends) (t : PathTable) (one_each : IsTable v.nodes t) (root_cost : dist_at t root ≡ Some 0) (formed : (node : ℕ) → node < v.nodes → IsFormed root node (dist_at t node) (next_at t node)) (from_where : (node cost : ℕ) (hop : NodeNo) → node < v.nodes → dist_at t node ≡ Some cost → next_at t node ≡ Some hop → IsFrom v root t node cost hop.0) where
+module _ (v : Learned) (root : ℕ) (net : IsNetwork v.nodes v.ends) (t : PathTable) (one_each : IsTable v.nodes t) (root_cost : dist_at t root ≡ Some 0)
+    (formed : (node : ℕ) → node < v.nodes → IsFormed root node (dist_at t node) (next_at t node)) (from_where : (node cost : ℕ) (hop : NodeNo) →
+    node < v.nodes → dist_at t node ≡ Some cost → next_at t node ≡ Some hop → IsFrom v root t node cost hop.0) where
   abbrev IsByLesser : ℕ → Type 0
   IsByLesser fuel = (node cost : ℕ) → cost < fuel → node < v.nodes → dist_at t node ≡ Some cost → cost ≤ 65535 * count_by (below cost) t.dists
 
-  by_entry : (fuel node cost : ℕ) → IsByLesser fuel → (d : Option ℕ) (n : Option NodeNo) → cost < suc fuel → node < v.nodes → dist_at t node ≡ d → next_at t node ≡ n → IsFormed root node d n → d ≡ Some cost → cost ≤ 65535 * count_by (below cost) t.dists
+  by_entry : (fuel node cost : ℕ) → IsByLesser fuel → (d : Option ℕ) (n : Option NodeNo) → cost < suc fuel → node < v.nodes → dist_at t node ≡ d →
+      next_at t node ≡ n → IsFormed root node d n → d ≡ Some cost → cost ≤ 65535 * count_by (below cost) t.dists
   by_entry fuel node cost ih None n less p e f m q = absurd (none_some cost q)
   by_entry fuel node cost ih (Some c) None less p e f m q = let z : c ≡ 0 = some_is (sym e ∙ ap (dist_at t) m ∙ root_cost) in omega (arith, z, some_is q)
   by_entry fuel node cost ih (Some c) (Some hop) less p e f m q =
@@ -69,7 +73,8 @@ module _ (v : Learned) (root : ℕ) (net : IsNetwork v.nodes v.ends) (t : PathTa
       let positive = (link_is v net h.from h.l h.goes_on).positive in
       let near : h.near ≤ 65535 * count_by (below h.near) t.dists = ih h.from h.near (omega (arith, less, h.sum, positive)) h.there h.is_near in
       let more : count_by (below h.near) t.dists + 1 ≤ count_by (below cost) t.dists =
-      count_more (below h.near) (below cost) (below_more h.near cost (omega (arith, h.sum))) t.dists h.from None (omega (arith, h.there, one_each.dists)) (not_below h.near _ h.is_near) (is_below h.near cost _ h.is_near (omega (arith, h.sum, positive))) in
+      count_more (below h.near) (below cost) (below_more h.near cost (omega (arith, h.sum))) t.dists h.from None (omega (arith, h.there, one_each.dists))
+      (not_below h.near _ h.is_near) (is_below h.near cost _ h.is_near (omega (arith, h.sum, positive))) in
       omega (arith, near, more, h.sum, (link_is v net h.from h.l h.goes_on).bounded)
 
   by_lesser : (fuel : ℕ) → IsByLesser fuel

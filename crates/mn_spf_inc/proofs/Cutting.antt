@@ -1,5 +1,6 @@
 -- Nodes are doubted and cut off.
-use Rattle.std.proofs.Common.{ℕ, ◌≡◌, ◌≢◌, ◌+◌, ◌<◌, ◌≤◌, Bool, true, false, cond, List, [], ◌∷◌, ◌++◌, length, refl, arith, sym, ◌∙◌, ap, ◌⊎◌, inl, inr, subst, get_or-set_other, get_or-set_same}
+use Rattle.std.proofs.Common.{ℕ, ◌≡◌, ◌≢◌, ◌+◌, ◌<◌, ◌≤◌, Bool, true, false, cond, List, [], ◌∷◌, ◌++◌, length, refl, arith, sym, ◌∙◌, ap, ◌⊎◌, inl, inr}
+use Rattle.std.proofs.Common.{subst, get_or-set_other, get_or-set_same}
 use Rattle.std.specs.Prelude.{Option, Some, None, nat_lt, All, Contains, MatchBool, MatchOption, IsPermutation}
 use Rattle.std.specs.declared.cmp.Reverse.{Reverse}
 use Rattle.std.proofs.lemmas.Bool.{ltb-true, ltb-false}
@@ -16,7 +17,8 @@ use Rattle.mn_linkdb.specs.PathTable.{PathTable, IsTable, dist_at, next_at}
 use Rattle.mn_spf.specs.Ways.{goes, beyond, rank, rank_in, rank_at, AtMost, rank_over}
 use Rattle.mn_spf_inc.specs.declared.way.Way.{Way}
 use Rattle.mn_spf_inc.specs.Ways.{rank_of, queued, way_at}
-use Rattle.mn_spf_inc.specs.Mending.{State, numbered, IsFormed, IsHeld, IsRelaxed, is_there, reached, IsDoubted, IsCutting, IsGrowing, IntoCut, NoneLate, OneLate, IsKnown, Queues, Doubts, Forgets}
+use Rattle.mn_spf_inc.specs.Mending.{State, numbered, IsFormed, IsHeld, IsRelaxed, is_there, reached, IsDoubted, IsCutting, IsGrowing, IntoCut, NoneLate}
+use Rattle.mn_spf_inc.specs.Mending.{OneLate, IsKnown, Queues, Doubts, Forgets}
 use Rattle.mn_spf_inc.proofs.Entries.{some_is, none_some, known_way, no_way}
 use Rattle.mn_spf_inc.proofs.Held.{IsFrom, comes_from}
 use Rattle.mn_spf_inc.proofs.Costs.{bounded}
@@ -24,7 +26,9 @@ use Rattle.mn_spf_inc.proofs.Growing.{contains_head, contains_tail, contains_cas
 
 module _ (v : Learned) (root : ℕ) where
   -- 1. Which nodes are late
-  pub eased : (Late Late' : ℕ → ℕ → Type 0) (s : State) → IsCutting v root Late s → ((n known : ℕ) → n < v.nodes → n ≢ root → rank_at s.table n ≡ Some known → Late n known → Late' n known ⊎ (IsDoubted s n ⊎ IsHeld v root s.table n known)) → IsCutting v root Late' s
+  pub eased : (Late Late' : ℕ → ℕ → Type 0) (s : State) → IsCutting v root Late s →
+      ((n known : ℕ) → n < v.nodes → n ≢ root → rank_at s.table n ≡ Some known → Late n known →
+      Late' n known ⊎ (IsDoubted s n ⊎ IsHeld v root s.table n known)) → IsCutting v root Late' s
   eased Late Late' s h f =
       record {
         one_each = h.one_each;
@@ -39,7 +43,8 @@ module _ (v : Learned) (root : ℕ) where
       }
 
   -- 2. A node is doubted
-  module _ (Late Late' : ℕ → ℕ → Type 0) (s : State) (over : Way) (h : IsCutting v root Late s) (there : over.to < v.nodes) (positive : 0 < rank_of over) (late : (n known : ℕ) → Late n known → Late' n known ⊎ ((n ≡ over.to) × (rank_of over ≤ known))) where
+  module _ (Late Late' : ℕ → ℕ → Type 0) (s : State) (over : Way) (h : IsCutting v root Late s) (there : over.to < v.nodes) (positive : 0 < rank_of over)
+      (late : (n known : ℕ) → Late n known → Late' n known ⊎ ((n ≡ over.to) × (rank_of over ≤ known))) where
     rank_root : rank_at s.table root ≡ Some 0
     rank_root = ap (λ o. rank_in o (next_at s.table root)) h.root_cost ∙ ap (λ o. rank_in (Some 0) o) h.root_hop
 
@@ -83,25 +88,32 @@ module _ (v : Learned) (root : ℕ) where
       table_as : (t t' : PathTable) → t' ≡ t → (P : PathTable → Type 0) → P t → P t'
       table_as t t' e P p = subst P (sym e) p
 
-      stands : (s' : State) → s'.table ≡ s.table → s'.cut ≡ s.cut → (queue : All (λ way. (way.0.to < v.nodes) × (way.0.to ≢ root)) s'.queue) → ((n known : ℕ) → n < v.nodes → n ≢ root → rank_at s.table n ≡ Some known → Late' n known ⊎ (IsDoubted s' n ⊎ IsHeld v root s.table n known)) → IsCutting v root Late' s'
+      stands : (s' : State) → s'.table ≡ s.table → s'.cut ≡ s.cut → (queue : All (λ way. (way.0.to < v.nodes) × (way.0.to ≢ root)) s'.queue) →
+          ((n known : ℕ) → n < v.nodes → n ≢ root → rank_at s.table n ≡ Some known → Late' n known ⊎ (IsDoubted s' n ⊎ IsHeld v root s.table n known)) →
+          IsCutting v root Late' s'
       stands s' e c ways f =
           record {
             one_each = subst (IsTable v.nodes) (sym e) h.one_each;
             root_cost = ap (λ t. dist_at t root) e ∙ h.root_cost;
             root_hop = ap (λ t. next_at t root) e ∙ h.root_hop;
             formed = λ n p. subst (λ t. IsFormed root n (dist_at t n) (next_at t n)) (sym e) (h.formed n p);
-            held = λ n known p q r. subst (λ t. Late' n known ⊎ (IsDoubted s' n ⊎ IsHeld v root t n known)) (sym e) (f n known p q (ap (λ t. rank_at t n) (sym e) ∙ r));
-            relaxed = λ n m known p g r. subst (λ t. IntoCut v s'.cut n m ⊎ IsRelaxed v root t n known m) (sym e) (subst (λ cs. IntoCut v cs n m ⊎ IsRelaxed v root s.table n known m) (sym c) (h.relaxed n m known p g (ap (λ t. rank_at t n) (sym e) ∙ r)));
+            held = λ n known p q r. subst (λ t. Late' n known ⊎ (IsDoubted s' n ⊎ IsHeld v root t n known)) (sym e)
+                (f n known p q (ap (λ t. rank_at t n) (sym e) ∙ r));
+            relaxed =
+                λ n m known p g r. subst (λ t. IntoCut v s'.cut n m ⊎ IsRelaxed v root t n known m) (sym e)
+                (subst (λ cs. IntoCut v cs n m ⊎ IsRelaxed v root s.table n known m) (sym c) (h.relaxed n m known p g (ap (λ t. rank_at t n) (sym e) ∙ r)));
             ways = ways;
             small = λ n cost p r. h.small n cost p (ap (λ t. dist_at t n) (sym e) ∙ r);
-            gone = subst (λ t. All (λ node. (node.0 < v.nodes) × (dist_at t node.0 ≡ None)) s'.cut) (sym e) (subst (All (λ node. (node.0 < v.nodes) × (dist_at s.table node.0 ≡ None))) (sym c) h.gone);
+            gone = subst (λ t. All (λ node. (node.0 < v.nodes) × (dist_at t node.0 ≡ None)) s'.cut) (sym e)
+                (subst (All (λ node. (node.0 < v.nodes) × (dist_at s.table node.0 ≡ None))) (sym c) h.gone);
           }
 
       -- it is queued
       queues : (s' : State) → nat_lt (rank_of w) (rank_of over) ≡ false → Queues s s' w → IsCutting v root Late' s'
       queues s' b t =
           stands s' t.table t.cut
-          (All-permutation (λ way. (way.0.to < v.nodes) × (way.0.to ≢ root)) _ _ t.queue (All-cons (λ way. (way.0.to < v.nodes) × (way.0.to ≢ root)) _ _ (is_known.0.there, not_root b) h.ways))
+          (All-permutation (λ way. (way.0.to < v.nodes) × (way.0.to ≢ root)) _ _ t.queue
+          (All-cons (λ way. (way.0.to < v.nodes) × (way.0.to ≢ root)) _ _ (is_known.0.there, not_root b) h.ways))
           (λ n known p q r. elim (h.held n known p q r) [
             | inl o ↦ elim (late n known o) [
               | inl o ↦ inl o
@@ -117,7 +129,8 @@ module _ (v : Learned) (root : ℕ) where
       doubted_by true s' b t = subst (IsCutting v root Late') (sym t) (better b)
       doubted_by false s' b t = queues s' b t
 
-    doubted_in : (o : Option Way) (s' : State) → way_at s.table over.to ≡ o → MatchOption o (s' ≡ s) (λ known. MatchBool (nat_lt (rank_of known) (rank_of over)) (s' ≡ s) (Queues s s' known)) → IsCutting v root Late' s'
+    doubted_in : (o : Option Way) (s' : State) → way_at s.table over.to ≡ o →
+        MatchOption o (s' ≡ s) (λ known. MatchBool (nat_lt (rank_of known) (rank_of over)) (s' ≡ s) (Queues s s' known)) → IsCutting v root Late' s'
     doubted_in None s' e t = subst (IsCutting v root Late') (sym t) (nowhere e)
     doubted_in (Some w) s' e t = doubted_by w e _ s' refl t
 
@@ -125,7 +138,8 @@ module _ (v : Learned) (root : ℕ) where
     doubted s' t = doubted_in _ s' refl t
 
   -- 3. A node comes out of the queue
-  pub popped : (s s' : State) (way : Way) → IsCutting v root NoneLate s → IsPermutation s.queue (queued way ∷ s'.queue) → s'.table ≡ s.table → s'.cut ≡ s.cut → IsCutting v root (OneLate way.to) s' × (way.to < v.nodes) × (way.to ≢ root)
+  pub popped : (s s' : State) (way : Way) → IsCutting v root NoneLate s → IsPermutation s.queue (queued way ∷ s'.queue) → s'.table ≡ s.table →
+      s'.cut ≡ s.cut → IsCutting v root (OneLate way.to) s' × (way.to < v.nodes) × (way.to ≢ root)
   popped s s' way h moved e c =
       let ways = All-permutation (λ w. (w.0.to < v.nodes) × (w.0.to ≢ root)) _ _ moved h.ways in
       let it : (way.to < v.nodes) × (way.to ≢ root) = All-head (λ w. (w.0.to < v.nodes) × (w.0.to ≢ root)) _ _ ways in (
@@ -134,20 +148,24 @@ module _ (v : Learned) (root : ℕ) where
           root_cost = ap (λ t. dist_at t root) e ∙ h.root_cost;
           root_hop = ap (λ t. next_at t root) e ∙ h.root_hop;
           formed = λ n p. subst (λ t. IsFormed root n (dist_at t n) (next_at t n)) (sym e) (h.formed n p);
-          held = λ n known p q r. subst (λ t. OneLate way.to n known ⊎ (IsDoubted s' n ⊎ IsHeld v root t n known)) (sym e) (elim (h.held n known p q (ap (λ t. rank_at t n) (sym e) ∙ r)) [
-            | inl o ↦ absurd o
-            | inr o ↦ elim o [
-              | inl d ↦ elim (contains_cases (queued way) (queued d.0) s'.queue (Contains-permutation _ _ _ moved d.1)) [
-                | inl a ↦ inl (sym d.2 ∙ ap (λ (w : Reverse Way). w.0.to) (sym a))
-                | inr a ↦ inr (inl (d.0, a, d.2))
-              ]
-              | inr a ↦ inr (inr a)
-            ]
-          ]);
-          relaxed = λ n m known p g r. subst (λ t. IntoCut v s'.cut n m ⊎ IsRelaxed v root t n known m) (sym e) (subst (λ cs. IntoCut v cs n m ⊎ IsRelaxed v root s.table n known m) (sym c) (h.relaxed n m known p g (ap (λ t. rank_at t n) (sym e) ∙ r)));
+          held = λ n known p q r. subst (λ t. OneLate way.to n known ⊎ (IsDoubted s' n ⊎ IsHeld v root t n known)) (sym e)
+              (elim (h.held n known p q (ap (λ t. rank_at t n) (sym e) ∙ r)) [
+                | inl o ↦ absurd o
+                | inr o ↦ elim o [
+                  | inl d ↦ elim (contains_cases (queued way) (queued d.0) s'.queue (Contains-permutation _ _ _ moved d.1)) [
+                    | inl a ↦ inl (sym d.2 ∙ ap (λ (w : Reverse Way). w.0.to) (sym a))
+                    | inr a ↦ inr (inl (d.0, a, d.2))
+                  ]
+                  | inr a ↦ inr (inr a)
+                ]
+              ]);
+          relaxed =
+              λ n m known p g r. subst (λ t. IntoCut v s'.cut n m ⊎ IsRelaxed v root t n known m) (sym e)
+              (subst (λ cs. IntoCut v cs n m ⊎ IsRelaxed v root s.table n known m) (sym c) (h.relaxed n m known p g (ap (λ t. rank_at t n) (sym e) ∙ r)));
           ways = All-tail (λ w. (w.0.to < v.nodes) × (w.0.to ≢ root)) _ _ ways;
           small = λ n cost p r. h.small n cost p (ap (λ t. dist_at t n) (sym e) ∙ r);
-          gone = subst (λ t. All (λ node. (node.0 < v.nodes) × (dist_at t node.0 ≡ None)) s'.cut) (sym e) (subst (All (λ node. (node.0 < v.nodes) × (dist_at s.table node.0 ≡ None))) (sym c) h.gone);
+          gone = subst (λ t. All (λ node. (node.0 < v.nodes) × (dist_at t node.0 ≡ None)) s'.cut) (sym e)
+              (subst (All (λ node. (node.0 < v.nodes) × (dist_at s.table node.0 ≡ None))) (sym c) h.gone);
         },
         it.0,
         it.1,
@@ -191,8 +209,24 @@ module _ (v : Learned) (root : ℕ) where
         elim (eqb_tells a.from w.to) [
           | inl e ↦
               (let near : a.near ≡ rank_of w = some_is (sym a.is_known ∙ ap (rank_at s.table) e.1 ∙ k.rank) in
-              inl (a.l, subst (λ n. goes v n a.l ≡ true) e.1 a.goes_on, subst (λ n. beyond v n a.l ≡ node) e.1 a.leads, subst (λ n. rank_over v root n (rank_of w) a.l ≤ known) e.1 (subst (λ n. rank_over v root a.from n a.l ≤ known) near a.no_worse)))
-          | inr e ↦ inr (record { from = a.from; l = a.l; near = a.near; there = a.there; goes_on = a.goes_on; leads = a.leads; is_known = rank_off a.from e.1 ∙ a.is_known; no_worse = a.no_worse })
+              inl (
+                a.l,
+                subst (λ n. goes v n a.l ≡ true) e.1 a.goes_on,
+                subst (λ n. beyond v n a.l ≡ node) e.1 a.leads,
+                subst
+                    (λ n. rank_over v root n (rank_of w) a.l ≤ known) e.1 (subst (λ n. rank_over v root a.from n a.l ≤ known) near a.no_worse),
+              ))
+          | inr e ↦ inr (record {
+            from = a.from;
+            l = a.l;
+            near = a.near;
+            there = a.there;
+            goes_on = a.goes_on;
+            leads = a.leads;
+            is_known =
+                rank_off a.from e.1 ∙ a.is_known;
+            no_worse = a.no_worse;
+          })
         ]
 
     numbered_same : {a b : ℕ} → a ≡ b → numbered a ≡ numbered b
@@ -209,7 +243,8 @@ module _ (v : Learned) (root : ℕ) where
           root_hop = next_off root (λ e. q (sym e)) ∙ h.root_hop;
           formed = λ node p.
               elim (eqb_tells node w.to) [
-                | inl e ↦ subst (λ n. IsFormed root n (dist_at s'.table n) (next_at s'.table n)) (sym e.1) (formed_as w.to _ None _ None dist_gone next_gone refl)
+                | inl e ↦ subst (λ n. IsFormed root n (dist_at s'.table n) (next_at s'.table n)) (sym e.1)
+                    (formed_as w.to _ None _ None dist_gone next_gone refl)
                 | inr e ↦ formed_as node _ _ _ _ (dist_off node e.1) (next_off node e.1) (h.formed node p)
               ];
           held = λ node known p d r.
@@ -224,7 +259,9 @@ module _ (v : Learned) (root : ℕ) where
           relaxed = λ node l known p g r.
               (let other : node ≢ w.to = still node known r in
               elim (eqb_tells (beyond v node l) w.to) [
-                | inl e ↦ inl (subst (λ cs. Contains cs (numbered (beyond v node l))) (sym f.cut) (subst (Contains (s.cut ++ numbered w.to ∷ [])) (numbered_same (sym e.1)) (Contains-push s.cut (numbered w.to))))
+                | inl e ↦ inl
+                    (subst (λ cs. Contains cs (numbered (beyond v node l))) (sym f.cut)
+                    (subst (Contains (s.cut ++ numbered w.to ∷ [])) (numbered_same (sym e.1)) (Contains-push s.cut (numbered w.to))))
                 | inr e ↦ elim (h.relaxed node l known p g (sym (rank_off node other) ∙ r)) [
                   | inl o ↦ inl (subst (λ cs. Contains cs (numbered (beyond v node l))) (sym f.cut) (Contains-append_left s.cut (numbered w.to ∷ []) _ o))
                   | inr o ↦ inr (subst (λ x. AtMost x (rank_over v root node known l)) (sym (rank_off (beyond v node l) e.1)) o)
@@ -238,7 +275,8 @@ module _ (v : Learned) (root : ℕ) where
               ];
           gone = subst (All (λ node. (node.0 < v.nodes) × (dist_at s'.table node.0 ≡ None))) (sym f.cut)
               (All-push (λ (node : NodeNo). (node.0 < v.nodes) × (dist_at s'.table node.0 ≡ None)) s.cut (numbered w.to)
-              (All-weaker (λ (node : NodeNo). (node.0 < v.nodes) × (dist_at s.table node.0 ≡ None)) (λ (node : NodeNo). (node.0 < v.nodes) × (dist_at s'.table node.0 ≡ None)) (λ node a. (a.0, none_still node.0 a.1)) s.cut h.gone)
+              (All-weaker (λ (node : NodeNo). (node.0 < v.nodes) × (dist_at s.table node.0 ≡ None))
+              (λ (node : NodeNo). (node.0 < v.nodes) × (dist_at s'.table node.0 ≡ None)) (λ node a. (a.0, none_still node.0 a.1)) s.cut h.gone)
               (k.there, dist_gone));
         }
       where
@@ -271,18 +309,21 @@ module _ (v : Learned) (root : ℕ) where
         ]
 
     not_gone : (node cost : ℕ) → dist_at s.table node ≡ Some cost → Contains s.cut (numbered node) → ⊥
-    not_gone node cost e c = none_some cost (sym (All-contains (λ (n : NodeNo). (n.0 < v.nodes) × (dist_at s.table n.0 ≡ None)) s.cut (numbered node) h.gone c).1 ∙ e)
+    not_gone node cost e c =
+        none_some cost (sym (All-contains (λ (n : NodeNo). (n.0 < v.nodes) × (dist_at s.table n.0 ≡ None)) s.cut (numbered node) h.gone c).1 ∙ e)
 
     formed_fits : (node : ℕ) (d : Option ℕ) (n : Option NodeNo) (hop : NodeNo) → IsFormed root node d n → n ≡ Some hop → (hop.0 < 65536) × (node ≢ root)
     formed_fits node None n hop f e = absurd (none_some hop (sym f ∙ e))
     formed_fits node (Some cost) None hop f e = absurd (none_some hop e)
     formed_fits node (Some cost) (Some hop') hop f e = subst (λ (h : NodeNo). (h.0 < 65536) × (node ≢ root)) (some_is e) f
 
-    from_where : (node cost : ℕ) (hop : NodeNo) → node < v.nodes → dist_at s.table node ≡ Some cost → next_at s.table node ≡ Some hop → IsFrom v root s.table node cost hop.0
+    from_where : (node cost : ℕ) (hop : NodeNo) → node < v.nodes → dist_at s.table node ≡ Some cost → next_at s.table node ≡ Some hop →
+        IsFrom v root s.table node cost hop.0
     from_where node cost hop p e f =
         let t = s.table in
         let fits : (hop.0 < 65536) × (node ≢ root) = formed_fits node _ _ hop (h.formed node p) f in
-        let a : IsHeld v root t node (rank cost hop.0) = held_now node _ p fits.1 (ap (λ o. rank_in o (next_at t node)) e ∙ ap (λ o. rank_in (Some cost) o) f) in
+        let a : IsHeld v root t node (rank cost hop.0) =
+        held_now node _ p fits.1 (ap (λ o. rank_in o (next_at t node)) e ∙ ap (λ o. rank_in (Some cost) o) f) in
         comes_from v root net here t h.root_cost h.root_hop h.formed node cost hop e f fits.0 a
         (elim (h.relaxed a.from a.l a.near a.there a.goes_on a.is_known) [
           | inl o ↦ absurd (not_gone node cost e (subst (λ n. Contains s.cut (numbered n)) a.leads o))

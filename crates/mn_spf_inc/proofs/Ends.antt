@@ -1,5 +1,6 @@
 -- A link that is turned is looked at from both ends.
-use Rattle.std.proofs.Common.{ℕ, ◌≡◌, ◌+◌, ◌<◌, ◌≤◌, ◌==◌, Bool, true, false, List, [], ◌∷◌, ◌++◌, length, get_or, refl, arith, sym, ◌∙◌, ap, ◌⊎◌, inl, inr, subst}
+use Rattle.std.proofs.Common.{ℕ, ◌≡◌, ◌+◌, ◌<◌, ◌≤◌, ◌==◌, Bool, true, false, List, [], ◌∷◌, ◌++◌, length, get_or, refl, arith, sym, ◌∙◌, ap, ◌⊎◌, inl, inr}
+use Rattle.std.proofs.Common.{subst}
 use Rattle.std.specs.Prelude.{Option, Some, None, All, MatchBool, MatchOption, nat_lt}
 use Rattle.std.proofs.lemmas.Bool.{lt-ltb}
 use Rattle.std.proofs.lemmas.List.{get_or_append_left, length-append}
@@ -15,7 +16,8 @@ use Rattle.mn_spf.specs.Ways.{wiring_of, goes, rank_at}
 use Rattle.mn_spf.proofs.Walks.{all_true}
 use Rattle.mn_spf_inc.specs.declared.way.Way.{Way}
 use Rattle.mn_spf_inc.specs.Ways.{rank_of, way_at}
-use Rattle.mn_spf_inc.specs.Mending.{State, IsHeld, IsKnown, IsGrowing, IsCutting, NoRest, OneLink, NoneLate, OneLate, HeldOver, HeldOverEither, OffersBeyond, Queues, DoubtsBeyond, work}
+use Rattle.mn_spf_inc.specs.Mending.{State, IsHeld, IsKnown, IsGrowing, IsCutting, NoRest, OneLink, NoneLate, OneLate, HeldOver, HeldOverEither}
+use Rattle.mn_spf_inc.specs.Mending.{OffersBeyond, Queues, DoubtsBeyond, work}
 use Rattle.mn_spf_inc.proofs.Entries.{some_is, none_some, no_way}
 use Rattle.mn_spf_inc.proofs.Places.{from_first, offered_beyond}
 use Rattle.mn_spf_inc.proofs.Cutting.{eased}
@@ -37,7 +39,9 @@ all_last P xs x h = subst P (last xs x) (h (length xs) x (omega (arith, length-a
     last (y ∷ ys) x = last ys x
 
 -- what a doubt leaves
-pub doubt_size : (o : Option Way) (s s' : State) (over : Way) → MatchOption o (s' ≡ s) (λ known. MatchBool (nat_lt (rank_of known) (rank_of over)) (s' ≡ s) (Queues s s' known)) → (s'.table ≡ s.table) × (length s'.queue ≤ length s.queue + 1)
+pub doubt_size : (o : Option Way) (s s' : State) (over : Way) →
+    MatchOption o (s' ≡ s) (λ known. MatchBool (nat_lt (rank_of known) (rank_of over)) (s' ≡ s) (Queues s s' known)) →
+    (s'.table ≡ s.table) × (length s'.queue ≤ length s.queue + 1)
 doubt_size None s s' over d = (ap (λ (x : State). x.table) d, omega (arith, ap (λ (x : State). length x.queue) d))
 doubt_size (Some known) s s' over d = by (nat_lt (rank_of known) (rank_of over)) d
   where
@@ -55,7 +59,8 @@ module _ (v : Learned) (root : ℕ) (s : State) (at : ℕ) (h : IsCutting v root
 
   -- nothing is known of it
   pub found_gone : way_at s.table at ≡ None → IsCutting v root NoneLate s
-  found_gone e = eased v root (OneLate at) NoneLate s h (λ n known p q r o. absurd (none_some known (sym (no_way s.table at e) ∙ ap (rank_at s.table) (sym o) ∙ r)))
+  found_gone e =
+      eased v root (OneLate at) NoneLate s h (λ n known p q r o. absurd (none_some known (sym (no_way s.table at e) ∙ ap (rank_at s.table) (sym o) ∙ r)))
 
 module _ (v : Learned) (root : ℕ) (net : IsNetwork v.nodes v.ends) (here : root < v.nodes) (l : ℕ) (there : l < length v.ends) where
   abbrev pub a : ℕ
@@ -91,7 +96,8 @@ module _ (v : Learned) (root : ℕ) (net : IsNetwork v.nodes v.ends) (here : roo
     second s2 o2 = offered_beyond v root net here FromB NoRest s1 s2 b l first.0 b_below (goes_b up) (λ n m g r. inr r) o2
 
   -- it went down
-  module _ (t : PathTable) (s s1 : State) (is : s.table ≡ t) (h : IsCutting v root (HeldOverEither v root t l a b) s) (o : DoubtsBeyond s s1 root a (link (wiring_of v) l)) where
+  module _ (t : PathTable) (s s1 : State) (is : s.table ≡ t) (h : IsCutting v root (HeldOverEither v root t l a b) s)
+      (o : DoubtsBeyond s s1 root a (link (wiring_of v) l)) where
     pub one_doubted : IsCutting v root (HeldOver v root t l b) s1
     one_doubted = doubted_beyond v root net (HeldOver v root t l b) t a l s s1 is there a_below h o
 
@@ -101,7 +107,9 @@ module _ (v : Learned) (root : ℕ) (net : IsNetwork v.nodes v.ends) (here : roo
     pub both_doubted : (s2 : State) → DoubtsBeyond s1 s2 root b (link (wiring_of v) l) → IsCutting v root NoneLate s2 × (s2.table ≡ t) × (s2.cut ≡ s.cut)
     both_doubted s2 o2 =
         let k = doubting_keeps v root net _ s1 s2 (link (wiring_of v) l) o2 in (
-          doubted_beyond v root net NoneLate t b l s1 s2 (one_keeps.0 ∙ is) there b_below (eased v root (HeldOver v root t l b) (λ n known. HeldOver v root t l b n known ⊎ NoneLate n known) s1 one_doubted (λ n known p q r e. inl (inl e))) o2,
+          doubted_beyond v root net NoneLate t b l s1 s2 (one_keeps.0 ∙ is) there b_below
+              (eased v root (HeldOver v root t l b) (λ n known. HeldOver v root t l b n known ⊎ NoneLate n known) s1 one_doubted
+              (λ n known p q r e. inl (inl e))) o2,
           k.0 ∙ one_keeps.0 ∙ is,
           k.1 ∙ one_keeps.1,
         )

@@ -20,19 +20,23 @@ pub none_some : {X : Type 0} (x : X) → ◌≡◌ {A = Option X} None (Some x) 
 none_some x e = cc
 
 -- 1. The way that the entries tell
-pub way_rank : (d : Option ℕ) (n : Option NodeNo) (node : ℕ) (w : Way) → way_in d n node ≡ Some w → (w.to ≡ node) × (d ≡ Some w.cost) × (rank_in d n ≡ Some (rank_of w))
+pub way_rank : (d : Option ℕ) (n : Option NodeNo) (node : ℕ) (w : Way) → way_in d n node ≡ Some w →
+    (w.to ≡ node) × (d ≡ Some w.cost) × (rank_in d n ≡ Some (rank_of w))
 way_rank None n node w e = absurd (none_some w e)
 way_rank (Some cost) None node w e =
-    subst (λ (x : Way). (x.to ≡ node) × (◌≡◌ {A = Option ℕ} (Some cost) (Some x.cost)) × (rank_in (Some cost) None ≡ Some (rank_of x))) (some_is e) (refl, refl, refl)
+    subst (λ (x : Way). (x.to ≡ node) × (◌≡◌ {A = Option ℕ} (Some cost) (Some x.cost)) × (rank_in (Some cost) None ≡ Some (rank_of x))) (some_is e)
+    (refl, refl, refl)
 way_rank (Some cost) (Some hop) node w e =
-    subst (λ (x : Way). (x.to ≡ node) × (◌≡◌ {A = Option ℕ} (Some cost) (Some x.cost)) × (rank_in (Some cost) (Some hop) ≡ Some (rank_of x))) (some_is e) (refl, refl, refl)
+    subst (λ (x : Way). (x.to ≡ node) × (◌≡◌ {A = Option ℕ} (Some cost) (Some x.cost)) × (rank_in (Some cost) (Some hop) ≡ Some (rank_of x))) (some_is e)
+    (refl, refl, refl)
 
 way_fits : (d : Option ℕ) (n : Option NodeNo) (root node : ℕ) (w : Way) → way_in d n node ≡ Some w → IsFormed root node d n → w.hop < 65536
 way_fits None n root node w e f = absurd (none_some w e)
 way_fits (Some cost) None root node w e f = subst (λ (x : Way). x.hop < 65536) (some_is e) (omega arith)
 way_fits (Some cost) (Some hop) root node w e f = subst (λ (x : Way). x.hop < 65536) (some_is e) f.0
 
-way_starts : (d : Option ℕ) (n : Option NodeNo) (root node : ℕ) (w : Way) → way_in d n node ≡ Some w → IsFormed root node d n → node ≡ root → d ≡ Some 0 → (w.cost ≡ 0) × (w.hop ≡ 0)
+way_starts : (d : Option ℕ) (n : Option NodeNo) (root node : ℕ) (w : Way) → way_in d n node ≡ Some w → IsFormed root node d n → node ≡ root → d ≡ Some 0 →
+    (w.cost ≡ 0) × (w.hop ≡ 0)
 way_starts None n root node w e f r z = absurd (none_some w e)
 way_starts (Some cost) None root node w e f r z = subst (λ (x : Way). (x.cost ≡ 0) × (x.hop ≡ 0)) (some_is e) (some_is z, refl)
 way_starts (Some cost) (Some hop) root node w e f r z = absurd (f.1 r)
@@ -42,7 +46,8 @@ no_rank None n node e = refl
 no_rank (Some cost) None node e = cc
 no_rank (Some cost) (Some hop) node e = cc
 
-pub known_way : (v : Learned) (root : ℕ) (t : PathTable) (node : ℕ) (w : Way) → node < v.nodes → IsFormed root node (dist_at t node) (next_at t node) → dist_at t root ≡ Some 0 → way_at t node ≡ Some w → IsKnown v root t w × (w.to ≡ node)
+pub known_way : (v : Learned) (root : ℕ) (t : PathTable) (node : ℕ) (w : Way) → node < v.nodes → IsFormed root node (dist_at t node) (next_at t node) →
+    dist_at t root ≡ Some 0 → way_at t node ≡ Some w → IsKnown v root t w × (w.to ≡ node)
 known_way v root t node w p f z e =
     let r : (w.to ≡ node) × (dist_at t node ≡ Some w.cost) × (rank_at t node ≡ Some (rank_of w)) = way_rank _ _ node w e in (
       record {
@@ -62,7 +67,8 @@ no_way t node e = no_rank _ _ node e
 pub same_parts : (c h c' h' : ℕ) → h < 65536 → h' < 65536 → rank c h ≡ rank c' h' → (c ≡ c') × (h ≡ h')
 same_parts c h c' h' p q e = let f : c ≡ c' = omega (arith, p, q, e) in (f, omega (arith, f, e))
 
-rank_chosen : (b : Bool) (cost c hop far : ℕ) → (b ≡ true → (cost ≡ 0) × (hop ≡ 0)) → rank (cost + c) (if b then far else hop) ≡ (if b then rank c far else rank cost hop + 65536 * c)
+rank_chosen : (b : Bool) (cost c hop far : ℕ) →
+    (b ≡ true → (cost ≡ 0) × (hop ≡ 0)) → rank (cost + c) (if b then far else hop) ≡ (if b then rank c far else rank cost hop + 65536 * c)
 rank_chosen true cost c hop far z = omega (arith, (z refl).0)
 rank_chosen false cost c hop far z = omega arith
 

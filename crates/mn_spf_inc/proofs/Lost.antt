@@ -21,7 +21,8 @@ use Rattle.mn_spf_inc.specs.declared.way.Way.{Way}
 use Rattle.mn_spf_inc.specs.Ways.{rank_of, way_over, way_at}
 use Rattle.mn_spf_inc.specs.Nets.{all_up, with_link}
 use Rattle.mn_spf_inc.specs.Mended.{Makes}
-use Rattle.mn_spf_inc.specs.Mending.{State, IsHeld, IsKnown, IsGrowing, IsMended, IsCutting, OneLink, NoneLate, HeldBy, HeldOver, HeldOverEither, IsPassedOver, Queues, Doubts, DoubtsBeyond}
+use Rattle.mn_spf_inc.specs.Mending.{State, IsHeld, IsKnown, IsGrowing, IsMended, IsCutting, OneLink, NoneLate, HeldBy, HeldOver, HeldOverEither}
+use Rattle.mn_spf_inc.specs.Mending.{IsPassedOver, Queues, Doubts, DoubtsBeyond}
 use Rattle.mn_spf_inc.proofs.Entries.{some_is, none_some, same_parts, known_way, no_way, over_rank, over_dearer, over_more, over_fits}
 use Rattle.mn_spf_inc.proofs.Nets.{goes_other, goes_without, goes_with, up_there}
 use Rattle.mn_spf_inc.proofs.Held.{all_relaxed}
@@ -39,7 +40,8 @@ module _ (v : Learned) (root : ℕ) (net : IsNetwork v.nodes v.ends) where
   far_below node l p = cond_below _ _ _ _ (link_there l p).to (link_there l p).from
 
   -- 1. A way that comes from a neighbour
-  pub held_from : (s : State) (Late : ℕ → ℕ → Type 0) (way near : Way) (l : ℕ) → IsCutting v root Late s → way.to < v.nodes → goes v way.to l ≡ true → way_at s.table (beyond v way.to l) ≡ Some near → way_over root near (link (wiring_of v) l) ≡ way → IsHeld v root s.table way.to (rank_of way)
+  pub held_from : (s : State) (Late : ℕ → ℕ → Type 0) (way near : Way) (l : ℕ) → IsCutting v root Late s → way.to < v.nodes → goes v way.to l ≡ true →
+      way_at s.table (beyond v way.to l) ≡ Some near → way_over root near (link (wiring_of v) l) ≡ way → IsHeld v root s.table way.to (rank_of way)
   held_from s Late way near l h there g e o =
       let far = beyond v way.to l in
       let below : far < v.nodes = beyond_below v net way.to l g in
@@ -57,13 +59,17 @@ module _ (v : Learned) (root : ℕ) (net : IsNetwork v.nodes v.ends) where
 
   -- 2. The nodes that one was holding
   module _ (w : Way) (links : List LinkNo) where
-    pub held_first : (s : State) → AreLinksAt (all_up v.nodes v.ends) w.to links → IsCutting v root (λ node known. (l : ℕ) × (goes v w.to l ≡ true) × (beyond v w.to l ≡ node) × (rank_over v root w.to (rank_of w) l ≤ known)) s → IsCutting v root (HeldBy v root w links 0) s
+    pub held_first : (s : State) → AreLinksAt (all_up v.nodes v.ends) w.to links →
+        IsCutting v root (λ node known. (l : ℕ) × (goes v w.to l ≡ true) × (beyond v w.to l ≡ node) × (rank_over v root w.to (rank_of w) l ≤ known)) s →
+        IsCutting v root (HeldBy v root w links 0) s
     held_first s are h = eased v root _ (HeldBy v root w links 0) s h (λ n known p q r o. inl (o.0, o.1, first_place v w.to links are o.0 o.1, o.2, o.3))
 
     pub held_past : (s : State) (i : ℕ) → length links ≤ i → IsCutting v root (HeldBy v root w links i) s → IsCutting v root NoneLate s
     held_past s i e h = eased v root (HeldBy v root w links i) NoneLate s h (λ n known p q r o. absurd (no_place w.to links i w.to o.0 e o.2))
 
-    pub held_down : (s : State) (i l : ℕ) (d : LinkNo) → (get_or links i d).0 ≡ l → is_up (links_up v) l ≡ false → IsCutting v root (HeldBy v root w links i) s → IsCutting v root (HeldBy v root w links (i + 1)) s
+    pub held_down : (s : State) (i l : ℕ) (d : LinkNo) →
+        (get_or links i d).0 ≡ l → is_up (links_up v) l ≡ false → IsCutting v root (HeldBy v root w links i) s →
+        IsCutting v root (HeldBy v root w links (i + 1)) s
     held_down s i l d e u h =
         eased v root (HeldBy v root w links i) (HeldBy v root w links (i + 1)) s h
         (λ n known p q r o. elim (next_place w.to links i w.to o.0 l d e o.2) [
@@ -71,9 +77,12 @@ module _ (v : Learned) (root : ℕ) (net : IsNetwork v.nodes v.ends) where
           | inr a ↦ absurd (clash (sym (goes_at v w.to o.0 o.1).up ∙ ap (is_up (links_up v)) a.1 ∙ u))
         ])
 
-    pub held_next : (t : PathTable) (s s' : State) (i l : ℕ) (d : LinkNo) → IsKnown v root t w → (get_or links i d).0 ≡ l → goes v w.to l ≡ true → IsCutting v root (HeldBy v root w links i) s → Doubts s s' (way_over root w (link (wiring_of v) l)) → IsCutting v root (HeldBy v root w links (i + 1)) s'
+    pub held_next : (t : PathTable) (s s' : State) (i l : ℕ) (d : LinkNo) → IsKnown v root t w →
+        (get_or links i d).0 ≡ l → goes v w.to l ≡ true → IsCutting v root (HeldBy v root w links i) s →
+        Doubts s s' (way_over root w (link (wiring_of v) l)) → IsCutting v root (HeldBy v root w links (i + 1)) s'
     held_next t s s' i l d k e g h o =
-        doubted v root (HeldBy v root w links i) (HeldBy v root w links (i + 1)) s (way_over root w (link (wiring_of v) l)) h (beyond_below v net w.to l g) (omega (arith, over_more v root net t w k l g))
+        doubted v root (HeldBy v root w links i) (HeldBy v root w links (i + 1)) s (way_over root w (link (wiring_of v) l)) h (beyond_below v net w.to l g)
+        (omega (arith, over_more v root net t w k l g))
         (λ n known a. elim (next_place w.to links i w.to a.0 l d e a.2) [
           | inl b ↦ inl (a.0, a.1, b, a.3, a.4)
           | inr b ↦ inr (sym a.3 ∙ ap (beyond v w.to) b.1, omega (arith, over_rank v root net t w k l, ap (λ m. rank_over v root w.to (rank_of w) m) b.1, a.4))
@@ -85,7 +94,8 @@ module _ (v : Learned) (root : ℕ) (net : IsNetwork v.nodes v.ends) where
     abbrev Late : ℕ → ℕ → Type 0
     Late node known = HeldOver v root t l from node known ⊎ Late' node known
 
-    beyond_as : (o : Option Way) → IsCutting v root Late s → way_at s.table from ≡ o → MatchOption o (s' ≡ s) (λ way. Doubts s s' (way_over root way (link (wiring_of v) l))) → IsCutting v root Late' s'
+    beyond_as : (o : Option Way) → IsCutting v root Late s → way_at s.table from ≡ o →
+        MatchOption o (s' ≡ s) (λ way. Doubts s s' (way_over root way (link (wiring_of v) l))) → IsCutting v root Late' s'
     beyond_as None h e d =
         subst (IsCutting v root Late') (sym d)
         (eased v root Late Late' s h (λ n known p q r o. elim o [
@@ -94,11 +104,23 @@ module _ (v : Learned) (root : ℕ) (net : IsNetwork v.nodes v.ends) where
         ]))
     beyond_as (Some w) h e d =
         let k = known_way v root s.table from w below (h.formed from below) h.root_cost e in
-        doubted v root Late Late' s (way_over root w (link (wiring_of v) l)) h (far_below w.to l there) (omega (arith, over_dearer v root net s.table w k.0 l (link_there l there).positive))
+        doubted v root Late Late' s (way_over root w (link (wiring_of v) l)) h (far_below w.to l there)
+        (omega (arith, over_dearer v root net s.table w k.0 l (link_there l there).positive))
         (λ n known o. elim o [
           | inl a ↦
               (let near : a.0 ≡ rank_of w = some_is (sym a.1 ∙ ap (λ x. rank_at x from) (sym same) ∙ ap (rank_at s.table) (sym k.1) ∙ k.0.rank) in
-              inr (sym a.2 ∙ ap (λ x. beyond v x l) (sym k.1), omega (arith, over_rank v root net s.table w k.0 l, ap (λ x. rank_over v root x (rank_of w) l) k.1, ap (λ x. rank_over v root from x l) near, a.3)))
+              inr (
+                sym a.2
+                    ∙ ap (λ x. beyond v x l) (sym k.1),
+                omega (
+                  arith,
+                  over_rank v root net s.table w k.0 l,
+                  ap (λ x. rank_over v root x (rank_of w) l) k.1,
+                  ap
+                      (λ x. rank_over v root from x l) near,
+                  a.3,
+                ),
+              ))
           | inr a ↦ inl a
         ])
         s' d
@@ -106,7 +128,9 @@ module _ (v : Learned) (root : ℕ) (net : IsNetwork v.nodes v.ends) where
     pub doubted_beyond : IsCutting v root Late s → DoubtsBeyond s s' root from (link (wiring_of v) l) → IsCutting v root Late' s'
     doubted_beyond h d = beyond_as _ h refl d
 
-  doubts_same : (o : Option Way) (s s' : State) (over : Way) → MatchOption o (s' ≡ s) (λ known. MatchBool (nat_lt (rank_of known) (rank_of over)) (s' ≡ s) (Queues s s' known)) → (s'.table ≡ s.table) × (s'.cut ≡ s.cut)
+  doubts_same : (o : Option Way) (s s' : State) (over : Way) →
+      MatchOption o (s' ≡ s) (λ known. MatchBool (nat_lt (rank_of known) (rank_of over)) (s' ≡ s) (Queues s s' known)) →
+      (s'.table ≡ s.table) × (s'.cut ≡ s.cut)
   doubts_same None s s' over d = (ap (λ (x : State). x.table) d, ap (λ (x : State). x.cut) d)
   doubts_same (Some known) s s' over d = by (nat_lt (rank_of known) (rank_of over)) d
     where
@@ -114,21 +138,25 @@ module _ (v : Learned) (root : ℕ) (net : IsNetwork v.nodes v.ends) where
       by true d = (ap (λ (x : State). x.table) d, ap (λ (x : State). x.cut) d)
       by false d = (d.table, d.cut)
 
-  pub doubting_keeps : (o : Option Way) (s s' : State) (ends : LinkEnds) → MatchOption o (s' ≡ s) (λ way. Doubts s s' (way_over root way ends)) → (s'.table ≡ s.table) × (s'.cut ≡ s.cut)
+  pub doubting_keeps : (o : Option Way) (s s' : State) (ends : LinkEnds) → MatchOption o (s' ≡ s) (λ way. Doubts s s' (way_over root way ends)) →
+      (s'.table ≡ s.table) × (s'.cut ≡ s.cut)
   doubting_keeps None s s' ends d = (ap (λ (x : State). x.table) d, ap (λ (x : State). x.cut) d)
   doubting_keeps (Some w) s s' ends d = doubts_same _ s s' (way_over root w ends) d
 
 -- 4. No node was held over it
-pub nothing_lost : (v : Learned) (root : ℕ) (net : IsNetwork v.nodes v.ends) (here : root < v.nodes) (s : State) → IsCutting v root NoneLate s → s.queue ≡ [] → s.cut ≡ [] → IsMended v root s
+pub nothing_lost : (v : Learned) (root : ℕ) (net : IsNetwork v.nodes v.ends) (here : root < v.nodes) (s : State) → IsCutting v root NoneLate s →
+    s.queue ≡ [] → s.cut ≡ [] → IsMended v root s
 nothing_lost v root net here s h q c =
     record { stands = none_left v root s.cut s c (grows v root net here s h q); no_ways = q; none_cut = c }
 
 -- 5. A link is turned
-module _ (v : Learned) (root : ℕ) (net : IsNetwork v.nodes v.ends) (here : root < v.nodes) (s : State) (m : IsMended v root s) (l : ℕ) (there : l < length v.counts) where
+module _ (v : Learned) (root : ℕ) (net : IsNetwork v.nodes v.ends) (here : root < v.nodes) (s : State) (m : IsMended v root s) (l : ℕ)
+    (there : l < length v.counts) where
   goes_kept : (node k : ℕ) → goes v node k ≡ true → goes (with_link v l true) node k ≡ true
   goes_kept node k g =
       elim (eqb_tells k l) [
-        | inl e ↦ all_true _ _ _ (ap (is_up (links_up (with_link v l true))) e.1 ∙ up_there v l true there) (goes_at v node k g).at_node (lt-ltb _ _ (goes_at v node k g).there)
+        | inl e ↦ all_true _ _ _ (ap (is_up (links_up (with_link v l true))) e.1 ∙ up_there v l true there) (goes_at v node k g).at_node
+            (lt-ltb _ _ (goes_at v node k g).there)
         | inr e ↦ goes_other v l true node k e.1 ∙ g
       ]
 
@@ -139,7 +167,18 @@ module _ (v : Learned) (root : ℕ) (net : IsNetwork v.nodes v.ends) (here : roo
         root_cost = m.stands.root_cost;
         root_hop = m.stands.root_hop;
         formed = m.stands.formed;
-        held = λ n known p q r. (let h = m.stands.held n known p q r in record { from = h.from; l = h.l; near = h.near; there = h.there; goes_on = goes_kept h.from h.l h.goes_on; leads = h.leads; is_known = h.is_known; no_worse = h.no_worse });
+        held = λ n known p q r. (let h = m.stands.held n known p q r in
+            record {
+              from = h.from;
+              l = h.l;
+              near = h.near;
+              there = h.there;
+              goes_on = goes_kept h.from h.l h.goes_on;
+              leads = h.leads;
+              is_known =
+                  h.is_known;
+              no_worse = h.no_worse;
+            });
         relaxed = λ n k known p g r.
             elim (goes_with v l there n k g) [
               | inl e ↦ inl e
@@ -152,17 +191,42 @@ module _ (v : Learned) (root : ℕ) (net : IsNetwork v.nodes v.ends) (here : roo
   abbrev down : Learned
   down = with_link v l false
 
-  held_over : (n known : ℕ) → IsHeld v root s.table n known → HeldOverEither down root s.table l (link (wiring_of v) l).a.0 (link (wiring_of v) l).b.0 n known ⊎ IsHeld down root s.table n known
+  held_over : (n known : ℕ) → IsHeld v root s.table n known →
+      HeldOverEither down root s.table l (link (wiring_of v) l).a.0 (link (wiring_of v) l).b.0 n known ⊎ IsHeld down root s.table n known
   held_over n known h =
       elim (eqb_tells h.l l) [
         | inl e ↦
             (let leads : beyond v h.from l ≡ n = ap (beyond v h.from) (sym e.1) ∙ h.leads in
             let low : rank_over v root h.from h.near l ≤ known = subst (λ k. rank_over v root h.from h.near k ≤ known) e.1 h.no_worse in
             elim (end_is v h.from l (subst (λ k. goes v h.from k ≡ true) e.1 h.goes_on)) [
-              | inl f ↦ inl (inl (h.near, ap (rank_at s.table) (sym f) ∙ h.is_known, ap (λ x. beyond v x l) (sym f) ∙ leads, subst (λ x. rank_over v root x h.near l ≤ known) f low))
-              | inr f ↦ inl (inr (h.near, ap (rank_at s.table) (sym f) ∙ h.is_known, ap (λ x. beyond v x l) (sym f) ∙ leads, subst (λ x. rank_over v root x h.near l ≤ known) f low))
+              | inl f ↦ inl
+                  (inl (
+                    h.near,
+                    ap (rank_at s.table) (sym f) ∙ h.is_known,
+                    ap (λ x. beyond v x l) (sym f)
+                        ∙ leads,
+                    subst (λ x. rank_over v root x h.near l ≤ known) f low,
+                  ))
+              | inr f ↦ inl
+                  (inr (
+                    h.near,
+                    ap (rank_at s.table) (sym f) ∙ h.is_known,
+                    ap (λ x. beyond v x l) (sym f)
+                        ∙ leads,
+                    subst (λ x. rank_over v root x h.near l ≤ known) f low,
+                  ))
             ])
-        | inr e ↦ inr (record { from = h.from; l = h.l; near = h.near; there = h.there; goes_on = goes_other v l false h.from h.l e.1 ∙ h.goes_on; leads = h.leads; is_known = h.is_known; no_worse = h.no_worse })
+        | inr e ↦ inr (record {
+          from = h.from;
+          l = h.l;
+          near = h.near;
+          there = h.there;
+          goes_on = goes_other v l false h.from h.l e.1 ∙ h.goes_on;
+          leads =
+              h.leads;
+          is_known = h.is_known;
+          no_worse = h.no_worse;
+        })
       ]
 
   pub link_lost : IsCutting down root (HeldOverEither down root s.table l (link (wiring_of v) l).a.0 (link (wiring_of v) l).b.0) s
@@ -174,25 +238,38 @@ module _ (v : Learned) (root : ℕ) (net : IsNetwork v.nodes v.ends) (here : roo
         formed = m.stands.formed;
         held = λ n known p q r. elim (held_over n known (m.stands.held n known p q r)) [ inl o ↦ inl o | inr o ↦ inr (inr o) ];
         relaxed = λ n k known p g r. inr (all_relaxed v root net here s m n k known p (goes_without v l there n k g).1 r);
-        ways = subst (All (λ way. (way.0.to < v.nodes) × (way.0.to ≢ root))) (sym m.no_ways) (All-nil (λ (way : Reverse Way). (way.0.to < v.nodes) × (way.0.to ≢ root)));
+        ways = subst (All (λ way. (way.0.to < v.nodes) × (way.0.to ≢ root))) (sym m.no_ways)
+            (All-nil (λ (way : Reverse Way). (way.0.to < v.nodes) × (way.0.to ≢ root)));
         small = λ n cost p e. omega (arith, m.stands.bounded n cost p e);
-        gone = subst (All (λ node. (node.0 < v.nodes) × (dist_at s.table node.0 ≡ None))) (sym m.none_cut) (All-nil (λ (node : NodeNo). (node.0 < v.nodes) × (dist_at s.table node.0 ≡ None)));
+        gone = subst (All (λ node. (node.0 < v.nodes) × (dist_at s.table node.0 ≡ None))) (sym m.none_cut)
+            (All-nil (λ (node : NodeNo). (node.0 < v.nodes) × (dist_at s.table node.0 ≡ None)));
       }
 
   -- a link over which no least walk goes
   strictly : (a b : ℕ) → a ≤ b → (a ≡ b → ⊥) → a < b
   strictly a b p q = elim (eqb_tells a b) [ inl e ↦ absurd (q e.1) | inr e ↦ omega (arith, p, e.1) ]
 
-  pub idle_over : (from : ℕ) → from < v.nodes → goes v from l ≡ true → (Makes s.table from (link (wiring_of v) l).cost (beyond v from l) → ⊥) → IsPassedOver root s.table from (link (wiring_of v) l)
+  pub idle_over : (from : ℕ) → from < v.nodes → goes v from l ≡ true →
+      (Makes s.table from (link (wiring_of v) l).cost (beyond v from l) → ⊥) → IsPassedOver root s.table from (link (wiring_of v) l)
   idle_over from p g idle = λ near e known f.
       let h = m.stands in
       let a = known_way v root s.table from near p (h.formed from p) h.root_cost e in
       let far : beyond v near.to l ≡ beyond v from l = ap (λ x. beyond v x l) a.1 in
       let below : beyond v from l < v.nodes = beyond_below v net from l g in
-      let b = known_way v root s.table (beyond v near.to l) known (subst (λ x. x < v.nodes) (sym far) below) (h.formed (beyond v near.to l) (subst (λ x. x < v.nodes) (sym far) below)) h.root_cost f in
+      let b = known_way v root s.table (beyond v near.to l) known (subst (λ x. x < v.nodes) (sym far) below)
+      (h.formed (beyond v near.to l) (subst (λ x. x < v.nodes) (sym far) below)) h.root_cost f in
       let low : rank_of known ≤ rank_over v root from (rank_of near) l =
-      at_most_is _ _ _ (ap (rank_at s.table) (sym far ∙ sym b.1) ∙ b.0.rank) (all_relaxed v root net here s m from l (rank_of near) p g (ap (rank_at s.table) (sym a.1) ∙ a.0.rank)) in
-      let over : rank_of (way_over root near (link (wiring_of v) l)) ≡ rank_over v root from (rank_of near) l = over_rank v root net s.table near a.0 l ∙ ap (λ x. rank_over v root x (rank_of near) l) a.1 in
+      at_most_is _ _ _ (ap (rank_at s.table) (sym far ∙ sym b.1) ∙ b.0.rank)
+      (all_relaxed v root net here s m from l (rank_of near) p g (ap (rank_at s.table) (sym a.1) ∙ a.0.rank)) in
+      let over : rank_of (way_over root near (link (wiring_of v) l)) ≡ rank_over v root from (rank_of near) l =
+      over_rank v root net s.table near a.0 l ∙ ap (λ x. rank_over v root x (rank_of near) l) a.1 in
       strictly _ _ (omega (arith, low, over))
-      (λ same. let parts = same_parts known.cost known.hop (way_over root near (link (wiring_of v) l)).cost (way_over root near (link (wiring_of v) l)).hop b.0.fits (over_fits v root net s.table near a.0 l (subst (λ x. goes v x l ≡ true) (sym a.1) g)) same in
-      idle (near.cost, ap (dist_at s.table) (sym a.1) ∙ a.0.cost, ap (dist_at s.table) (sym far ∙ sym b.1) ∙ b.0.cost ∙ ap (λ (n : ℕ). let o : Option ℕ = Some n in o) parts.0))
+      (λ same. let parts =
+      same_parts known.cost known.hop (way_over root near (link (wiring_of v) l)).cost (way_over root near (link (wiring_of v) l)).hop b.0.fits
+      (over_fits v root net s.table near a.0 l (subst (λ x. goes v x l ≡ true) (sym a.1) g)) same in
+      idle (
+        near.cost,
+        ap (dist_at s.table) (sym a.1) ∙ a.0.cost,
+        ap (dist_at s.table) (sym far ∙ sym b.1) ∙ b.0.cost ∙ ap (λ (n : ℕ). let o : Option ℕ =
+            Some n in o) parts.0,
+      ))

@@ -1,5 +1,6 @@
 -- Which links are up, and the lists of links by node.
-use Rattle.std.proofs.Common.{ℕ, zero, suc, ◌≡◌, ◌≢◌, ◌<◌, Bool, true, false, List, ◌∷◌, length, get_or, set, map, replicate, refl, arith, sym, ◌∙◌, ap, ◌⊎◌, inl, inr, get_or-set_other, get_or-set_same}
+use Rattle.std.proofs.Common.{ℕ, zero, suc, ◌≡◌, ◌≢◌, ◌<◌, Bool, true, false, List, ◌∷◌, length, get_or, set, map, replicate, refl, arith, sym, ◌∙◌, ap}
+use Rattle.std.proofs.Common.{◌⊎◌, inl, inr, get_or-set_other, get_or-set_same}
 use Rattle.std.specs.Prelude.{◌&&◌, nat_lt}
 use Rattle.std.proofs.lemmas.Bool.{lt-ltb}
 use Rattle.std.proofs.lemmas.Bool.Decides.{eqb_tells}
@@ -23,15 +24,18 @@ map_same f (suc n) x = ap (λ ys. f x ∷ ys) (map_same f n x)
 
 pub up_is : (nodes l : ℕ) (ends : List LinkEnds) (up : List Bool) → l < length up → is_up (links_up (seen_as nodes ends up)) l ≡ get_or up l false
 up_is nodes l ends up p =
-    get_or-map is_odd (map one_if up) l 0 false (omega (arith, length-map up one_if, p)) ∙ ap is_odd (get_or-map one_if up l false 0 p) ∙ odd_one (get_or up l false)
+    get_or-map is_odd (map one_if up) l 0 false (omega (arith, length-map up one_if, p)) ∙ ap is_odd (get_or-map one_if up l false 0 p)
+    ∙ odd_one (get_or up l false)
 
 pub none_up : (nodes : ℕ) (ends : List LinkEnds) → links_up (all_down nodes ends) ≡ replicate (length ends) false
 none_up nodes ends = map_same is_odd (length ends) 0
 
-same_seen : (nodes nodes' : ℕ) (ends ends' : List LinkEnds) (counts counts' : List ℕ) → nodes ≡ nodes' → ends ≡ ends' → counts ≡ counts' → ◌≡◌ {A = Learned} (record { nodes = nodes; ends = ends; counts = counts }) (record { nodes = nodes'; ends = ends'; counts = counts' })
+same_seen : (nodes nodes' : ℕ) (ends ends' : List LinkEnds) (counts counts' : List ℕ) → nodes ≡ nodes' → ends ≡ ends' → counts ≡ counts' →
+    ◌≡◌ {A = Learned} (record { nodes = nodes; ends = ends; counts = counts }) (record { nodes = nodes'; ends = ends'; counts = counts' })
 same_seen nodes nodes' ends ends' counts counts' e f g = cc
 
-pub seen_down : (nodes nodes' : ℕ) (ends ends' : List LinkEnds) (up : List Bool) → nodes ≡ nodes' → ends ≡ ends' → up ≡ replicate (length ends') false → seen_as nodes ends up ≡ all_down nodes' ends'
+pub seen_down : (nodes nodes' : ℕ) (ends ends' : List LinkEnds) (up : List Bool) → nodes ≡ nodes' → ends ≡ ends' → up ≡ replicate (length ends') false →
+    seen_as nodes ends up ≡ all_down nodes' ends'
 seen_down nodes nodes' ends ends' up e f g = same_seen _ _ _ _ _ _ e f (ap (map one_if) g ∙ map_same one_if (length ends') false)
 
 pub seen_set : (nodes l : ℕ) (ends : List LinkEnds) (ups : List Bool) (up : Bool) → seen_as nodes ends (set ups l up) ≡ with_link (seen_as nodes ends ups) l up
@@ -58,7 +62,8 @@ module _ (v : Learned) (l : ℕ) (there : l < length v.counts) where
   -- what goes on without the link goes on with it
   pub goes_without : (node m : ℕ) → goes (with_link v l false) node m ≡ true → (m ≢ l) × (goes v node m ≡ true)
   goes_without node m g =
-      let other : m ≢ l = (λ e. clash (sym (goes_at (with_link v l false) node m g).up ∙ ap (is_up (links_up (with_link v l false))) e ∙ up_there v l false there)) in
+      let other : m ≢ l =
+      (λ e. clash (sym (goes_at (with_link v l false) node m g).up ∙ ap (is_up (links_up (with_link v l false))) e ∙ up_there v l false there)) in
       (other, sym (goes_other v l false node m other) ∙ g)
 
   pub goes_with : (node m : ℕ) → goes (with_link v l true) node m ≡ true → (m ≡ l) ⊎ (goes v node m ≡ true)

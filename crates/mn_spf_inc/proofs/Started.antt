@@ -1,5 +1,6 @@
 -- The tree over links that are all down: the root alone.
-use Rattle.std.proofs.Common.{ℕ, ◌≡◌, ◌≢◌, ◌<◌, true, false, List, [], length, get_or, set, replicate, refl, arith, sym, ◌∙◌, ap, inl, inr, subst, get_or-set_other, get_or-set_same}
+use Rattle.std.proofs.Common.{ℕ, ◌≡◌, ◌≢◌, ◌<◌, true, false, List, [], length, get_or, set, replicate, refl, arith, sym, ◌∙◌, ap, inl, inr, subst}
+use Rattle.std.proofs.Common.{get_or-set_other, get_or-set_same}
 use Rattle.std.specs.Prelude.{Option, Some, None}
 use Rattle.std.specs.declared.cmp.Reverse.{Reverse}
 use Rattle.std.proofs.lemmas.Bool.Decides.{eqb_tells}
@@ -44,7 +45,8 @@ module _ (nodes root : ℕ) (ends : List LinkEnds) (here : root < nodes) where
   next_none : (node : ℕ) → node < nodes → next_at t node ≡ None
   next_none node p =
       elim (eqb_tells node root) [
-        | inl e ↦ ap (λ n. get_or (set (replicate nodes no_hop) root no_hop) n no_hop) e.1 ∙ get_or-set_same (replicate nodes no_hop) root no_hop no_hop (omega (arith, here, length-replicate nodes no_hop))
+        | inl e ↦ ap (λ n. get_or (set (replicate nodes no_hop) root no_hop) n no_hop) e.1
+            ∙ get_or-set_same (replicate nodes no_hop) root no_hop no_hop (omega (arith, here, length-replicate nodes no_hop))
         | inr e ↦ get_or-set_other (replicate nodes no_hop) root node no_hop no_hop e.1 ∙ get_or-replicate nodes node no_hop no_hop p
       ]
     where
@@ -71,7 +73,15 @@ module _ (nodes root : ℕ) (ends : List LinkEnds) (here : root < nodes) where
           ways = All-nil (λ (way : Reverse Way). way.0.to < nodes);
           bounded = λ node cost p e.
               elim (eqb_tells node root) [
-                | inl q ↦ (let z : 0 ≡ cost = some_is (sym dist_root ∙ ap (dist_at t) (sym q.1) ∙ e) in omega (arith, z, count_by-le-length is_blank t.dists, length-set (replicate nodes no_number) root (Some 0), length-replicate nodes no_number))
+                | inl q ↦ (let z : 0 ≡ cost = some_is (sym dist_root ∙ ap (dist_at t) (sym q.1) ∙ e) in
+                    omega (
+                      arith,
+                      z,
+                      count_by-le-length is_blank t.dists,
+                      length-set (replicate nodes no_number) root
+                          (Some 0),
+                      length-replicate nodes no_number,
+                    ))
                 | inr q ↦ absurd (none_some cost (sym (dist_none node q.1 p) ∙ e))
               ];
         };

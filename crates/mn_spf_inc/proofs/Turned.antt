@@ -32,17 +32,21 @@ pub view_kept : (v v' : Learned) (l : ℕ) (up : Bool) → v' ≡ with_link v l 
 view_kept v v' l up e h = subst IsView (sym e) (record { network = h.network; one_each = length-set v.counts l (one_if up) ∙ h.one_each })
 
 -- a value of which memory was wanting
-pub failed_kept : (v v' : Learned) (root l : ℕ) (up failed : Bool) (s : State) → failed ≡ true → v' ≡ with_link v l up → IsView v → root < v.nodes → IsKept v' root failed s
+pub failed_kept : (v v' : Learned) (root l : ℕ) (up failed : Bool) (s : State) → failed ≡ true → v' ≡ with_link v l up → IsView v → root < v.nodes →
+    IsKept v' root failed s
 failed_kept v v' root l up failed s f e h p =
     record { network = view_kept v v' l up e h; there = omega (arith, p, ap (λ (x : Learned). x.nodes) e); mended = λ g. absurd (apart (sym f ∙ g)) }
   where
     apart : true ≢ false
     apart e = cc
 
-pub mended_kept : (v v' : Learned) (root l : ℕ) (up failed : Bool) (s : State) → v' ≡ with_link v l up → IsView v → root < v.nodes → IsMended v' root s → IsKept v' root failed s
-mended_kept v v' root l up failed s e h p m = record { network = view_kept v v' l up e h; there = omega (arith, p, ap (λ (x : Learned). x.nodes) e); mended = λ g. m }
+pub mended_kept : (v v' : Learned) (root l : ℕ) (up failed : Bool) (s : State) → v' ≡ with_link v l up → IsView v → root < v.nodes → IsMended v' root s →
+    IsKept v' root failed s
+mended_kept v v' root l up failed s e h p m =
+    record { network = view_kept v v' l up e h; there = omega (arith, p, ap (λ (x : Learned). x.nodes) e); mended = λ g. m }
 
-module _ (v : Learned) (root : ℕ) (view : IsView v) (here : root < v.nodes) (s : State) (m : IsMended v root s) (l : ℕ) (there : l < length v.ends) (up : is_up (links_up v) l ≡ true) where
+module _ (v : Learned) (root : ℕ) (view : IsView v) (here : root < v.nodes) (s : State) (m : IsMended v root s) (l : ℕ) (there : l < length v.ends)
+    (up : is_up (links_up v) l ≡ true) where
   abbrev a : ℕ
   a = (link (wiring_of v) l).a.0
 
@@ -61,8 +65,14 @@ module _ (v : Learned) (root : ℕ) (view : IsView v) (here : root < v.nodes) (s
   zero : LinkEnds
   zero = record { a = record { 0 = 0 }; b = record { 0 = 0 }; cost = 0; delay = 0; loss = 0 }
 
-  pub idle_both : (Makes s.table a (link (wiring_of v) l).cost b → ⊥) → (Makes s.table b (link (wiring_of v) l).cost a → ⊥) → IsPassedOver root s.table a (link (wiring_of v) l) × IsPassedOver root s.table b (link (wiring_of v) l)
+  pub idle_both : (Makes s.table a (link (wiring_of v) l).cost b → ⊥) →
+      (Makes s.table b (link (wiring_of v) l).cost a → ⊥) →
+      IsPassedOver root s.table a (link (wiring_of v) l) × IsPassedOver root s.table b (link (wiring_of v) l)
   idle_both forth back = (
-    idle_over v root it here s m l (omega (arith, there, view.one_each)) a (it.links l _ there).from (all_true _ _ _ up (or_left (a == a) (b == a) (same_test a)) (lt-ltb _ _ there)) (λ k. forth (subst (Makes s.table a (link (wiring_of v) l).cost) far_a k)),
-    idle_over v root it here s m l (omega (arith, there, view.one_each)) b (it.links l _ there).to (all_true _ _ _ up (or_right (a == b) (b == b) (same_test b)) (lt-ltb _ _ there)) (λ k. back (subst (Makes s.table b (link (wiring_of v) l).cost) far_b k)),
+    idle_over v root it here s m l (omega (arith, there, view.one_each)) a (it.links l _ there).from
+        (all_true _ _ _ up (or_left (a == a) (b == a) (same_test a)) (lt-ltb _ _ there))
+        (λ k. forth (subst (Makes s.table a (link (wiring_of v) l).cost) far_a k)),
+    idle_over v root it here s m l (omega (arith, there, view.one_each)) b (it.links l _ there).to
+        (all_true _ _ _ up (or_right (a == b) (b == b) (same_test b)) (lt-ltb _ _ there))
+        (λ k. back (subst (Makes s.table b (link (wiring_of v) l).cost) far_b k)),
   )

@@ -1,5 +1,6 @@
 -- What holds while a tree is mended (RFC 2328, section 16.1).
-use Rattle.std.specs.Prelude.{ℕ, ◌≡◌, ◌≢◌, ◌+◌, ◌*◌, ◌^◌, ◌≤◌, ◌<◌, Bool, true, false, List, [], ◌∷◌, ◌++◌, length, slice_index_or, count_by, sum_by, All, Contains, Option, Some, None, MatchBool, MatchOption, nat_lt, ◌⊎◌, IsPermutation}
+use Rattle.std.specs.Prelude.{ℕ, ◌≡◌, ◌≢◌, ◌+◌, ◌*◌, ◌^◌, ◌≤◌, ◌<◌, Bool, true, false, List, [], ◌∷◌, ◌++◌, length, slice_index_or, count_by, sum_by, All}
+use Rattle.std.specs.Prelude.{Contains, Option, Some, None, MatchBool, MatchOption, nat_lt, ◌⊎◌, IsPermutation}
 use Rattle.std.specs.declared.cmp.Reverse.{Reverse}
 use Rattle.std.specs.BinaryHeap.{heap_items}
 use Rattle.mn_base.specs.declared.links.LinkEnds.{LinkEnds}
@@ -76,7 +77,8 @@ pub record IsGrowing (v : Learned) (root : ℕ) (Rest : ℕ → ℕ → Type 0) 
   pub root_hop : next_at s.table root ≡ None
   pub formed : (node : ℕ) → node < v.nodes → IsFormed root node (dist_at s.table node) (next_at s.table node)
   pub held : (node known : ℕ) → node < v.nodes → node ≢ root → rank_at s.table node ≡ Some known → IsHeld v root s.table node known
-  pub relaxed : (node l known : ℕ) → node < v.nodes → goes v node l ≡ true → rank_at s.table node ≡ Some known → Rest node l ⊎ (IsPending s node ⊎ IsRelaxed v root s.table node known l)
+  pub relaxed : (node l known : ℕ) → node < v.nodes → goes v node l ≡ true → rank_at s.table node ≡ Some known →
+      Rest node l ⊎ (IsPending s node ⊎ IsRelaxed v root s.table node known l)
   pub ways : All (λ way. way.0.to < v.nodes) s.queue
   pub bounded : (node cost : ℕ) → node < v.nodes → dist_at s.table node ≡ Some cost → cost + 65535 * unknown s.table ≤ 65535 * v.nodes
 
@@ -165,8 +167,10 @@ pub record IsCutting (v : Learned) (root : ℕ) (Late : ℕ → ℕ → Type 0) 
   pub root_cost : dist_at s.table root ≡ Some 0
   pub root_hop : next_at s.table root ≡ None
   pub formed : (node : ℕ) → node < v.nodes → IsFormed root node (dist_at s.table node) (next_at s.table node)
-  pub held : (node known : ℕ) → node < v.nodes → node ≢ root → rank_at s.table node ≡ Some known → Late node known ⊎ (IsDoubted s node ⊎ IsHeld v root s.table node known)
-  pub relaxed : (node l known : ℕ) → node < v.nodes → goes v node l ≡ true → rank_at s.table node ≡ Some known → IntoCut v s.cut node l ⊎ IsRelaxed v root s.table node known l
+  pub held : (node known : ℕ) → node < v.nodes → node ≢ root → rank_at s.table node ≡ Some known →
+      Late node known ⊎ (IsDoubted s node ⊎ IsHeld v root s.table node known)
+  pub relaxed : (node l known : ℕ) → node < v.nodes → goes v node l ≡ true → rank_at s.table node ≡ Some known →
+      IntoCut v s.cut node l ⊎ IsRelaxed v root s.table node known l
   pub ways : All (λ way. (way.0.to < v.nodes) × (way.0.to ≢ root)) s.queue
   pub small : (node cost : ℕ) → node < v.nodes → dist_at s.table node ≡ Some cost → cost ≤ 65535 * v.nodes
   pub gone : All (λ node. (node.0 < v.nodes) × (dist_at s.table node.0 ≡ None)) s.cut
@@ -184,7 +188,9 @@ OneLate at node known = node ≡ at
 
 -- the nodes that one was holding over its links from this place on
 abbrev pub HeldBy : Learned → ℕ → Way → List LinkNo → ℕ → ℕ → ℕ → Type 0
-HeldBy v root way links start node known = (l : ℕ) × (goes v way.to l ≡ true) × FromPlace way.to links start way.to l × (beyond v way.to l ≡ node) × (rank_over v root way.to (rank_of way) l ≤ known)
+HeldBy v root way links start node known =
+    (l : ℕ) × (goes v way.to l ≡ true) × FromPlace way.to links start way.to l × (beyond v way.to l ≡ node)
+    × (rank_over v root way.to (rank_of way) l ≤ known)
 
 -- the node that one was holding over one link
 abbrev pub HeldOver : Learned → ℕ → PathTable → ℕ → ℕ → ℕ → ℕ → Type 0
@@ -208,7 +214,8 @@ pub record Queues (old new : State) (way : Way) : Type 0 where
 
 -- the node at the end of a way is doubted, unless what is known of it is better than the way
 abbrev pub Doubts : State → State → Way → Type 0
-Doubts old new over = MatchOption (way_at old.table over.to) (new ≡ old) (λ known. MatchBool (nat_lt (rank_of known) (rank_of over)) (new ≡ old) (Queues old new known))
+Doubts old new over =
+    MatchOption (way_at old.table over.to) (new ≡ old) (λ known. MatchBool (nat_lt (rank_of known) (rank_of over)) (new ≡ old) (Queues old new known))
 
 abbrev pub DoubtsBeyond : State → State → ℕ → ℕ → LinkEnds → Type 0
 DoubtsBeyond old new root from ends = MatchOption (way_at old.table from) (new ≡ old) (λ way. Doubts old new (way_over root way ends))

@@ -16,7 +16,8 @@ loop-number-preserved c =
     let zero : LinkEnds = record { a = record { 0 = 0 }; b = record { 0 = 0 }; cost = 0; delay = 0; loss = 0 } in
     let here : k < length v.ends = c.loop-number-test.true in
     let it = c.requires.links k zero here in
-    subst (AreBelow v (k + 1)) (sym (c.in_ok-add-2.ensures ∙ ap (λ (ls : List (List LinkNo)). put ls (get_or c.args.ends.now k zero).b.0 (number k)) c.in_ok-add.ensures))
+    subst (AreBelow v (k + 1))
+    (sym (c.in_ok-add-2.ensures ∙ ap (λ (ls : List (List LinkNo)). put ls (get_or c.args.ends.now k zero).b.0 (number k)) c.in_ok-add.ensures))
     (up_below v k here (is_up_all v k here) (get_or c.args.ends.now k zero).a.0 (get_or c.args.ends.now k zero).b.0 refl refl c.loop-number.lists.items
     (omega (arith, it.from, c.loop-number.invariant.one_each)) (omega (arith, it.to, c.loop-number.invariant.one_each)) c.loop-number.invariant)
 

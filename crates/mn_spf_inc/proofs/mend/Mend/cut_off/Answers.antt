@@ -28,7 +28,9 @@ loop-number-init g c =
     let s = state_of c.args.self.now in
     let s' = state_of c.forget.new.self in
     record {
-      cutting = held_first v root at.ensures.form.network c.args.way at.result.now s' at.ensures.links (forgotten v root s s' c.args.way c.requires.cutting c.requires.known c.requires.not_root c.in_ok-forget.ensures);
+      cutting =
+          held_first v root at.ensures.form.network c.args.way at.result.now s' at.ensures.links
+          (forgotten v root s s' c.args.way c.requires.cutting c.requires.known c.requires.not_root c.in_ok-forget.ensures);
       reached = one_less v root s s' c.args.way c.requires.cutting c.requires.known c.requires.not_root c.in_ok-forget.ensures;
       queued = omega (arith, ap length c.in_ok-forget.ensures.queue, c.forget.new.self.queue.data.ok.0, c.args.self.now.queue.data.ok.0);
     }
@@ -50,8 +52,15 @@ over-requires g c =
     let at = c.links_at-number-items in
     let i = c.loop-number.number-index in
     let l = (get_or at.result.now i (record { 0 = 0 })).0 in
-    let there : l < length c.args.net.now.ends = all_there c.args.net.now c.args.way.to l (at.ensures.links.each i (record { 0 = 0 }) c.loop-number-test.true) in
-    omega (arith, sum_fits_cut c.args.net.now c.args.root.0 at.ensures.form.network c.requires.root (OneLate c.args.way.to) (state_of c.args.self.now) c.args.way.to c.args.way.cost l c.requires.cutting c.requires.known.there there c.requires.known.cost, ap (λ (e : LinkEnds). e.cost) c.link.ensures.value)
+    let there : l < length c.args.net.now.ends =
+    all_there c.args.net.now c.args.way.to l (at.ensures.links.each i (record { 0 = 0 }) c.loop-number-test.true) in
+    omega (
+      arith,
+      sum_fits_cut c.args.net.now c.args.root.0 at.ensures.form.network c.requires.root (OneLate c.args.way.to)
+          (state_of c.args.self.now) c.args.way.to c.args.way.cost l c.requires.cutting c.requires.known.there there c.requires.known.cost,
+      ap
+          (λ (e : LinkEnds). e.cost) c.link.ensures.value,
+    )
 
 pub doubt-requires : goal.doubt-requires
 doubt-requires g c =
@@ -59,8 +68,10 @@ doubt-requires g c =
     let at = c.links_at-number-items in
     let i = c.loop-number.number-index in
     let l = (get_or at.result.now i (record { 0 = 0 })).0 in
-    let goes_on : goes v c.args.way.to l ≡ true = place_goes v c.args.way.to at.result.now at.ensures.links i l (record { 0 = 0 }) c.loop-number-test.true refl (sym c.up.ensures ∙ c.if-up.true) in
-    let is : c.over.result ≡ way_over c.args.root.0 c.args.way (link (wiring_of v) l) = c.over.ensures ∙ ap (way_over c.args.root.0 c.args.way) c.link.ensures.value in
+    let goes_on : goes v c.args.way.to l ≡ true =
+    place_goes v c.args.way.to at.result.now at.ensures.links i l (record { 0 = 0 }) c.loop-number-test.true refl (sym c.up.ensures ∙ c.if-up.true) in
+    let is : c.over.result ≡ way_over c.args.root.0 c.args.way (link (wiring_of v) l) =
+    c.over.ensures ∙ ap (way_over c.args.root.0 c.args.way) c.link.ensures.value in
     omega (arith, ap (λ (w : Way). w.to) is, beyond_below v at.ensures.form.network c.args.way.to l goes_on, c.loop-number.invariant.cutting.one_each.dists)
 
 pub loop-number-preserved : goal.loop-number-preserved
@@ -75,16 +86,27 @@ loop-number-preserved g c =
     let s = state_of c.loop-number.self in
     elim c.if-up.branch [
       | then-up+in_ok-doubt w ↦
-          (let goes_on : goes v way.to l ≡ true = place_goes v way.to at.result.now at.ensures.links i l (record { 0 = 0 }) c.loop-number-test.true refl (sym c.up.ensures ∙ w.if-up.true) in
+          (let goes_on : goes v way.to l ≡ true =
+          place_goes v way.to at.result.now at.ensures.links i l (record { 0 = 0 }) c.loop-number-test.true refl (sym c.up.ensures ∙ w.if-up.true) in
           let s' = state_of w.doubt.new.self in
           let is : w.over.result ≡ way_over root way (link (wiring_of v) l) = w.over.ensures ∙ ap (way_over root way) w.link.ensures.value in
           let o : Doubts s s' (way_over root way (link (wiring_of v) l)) = subst (Doubts s s') is w.in_ok-doubt.ensures.doubts in
           let size = doubt_size _ s s' (way_over root way (link (wiring_of v) l)) o in
           record {
             cutting = subst (λ (m : Mend). IsCutting v root (HeldBy v root way at.result.now (i + 1)) (state_of m)) (sym w.self-is)
-                (held_next v root net way at.result.now c.args.self.now.tree s s' i l (record { 0 = 0 }) c.requires.known refl goes_on c.loop-number.invariant.cutting o);
+                (held_next v root net way at.result.now c.args.self.now.tree s s' i l (record {
+                  0 =
+                      0;
+                }) c.requires.known refl goes_on c.loop-number.invariant.cutting o);
             reached = ap (λ (m : Mend). reached m.tree + 1) w.self-is ∙ ap (λ (t : PathTable). reached t + 1) size.0 ∙ c.loop-number.invariant.reached;
-            queued = omega (arith, ap (λ (m : Mend). heap_len m.queue) w.self-is, size.1, c.loop-number.invariant.queued, w.doubt.new.self.queue.data.ok.0, c.loop-number.self.queue.data.ok.0);
+            queued = omega (
+              arith,
+              ap (λ (m : Mend). heap_len m.queue) w.self-is,
+              size.1,
+              c.loop-number.invariant.queued,
+              w.doubt.new.self.queue.data.ok.0,
+              c.loop-number.self.queue.data.ok.0,
+            );
           })
       | else-up w ↦
           record {
@@ -98,7 +120,9 @@ loop-number-preserved g c =
 pub returns-clause-cutting : goal.returns-clause-cutting
 returns-clause-cutting g c =
     let at = c.links_at-number-items in
-    held_past c.args.net.now c.args.root.0 at.ensures.form.network c.args.way at.result.now (state_of c.loop-number.self) c.loop-number.number-index c.loop-number-test.false c.loop-number.invariant.cutting
+    held_past c.args.net.now c.args.root.0 at.ensures.form.network c.args.way at.result.now
+    (state_of c.loop-number.self) c.loop-number.number-index c.loop-number-test.false c.loop-number.invariant.cutting
 
 pub returns-clause-less : goal.returns-clause-less
-returns-clause-less g c = omega (arith, c.loop-number.invariant.reached, c.loop-number.invariant.queued, c.loop-number.self.queue.data.ok.0, c.args.self.now.queue.data.ok.0)
+returns-clause-less g c =
+    omega (arith, c.loop-number.invariant.reached, c.loop-number.invariant.queued, c.loop-number.self.queue.data.ok.0, c.args.self.now.queue.data.ok.0)

@@ -28,8 +28,10 @@ comes_from-requires-clause-there g c =
     let at = c.links_at-number-items in
     let i = c.loop-number.number-index in
     let l = (get_or at.result.now i (record { 0 = 0 })).0 in
-    let goes_on : goes v c.args.way.to l ≡ true = place_goes v c.args.way.to at.result.now at.ensures.links i l (record { 0 = 0 }) c.loop-number-test.true refl (sym c.up.ensures ∙ c.if-up.true) in
-    let is : c.other_end.result.0 ≡ beyond v c.args.way.to l = c.other_end.ensures ∙ ap (λ (e : LinkEnds). other_end e c.args.way.to) c.link-link.ensures.value in
+    let goes_on : goes v c.args.way.to l ≡ true =
+    place_goes v c.args.way.to at.result.now at.ensures.links i l (record { 0 = 0 }) c.loop-number-test.true refl (sym c.up.ensures ∙ c.if-up.true) in
+    let is : c.other_end.result.0 ≡ beyond v c.args.way.to l =
+    c.other_end.ensures ∙ ap (λ (e : LinkEnds). other_end e c.args.way.to) c.link-link.ensures.value in
     omega (arith, is, beyond_below v at.ensures.form.network c.args.way.to l goes_on, c.requires.cutting.one_each.dists)
 
 pub comes_from-requires-clause-fits : goal.comes_from-requires-clause-fits
@@ -38,10 +40,18 @@ comes_from-requires-clause-fits g c = λ known e.
     let at = c.links_at-number-items in
     let i = c.loop-number.number-index in
     let l = (get_or at.result.now i (record { 0 = 0 })).0 in
-    let goes_on : goes v c.args.way.to l ≡ true = place_goes v c.args.way.to at.result.now at.ensures.links i l (record { 0 = 0 }) c.loop-number-test.true refl (sym c.up.ensures ∙ c.if-up.true) in
-    let is : c.other_end.result.0 ≡ beyond v c.args.way.to l = c.other_end.ensures ∙ ap (λ (e : LinkEnds). other_end e c.args.way.to) c.link-link.ensures.value in
+    let goes_on : goes v c.args.way.to l ≡ true =
+    place_goes v c.args.way.to at.result.now at.ensures.links i l (record { 0 = 0 }) c.loop-number-test.true refl (sym c.up.ensures ∙ c.if-up.true) in
+    let is : c.other_end.result.0 ≡ beyond v c.args.way.to l =
+    c.other_end.ensures ∙ ap (λ (e : LinkEnds). other_end e c.args.way.to) c.link-link.ensures.value in
     let there : l < length v.ends = all_there v c.args.way.to l (at.ensures.links.each i (record { 0 = 0 }) c.loop-number-test.true) in
-    omega (arith, sum_fits_cut v c.args.root.0 at.ensures.form.network c.requires.root (OneLate c.args.way.to) (state_of c.args.self.now) (beyond v c.args.way.to l) known l c.requires.cutting (beyond_below v at.ensures.form.network c.args.way.to l goes_on) there (ap (dist_at c.args.self.now.tree) (sym is) ∙ e), ap (λ (e : LinkEnds). e.cost) c.link-link.ensures.value)
+    omega (
+      arith,
+      sum_fits_cut v c.args.root.0 at.ensures.form.network c.requires.root (OneLate c.args.way.to) (state_of c.args.self.now)
+          (beyond v c.args.way.to l) known l c.requires.cutting (beyond_below v at.ensures.form.network c.args.way.to l goes_on) there
+          (ap (dist_at c.args.self.now.tree) (sym is) ∙ e),
+      ap (λ (e : LinkEnds). e.cost) c.link-link.ensures.value,
+    )
 
 pub returns-then-comes_from : goal.returns-then-comes_from
 returns-then-comes_from g c = λ e.
@@ -49,8 +59,11 @@ returns-then-comes_from g c = λ e.
     let at = c.links_at-number-items in
     let i = c.loop-number.number-index in
     let l = (get_or at.result.now i (record { 0 = 0 })).0 in
-    let goes_on : goes v c.args.way.to l ≡ true = place_goes v c.args.way.to at.result.now at.ensures.links i l (record { 0 = 0 }) c.loop-number-test.true refl (sym c.up.ensures ∙ c.if-up.true) in
-    let is : c.other_end.result.0 ≡ beyond v c.args.way.to l = c.other_end.ensures ∙ ap (λ (e : LinkEnds). other_end e c.args.way.to) c.link-link.ensures.value in
+    let goes_on : goes v c.args.way.to l ≡ true =
+    place_goes v c.args.way.to at.result.now at.ensures.links i l (record { 0 = 0 }) c.loop-number-test.true refl (sym c.up.ensures ∙ c.if-up.true) in
+    let is : c.other_end.result.0 ≡ beyond v c.args.way.to l =
+    c.other_end.ensures ∙ ap (λ (e : LinkEnds). other_end e c.args.way.to) c.link-link.ensures.value in
     let k = c.comes_from.ensures c.if-comes_from.true in
-    held_from v c.args.root.0 at.ensures.form.network (state_of c.args.self.now) (OneLate c.args.way.to) c.args.way k.0 l c.requires.cutting c.requires.known.there goes_on
+    held_from v c.args.root.0 at.ensures.form.network (state_of c.args.self.now)
+    (OneLate c.args.way.to) c.args.way k.0 l c.requires.cutting c.requires.known.there goes_on
     (ap (way_at c.args.self.now.tree) (sym is) ∙ k.1) (ap (way_over c.args.root.0 k.0) (sym c.link-link.ensures.value) ∙ k.2)

@@ -15,12 +15,24 @@ use Rattle.mn_spf_inc.proofs.mend.Mend.part.Goals as goal
 
 pub doubt_beyond-requires-clause-there : goal.doubt_beyond-requires-clause-there
 doubt_beyond-requires-clause-there g c =
-    omega (arith, a_below c.args.net.now c.args.root.0 c.link-link.ensures.form.network c.requires.root c.args.number.0 c.requires.there, ap (λ (e : LinkEnds). e.a.0) c.link-link.ensures.value, c.requires.cutting.one_each.dists)
+    omega (
+      arith,
+      a_below c.args.net.now c.args.root.0 c.link-link.ensures.form.network c.requires.root c.args.number.0 c.requires.there,
+      ap
+          (λ (e : LinkEnds). e.a.0) c.link-link.ensures.value,
+      c.requires.cutting.one_each.dists,
+    )
 
 pub doubt_beyond-requires-clause-far : goal.doubt_beyond-requires-clause-far
 doubt_beyond-requires-clause-far g c =
     let v = c.args.net.now in
-    omega (arith, far_below v c.args.root.0 c.link-link.ensures.form.network (link (wiring_of v) c.args.number.0).a.0 c.args.number.0 c.requires.there, ap (λ (e : LinkEnds). other_end e e.a.0) c.link-link.ensures.value, c.requires.cutting.one_each.dists)
+    omega (
+      arith,
+      far_below v c.args.root.0 c.link-link.ensures.form.network (link (wiring_of v) c.args.number.0).a.0 c.args.number.0 c.requires.there,
+      ap
+          (λ (e : LinkEnds). other_end e e.a.0) c.link-link.ensures.value,
+      c.requires.cutting.one_each.dists,
+    )
 
 pub doubt_beyond-requires-clause-fits : goal.doubt_beyond-requires-clause-fits
 doubt_beyond-requires-clause-fits g c = λ known e.
@@ -28,7 +40,15 @@ doubt_beyond-requires-clause-fits g c = λ known e.
     let root = c.args.root.0 in
     let net = c.link-link.ensures.form.network in
     let l = c.args.number.0 in
-    omega (arith, sum_fits_cut v root net c.requires.root (HeldOverEither v root c.args.self.now.tree l (link (wiring_of v) l).a.0 (link (wiring_of v) l).b.0) (state_of c.args.self.now) (link (wiring_of v) l).a.0 known l c.requires.cutting (a_below v root net c.requires.root l c.requires.there) c.requires.there (ap (dist_at c.args.self.now.tree) (sym (ap (λ (e : LinkEnds). e.a.0) c.link-link.ensures.value)) ∙ e), ap (λ (e : LinkEnds). e.cost) c.link-link.ensures.value)
+    omega (
+      arith,
+      sum_fits_cut v root net c.requires.root
+          (HeldOverEither v root c.args.self.now.tree l (link (wiring_of v) l).a.0 (link (wiring_of v) l).b.0) (state_of c.args.self.now)
+          (link (wiring_of v) l).a.0 known l c.requires.cutting (a_below v root net c.requires.root l c.requires.there) c.requires.there
+          (ap (dist_at c.args.self.now.tree) (sym (ap (λ (e : LinkEnds). e.a.0) c.link-link.ensures.value)) ∙ e),
+      ap
+          (λ (e : LinkEnds). e.cost) c.link-link.ensures.value,
+    )
 
 pub doubt_beyond-requires-2-clause-there : goal.doubt_beyond-requires-2-clause-there
 doubt_beyond-requires-2-clause-there g c =
@@ -38,7 +58,8 @@ doubt_beyond-requires-2-clause-there g c =
     let l = c.args.number.0 in
     let s = state_of c.args.self.now in
     let s1 = state_of c.doubt_beyond.new.self in
-    let k = one_doubted v root net c.requires.root l c.requires.there c.args.self.now.tree s s1 refl c.requires.cutting (subst (λ (e : LinkEnds). DoubtsBeyond s s1 root e.a.0 e) c.link-link.ensures.value c.in_ok-doubt_beyond.ensures.doubts) in
+    let k = one_doubted v root net c.requires.root l c.requires.there c.args.self.now.tree s s1 refl c.requires.cutting
+    (subst (λ (e : LinkEnds). DoubtsBeyond s s1 root e.a.0 e) c.link-link.ensures.value c.in_ok-doubt_beyond.ensures.doubts) in
     omega (arith, b_below v root net c.requires.root l c.requires.there, ap (λ (e : LinkEnds). e.b.0) c.link-link.ensures.value, k.one_each.dists)
 
 pub doubt_beyond-requires-2-clause-far : goal.doubt_beyond-requires-2-clause-far
@@ -49,8 +70,15 @@ doubt_beyond-requires-2-clause-far g c =
     let l = c.args.number.0 in
     let s = state_of c.args.self.now in
     let s1 = state_of c.doubt_beyond.new.self in
-    let k = one_doubted v root net c.requires.root l c.requires.there c.args.self.now.tree s s1 refl c.requires.cutting (subst (λ (e : LinkEnds). DoubtsBeyond s s1 root e.a.0 e) c.link-link.ensures.value c.in_ok-doubt_beyond.ensures.doubts) in
-    omega (arith, far_below v root net (link (wiring_of v) l).b.0 l c.requires.there, ap (λ (e : LinkEnds). other_end e e.b.0) c.link-link.ensures.value, k.one_each.dists)
+    let k = one_doubted v root net c.requires.root l c.requires.there c.args.self.now.tree s s1 refl c.requires.cutting
+    (subst (λ (e : LinkEnds). DoubtsBeyond s s1 root e.a.0 e) c.link-link.ensures.value c.in_ok-doubt_beyond.ensures.doubts) in
+    omega (
+      arith,
+      far_below v root net (link (wiring_of v) l).b.0 l c.requires.there,
+      ap
+          (λ (e : LinkEnds). other_end e e.b.0) c.link-link.ensures.value,
+      k.one_each.dists,
+    )
 
 pub doubt_beyond-requires-2-clause-fits : goal.doubt_beyond-requires-2-clause-fits
 doubt_beyond-requires-2-clause-fits g c = λ known e.
@@ -60,8 +88,16 @@ doubt_beyond-requires-2-clause-fits g c = λ known e.
     let l = c.args.number.0 in
     let s = state_of c.args.self.now in
     let s1 = state_of c.doubt_beyond.new.self in
-    let k = one_doubted v root net c.requires.root l c.requires.there c.args.self.now.tree s s1 refl c.requires.cutting (subst (λ (e : LinkEnds). DoubtsBeyond s s1 root e.a.0 e) c.link-link.ensures.value c.in_ok-doubt_beyond.ensures.doubts) in
-    omega (arith, sum_fits_cut v root net c.requires.root (HeldOver v root c.args.self.now.tree l (link (wiring_of v) l).b.0) s1 (link (wiring_of v) l).b.0 known l k (b_below v root net c.requires.root l c.requires.there) c.requires.there (ap (dist_at c.doubt_beyond.new.self.tree) (sym (ap (λ (e : LinkEnds). e.b.0) c.link-link.ensures.value)) ∙ e), ap (λ (e : LinkEnds). e.cost) c.link-link.ensures.value)
+    let k = one_doubted v root net c.requires.root l c.requires.there c.args.self.now.tree s s1 refl c.requires.cutting
+    (subst (λ (e : LinkEnds). DoubtsBeyond s s1 root e.a.0 e) c.link-link.ensures.value c.in_ok-doubt_beyond.ensures.doubts) in
+    omega (
+      arith,
+      sum_fits_cut v root net c.requires.root (HeldOver v root c.args.self.now.tree l (link (wiring_of v) l).b.0) s1
+          (link (wiring_of v) l).b.0 known l k (b_below v root net c.requires.root l c.requires.there) c.requires.there
+          (ap (dist_at c.doubt_beyond.new.self.tree) (sym (ap (λ (e : LinkEnds). e.b.0) c.link-link.ensures.value)) ∙ e),
+      ap
+          (λ (e : LinkEnds). e.cost) c.link-link.ensures.value,
+    )
 
 pub cut_all-requires-clause-cutting : goal.cut_all-requires-clause-cutting
 cut_all-requires-clause-cutting g c =
@@ -69,12 +105,15 @@ cut_all-requires-clause-cutting g c =
     let s1 = state_of c.doubt_beyond.new.self in
     let s2 = state_of c.doubt_beyond-2.new.self in
     let root = c.args.root.0 in
-    (both_doubted c.args.net.now root c.link-link.ensures.form.network c.requires.root c.args.number.0 c.requires.there c.args.self.now.tree s s1 refl c.requires.cutting
+    (both_doubted c.args.net.now root c.link-link.ensures.form.network c.requires.root c.args.number.0 c.requires.there c.args.self.now.tree s s1 refl
+    c.requires.cutting
     (subst (λ (e : LinkEnds). DoubtsBeyond s s1 root e.a.0 e) c.link-link.ensures.value c.in_ok-doubt_beyond.ensures.doubts)
     s2 (subst (λ (e : LinkEnds). DoubtsBeyond s1 s2 root e.b.0 e) c.link-link.ensures.value c.in_ok-doubt_beyond-2.ensures.doubts)).0
 
 pub rejoin-requires-clause-growing : goal.rejoin-requires-clause-growing
-rejoin-requires-clause-growing g c = grows c.args.net.now c.args.root.0 c.link-link.ensures.form.network c.requires.root (state_of c.cut_all.new.self) c.in_ok-cut_all.ensures.cutting c.in_ok-cut_all.ensures.empty
+rejoin-requires-clause-growing g c =
+    grows c.args.net.now c.args.root.0 c.link-link.ensures.form.network c.requires.root
+    (state_of c.cut_all.new.self) c.in_ok-cut_all.ensures.cutting c.in_ok-cut_all.ensures.empty
 
 pub rejoin-requires-clause-there : goal.rejoin-requires-clause-there
 rejoin-requires-clause-there g c = λ k d p. (c.in_ok-cut_all.ensures.cutting.gone k d p).0
@@ -90,7 +129,8 @@ returns-then-is_empty-clause-mended g c =
     (subst (λ (e : LinkEnds). DoubtsBeyond s s1 root e.a.0 e) c.link-link.ensures.value c.in_ok-doubt_beyond.ensures.doubts)
     s2 (subst (λ (e : LinkEnds). DoubtsBeyond s1 s2 root e.b.0 e) c.link-link.ensures.value c.in_ok-doubt_beyond-2.ensures.doubts) in
     let none : heap_len c.doubt_beyond-2.new.self.queue ≡ 0 = eqb-true _ _ (sym c.is_empty.ensures ∙ c.if-is_empty.true) in
-    nothing_lost c.args.net.now root net c.requires.root s2 k.0 (no_items _ (omega (arith, none, c.doubt_beyond-2.new.self.queue.data.ok.0))) (k.2 ∙ c.requires.none_cut)
+    nothing_lost c.args.net.now root net c.requires.root s2 k.0 (no_items _ (omega (arith, none, c.doubt_beyond-2.new.self.queue.data.ok.0)))
+    (k.2 ∙ c.requires.none_cut)
 
 -- where no least walk goes over the link, neither call changes anything
 pub returns-then-is_empty-clause-idle : goal.returns-then-is_empty-clause-idle
@@ -99,8 +139,11 @@ returns-then-is_empty-clause-idle g c = λ p q.
     let is = sym c.link-link.ensures.value in
     let one = c.in_ok-doubt_beyond.ensures.passed (subst (λ (e : LinkEnds). IsPassedOver root c.args.self.now.tree e.a.0 e) is p) in
     let same : c.doubt_beyond.new.self.tree ≡ c.args.self.now.tree = ap (λ (x : State). x.table) one.1 in
-    let two = c.in_ok-doubt_beyond-2.ensures.passed (subst (λ (t : PathTable). IsPassedOver root t c.link-link.result.b.0 c.link-link.result) (sym same) (subst (λ (e : LinkEnds). IsPassedOver root c.args.self.now.tree e.b.0 e) is q)) in
-    (refl, ap (λ (x : State). x.table) two.1 ∙ same, omega (arith, c.tick.ensures, c.tick-2.ensures, c.tick-3.ensures))
+    let two =
+    c.in_ok-doubt_beyond-2.ensures.passed
+    (subst (λ (t : PathTable). IsPassedOver root t c.link-link.result.b.0 c.link-link.result) (sym same)
+    (subst (λ (e : LinkEnds). IsPassedOver root c.args.self.now.tree e.b.0 e) is q)) in
+    (refl, ap (λ (x : State). x.table) two.1 ∙ same, omega arith)
 
 pub returns-in_err-doubt_beyond-2-clause-idle : goal.returns-in_err-doubt_beyond-2-clause-idle
 returns-in_err-doubt_beyond-2-clause-idle g c = λ p q.
@@ -108,7 +151,10 @@ returns-in_err-doubt_beyond-2-clause-idle g c = λ p q.
     let is = sym c.link-link.ensures.value in
     let one = c.in_ok-doubt_beyond.ensures.passed (subst (λ (e : LinkEnds). IsPassedOver root c.args.self.now.tree e.a.0 e) is p) in
     let same : c.doubt_beyond.new.self.tree ≡ c.args.self.now.tree = ap (λ (x : State). x.table) one.1 in
-    let two = c.in_err-doubt_beyond-2.ensures.passed (subst (λ (t : PathTable). IsPassedOver root t c.link-link.result.b.0 c.link-link.result) (sym same) (subst (λ (e : LinkEnds). IsPassedOver root c.args.self.now.tree e.b.0 e) is q)) in
+    let two =
+    c.in_err-doubt_beyond-2.ensures.passed
+    (subst (λ (t : PathTable). IsPassedOver root t c.link-link.result.b.0 c.link-link.result) (sym same)
+    (subst (λ (e : LinkEnds). IsPassedOver root c.args.self.now.tree e.b.0 e) is q)) in
     absurd (clash (sym two.0))
 
 pub returns-in_err-cut_all-clause-idle : goal.returns-in_err-cut_all-clause-idle
@@ -117,7 +163,10 @@ returns-in_err-cut_all-clause-idle g c = λ p q.
     let is = sym c.link-link.ensures.value in
     let one = c.in_ok-doubt_beyond.ensures.passed (subst (λ (e : LinkEnds). IsPassedOver root c.args.self.now.tree e.a.0 e) is p) in
     let same : c.doubt_beyond.new.self.tree ≡ c.args.self.now.tree = ap (λ (x : State). x.table) one.1 in
-    let two = c.in_ok-doubt_beyond-2.ensures.passed (subst (λ (t : PathTable). IsPassedOver root t c.link-link.result.b.0 c.link-link.result) (sym same) (subst (λ (e : LinkEnds). IsPassedOver root c.args.self.now.tree e.b.0 e) is q)) in
+    let two =
+    c.in_ok-doubt_beyond-2.ensures.passed
+    (subst (λ (t : PathTable). IsPassedOver root t c.link-link.result.b.0 c.link-link.result) (sym same)
+    (subst (λ (e : LinkEnds). IsPassedOver root c.args.self.now.tree e.b.0 e) is q)) in
     let none : heap_items c.doubt_beyond-2.new.self.queue ≡ [] = ap (λ (x : State). x.queue) (two.1 ∙ one.1) ∙ c.requires.no_ways in
     absurd (eqb-false _ _ (sym c.is_empty.ensures ∙ c.if-is_empty.false) (omega (arith, ap length none, c.doubt_beyond-2.new.self.queue.data.ok.0)))
 
@@ -127,6 +176,9 @@ returns-clause-idle g c = λ p q.
     let is = sym c.link-link.ensures.value in
     let one = c.in_ok-doubt_beyond.ensures.passed (subst (λ (e : LinkEnds). IsPassedOver root c.args.self.now.tree e.a.0 e) is p) in
     let same : c.doubt_beyond.new.self.tree ≡ c.args.self.now.tree = ap (λ (x : State). x.table) one.1 in
-    let two = c.in_ok-doubt_beyond-2.ensures.passed (subst (λ (t : PathTable). IsPassedOver root t c.link-link.result.b.0 c.link-link.result) (sym same) (subst (λ (e : LinkEnds). IsPassedOver root c.args.self.now.tree e.b.0 e) is q)) in
+    let two =
+    c.in_ok-doubt_beyond-2.ensures.passed
+    (subst (λ (t : PathTable). IsPassedOver root t c.link-link.result.b.0 c.link-link.result) (sym same)
+    (subst (λ (e : LinkEnds). IsPassedOver root c.args.self.now.tree e.b.0 e) is q)) in
     let none : heap_items c.doubt_beyond-2.new.self.queue ≡ [] = ap (λ (x : State). x.queue) (two.1 ∙ one.1) ∙ c.requires.no_ways in
     absurd (eqb-false _ _ (sym c.is_empty.ensures ∙ c.if-is_empty.false) (omega (arith, ap length none, c.doubt_beyond-2.new.self.queue.data.ok.0)))

@@ -14,7 +14,12 @@ use Rattle.mn_spf_inc.proofs.mend.Mend.reach.Goals.{then-up+in_ok-offer_beyond, 
 pub loop-number-init : goal.loop-number-init
 loop-number-init g c =
     let at = c.links_at-number-items in
-    record { growing = cut_to_places c.args.net.now c.args.root.0 c.args.node.0 at.result.now c.args.self.now.cut.items (state_of c.args.self.now) at.ensures.links c.requires.growing; cut = refl }
+    record {
+      growing =
+          cut_to_places c.args.net.now c.args.root.0 c.args.node.0 at.result.now c.args.self.now.cut.items
+          (state_of c.args.self.now) at.ensures.links c.requires.growing;
+      cut = refl;
+    }
 
 pub up-requires : goal.up-requires
 up-requires g c =
@@ -34,8 +39,10 @@ offer_beyond-requires-clause-there g c =
     let at = c.links_at-number-items in
     let i = c.loop-number.number-index in
     let l = (get_or at.result.now i (record { 0 = 0 })).0 in
-    let goes_on : goes v c.args.node.0 l ≡ true = place_goes v c.args.node.0 at.result.now at.ensures.links i l (record { 0 = 0 }) c.loop-number-test.true refl (sym c.up.ensures ∙ c.if-up.true) in
-    let is : c.other_end.result.0 ≡ beyond v c.args.node.0 l = c.other_end.ensures ∙ ap (λ (e : LinkEnds). other_end e c.args.node.0) c.link-link.ensures.value in
+    let goes_on : goes v c.args.node.0 l ≡ true =
+    place_goes v c.args.node.0 at.result.now at.ensures.links i l (record { 0 = 0 }) c.loop-number-test.true refl (sym c.up.ensures ∙ c.if-up.true) in
+    let is : c.other_end.result.0 ≡ beyond v c.args.node.0 l =
+    c.other_end.ensures ∙ ap (λ (e : LinkEnds). other_end e c.args.node.0) c.link-link.ensures.value in
     omega (arith, is, beyond_below v at.ensures.form.network c.args.node.0 l goes_on, c.loop-number.invariant.growing.one_each.dists)
 
 pub offer_beyond-requires-clause-far : goal.offer_beyond-requires-clause-far
@@ -44,9 +51,13 @@ offer_beyond-requires-clause-far g c =
     let at = c.links_at-number-items in
     let i = c.loop-number.number-index in
     let l = (get_or at.result.now i (record { 0 = 0 })).0 in
-    let goes_on : goes v c.args.node.0 l ≡ true = place_goes v c.args.node.0 at.result.now at.ensures.links i l (record { 0 = 0 }) c.loop-number-test.true refl (sym c.up.ensures ∙ c.if-up.true) in
-    let is : c.other_end.result.0 ≡ beyond v c.args.node.0 l = c.other_end.ensures ∙ ap (λ (e : LinkEnds). other_end e c.args.node.0) c.link-link.ensures.value in
-    let far : other_end c.link-link.result c.other_end.result.0 ≡ c.args.node.0 = ap (other_end c.link-link.result) is ∙ ap (λ (e : LinkEnds). other_end e (beyond v c.args.node.0 l)) c.link-link.ensures.value ∙ back v c.args.node.0 l goes_on in
+    let goes_on : goes v c.args.node.0 l ≡ true =
+    place_goes v c.args.node.0 at.result.now at.ensures.links i l (record { 0 = 0 }) c.loop-number-test.true refl (sym c.up.ensures ∙ c.if-up.true) in
+    let is : c.other_end.result.0 ≡ beyond v c.args.node.0 l =
+    c.other_end.ensures ∙ ap (λ (e : LinkEnds). other_end e c.args.node.0) c.link-link.ensures.value in
+    let far : other_end c.link-link.result c.other_end.result.0 ≡ c.args.node.0 =
+    ap (other_end c.link-link.result) is ∙ ap (λ (e : LinkEnds). other_end e (beyond v c.args.node.0 l)) c.link-link.ensures.value
+    ∙ back v c.args.node.0 l goes_on in
     omega (arith, far, c.requires.there, c.loop-number.invariant.growing.one_each.dists)
 
 pub offer_beyond-requires-clause-fits : goal.offer_beyond-requires-clause-fits
@@ -55,10 +66,19 @@ offer_beyond-requires-clause-fits g c = λ known e.
     let at = c.links_at-number-items in
     let i = c.loop-number.number-index in
     let l = (get_or at.result.now i (record { 0 = 0 })).0 in
-    let goes_on : goes v c.args.node.0 l ≡ true = place_goes v c.args.node.0 at.result.now at.ensures.links i l (record { 0 = 0 }) c.loop-number-test.true refl (sym c.up.ensures ∙ c.if-up.true) in
-    let is : c.other_end.result.0 ≡ beyond v c.args.node.0 l = c.other_end.ensures ∙ ap (λ (e : LinkEnds). other_end e c.args.node.0) c.link-link.ensures.value in
+    let goes_on : goes v c.args.node.0 l ≡ true =
+    place_goes v c.args.node.0 at.result.now at.ensures.links i l (record { 0 = 0 }) c.loop-number-test.true refl (sym c.up.ensures ∙ c.if-up.true) in
+    let is : c.other_end.result.0 ≡ beyond v c.args.node.0 l =
+    c.other_end.ensures ∙ ap (λ (e : LinkEnds). other_end e c.args.node.0) c.link-link.ensures.value in
     let there : l < length v.ends = all_there v c.args.node.0 l (at.ensures.links.each i (record { 0 = 0 }) c.loop-number-test.true) in
-    omega (arith, sum_fits v c.args.root.0 at.ensures.form.network c.requires.root (IntoCutOrFrom v c.args.self.now.cut.items c.args.node.0 at.result.now i) (state_of c.loop-number.self) (beyond v c.args.node.0 l) known l c.loop-number.invariant.growing (beyond_below v at.ensures.form.network c.args.node.0 l goes_on) there (ap (dist_at c.loop-number.self.tree) (sym is) ∙ e), ap (λ (e : LinkEnds). e.cost) c.link-link.ensures.value)
+    omega (
+      arith,
+      sum_fits v c.args.root.0 at.ensures.form.network c.requires.root (IntoCutOrFrom v c.args.self.now.cut.items c.args.node.0 at.result.now i)
+          (state_of c.loop-number.self) (beyond v c.args.node.0 l) known l c.loop-number.invariant.growing
+          (beyond_below v at.ensures.form.network c.args.node.0 l goes_on) there (ap (dist_at c.loop-number.self.tree) (sym is) ∙ e),
+      ap
+          (λ (e : LinkEnds). e.cost) c.link-link.ensures.value,
+    )
 
 pub loop-number-preserved : goal.loop-number-preserved
 loop-number-preserved g c =
@@ -72,19 +92,27 @@ loop-number-preserved g c =
     let cut = c.args.self.now.cut.items in
     elim c.if-up.branch [
       | then-up+in_ok-offer_beyond w ↦
-          (let goes_on : goes v node l ≡ true = place_goes v node at.result.now at.ensures.links i l (record { 0 = 0 }) c.loop-number-test.true refl (sym c.up.ensures ∙ w.if-up.true) in
+          (let goes_on : goes v node l ≡ true =
+          place_goes v node at.result.now at.ensures.links i l (record { 0 = 0 }) c.loop-number-test.true refl (sym c.up.ensures ∙ w.if-up.true) in
           let s' = state_of w.offer_beyond.new.self in
           let far : w.other_end.result.0 ≡ beyond v node l = w.other_end.ensures ∙ ap (λ (e : LinkEnds). other_end e node) w.link-link.ensures.value in
           let o : OffersBeyond s s' root (beyond v node l) (link (wiring_of v) l) =
-          subst (λ n. OffersBeyond s s' root n (link (wiring_of v) l)) far (subst (OffersBeyond s s' root w.other_end.result.0) w.link-link.ensures.value w.in_ok-offer_beyond.ensures) in
-          let k = reached_over v root at.ensures.form.network c.requires.root s s' node i l (record { 0 = 0 }) at.result.now cut refl goes_on c.loop-number.invariant.growing o in
+          subst (λ n. OffersBeyond s s' root n (link (wiring_of v) l)) far
+          (subst (OffersBeyond s s' root w.other_end.result.0) w.link-link.ensures.value w.in_ok-offer_beyond.ensures) in
+          let k = reached_over v root at.ensures.form.network c.requires.root s s' node i l (record {
+            0 =
+                0;
+          }) at.result.now cut refl goes_on c.loop-number.invariant.growing o in
           record {
             growing = subst (λ (m : Mend). IsGrowing v root (IntoCutOrFrom v cut node at.result.now (i + 1)) (state_of m)) (sym w.self-is) k.0;
             cut = ap (λ (m : Mend). m.cut.items) w.self-is ∙ k.2 ∙ c.loop-number.invariant.cut;
           })
       | else-up w ↦
           record {
-            growing = subst (λ (m : Mend). IsGrowing v root (IntoCutOrFrom v cut node at.result.now (i + 1)) (state_of m)) (sym w.self-is) (cut_place_down v root node i l (record { 0 = 0 }) at.result.now cut s refl (sym c.up.ensures ∙ w.if-up.false) c.loop-number.invariant.growing);
+            growing =
+                subst (λ (m : Mend). IsGrowing v root (IntoCutOrFrom v cut node at.result.now (i + 1)) (state_of m)) (sym w.self-is)
+                (cut_place_down v root node i l (record { 0 = 0 }) at.result.now cut s refl
+                (sym c.up.ensures ∙ w.if-up.false) c.loop-number.invariant.growing);
             cut = ap (λ (m : Mend). m.cut.items) w.self-is ∙ c.loop-number.invariant.cut;
           }
     ]
@@ -94,4 +122,5 @@ returns-clause-growing g c =
     let at = c.links_at-number-items in
     let v = c.args.net.now in
     subst (λ cut. IsGrowing v c.args.root.0 (IntoCut v cut) (state_of c.loop-number.self)) (sym c.loop-number.invariant.cut)
-    (cut_places_passed v c.args.root.0 c.args.node.0 c.loop-number.number-index at.result.now c.args.self.now.cut.items (state_of c.loop-number.self) c.loop-number-test.false c.loop-number.invariant.growing)
+    (cut_places_passed v c.args.root.0 c.args.node.0 c.loop-number.number-index at.result.now c.args.self.now.cut.items
+    (state_of c.loop-number.self) c.loop-number-test.false c.loop-number.invariant.growing)

@@ -20,7 +20,12 @@ loop-way-preserved g c = record { growing = c.in_ok-take.ensures.growing; none_c
 pub loop-way-smaller : goal.loop-way-smaller
 loop-way-smaller g c =
     let s' : State = state_of (record { tree = c.loop-way.self.tree; queue = c.pop.new.self; cut = c.loop-way.self.cut }) in
-    omega (arith, c.in_ok-take.ensures.less, shorter c.args.net.now c.args.root.0 (state_of c.loop-way.self) s' c.in-Some.field-0.0 c.loop-way.invariant.growing c.in-Some.ensures.permutation refl)
+    omega (
+      arith,
+      c.in_ok-take.ensures.less,
+      shorter c.args.net.now c.args.root.0
+          (state_of c.loop-way.self) s' c.in-Some.field-0.0 c.loop-way.invariant.growing c.in-Some.ensures.permutation refl,
+    )
 
 pub returns : goal.returns
 returns g c =

@@ -12,5 +12,6 @@ returns-clause-links c =
     let there : node < length lists = omega (arith, c.requires, ap (λ (v : Learned). v.nodes) c.self.view_is) in
     subst (λ (v : Learned). AreLinksAt (all_up v.nodes v.ends) node c.as_slice.result.now) c.self.view_is
     (subst (AreLinksAt (all_up (length lists) c.self.inside.ends.items) node)
-    (sym (c.as_slice.ensures ∙ c.index.ensures ∙ ap (λ n. get_or lists n c.index.result.now) c.from.ensures ∙ get_or_default lists node c.index.result.now [] there))
+    (sym (c.as_slice.ensures ∙ c.index.ensures ∙ ap (λ n. get_or lists n c.index.result.now) c.from.ensures
+    ∙ get_or_default lists node c.index.result.now [] there))
     (c.self.invariant.at.at node there))

@@ -20,12 +20,14 @@ pub join-requires-clause-root : goal.join-requires-clause-root
 join-requires-clause-root g c = omega (arith, c.self.invariant.there, ap (λ (x : Learned). x.nodes) c.set.ensures)
 
 pub join-requires-clause-there : goal.join-requires-clause-there
-join-requires-clause-there g c = omega (arith, c.requires.there, ap (λ (x : Mended). length x.ends) c.self.view_is, ap (λ (x : Learned). length x.ends) c.set.ensures)
+join-requires-clause-there g c =
+    omega (arith, c.requires.there, ap (λ (x : Mended). length x.ends) c.self.view_is, ap (λ (x : Learned). length x.ends) c.set.ensures)
 
 pub join-requires-clause-up : goal.join-requires-clause-up
 join-requires-clause-up g c =
     let v = c.self.inside.net in
-    let there : c.args.number.0 < length v.counts = omega (arith, c.requires.there, ap (λ (x : Mended). length x.ends) c.self.view_is, c.self.invariant.network.one_each) in
+    let there : c.args.number.0 < length v.counts =
+    omega (arith, c.requires.there, ap (λ (x : Mended). length x.ends) c.self.view_is, c.self.invariant.network.one_each) in
     ap (λ (x : Learned). is_up (links_up x) c.args.number.0) c.set.ensures ∙ up_there v c.args.number.0 c.args.up there ∙ c.if-up.true
 
 pub join-requires-clause-growing : goal.join-requires-clause-growing
@@ -46,7 +48,8 @@ pub part-requires-clause-root : goal.part-requires-clause-root
 part-requires-clause-root g c = omega (arith, c.self.invariant.there, ap (λ (x : Learned). x.nodes) c.set.ensures)
 
 pub part-requires-clause-there : goal.part-requires-clause-there
-part-requires-clause-there g c = omega (arith, c.requires.there, ap (λ (x : Mended). length x.ends) c.self.view_is, ap (λ (x : Learned). length x.ends) c.set.ensures)
+part-requires-clause-there g c =
+    omega (arith, c.requires.there, ap (λ (x : Mended). length x.ends) c.self.view_is, ap (λ (x : Learned). length x.ends) c.set.ensures)
 
 pub part-requires-clause-cutting : goal.part-requires-clause-cutting
 part-requires-clause-cutting g c =
@@ -57,7 +60,8 @@ part-requires-clause-cutting g c =
     let kept = c.self.invariant in
     let there : l < length v.counts = omega (arith, c.requires.there, ap (λ (x : Mended). length x.ends) c.self.view_is, kept.network.one_each) in
     let is : c.set.new.self ≡ with_link v l false = c.set.ensures ∙ ap (with_link v l) c.if-up.false in
-    subst (λ (x : Learned). IsCutting x root (HeldOverEither x root s.table l (link (wiring_of x) l).a.0 (link (wiring_of x) l).b.0) s) (sym is) (link_lost v root kept.network.network kept.there s (kept.mended c.if-self.false) l there)
+    subst (λ (x : Learned). IsCutting x root (HeldOverEither x root s.table l (link (wiring_of x) l).a.0 (link (wiring_of x) l).b.0) s) (sym is)
+    (link_lost v root kept.network.network kept.there s (kept.mended c.if-self.false) l there)
 
 pub part-requires-clause-no_ways : goal.part-requires-clause-no_ways
 part-requires-clause-no_ways g c = (c.self.invariant.mended c.if-self.false).no_ways
@@ -66,20 +70,26 @@ pub part-requires-clause-none_cut : goal.part-requires-clause-none_cut
 part-requires-clause-none_cut g c = (c.self.invariant.mended c.if-self.false).none_cut
 
 pub invariant_of-self : goal.invariant_of-self
-invariant_of-self g c = failed_kept c.self.inside.net c.set.new.self c.self.inside.root.0 c.args.number.0 c.args.up true (state_of c.join.new.self) refl c.set.ensures c.self.invariant.network c.self.invariant.there
+invariant_of-self g c =
+    failed_kept c.self.inside.net c.set.new.self c.self.inside.root.0 c.args.number.0 c.args.up true
+    (state_of c.join.new.self) refl c.set.ensures c.self.invariant.network c.self.invariant.there
 
 pub invariant_of-self-in_err-part : goal.invariant_of-self-in_err-part
-invariant_of-self-in_err-part g c = failed_kept c.self.inside.net c.set.new.self c.self.inside.root.0 c.args.number.0 c.args.up true (state_of c.part.new.self) refl c.set.ensures c.self.invariant.network c.self.invariant.there
+invariant_of-self-in_err-part g c =
+    failed_kept c.self.inside.net c.set.new.self c.self.inside.root.0 c.args.number.0 c.args.up true
+    (state_of c.part.new.self) refl c.set.ensures c.self.invariant.network c.self.invariant.there
 
 pub invariant_of-self-2 : goal.invariant_of-self-2
 invariant_of-self-2 g c =
     elim c.if-up.branch [
       | then-up+in_ok-join w ↦
           subst (λ (x : Inside). IsKept x.net x.root.0 false (state_of x.mend)) (sym w.self-inside-is)
-          (mended_kept c.self.inside.net c.set.new.self c.self.inside.root.0 c.args.number.0 c.args.up false (state_of w.join.new.self) c.set.ensures c.self.invariant.network c.self.invariant.there w.in_ok-join.ensures)
+          (mended_kept c.self.inside.net c.set.new.self c.self.inside.root.0 c.args.number.0 c.args.up false
+          (state_of w.join.new.self) c.set.ensures c.self.invariant.network c.self.invariant.there w.in_ok-join.ensures)
       | else-up+in_ok-part w ↦
           subst (λ (x : Inside). IsKept x.net x.root.0 false (state_of x.mend)) (sym w.self-inside-is)
-          (mended_kept c.self.inside.net c.set.new.self c.self.inside.root.0 c.args.number.0 c.args.up false (state_of w.part.new.self) c.set.ensures c.self.invariant.network c.self.invariant.there w.in_ok-part.ensures.mended)
+          (mended_kept c.self.inside.net c.set.new.self c.self.inside.root.0 c.args.number.0 c.args.up false
+          (state_of w.part.new.self) c.set.ensures c.self.invariant.network c.self.invariant.there w.in_ok-part.ensures.mended)
     ]
 
 pub returns-clause-of : goal.returns-clause-of
@@ -119,14 +129,16 @@ returns-clause-idle g c = λ f u i.
     let s = state_of c.self.inside.mend in
     let kept = c.self.invariant in
     let there : l < length v.ends = omega (arith, c.requires.there, ap (λ (x : Mended). length x.ends) c.self.view_is) in
-    let was : is_up (links_up v) l ≡ true = other_than (is_up (links_up v) l) c.args.up (λ e. c.requires.turns (ap (λ (x : Mended). is_up x.up l) (sym c.self.view_is) ∙ e)) u in
+    let was : is_up (links_up v) l ≡ true =
+    other_than (is_up (links_up v) l) c.args.up (λ e. c.requires.turns (ap (λ (x : Mended). is_up x.up l) (sym c.self.view_is) ∙ e)) u in
     let idle = subst (λ (x : Mended). IsIdle x l) (sym c.self.view_is) i in
     let p = idle_both v root kept.network kept.there s (kept.mended c.if-self.false) l there was idle.forth idle.back in
     let q = subst (λ (x : Learned). IsPassedOver root s.table (link (wiring_of x) l).a.0 (link (wiring_of x) l)) (sym c.set.ensures) p.0 in
     let r = subst (λ (x : Learned). IsPassedOver root s.table (link (wiring_of x) l).b.0 (link (wiring_of x) l)) (sym c.set.ensures) p.1 in
     elim c.if-up.branch [
       | then-up+in_ok-join w ↦ absurd (clash (sym w.if-up.true ∙ u))
-      | else-up+in_ok-part w ↦ (let k = w.in_ok-part.ensures.idle q r in (refl, ap (λ (x : Inside). x.mend.tree) w.self-inside-is ∙ k.1 ∙ ap (λ (x : Mended). x.tree) c.self.view_is, w.steps-is ∙ k.2))
+      | else-up+in_ok-part w ↦ (let k = w.in_ok-part.ensures.idle q r in
+          (refl, ap (λ (x : Inside). x.mend.tree) w.self-inside-is ∙ k.1 ∙ ap (λ (x : Mended). x.tree) c.self.view_is, w.steps-is ∙ k.2))
     ]
 
 pub returns-in_err-part-clause-idle : goal.returns-in_err-part-clause-idle
@@ -137,7 +149,8 @@ returns-in_err-part-clause-idle g c = λ f u i.
     let s = state_of c.self.inside.mend in
     let kept = c.self.invariant in
     let there : l < length v.ends = omega (arith, c.requires.there, ap (λ (x : Mended). length x.ends) c.self.view_is) in
-    let was : is_up (links_up v) l ≡ true = other_than (is_up (links_up v) l) c.args.up (λ e. c.requires.turns (ap (λ (x : Mended). is_up x.up l) (sym c.self.view_is) ∙ e)) u in
+    let was : is_up (links_up v) l ≡ true =
+    other_than (is_up (links_up v) l) c.args.up (λ e. c.requires.turns (ap (λ (x : Mended). is_up x.up l) (sym c.self.view_is) ∙ e)) u in
     let idle = subst (λ (x : Mended). IsIdle x l) (sym c.self.view_is) i in
     let p = idle_both v root kept.network kept.there s (kept.mended c.if-self.false) l there was idle.forth idle.back in
     let q = subst (λ (x : Learned). IsPassedOver root s.table (link (wiring_of x) l).a.0 (link (wiring_of x) l)) (sym c.set.ensures) p.0 in

@@ -11,7 +11,8 @@ invariant_of-result c =
     record {
       network = subst IsView (sym c.in_ok-net.ensures) (record { network = c.requires.network; one_each = length-replicate (length c.args.ends.now) 0 });
       there = omega (arith, c.requires.root, ap (λ (v : Learned). v.nodes) c.in_ok-net.ensures);
-      mended = λ f. started c.args.nodes c.args.root.0 c.args.ends.now c.requires.root (state_of c.in_ok-mend.mend) c.in_ok-net.net c.in_ok-mend.ensures c.in_ok-net.ensures;
+      mended = λ f. started c.args.nodes c.args.root.0 c.args.ends.now c.requires.root
+          (state_of c.in_ok-mend.mend) c.in_ok-net.net c.in_ok-mend.ensures c.in_ok-net.ensures;
     }
 
 pub returns-clause-of : goal.returns-clause-of

@@ -15,4 +15,5 @@ returns-clause-one_each c =
 pub returns-clause-least : goal.returns-clause-least
 returns-clause-least c =
     subst (λ (x : Mended). x.failed ≡ false → (wiring : Wiring) → IsOver wiring x → IsTree wiring x.up x.root x.tree) c.self.view_is
-    (λ f wiring o. mended_tree c.self.inside.net c.self.inside.root.0 c.self.invariant.network.network c.self.invariant.there (state_of c.self.inside.mend) (c.self.invariant.mended f) wiring o.nodes o.ends)
+    (λ f wiring o. mended_tree c.self.inside.net c.self.inside.root.0 c.self.invariant.network.network c.self.invariant.there (state_of c.self.inside.mend)
+    (c.self.invariant.mended f) wiring o.nodes o.ends)
