@@ -24,6 +24,8 @@ mod labels;
 mod output;
 mod recorder;
 mod step;
+#[cfg(test)]
+mod tests;
 
 pub use books::Books;
 pub use recorder::record_line;
