@@ -152,7 +152,7 @@ made_last (Ok made) mid new step bytes packets stands together named long moves 
 pushed_last : (entries : List JournalEntry) (entry : JournalEntry) → slice_get (entries ++ entry ∷ []) (length (entries ++ entry ∷ []) - 1) ≡ Some entry
 pushed_last entries entry =
     ap (slice_get (entries ++ entry ∷ [])) (let e : length (entries ++ entry ∷ []) - 1 ≡ length entries =
-        omega (arith, length-append entries (entry ∷ [])) in e)
+    omega (arith, length-append entries (entry ∷ [])) in e)
     ∙ there entries
   where
     there : (es : List JournalEntry) → slice_get (es ++ entry ∷ []) (length es) ≡ Some entry
