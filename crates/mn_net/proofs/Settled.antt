@@ -1,5 +1,5 @@
 -- In a settled network hops and routes are those of the present configuration.
-use Rattle.std.proofs.Common.{ℕ, zero, suc, ◌≡◌, ◌≢◌, ◌<◌, true, false, List, [], ◌∷◌, length, refl, arith, sym, ◌∙◌, ap, subst, Option, Some, None}
+use Rattle.std.proofs.Common.{ℕ, zero, suc, ◌≡◌, ◌≢◌, ◌<◌, true, List, [], ◌∷◌, length, refl, sym, ◌∙◌, ap, subst, Option, Some, None}
 use Rattle.std.specs.Prelude.{is_some, option_map}
 use Rattle.std.proofs.lemmas.Option.{same_Some}
 use Rattle.mn_base.proofs.Bools.{clash, none_below}
@@ -10,11 +10,11 @@ use Rattle.mn_topo.specs.Lawful.{IsLawful}
 use Rattle.mn_topo.specs.declared.steps.JournalEntry.{JournalEntry}
 use Rattle.mn_ledger.specs.World.{World}
 use Rattle.mn_ledger.specs.Places.{edge_of, edges}
-use Rattle.mn_ledger.specs.Vpn.{HeldRoute, held, best}
+use Rattle.mn_ledger.specs.Vpn.{held, best}
 use Rattle.mn_ledger.specs.Transport.{view_of}
 use Rattle.mn_ledger.specs.Ledger.{world_of}
 use Rattle.mn_ledger.specs.Lawful.{IsLawfulJournal}
-use Rattle.mn_ledger.specs.Settled.{IsSettled, hops_from, route}
+use Rattle.mn_ledger.specs.Settled.{IsSettled, hops_from}
 use Rattle.mn_ledger.proofs.Members.{contained_in}
 use Rattle.mn_laws.proofs.There.{edge_there}
 use Rattle.mn_settled.specs.Ways.{links_up, way, Reaches, KnowsTheWay}
@@ -25,7 +25,7 @@ use Rattle.mn_settled.proofs.LeastWay.{route_is_least}
 use Rattle.mn_settled.proofs.Lookup.{looks_up}
 use Rattle.mn_routing_model.proofs.Home.{among_edges}
 use Rattle.mn_net_moves.specs.Told.{hop_to}
-use Rattle.mn_net.specs.Settled.{hop_over_links, IsByLinks}
+use Rattle.mn_net.specs.Settled.{IsByLinks}
 
 -- 1. Hops
 
