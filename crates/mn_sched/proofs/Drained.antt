@@ -1,8 +1,7 @@
 -- A drain of the network is the course's.
-use Rattle.std.proofs.Common.{ℕ, ◌≡◌, ◌+◌, ◌≤◌, ◌^◌, ◌<◌, ◌⊎◌, inl, inr, false, List, length, refl, arith, sym, ◌∙◌, ap, subst, Option, Some, None, Result}
+use Rattle.std.proofs.Common.{ℕ, ◌≡◌, ◌+◌, ◌≤◌, ◌^◌, ◌<◌, inl, inr, false, List, length, refl, sym, ◌∙◌, ap, subst, Option, Some, None, Result}
 use Rattle.std.proofs.Common.{Ok, Err}
 use Rattle.std.proofs.lemmas.Bool.Decides.{leb_tells}
-use Rattle.mn_topo.specs.Network.{Network}
 use Rattle.mn_topo.specs.Lawful.{IsLawful}
 use Rattle.mn_script.specs.declared.command.Command.{Command}
 use Rattle.mn_script.specs.declared.command.Command.TheVariants.{Drain}
@@ -21,7 +20,6 @@ use Rattle.mn_course.proofs.Draining.{drains_all}
 use Rattle.mn_course.proofs.Emptied.{all_have_arrived}
 use Rattle.mn_net_now.specs.Now.{NetNow, StandsFor}
 use Rattle.mn_sched.specs.declared.line.Played.{Played}
-use Rattle.mn_sched.specs.declared.line.Played.TheVariants as played
 use Rattle.mn_sched.specs.declared.line.Stopped.{Stopped}
 use Rattle.mn_sched.specs.declared.line.Stopped.TheVariants.{TooManySteps, Read, Write, NoMemory}
 use Rattle.mn_sched.specs.Playing.{past_of, Arrives, as_played}

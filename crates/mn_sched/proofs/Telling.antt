@@ -26,7 +26,6 @@ use Rattle.mn_course.specs.Course.{injected, tried, stepped, refusal_now, until,
 use Rattle.mn_net.specs.declared.net.Done.{Done}
 use Rattle.mn_ledger.specs.OneMore.{added, with_packet}
 use Rattle.mn_laws.specs.Flight.{IsOpen}
-use Rattle.mn_timetable.specs.Steps.{pushed}
 use Rattle.mn_net_now.specs.Now.{NetNow, StandsFor}
 use Rattle.std.specs.Prelude.{IsErrOf}
 use Rattle.mn_net_now.specs.Done.{IsLonger, HasFailed, Leaves, Answers}

@@ -1,6 +1,5 @@
 -- What `drain` without a number comes to.
-use Rattle.std.specs.Prelude.{◌≡◌, ◌<◌, ◌+◌, ℕ, List, length, Option, Some, None, Result, Ok, Err, ⊤}
-use Rattle.mn_topo.specs.Network.{Network}
+use Rattle.std.specs.Prelude.{◌<◌, ◌+◌, ℕ, List, length, None, Result, Ok, Err, ⊤}
 use Rattle.mn_script.specs.declared.command.Command.{Command}
 use Rattle.mn_script.specs.declared.command.Command.TheVariants.{Drain}
 use Rattle.mn_ledger.specs.Ledger.{world_of}
