@@ -1,5 +1,6 @@
 -- Each packet that is sent in a steady stretch arrives, and what follows doesn't change it.
-use Rattle.std.proofs.Common.{ℕ, zero, suc, ◌≡◌, ◌+◌, ◌<◌, ◌≤◌, List, [], ◌∷◌, ◌++◌, length, take, drop, refl, arith, sym, ◌∙◌, ap, subst, Some, Bool, true, false, cond}
+use Rattle.std.proofs.Common.{ℕ, zero, suc, ◌≡◌, ◌+◌, ◌<◌, ◌≤◌, List, [], ◌∷◌, ◌++◌, length, take, drop, refl, arith, sym, ◌∙◌, ap, subst, Some, Bool, true}
+use Rattle.std.proofs.Common.{false, cond}
 use Rattle.std.specs.Prelude.{slice_get}
 use Rattle.std.proofs.lemmas.Bool.{ltb-true}
 use Rattle.std.proofs.lemmas.Option.{same_Some}
@@ -185,7 +186,8 @@ module _ (t : Network) (lawful : IsLawful t) (es : List JournalEntry) (ps : List
       let best = (names_best t (take from es) ps lawful (lawful_at t es ps from journal) (home_of t s.site) (vrf_of t s.site) (destination_of s.bytes)).named x
       way.addressed.best_is in
       let named : NamesItsSite t (world_at t es from).config (home_of t s.site) x =
-      (names_what_exists t (take from es) ps lawful (lawful_at t es ps from journal)).routes (vrf_of t s.site) x (vrf_there t s.site lawful site_there) best.held in
+      (names_what_exists t (take from es) ps lawful (lawful_at t es ps from journal)).routes (vrf_of t s.site) x
+      (vrf_there t s.site lawful site_there) best.held in
       subst (λ n. n < length t.loopbacks) named.home (home_there t x.site lawful named.site)
 
   pub reaches_it : ReachesItsSite t (world_at t es from) (packets_of t es ps) s x

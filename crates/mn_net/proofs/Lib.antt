@@ -5,3 +5,4 @@ pub mod Bytes
 pub mod Pieces
 pub mod Prefixes
 pub mod Making
+pub mod Settled

@@ -7,6 +7,8 @@ ghost use Rattle.mn_frames.specs.Given.{given};
 ghost use Rattle.mn_frames.specs.Numbers.{labels_of};
 ghost use Rattle.mn_pe.specs.Entries.{as_held as given_held};
 ghost use Rattle.mn_routing_model.specs.Sources.{as_held};
+ghost use Rattle.mn_ledger.specs.Settled.{IsSettled};
+ghost use Rattle.mn_settled.specs.Routes.{routes_of};
 ghost use Rattle.mn_net.specs.Tables.{held_at};
 
 use crate::ends::edge_at;
@@ -27,12 +29,16 @@ impl Net {
         self.routes.bgp_state(at, peer)
     }
 
-    /// The best route of a VRF for an address, with its prefix: of the longest prefix that contains it, the preferred one.
+    /// The best route of a VRF for an address, with its prefix: of the longest prefix that contains it, the preferred one. In a
+    /// settled network it is the best of those that the present configuration gives, whatever happened before.
     pub fn lookup(&self, vrf: VrfNo, address: u32) -> Option<(Prefix, Source)>
         requires works { self.now.failed ≡ false }
         requires vrf { vrf.0 < length self.now.topology.vrfs }
         ensures told { result ≡ option_map (as_held (labels_of self.now.topology self.now.journal))
             (best (held self.now.topology (world_of self.now.topology self.now.journal).config (world_of self.now.topology self.now.journal).peerings (edge_of self.now.topology vrf.0) vrf.0) address) }
+        ensures settled { IsSettled self.now.topology (world_of self.now.topology self.now.journal) →
+            result ≡ option_map (as_held (labels_of self.now.topology self.now.journal))
+            (best (routes_of self.now.topology (world_of self.now.topology self.now.journal).config (edge_of self.now.topology vrf.0) vrf.0) address) }
     {
         self.topology.laws();
         an_edge_stands_for_the_ledger();

@@ -8,6 +8,9 @@ ghost use Rattle.mn_ledger.specs.Transport.{view_of};
 ghost use Rattle.mn_frames.specs.Given.{given};
 ghost use Rattle.mn_transport_model.specs.Stands.{IsNode};
 ghost use Rattle.mn_net_moves.specs.Told.{hop_to, state_at};
+ghost use Rattle.mn_ledger.specs.OneMore.{tick_from};
+ghost use Rattle.mn_ledger.specs.Settled.{IsSettled};
+ghost use Rattle.mn_net.specs.Settled.{IsByLinks};
 
 use crate::ends::sender;
 use crate::net::Net;
@@ -34,10 +37,12 @@ impl Net {
         !self.failed
     }
 
-    /// What holds of every network that works: at most 4,000,000 steps were done, and so no more packets were injected.
+    /// What holds of every network that works: at most 4,000,000 steps were done, and so no more packets were injected, and the
+    /// clock isn't behind the last step.
     pub fn laws(&self)
         ensures steps { self.now.failed ≡ false → length self.now.journal ≤ 4000000 }
         ensures packets { self.now.failed ≡ false → length self.now.moving.verdicts ≤ 4000000 }
+        ensures late { self.now.failed ≡ false → tick_from 0 self.now.journal ≤ self.now.tick }
     {
         self.topology.laws();
     }
@@ -88,13 +93,18 @@ impl Net {
         self.transport.node(node).tree()
     }
 
-    /// The next hop from a node towards another where it can send there.
+    /// The next hop from a node towards another where it can send there: in a settled network exactly where a walk over links
+    /// that are up leads there, by one of least cost.
     pub fn hop(&self, node: NodeNo, edge: NodeNo) -> Option<NodeNo>
         requires works { self.now.failed ≡ false }
         requires node { node.0 < length self.now.topology.loopbacks }
         requires edge { edge.0 < length self.now.topology.loopbacks }
         ensures told { node.0 ≢ edge.0 → result ≡ hop_to self.now.topology (world_of self.now.topology self.now.journal) node.0 edge.0 }
+        // In a settled network it is what the present links give, whatever happened before.
+        ensures settled { node.0 ≢ edge.0 → IsSettled self.now.topology (world_of self.now.topology self.now.journal) →
+            IsByLinks self.now.topology (world_of self.now.topology self.now.journal) node.0 edge.0 result }
     {
+        self.topology.laws();
         next_hop(self.transport.outer(&self.topology, node, edge))
     }
 

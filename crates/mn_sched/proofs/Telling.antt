@@ -26,7 +26,6 @@ use Rattle.mn_course.specs.Course.{injected, tried, stepped, refusal_now, until,
 use Rattle.mn_net.specs.declared.net.Done.{Done}
 use Rattle.mn_ledger.specs.OneMore.{added, with_packet}
 use Rattle.mn_laws.specs.Flight.{IsOpen}
-use Rattle.mn_timetable.specs.Steps.{pushed}
 use Rattle.mn_net_now.specs.Now.{NetNow, StandsFor}
 use Rattle.std.specs.Prelude.{IsErrOf}
 use Rattle.mn_net_now.specs.Done.{IsLonger, HasFailed, Leaves, Answers}
@@ -152,7 +151,7 @@ made_last (Ok made) mid new step bytes packets stands together named long moves 
 pushed_last : (entries : List JournalEntry) (entry : JournalEntry) → slice_get (entries ++ entry ∷ []) (length (entries ++ entry ∷ []) - 1) ≡ Some entry
 pushed_last entries entry =
     ap (slice_get (entries ++ entry ∷ [])) (let e : length (entries ++ entry ∷ []) - 1 ≡ length entries =
-        omega (arith, length-append entries (entry ∷ [])) in e)
+    omega (arith, length-append entries (entry ∷ [])) in e)
     ∙ there entries
   where
     there : (es : List JournalEntry) → slice_get (es ++ entry ∷ []) (length es) ≡ Some entry

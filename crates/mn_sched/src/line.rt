@@ -8,6 +8,7 @@ ghost use Rattle.mn_topo.specs.Steps.{fits};
 ghost use Rattle.mn_course.specs.declared.coming.Ending.TheVariants as ending;
 ghost use Rattle.mn_laws.specs.Flight.{IsOpen};
 ghost use Rattle.mn_net_now.specs.Now.{StandsFor};
+ghost use Rattle.mn_sched.specs.Draining.{DrainsBy};
 ghost use Rattle.mn_sched.specs.Watching.{Together, Stood, MadeLast, LastFits};
 ghost use Rattle.mn_base.specs.declared.numbers.SiteNo.{SiteNo};
 
@@ -253,6 +254,26 @@ fn run<W: Watch>(net: &mut Net, ticks: u32, watch: &mut W) -> Result<Played, Sto
     }
 }
 
+/// Notices are learned, and once none is in flight messages are heard: so many in all, or until none is in flight.
+fn drain<W: Watch>(net: &mut Net, most: Option<u32>, watch: &mut W) -> Result<Played, Stopped>
+    requires early { net.old.tick ≤ 2 ^ 61 }
+    requires together { Together net.old (W.packets watch.old) (W.stands watch.old) }
+    ensures course { ForSome (W.packets watch.old) (λ capture. Takes (played net.old.topology capture (past_of net.old) (Command.Drain most)) net.new result) }
+    ensures drained { ForSome (W.packets watch.old) (λ capture. DrainsBy (Command.Drain most) capture net.old net.new result) }
+    ensures after { After net.new (W.packets watch.old) (W.stands watch.new) (W.begins watch.new) result }
+    ensures missing { MissingIff false result }
+    ensures topology { net.new.topology ≡ net.old.topology }
+    ensures clock { OnOk result (IsPaced 1000000 net.old net.new) }
+    ensures records { W.records watch.new ≡ W.records watch.old }
+    ensures packets { W.packets watch.new ≡ W.packets watch.old }
+    ensures goes_on { W.goes_on watch.old watch.new }
+    ensures cause { Caused (W.reads watch.old, W.writes watch.old) (W.reads watch.new, W.writes watch.new) result }
+{
+    net.laws();
+    net.topology().laws();
+    as_played(deliver(net, Arrivals::News, most_of(most), watch))
+}
+
 /// Does what a line of a script asks for, and tells the watch of each step.
 pub fn play<W: Watch>(net: &mut Net, command: &Command, watch: &mut W) -> Result<Played, Stopped>
     requires fits { command_fits net.old.topology command.now ≡ true }
@@ -261,6 +282,9 @@ pub fn play<W: Watch>(net: &mut Net, command: &Command, watch: &mut W) -> Result
     requires together { Together net.old (W.packets watch.old) (W.stands watch.old) }
     // The journal grows by exactly what the line's course says, or by a first part of it.
     ensures course { ForSome (W.packets watch.old) (λ capture. Takes (played net.old.topology capture (past_of net.old) command.now) net.new result) }
+    // `drain` without a number takes no more steps than its bound, leaves no notice and no message in flight, and settles the
+    // network where LDP is switched on for each link that is up and BGP between all edges.
+    ensures drained { ForSome (W.packets watch.old) (λ capture. DrainsBy command.now capture net.old net.new result) }
     // Net and watch stand together afterwards; after a fault or want of memory the watch begins the journal.
     ensures after { After net.new (W.packets watch.old) (W.stands watch.new) (W.begins watch.new) result }
     // That there is no such record is answered exactly there.
@@ -278,7 +302,7 @@ pub fn play<W: Watch>(net: &mut Net, command: &Command, watch: &mut W) -> Result
             _ => step_plainly(net, step, watch),
         },
         Command::Run(ticks) => run(net, ticks, watch),
-        Command::Drain(most) => as_played(deliver(net, Arrivals::News, most_of(most), watch)),
+        Command::Drain(most) => drain(net, most, watch),
         Command::Flush => as_played(deliver(net, Arrivals::AllFrames, all_items(), watch)),
         Command::Show(_) => Ok(Played::All),
     }

@@ -1,4 +1,5 @@
 use Rattle.std.proofs.Common.{◌≤◌, length, subst}
+use Rattle.mn_ledger.specs.OneMore.{tick_from}
 use Rattle.mn_net_now.specs.Now.{NetNow}
 use Rattle.mn_net_moves.proofs.Told.{net_is}
 use Rattle.mn_net.proofs.Asked.{few_steps, few_packets}
@@ -11,3 +12,7 @@ returns-clause-steps c = λ works.
 pub returns-clause-packets : goal.returns-clause-packets
 returns-clause-packets c = λ works.
     subst (λ (n : NetNow). length n.moving.verdicts ≤ 4000000) c.self.view_is (few_packets _ c.laws.ensures (net_is _ _ c.self.view_is c.self.invariant works))
+
+pub returns-clause-late : goal.returns-clause-late
+returns-clause-late c = λ works.
+    subst (λ (n : NetNow). tick_from 0 n.journal ≤ n.tick) c.self.view_is (net_is _ _ c.self.view_is c.self.invariant works).late
