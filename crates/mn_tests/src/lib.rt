@@ -1,6 +1,6 @@
 //! Tests of the whole program, over devices in memory.
 //!
-//! Expected reports and bytes were worked by hand from RFC 791 and the file formats of docs/FORMATS.md.
+//! Expected reports and bytes were worked by hand from RFC 791, RFC 3032 and the file formats of docs/FORMATS.md.
 #![tactic(auto)]
 
 #[cfg(test)]
@@ -9,3 +9,5 @@ mod check;
 mod one_node;
 #[cfg(test)]
 mod scripts;
+#[cfg(test)]
+mod two_links;

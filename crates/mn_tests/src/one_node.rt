@@ -93,7 +93,8 @@ pub(crate) fn words(alloc: Global, texts: &[&str]) -> Result<Vec<String>, AllocE
     Ok(words)
 }
 
-fn run_words(alloc: Global) -> Result<Vec<String>, AllocError> {
+/// The words of a run over the inputs t, s and c into the folder out.
+pub(crate) fn run_words(alloc: Global) -> Result<Vec<String>, AllocError> {
     words(alloc, &["run", "t", "s", "c", "out"])
 }
 
@@ -108,7 +109,7 @@ fn capture(alloc: Global, packets: &[&[u8]]) -> Result<Vec<u8>, AllocError> {
 }
 
 /// A shelf with the three inputs, on which the calls of these numbers fail.
-fn shelf(
+pub(crate) fn shelf(
     alloc: Global,
     topology: &str,
     script: &str,
@@ -275,46 +276,6 @@ fn other_words_are_usage(rt: HostRuntime) -> Result<(), Fail> {
     Ok(())
 }
 
-/// Whether the inputs are refused in this line, with nothing written.
-fn is_refused(
-    alloc: Global,
-    topology: &str,
-    script: &str,
-    capture: Vec<u8>,
-    line: &str,
-) -> Result<bool, AllocError> {
-    let mut shelf = shelf(alloc, topology, script, capture, Vec::new(alloc))?;
-    let mut out = MemSink::new(alloc, Vec::new(alloc));
-    let outcome = command(alloc, &run_words(alloc)?, &mut shelf, &mut out);
-    Ok(
-        outcome.status() == 10
-            && out.bytes() == line.as_bytes()
-            && shelf.file("out/delivered.pcap").is_none(),
-    )
-}
-
-#[test]
-fn an_input_that_cannot_be_run_yet_is_named(rt: HostRuntime) -> Result<(), Fail> {
-    let alloc = rt.alloc();
-    let two_nodes =
-        "[[node]]\nname = \"a\"\nloopback = \"192.0.2.1\"\n[[node]]\nname = \"b\"\nloopback = \"192.0.2.2\"\n";
-    let whole = capture(alloc, &[PACKET.as_slice()])?;
-    assert!(rt; is_refused(alloc, two_nodes, "", whole, "not built topology\n")?);
-    let whole = capture(alloc, &[PACKET.as_slice()])?;
-    assert!(rt; is_refused(alloc, TWO_SITES, "site down a", whole, "not built script\n")?);
-    let whole = capture(alloc, &[PACKET.as_slice()])?;
-    assert!(rt;
-        is_refused(
-            alloc,
-            TWO_SITES,
-            "inject a 1\nflush",
-            whole,
-            "not built script\n"
-        )?
-    );
-    Ok(())
-}
-
 /// A capture of the packets, in which the byte at this place has another value.
 fn altered(
     alloc: Global,
@@ -458,26 +419,56 @@ fn a_failing_begin_leaves_no_file(rt: HostRuntime) -> Result<(), Fail> {
     let outcome = command(alloc, &run_words(alloc)?, &mut shelf, &mut out);
     assert!(rt; outcome == Outcome::WriteFault);
     assert_eq!(rt; outcome.status(), 7);
+    assert!(rt; shelf.file("out/journal.txt").is_none());
     assert!(rt; shelf.file("out/delivered.pcap").is_none());
     assert!(rt; out.bytes().is_empty());
     Ok(())
 }
 
-#[test]
-fn a_failing_append_leaves_a_first_part(rt: HostRuntime) -> Result<(), Fail> {
-    // The header is appended by call 8, the record by call 9, whose first half stays.
-    let alloc = rt.alloc();
+/// The steps of a run that sends one packet at site a.
+const JOURNAL: &str = "0 inject a 1\n";
+
+/// The labels that the node gives to its sites.
+const LABELS: &str = "pe1 16 site a 1\npe1 17 site b 1\n";
+
+/// Whether a run that sends one packet ends by a write fault where the call of this number fails: nothing is
+/// put, and the files are these.
+fn is_cut_off(
+    alloc: Global,
+    call: u64,
+    journal: &str,
+    labels: &str,
+    delivered: &[u8],
+) -> Result<bool, AllocError> {
     let capture = capture(alloc, &[PACKET.as_slice()])?;
-    let failing = vec![in alloc; 9u64]?;
+    let failing = vec![in alloc; call]?;
     let mut shelf = shelf(alloc, TWO_SITES, "inject a 1\n", capture, failing)?;
     let mut out = MemSink::new(alloc, Vec::new(alloc));
     let outcome = command(alloc, &run_words(alloc)?, &mut shelf, &mut out);
-    assert!(rt; outcome == Outcome::WriteFault);
-    let mut part = Vec::from_slice(alloc, &CAPTURE_HEADER)?;
-    part.extend_from_slice(&RECORD_HEADER)?;
-    part.extend_from_slice(&[0x45, 0, 0, 0x1C, 0, 0])?;
-    assert!(rt; shelf.file("out/delivered.pcap") == Some(part.as_slice()));
-    assert!(rt; out.bytes().is_empty());
+    Ok(
+        outcome.status() == 7
+            && out.bytes().is_empty()
+            && shelf.file("out/journal.txt") == Some(journal.as_bytes())
+            && shelf.file("out/labels.txt") == Some(labels.as_bytes())
+            && shelf.file("out/delivered.pcap") == Some(delivered),
+    )
+}
+
+/// Half of the 68 bytes of the deliveries: the header, and the record's up to the middle of its captured length.
+const HALF_DELIVERED: [u8; 34] = [
+    0xD4, 0xC3, 0xB2, 0xA1, 0x02, 0x00, 0x04, 0x00, 0x00, 0x00, 0x00, 0x00, 0x00, 0x00, 0x00, 0x00,
+    0x00, 0x00, 0x04, 0x00, 0xE4, 0x00, 0x00, 0x00, 0x00, 0x00, 0x00, 0x00, 0x00, 0x00, 0x00, 0x00,
+    0x1C, 0x00,
+];
+
+#[test]
+fn a_failing_append_leaves_a_first_part(rt: HostRuntime) -> Result<(), Fail> {
+    // Calls 1 to 6 read the inputs, 7 to 9 begin the files, and 10 fetches the packet. Then each file is
+    // appended by one call, and where it fails half of the bytes stay.
+    let alloc = rt.alloc();
+    assert!(rt; is_cut_off(alloc, 11, "0 inje", "", &[])?);
+    assert!(rt; is_cut_off(alloc, 12, JOURNAL, "pe1 16 site a 1\n", &[])?);
+    assert!(rt; is_cut_off(alloc, 13, JOURNAL, LABELS, &HALF_DELIVERED)?);
     Ok(())
 }
 
@@ -489,7 +480,11 @@ fn a_failing_put_leaves_a_first_part_of_the_report(rt: HostRuntime) -> Result<()
     let mut out = MemSink::new(alloc, vec![in alloc; 1u64]?);
     let outcome = command(alloc, &run_words(alloc)?, &mut shelf, &mut out);
     assert!(rt; outcome == Outcome::WriteFault);
-    // Half of the first line.
-    assert!(rt; out.bytes() == "packet 1 line 1 site a record 1 d".as_bytes());
+    assert_eq!(rt; outcome.status(), 7);
+    // The report is put by one call: of its 139 bytes the first 69 stay. The files are whole by then.
+    let half = "packet 1 line 1 site a record 1 delivered b ttl 63 copy 1 path pe1\nto";
+    assert!(rt; out.bytes() == half.as_bytes());
+    assert!(rt; shelf.file("out/journal.txt") == Some(JOURNAL.as_bytes()));
+    assert!(rt; shelf.file("out/labels.txt") == Some(LABELS.as_bytes()));
     Ok(())
 }
