@@ -2,5 +2,4 @@ pub mod Results
 pub mod Ending
 pub mod Loading
 pub mod Accounting
-pub mod Scripting
 pub mod Playing
