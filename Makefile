@@ -2,9 +2,10 @@
 # make build  proves and builds the program, and prints where it is
 # make demo   runs an example (EXAMPLE=first; two-links where none is named), and says whether what ran was the proved build
 # make tools  tests the tools, the schema, the man page and the completions, in seconds
+# make index  shows that all that docs/INDEX.md names is there, and that it has every rule, in a second
 # make clean  removes what was built
 
-.PHONY: test build demo tools clean
+.PHONY: test build demo tools index clean
 
 PROGRAM = crates/mplsnet/out/mplsnet
 
@@ -19,6 +20,9 @@ demo:
 
 tools:
 	@python3 -m unittest discover -q -s tools/tests
+
+index:
+	@python3 scripts/index
 
 clean:
 	rm -rf crates/*/out demo

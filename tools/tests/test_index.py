@@ -1,0 +1,58 @@
+"""The index names what is there; a wrong name, a row that is cut and a rule without a row are told with their place."""
+
+import shutil
+import subprocess
+import sys
+import tempfile
+import unittest
+from pathlib import Path
+
+ROOT = Path(__file__).resolve().parents[2]
+
+
+class Index(unittest.TestCase):
+    def setUp(self):
+        self.root = Path(tempfile.mkdtemp())
+        self.addCleanup(shutil.rmtree, self.root)
+        for name in ["scripts", "docs"]:
+            shutil.copytree(ROOT / name, self.root / name)
+        (self.root / "crates").symlink_to(ROOT / "crates")
+
+    def run_index(self, *words):
+        return subprocess.run([sys.executable, self.root / "scripts/index", *words], capture_output=True, text=True)
+
+    def told(self, document, old, new, said):
+        path = self.root / "docs" / document
+        path.write_text(path.read_text().replace(old, new, 1))
+        ran = self.run_index()
+        self.assertEqual(1, ran.returncode)
+        self.assertIn(said, ran.stderr)
+
+    def test_all_is_there(self):
+        ran = self.run_index()
+        self.assertEqual((0, ""), (ran.returncode, ran.stderr))
+
+    def test_a_definition_that_is_not_declared(self):
+        self.told("INDEX.md", "`IsPdu`", "`IsPdq`", "no such definition: mn_ldp_wire/specs/Grammar.antt IsPdq")
+
+    def test_a_clause_that_the_call_has_not(self):
+        self.told("INDEX.md", "`first_fault`", "`last_fault`", "no such clause: mn_ipv4::check last_fault")
+
+    def test_a_function_that_is_not_in_its_file(self):
+        self.told("INDEX.md", "mn_ipv4/src/header.rt `check`", "mn_ipv4/src/header.rt `chek`", "no such code: mn_ipv4/src/header.rt chek")
+
+    def test_a_row_without_its_last_cell(self):
+        self.told("INDEX.md", " | mn_ipv4/src/header.rt `check` |", " |", "not five cells")
+
+    def test_a_rule_without_a_row(self):
+        self.told("FORMATS.md", "| T1 NotToml |", "| T17 NotNew |", "in no row of docs/INDEX.md: T17 NotNew")
+
+    def test_a_rule_is_looked_up(self):
+        ran = self.run_index("NoLsp")
+        self.assertEqual(0, ran.returncode)
+        self.assertIn("crates/mn_ledger/specs/Packets.antt:", ran.stdout)
+        self.assertEqual(1, self.run_index("no such rule").returncode)
+
+
+if __name__ == "__main__":
+    unittest.main()
