@@ -1,7 +1,7 @@
 # make test   the whole gate: proofs from nothing, must-fail edits, tests, programs
 # make build  proves and builds the program, and prints where it is
 # make demo   runs an example (EXAMPLE=first; two-links where none is named), and says whether what ran was the proved build
-# make tools  tests the tools, the schema, the man page and the completions, in seconds
+# make tools  tests the tools, the schema, the man page and the completions, and has tshark decode the examples' runs, in seconds
 # make index  shows that all that docs/INDEX.md names is there, and that it has every rule, in a second
 # make clean  removes what was built
 
@@ -19,7 +19,8 @@ demo:
 	@sh scripts/demo $(EXAMPLE)
 
 tools:
-	@python3 -m unittest discover -q -s tools/tests
+	@python3 -B -m unittest discover -q -s tools/tests
+	@tools/mplsnet-decode examples/*/expected || [ $$? = 3 ]
 
 index:
 	@python3 scripts/index

@@ -24,7 +24,7 @@ use Rattle.mn_ledger.specs.Settled.{IsSteady}
 use Rattle.mn_ledger.proofs.Choice.{names_best}
 use Rattle.mn_laws.specs.Accounts.{world_at, packets_at, Sending, path_of, is_flying}
 use Rattle.mn_laws.specs.Named.{NamesItsSite}
-use Rattle.mn_laws.proofs.At.{bytes_of, packets_whole, lawful_step, lawful_at}
+use Rattle.mn_laws.proofs.At.{bytes_of, packets_whole, lawful_step, lawful_at, but_next_is}
 use Rattle.mn_laws.proofs.Fates.{ended_stays}
 use Rattle.mn_laws.proofs.Holding.{names_what_exists}
 use Rattle.mn_laws.proofs.There.{vrf_there, home_there}
@@ -63,13 +63,6 @@ parted (x ∷ es) (suc from) (suc to) h = ap (λ ys. x ∷ ys) (parted es from t
 chained : {A : Type 0} (xs ys zs : List A) → xs ++ (ys ++ zs) ≡ (xs ++ ys) ++ zs
 chained [] ys zs = refl
 chained (x ∷ xs) ys zs = ap (λ l. x ∷ l) (chained xs ys zs)
-
-but_next_is : (ps : List (List ℕ)) (j : ℕ) → bytes_of (but_next ps) j ≡ bytes_of ps (1 + j)
-but_next_is [] j = refl
-but_next_is (p ∷ ps) j = ap (bytes_of (p ∷ ps)) (one j)
-  where
-    one : (j : ℕ) → suc j ≡ 1 + j
-    one j = omega arith
 
 left_is : (f : Bool) (ps : List (List ℕ)) (j : ℕ) → bytes_of (cond f (but_next ps) ps) j ≡ bytes_of ps (one_if f + j)
 left_is true ps j = but_next_is ps j

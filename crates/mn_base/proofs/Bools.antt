@@ -1,6 +1,6 @@
 -- Tests of numbers, and what a `Bool` tells: the small lemmas that many proofs take, std's under this project's names.
 use Rattle.std.proofs.Common.{ℕ, ◌≡◌, ◌<◌, ◌⊎◌, inl, inr, Bool, true, false, refl, arith}
-use Rattle.std.specs.Prelude.{◌≢◌, ◌==◌, ◌&&◌, ◌||◌, not}
+use Rattle.std.specs.Prelude.{◌≢◌, ◌==◌, ◌&&◌, ◌||◌, not, nat_lt}
 use Rattle.std.proofs.lemmas.Bool.{both_ways, eqb-false}
 pub use Rattle.std.proofs.lemmas.Bool.{false≢true as no, true≢false as clash, cases_Bool as two_ways}
 pub use Rattle.std.proofs.lemmas.Bool.{and_parts, and_from as and_on, and_left as and_off_left, and_right as and_off_right}
@@ -14,6 +14,10 @@ pub use Rattle.std.proofs.lemmas.Bool.{le-leb as at_most_is, leb-true as at_most
 
 pub not_both_ways : (b : Bool) → b ≡ true → b ≡ false → ⊥
 not_both_ways b h g = both_ways b g h
+
+pub never : (b : Bool) → (b ≡ true → ⊥) → b ≡ false
+never true h = absurd (h refl)
+never false h = refl
 
 pub swap : {P Q : Type 0} → P ⊎ Q → Q ⊎ P
 swap (inl p) = inr p
@@ -37,6 +41,9 @@ or_true b = or_right b true refl
 
 pub none_below : (n : ℕ) → n < 0 → ⊥
 none_below n h = omega (arith, h)
+
+pub less_itself : (n : ℕ) → nat_lt n n ≡ false
+less_itself n = not_less n n (omega arith)
 
 pub same_test : (n : ℕ) → (n == n) ≡ true
 same_test n = test_same n n refl

@@ -17,7 +17,8 @@ remove_parts [] at h = absurd (none_below at h)
 remove_parts (y ∷ ys) zero h = refl
 remove_parts (y ∷ ys) (suc at) h = ap (λ zs. y ∷ zs) (remove_parts ys at (omega (arith, h)))
 
-module _ {A : Type 0} (before : A → A → Bool) (order : IsOrder before) (xs : List A) (x : A) (at : ℕ) (up : Ascends before xs) (p : IsPlaceFor before xs x at) where
+module _ {A : Type 0} (before : A → A → Bool) (order : IsOrder before) (xs : List A) (x : A) (at : ℕ) (up : Ascends before xs)
+    (p : IsPlaceFor before xs x at) where
   pub replaced : StandsAt before xs x at → slice_set xs at x ≡ with_one before x xs
   replaced s = set_parts xs x at s.there ∙ sym (with_held before order xs up x at p s.there s.same)
 
@@ -30,7 +31,8 @@ module _ {A : Type 0} (before : A → A → Bool) (order : IsOrder before) (xs :
   pub stays : StandsBehind before xs x at → xs ≡ without_one before x xs
   stays s = sym (without_absent before order xs up x at p s)
 
-module _ {A : Type 0} (before : A → A → Bool) (order : IsOrder before) (xs : List A) (x : A) (middle : ℕ) (up : Ascends before xs) (there : middle < length xs) (y : A) (is : y ≡ get_or xs middle y) where
+module _ {A : Type 0} (before : A → A → Bool) (order : IsOrder before) (xs : List A) (x : A) (middle : ℕ) (up : Ascends before xs)
+    (there : middle < length xs) (y : A) (is : y ≡ get_or xs middle y) where
   found : (b : Bool) → before y x ≡ b → (d : A) → before (get_or xs middle d) x ≡ b
   found b e d = ap (λ z. before z x) (get_or_default xs middle d y there ∙ sym is) ∙ e
 

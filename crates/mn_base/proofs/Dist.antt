@@ -1,5 +1,6 @@
 -- The rounds give the least cost of any walk.
-use Rattle.std.proofs.Common.{ℕ, zero, suc, ◌≡◌, ◌+◌, ◌<◌, ◌≤◌, Bool, true, false, cond, List, [], ◌∷◌, length, map, refl, arith, sym, ◌∙◌, ap, ◌⊎◌, inl, inr, subst}
+use Rattle.std.proofs.Common.{ℕ, zero, suc, ◌≡◌, ◌+◌, ◌<◌, ◌≤◌, Bool, true, false, cond, List, [], ◌∷◌, length, map, refl, arith, sym, ◌∙◌, ap, ◌⊎◌, inl}
+use Rattle.std.proofs.Common.{inr, subst}
 use Rattle.std.specs.Prelude.{◌==◌, ◌&&◌, ◌||◌, Option, Some, None, slice_index_or, eqb, nat_lt, filter, ⊤}
 use Rattle.std.specs.List.{IsDistinct, list_any, AllByRecursion}
 use Rattle.std.proofs.lemmas.Map.Steps.{length-le_from_distinct_below}
@@ -41,7 +42,8 @@ in_filter test (suc n) a x p q h =
 abbrev Good : (ℕ → Bool) → ℕ → ℕ → Type 0
 Good test m l = (test l ≡ true) × (l < m)
 
-good_cond : (test : ℕ → Bool) (m a : ℕ) (b : Bool) (ys : List ℕ) → test a ≡ b → a < m → AllByRecursion (Good test m) ys → AllByRecursion (Good test m) (cond b (a ∷ ys) ys)
+good_cond : (test : ℕ → Bool) (m a : ℕ) (b : Bool) (ys : List ℕ) → test a ≡ b → a < m → AllByRecursion (Good test m) ys →
+    AllByRecursion (Good test m) (cond b (a ∷ ys) ys)
 good_cond test m a true ys e p h = ((e, p), h)
 good_cond test m a false ys e p h = h
 
@@ -95,14 +97,18 @@ module _ (net : Wiring) (view : View) (p : ℕ) (ok : JoinsNodes net) where
   across_below : (x l : ℕ) → l < length net.ends → across net l x < length net.loopbacks
   across_below x l h = cond_below _ _ _ _ (ok l h).1 (ok l h).0
 
-  has_arm : (x l : ℕ) (b : Bool) (o : Option ℕ) → is_up view l ≡ b → is_end net l x ≡ true → l < length net.ends → HasSome (across net l x) o → HasSome x (elim b [ true ↦ plus (link net l).cost o | false ↦ None ])
+  has_arm : (x l : ℕ) (b : Bool) (o : Option ℕ) → is_up view l ≡ b → is_end net l x ≡ true → l < length net.ends → HasSome (across net l x) o →
+      HasSome x (elim b [ true ↦ plus (link net l).cost o | false ↦ None ])
   has_arm x l true o u e i h = has_plus x l o (and_on (is_up view l) _ u (and_on (is_end net l x) _ e (less_is l (length net.ends) i))) h
   has_arm x l false o u e i h = tt
 
-  has_over : (x : ℕ) (ds : List (Option ℕ)) (ls : List ℕ) → ((y : ℕ) → y < length net.loopbacks → HasSome y (slice_index_or ds y None)) → AllByRecursion (Good (λ l. is_end net l x) (length net.ends)) ls → HasSome x (least_over net view ds x ls)
+  has_over : (x : ℕ) (ds : List (Option ℕ)) (ls : List ℕ) →
+      ((y : ℕ) → y < length net.loopbacks → HasSome y (slice_index_or ds y None)) → AllByRecursion (Good (λ l. is_end net l x) (length net.ends)) ls →
+      HasSome x (least_over net view ds x ls)
   has_over x ds [] h g = tt
   has_over x ds (l ∷ ls) h g =
-      has_lesser x _ _ (has_arm x l (is_up view l) (slice_index_or ds (across net l x) None) refl g.0.0 g.0.1 (h (across net l x) (across_below x l g.0.1))) (has_over x ds ls h g.1)
+      has_lesser x _ _ (has_arm x l (is_up view l) (slice_index_or ds (across net l x) None) refl g.0.0 g.0.1 (h (across net l x) (across_below x l g.0.1)))
+          (has_over x ds ls h g.1)
 
   has_start : (x : ℕ) (b : Bool) → (x == p) ≡ b → HasSome x (cond b (Some 0) None)
   has_start x true e = ([], ap (λ n. Some n) (eqb-true x p e), refl)
@@ -134,19 +140,24 @@ module _ (net : Wiring) (view : View) (p : ℕ) (ok : JoinsNodes net) where
   most_start : (x : ℕ) → x ≡ p → AtMost (cond (x == p) (Some 0) None) 0
   most_start x e = rw e (elim (eqb_tells p p) [ inl q ↦ rw q.0 (omega arith) | inr q ↦ absurd (q.1 refl) ])
 
-  most_arm : (l c : ℕ) (b : Bool) (o : Option ℕ) → b ≡ true → AtMost o c → AtMost (elim b [ true ↦ plus (link net l).cost o | false ↦ None ]) ((link net l).cost + c)
+  most_arm : (l c : ℕ) (b : Bool) (o : Option ℕ) → b ≡ true → AtMost o c →
+      AtMost (elim b [ true ↦ plus (link net l).cost o | false ↦ None ]) ((link net l).cost + c)
   most_arm l c true o e h = plus_most _ o c h
   most_arm l c false o e h = cc
 
-  most_over : (x : ℕ) (ds : List (Option ℕ)) (ls : List ℕ) (l c : ℕ) → IsIn l ls → is_up view l ≡ true → AtMost (slice_index_or ds (across net l x) None) c → AtMost (least_over net view ds x ls) ((link net l).cost + c)
+  most_over : (x : ℕ) (ds : List (Option ℕ)) (ls : List ℕ) (l c : ℕ) → IsIn l ls → is_up view l ≡ true →
+      AtMost (slice_index_or ds (across net l x) None) c → AtMost (least_over net view ds x ls) ((link net l).cost + c)
   most_over x ds [] l c i u h = absurd i
   most_over x ds (m ∷ ms) l c i u h =
       elim i [
-        | inl e ↦ lesser_left _ (least_over net view ds x ms) _ (subst (λ n. AtMost (elim (is_up view n) [ true ↦ plus (link net n).cost (slice_index_or ds (across net n x) None) | false ↦ None ]) ((link net l).cost + c)) e (most_arm l c (is_up view l) _ u h))
+        | inl e ↦ lesser_left _ (least_over net view ds x ms) _
+            (subst (λ n. AtMost (elim (is_up view n) [ true ↦ plus (link net n).cost (slice_index_or ds (across net n x) None) | false ↦ None ])
+            ((link net l).cost + c)) e (most_arm l c (is_up view l) _ u h))
         | inr j ↦ lesser_right _ (least_over net view ds x ms) _ (most_over x ds ms l c j u h)
       ]
 
-  most_rounds : (k : ℕ) (ls : List ℕ) (x : ℕ) → x < length net.loopbacks → length ls ≤ k → walk_end net view x ls ≡ Some p → AtMost (slice_index_or (rounds k net view p) x None) (cost_of net ls)
+  most_rounds : (k : ℕ) (ls : List ℕ) (x : ℕ) → x < length net.loopbacks → length ls ≤ k → walk_end net view x ls ≡ Some p →
+      AtMost (slice_index_or (rounds k net view p) x None) (cost_of net ls)
   most_rounds zero [] x h n w = subst (λ o. AtMost o 0) (sym (get-nodes (λ x. cond (x == p) (Some 0) None) x h)) (most_start x (same_node x w))
   most_rounds zero (l ∷ ls) x h n w = absurd (not_none _ n)
   most_rounds (suc k) [] x h n w =
@@ -157,7 +168,8 @@ module _ (net : Wiring) (view : View) (p : ℕ) (ok : JoinsNodes net) where
       let u : (is_up view l ≡ true) × ((is_end net l x && nat_lt l (length net.ends)) ≡ true) = and_parts _ _ g.0 in
       let v : (is_end net l x ≡ true) × (nat_lt l (length net.ends) ≡ true) = and_parts _ _ u.1 in
       let b : l < length net.ends = less_tells _ _ v.1 in
-      subst (λ o. AtMost o ((link net l).cost + cost_of net ls)) (sym (get-nodes (λ x. lesser (cond (x == p) (Some 0) None) (least_over net view (rounds k net view p) x (links_at net x))) x h))
+      subst (λ o. AtMost o ((link net l).cost + cost_of net ls))
+          (sym (get-nodes (λ x. lesser (cond (x == p) (Some 0) None) (least_over net view (rounds k net view p) x (links_at net x))) x h))
       (lesser_right _ _ _ (most_over x (rounds k net view p) (links_at net x) l (cost_of net ls)
       (in_filter (λ m. is_end net m x) (length net.ends) 0 l (omega arith) (omega (arith, b)) v.0) u.0
       (most_rounds k ls (across net l x) (across_below x l b) (omega (arith, n)) g.1)))
@@ -175,7 +187,8 @@ module _ (net : Wiring) (view : View) (p : ℕ) (ok : JoinsNodes net) where
   abbrev straight : ℕ → List ℕ → List ℕ
   straight x [] = []
   straight x (l ∷ ls) =
-      cond (list_any (eqb x) (visits (across net l x) (straight (across net l x) ls))) (suffix x (across net l x) (straight (across net l x) ls)) (l ∷ straight (across net l x) ls)
+      cond (list_any (eqb x) (visits (across net l x) (straight (across net l x) ls))) (suffix x (across net l x) (straight (across net l x) ls))
+          (l ∷ straight (across net l x) ls)
 
   -- a walk to p that meets no node twice and costs at most so much
   record IsStraight (x c : ℕ) (ms : List ℕ) : Type 0 where
@@ -186,9 +199,12 @@ module _ (net : Wiring) (view : View) (p : ℕ) (ok : JoinsNodes net) where
   or_left : (a b : Bool) → a ≡ false → (a || b) ≡ true → b ≡ true
   or_left a b e h = rw e at h
 
-  suffix_step : (x y l : ℕ) (ls : List ℕ) (b : Bool) → (x == y) ≡ b → IsStraight y (cost_of net (l ∷ ls)) (l ∷ ls) → (b ≡ false → IsStraight x (cost_of net ls) (suffix x (across net l y) ls)) → IsStraight x (cost_of net (l ∷ ls)) (cond b (l ∷ ls) (suffix x (across net l y) ls))
+  suffix_step : (x y l : ℕ) (ls : List ℕ) (b : Bool) → (x == y) ≡ b → IsStraight y (cost_of net (l ∷ ls)) (l ∷ ls) →
+      (b ≡ false → IsStraight x (cost_of net ls) (suffix x (across net l y) ls)) →
+      IsStraight x (cost_of net (l ∷ ls)) (cond b (l ∷ ls) (suffix x (across net l y) ls))
   suffix_step x y l ls true e h f = subst (λ n. IsStraight n (cost_of net (l ∷ ls)) (l ∷ ls)) (sym (eqb-true x y e)) h
-  suffix_step x y l ls false e h f = let k : IsStraight x (cost_of net ls) (suffix x (across net l y) ls) = f refl in record { ends = k.ends; cheap = omega (arith, k.cheap); once = k.once }
+  suffix_step x y l ls false e h f = let k : IsStraight x (cost_of net ls) (suffix x (across net l y) ls) = f refl in
+      record { ends = k.ends; cheap = omega (arith, k.cheap); once = k.once }
 
   suffix_ok : (ms : List ℕ) (x y : ℕ) → list_any (eqb x) (visits y ms) ≡ true → IsStraight y (cost_of net ms) ms → IsStraight x (cost_of net ms) (suffix x y ms)
   unfolding IsDistinct
@@ -205,10 +221,12 @@ module _ (net : Wiring) (view : View) (p : ℕ) (ok : JoinsNodes net) where
   any_none x [] h = tt
   any_none x (y ∷ ys) h = ((or_off (eqb x y) _ h).0, any_none x ys (or_off (eqb x y) _ h).1)
 
-  straight_step : (x l c : ℕ) (ms : List ℕ) (b : Bool) → list_any (eqb x) (visits (across net l x) ms) ≡ b → may_go net view x l ≡ true → IsStraight (across net l x) c ms → IsStraight x ((link net l).cost + c) (cond b (suffix x (across net l x) ms) (l ∷ ms))
+  straight_step : (x l c : ℕ) (ms : List ℕ) (b : Bool) → list_any (eqb x) (visits (across net l x) ms) ≡ b → may_go net view x l ≡ true →
+      IsStraight (across net l x) c ms → IsStraight x ((link net l).cost + c) (cond b (suffix x (across net l x) ms) (l ∷ ms))
   unfolding IsDistinct
   straight_step x l c ms true e g h =
-      let k : IsStraight x (cost_of net ms) (suffix x (across net l x) ms) = suffix_ok ms x (across net l x) e (record { ends = h.ends; cheap = omega arith; once = h.once }) in
+      let k : IsStraight x (cost_of net ms) (suffix x (across net l x) ms) =
+          suffix_ok ms x (across net l x) e (record { ends = h.ends; cheap = omega arith; once = h.once }) in
       record { ends = k.ends; cheap = omega (arith, k.cheap, h.cheap); once = k.once }
   straight_step x l c ms false e g h = record { ends = rw g h.ends; cheap = omega (arith, h.cheap); once = (any_none x _ e, h.once) }
 
@@ -222,11 +240,13 @@ module _ (net : Wiring) (view : View) (p : ℕ) (ok : JoinsNodes net) where
   length-visits [] x = omega arith
   length-visits (l ∷ ls) x = omega (arith, length-visits ls (across net l x))
 
-  below_step : (q x : ℕ) (ys : List ℕ) (b : Bool) → eqb q x ≡ b → x < length net.loopbacks → (list_any (eqb q) ys ≡ true → q < length net.loopbacks) → (b || list_any (eqb q) ys) ≡ true → q < length net.loopbacks
+  below_step : (q x : ℕ) (ys : List ℕ) (b : Bool) → eqb q x ≡ b → x < length net.loopbacks → (list_any (eqb q) ys ≡ true → q < length net.loopbacks) →
+      (b || list_any (eqb q) ys) ≡ true → q < length net.loopbacks
   below_step q x ys true e h f a = subst (λ n. n < length net.loopbacks) (sym (eqb-true q x e)) h
   below_step q x ys false e h f a = f a
 
-  visits_below : (ms : List ℕ) (x : ℕ) → x < length net.loopbacks → walk_end net view x ms ≡ Some p → (q : ℕ) → list_any (eqb q) (visits x ms) ≡ true → q < length net.loopbacks
+  visits_below : (ms : List ℕ) (x : ℕ) → x < length net.loopbacks → walk_end net view x ms ≡ Some p →
+      (q : ℕ) → list_any (eqb q) (visits x ms) ≡ true → q < length net.loopbacks
   visits_below [] x h w q a = below_step q x [] (eqb q x) refl h (λ n. cc) a
   visits_below (l ∷ ls) x h w q a =
       let g : (may_go net view x l ≡ true) × (walk_end net view (across net l x) ls ≡ Some p) = gone _ _ w in
@@ -234,14 +254,17 @@ module _ (net : Wiring) (view : View) (p : ℕ) (ok : JoinsNodes net) where
       (visits_below ls (across net l x) (across_below x l (less_tells _ _ (and_parts _ _ (and_parts _ _ g.0).1).1)) g.1 q) a
 
   -- 5. The rounds are least
-  cheapest : (x : ℕ) → x < length net.loopbacks → (ls : List ℕ) → walk_end net view x ls ≡ Some p → AtMost (slice_index_or (dists_to net view p) x None) (cost_of net (straight x ls))
+  cheapest : (x : ℕ) → x < length net.loopbacks →
+      (ls : List ℕ) → walk_end net view x ls ≡ Some p → AtMost (slice_index_or (dists_to net view p) x None) (cost_of net (straight x ls))
   cheapest x h ls w =
       let k : IsStraight x (cost_of net ls) (straight x ls) = straight_ok ls x w in
       most_rounds (length net.loopbacks) (straight x ls) x h
-      (omega (arith, length-visits (straight x ls) x, length-le_from_distinct_below (visits x (straight x ls)) (length net.loopbacks) k.once (visits_below (straight x ls) x h k.ends)))
+      (omega (arith, length-visits (straight x ls) x, length-le_from_distinct_below (visits x (straight x ls)) (length net.loopbacks) k.once
+          (visits_below (straight x ls) x h k.ends)))
       k.ends
 
-  is_dist : (x : ℕ) (o : Option ℕ) → HasSome x o → ((ls : List ℕ) → walk_end net view x ls ≡ Some p → AtMost o (cost_of net (straight x ls))) → IsDist net view x p o
+  is_dist : (x : ℕ) (o : Option ℕ) → HasSome x o → ((ls : List ℕ) → walk_end net view x ls ≡ Some p → AtMost o (cost_of net (straight x ls))) →
+      IsDist net view x p o
   is_dist x None h f = λ ls w. f ls w
   is_dist x (Some d) h f = record { walk = h; least = λ ls w. omega (arith, f ls w, (straight_ok ls x w).cheap) }
 

@@ -44,10 +44,13 @@ module _ {A : Type 0} (before : A → A → Bool) where
     | inr j ↦ inr (inr j)
   ]
 
-  pub in_fold : (ks zs : List A) (y : A) → In ks y ⊎ In zs y → ((z : A) → In zs z → ((before y z || before z y) ≡ true) ⊎ (z ≡ y)) → In (fold (λ kept z. with_one before z kept) ks zs) y
+  pub in_fold : (ks zs : List A) (y : A) → In ks y ⊎ In zs y →
+      ((z : A) → In zs z → ((before y z || before z y) ≡ true) ⊎ (z ≡ y)) → In (fold (λ kept z. with_one before z kept) ks zs) y
   in_fold ks [] y i apart = elim i [ inl j ↦ j | inr j ↦ absurd j ]
   in_fold ks (z ∷ zs) y i apart = elim i [
-    | inl j ↦ in_fold (with_one before z ks) zs y (inl (elim (apart z (inl refl)) [ inl h ↦ in_with z ks y j h | inr e ↦ subst (λ w. In (with_one before w ks) y) (sym e) (in_with_new y ks) ])) (λ w k. apart w (inr k))
+    | inl j ↦ in_fold (with_one before z ks) zs y
+        (inl (elim (apart z (inl refl)) [ inl h ↦ in_with z ks y j h | inr e ↦ subst (λ w. In (with_one before w ks) y) (sym e) (in_with_new y ks) ]))
+        (λ w k. apart w (inr k))
     | inr j ↦ elim j [
       | inl e ↦ in_fold (with_one before z ks) zs y (inl (subst (λ w. In (with_one before w ks) y) (sym e) (in_with_new y ks))) (λ w k. apart w (inr k))
       | inr k ↦ in_fold (with_one before z ks) zs y (inr k) (λ w m. apart w (inr m))
@@ -92,13 +95,16 @@ module _ {A : Type 0} (before : A → A → Bool) (order : IsOrder before) where
       ]
 
   -- what has one more, in its place, or one less
-  pub with_is : (x : A) (xs ys : List A) → Ascends before xs → Ascends before ys → In ys x → ((z : A) → In xs z → (before z x || before x z) ≡ true → In ys z) → ((z : A) → In ys z → (x ≡ z) ⊎ (In xs z × ((before z x || before x z) ≡ true))) → ys ≡ with_one before x xs
+  pub with_is : (x : A) (xs ys : List A) → Ascends before xs → Ascends before ys → In ys x →
+      ((z : A) → In xs z → (before z x || before x z) ≡ true → In ys z) → ((z : A) → In ys z → (x ≡ z) ⊎ (In xs z × ((before z x || before x z) ≡ true))) →
+      ys ≡ with_one before x xs
   with_is x xs ys up vp here there only =
       ascending_unique ys (with_one before x xs) vp (ascends_with before x xs order up)
       (λ z i. elim (only z i) [ inl e ↦ subst (In (with_one before x xs)) e (in_with_new before x xs) | inr j ↦ in_with before x xs z j.0 j.1 ])
       (λ z i. elim (with_in before x xs z i) [ inl e ↦ subst (In ys) e here | inr j ↦ there z j.0 j.1 ])
 
-  pub without_is : (x : A) (xs ys : List A) → Ascends before xs → Ascends before ys → ((z : A) → In xs z → (before z x || before x z) ≡ true → In ys z) → ((z : A) → In ys z → In xs z × ((before z x || before x z) ≡ true)) → ys ≡ without_one before x xs
+  pub without_is : (x : A) (xs ys : List A) → Ascends before xs → Ascends before ys → ((z : A) → In xs z → (before z x || before x z) ≡ true → In ys z) →
+      ((z : A) → In ys z → In xs z × ((before z x || before x z) ≡ true)) → ys ≡ without_one before x xs
   without_is x xs ys up vp there only =
       ascending_unique ys (without_one before x xs) vp (ascends_without before x xs up)
       (λ z i. filter_in (λ w. before w x || before x w) xs z (only z i).0 (only z i).1)

@@ -1,7 +1,8 @@
 -- What a list has, and lists of which no two elements are alike.
-use Rattle.std.proofs.Common.{ℕ, zero, suc, ◌≡◌, ◌+◌, ◌<◌, ◌≤◌, ◌⊎◌, inl, inr, Bool, true, false, cond, List, [], ◌∷◌, ◌++◌, map, filter, length, take, refl, arith, sym, ◌∙◌, ap, subst}
+use Rattle.std.proofs.Common.{ℕ, zero, suc, ◌≡◌, ◌+◌, ◌<◌, ◌≤◌, ◌⊎◌, inl, inr, Bool, true, false, cond, List, [], ◌∷◌, ◌++◌, map, filter, length, take}
+use Rattle.std.proofs.Common.{refl, arith, sym, ◌∙◌, ap, subst}
 use Rattle.std.specs.Prelude.{◌≢◌, ◌==◌, ◌||◌, slice_index_or, ⊤}
-use Rattle.std.specs.List.{Contains, flat_map, list_any, range_with_len}
+use Rattle.std.specs.List.{AllByRecursion, Contains, flat_map, list_any, range_with_len}
 use Rattle.mn_base.proofs.Bools.{no, two_ways, or_off, none_below, same_numbers, other_numbers}
 
 -- 1. Members
@@ -24,6 +25,10 @@ contained_in (y ∷ ys) x i = elim i [
   | inl e ↦ (0, omega arith, e)
   | inr j ↦ let c = contained_in ys x j in (suc c.0, omega (arith, c.1), c.2)
 ]
+
+pub all_in : {A : Type 0} (P : A → Type 0) (xs : List A) (x : A) → AllByRecursion P xs → In xs x → P x
+all_in P [] x h i = absurd i
+all_in P (y ∷ ys) x h i = elim i [ inl e ↦ subst P e h.0 | inr j ↦ all_in P ys x h.1 j ]
 
 pub in_append : {A : Type 0} (xs ys : List A) (x : A) → In (xs ++ ys) x → In xs x ⊎ In ys x
 in_append [] ys x i = inr i
@@ -122,7 +127,8 @@ abbrev pub AreApart : {A : Type 0} → (A → A → Type 0) → List A → Type 
 AreApart alike [] = ⊤
 AreApart alike (x ∷ xs) = ((y : _) → In xs y → alike x y → ⊥) × AreApart alike xs
 
-pub one_alike : {A : Type 0} (alike : A → A → Type 0) → ((x y : A) → alike x y → alike y x) → (xs : List A) (x y : A) → AreApart alike xs → In xs x → In xs y → alike x y → x ≡ y
+pub one_alike : {A : Type 0} (alike : A → A → Type 0) → ((x y : A) → alike x y → alike y x) →
+    (xs : List A) (x y : A) → AreApart alike xs → In xs x → In xs y → alike x y → x ≡ y
 one_alike alike turn [] x y h i j a = absurd i
 one_alike alike turn (z ∷ zs) x y h i j a = elim i [
   | inl e ↦ elim j [
@@ -143,7 +149,8 @@ apart_filter alike p (x ∷ xs) h = split (p x) (apart_filter alike p xs h.1)
     split true more = (λ y i. h.0 y (in_filter p xs y i).0, more)
     split false more = more
 
-pub apart_push : {A : Type 0} (alike : A → A → Type 0) (xs : List A) (y : A) → AreApart alike xs → ((x : A) → In xs x → alike x y → ⊥) → AreApart alike (xs ++ y ∷ [])
+pub apart_push : {A : Type 0} (alike : A → A → Type 0) (xs : List A) (y : A) → AreApart alike xs →
+    ((x : A) → In xs x → alike x y → ⊥) → AreApart alike (xs ++ y ∷ [])
 apart_push alike [] y h g = (λ z i. absurd i, tt)
 apart_push alike (x ∷ xs) y h g = (
   λ z i a. elim (in_append xs (y ∷ []) z i) [

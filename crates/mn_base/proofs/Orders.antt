@@ -31,7 +31,8 @@ first_neither m n later sooner h =
       | inl p ↦ absurd (no (sym parts.0 ∙ first_less m n later p.1))
       | inr p ↦ elim (leb_tells (suc n) m) [
         | inl q ↦ absurd (no (sym parts.1 ∙ first_less n m sooner q.1))
-        | inr q ↦ let e : m ≡ n = omega (arith, p.1, q.1) in (e, ap (λ b. b || sooner) (sym (first_same m n later e) ∙ parts.0) ∙ sym (first_same n m sooner (sym e)) ∙ parts.1)
+        | inr q ↦ let e : m ≡ n = omega (arith, p.1, q.1) in
+            (e, ap (λ b. b || sooner) (sym (first_same m n later e) ∙ parts.0) ∙ sym (first_same n m sooner (sym e)) ∙ parts.1)
       ]
     ]
 
@@ -74,8 +75,10 @@ by_number_then f before order = record {
       | inr q ↦ order.one_way x y p.1 q.1
     ]
   ];
-  alike = λ x y z h. let n = first_neither (f x) (f y) (before x y) (before y x) h in ap (λ m. first_by m (f z) (before x z)) n.0 ∙ ap (λ b. first_by (f y) (f z) b) (order.alike x y z n.1);
-  alike_back = λ x y z h. let n = first_neither (f x) (f y) (before x y) (before y x) h in ap (λ m. first_by (f z) m (before z x)) n.0 ∙ ap (λ b. first_by (f z) (f y) b) (order.alike_back x y z n.1);
+  alike = λ x y z h. let n = first_neither (f x) (f y) (before x y) (before y x) h in
+      ap (λ m. first_by m (f z) (before x z)) n.0 ∙ ap (λ b. first_by (f y) (f z) b) (order.alike x y z n.1);
+  alike_back = λ x y z h. let n = first_neither (f x) (f y) (before x y) (before y x) h in
+      ap (λ m. first_by (f z) m (before z x)) n.0 ∙ ap (λ b. first_by (f z) (f y) b) (order.alike_back x y z n.1);
 }
 
 pub order_same : {A : Type 0} (f g : A → A → Bool) → ((x y : A) → f x y ≡ g x y) → IsOrder g → IsOrder f

@@ -28,7 +28,8 @@ module _ {R : Type 0} where
   broken_first [] rule h = absurd (none_is rule h)
   broken_first (row ∷ rows) rule h = row_broken row rows rule row.0 refl h (λ g. broken_first rows rule g)
 
-  passed : (earlier later : List (Bool × R)) (rule : R) → AllByRecursion (λ row. row.0 ≡ false) earlier → first_refusal (earlier ++ (true, rule) ∷ later) ≡ Some rule
+  passed : (earlier later : List (Bool × R)) (rule : R) → AllByRecursion (λ row. row.0 ≡ false) earlier →
+      first_refusal (earlier ++ (true, rule) ∷ later) ≡ Some rule
   passed [] later rule h = refl
   passed (row ∷ earlier) later rule h = ap (λ b. if b then Some row.1 else first_refusal (earlier ++ (true, rule) ∷ later)) h.0 ∙ passed earlier later rule h.1
 
@@ -49,7 +50,8 @@ module _ {R : Type 0} where
   none_broken (row ∷ rows) h = ap (λ b. if b then Some row.1 else first_refusal rows) h.0 ∙ none_broken rows h.1
 
   -- the two ways of writing rules mean the same
-  head_same : (rule : R) (rules : List (Option R)) (rest : Option R) (b : Bool) → first_broken rules ≡ rest → first_broken (when b rule ∷ rules) ≡ (if b then Some rule else rest)
+  head_same : (rule : R) (rules : List (Option R)) (rest : Option R) (b : Bool) → first_broken rules ≡ rest →
+      first_broken (when b rule ∷ rules) ≡ (if b then Some rule else rest)
   head_same rule rules rest true h = refl
   head_same rule rules rest false h = h
 

@@ -1,5 +1,6 @@
 -- Walks over the links that are up in a view, the least cost of one, and the next hop on it (RFC 2328, section 16.1).
-use Rattle.std.specs.Prelude.{ℕ, zero, suc, ◌≡◌, ◌≢◌, ◌+◌, ◌≤◌, ◌<◌, ◌==◌, ◌&&◌, Bool, true, false, cond, nat_lt, List, [], ◌∷◌, map, filter, length, slice_index_or, Option, Some, None}
+use Rattle.std.specs.Prelude.{ℕ, zero, suc, ◌≡◌, ◌≢◌, ◌+◌, ◌≤◌, ◌<◌, ◌==◌, ◌&&◌, Bool, true, false, cond, nat_lt, List, [], ◌∷◌, map, filter, length}
+use Rattle.std.specs.Prelude.{slice_index_or, Option, Some, None}
 use Rattle.mn_base.specs.Wiring.{Wiring, View, is_up, link, is_end, across, nodes_of, links_at}
 
 -- 1. What is meant
@@ -39,7 +40,8 @@ pub record IsOnLeast (wiring : Wiring) (view : View) (from to l : ℕ) : Type 0 
 
 -- of the neighbours to which a least walk goes first, one of least number, and the link to it; none where there is no walk
 abbrev pub IsNext : Wiring → View → ℕ → ℕ → Option (ℕ × ℕ) → Type 0
-IsNext wiring view from to (Some hop) = (hop.0 ≡ across wiring hop.1 from) × IsOnLeast wiring view from to hop.1 × ((l : ℕ) → IsOnLeast wiring view from to l → hop.0 ≤ across wiring l from)
+IsNext wiring view from to (Some hop) =
+    (hop.0 ≡ across wiring hop.1 from) × IsOnLeast wiring view from to hop.1 × ((l : ℕ) → IsOnLeast wiring view from to l → hop.0 ≤ across wiring l from)
 IsNext wiring view from to None = (ls : List ℕ) → walk_end wiring view from ls ≢ Some to
 
 -- 2. How it is computed: the least cost to one node of the walks of at most so many links, for each node
@@ -65,7 +67,8 @@ here to node = cond (node == to) (Some 0) None
 abbrev pub least_over : Wiring → View → List (Option ℕ) → ℕ → List ℕ → Option ℕ
 least_over wiring view dists node [] = None
 least_over wiring view dists node (l ∷ ls) =
-    lesser (elim (is_up view l) [ true ↦ plus (link wiring l).cost (dist_in dists (across wiring l node)) | false ↦ None ]) (least_over wiring view dists node ls)
+    lesser (elim (is_up view l) [ true ↦ plus (link wiring l).cost (dist_in dists (across wiring l node)) | false ↦ None ])
+        (least_over wiring view dists node ls)
 
 -- with one link more
 abbrev pub round : Wiring → View → ℕ → List (Option ℕ) → List (Option ℕ)

@@ -19,7 +19,8 @@ use Rattle.mn_bgp_spelling.specs.Spelling.{Labels, message_in, bytes_in, IsWrita
 use Rattle.mn_bgp_spelling.specs.Laws.{next_of, IsComing, IsTaken, GoesOn, RepliesByTheTable}
 use Rattle.mn_bgp_spelling.proofs.Wire as told
 
-row : (t : Network) (w : World) (edge peer : ℕ) → IsLawful t → IsInTurn t w → IsComing w edge peer → has_bgp_row (state_of w.config w.peerings edge peer) (next_of w edge peer) ≡ true
+row : (t : Network) (w : World) (edge peer : ℕ) → IsLawful t → IsInTurn t w → IsComing w edge peer →
+    has_bgp_row (state_of w.config w.peerings edge peer) (next_of w edge peer) ≡ true
 row t w edge peer lawful turn coming = (rows t w lawful turn).bgp edge peer coming.differ coming.lives coming.there
 
 pub taken : (t : Network) (l : Labels) (w : World) (edge peer : ℕ) → IsLawful t → IsInTurn t w → IsComing w edge peer → IsTaken t l w edge peer
@@ -29,7 +30,8 @@ pub goes_on : (t : Network) (l : Labels) (w : World) (peer edge : NodeNo) → Is
 goes_on t l w peer edge lawful turn coming = told.hears t l w.config w.peerings peer edge coming.lives (row t w edge.0 peer.0 lawful turn coming)
 
 pub replies : (t : Network) (w : World) (edge peer : ℕ) → IsLawful t → IsInTurn t w → IsComing w edge peer → RepliesByTheTable t w edge peer
-replies t w edge peer lawful turn coming = told.told_back (state_of w.config w.peerings edge peer) (next_of w edge peer) (exports_of t w.config edge) (row t w edge peer lawful turn coming)
+replies t w edge peer lawful turn coming =
+    told.told_back (state_of w.config w.peerings edge peer) (next_of w edge peer) (exports_of t w.config edge) (row t w edge peer lawful turn coming)
 
 asn_fits : (asn : ℕ) → (nat_le 1 asn && nat_le asn 65535) ≡ true → asn < 2 ^ 16
 asn_fits asn h = below asn (and_right (nat_le 1 asn) (nat_le asn 65535) h)
@@ -48,5 +50,6 @@ loopback_fits (x ∷ xs) (suc node) h = loopback_fits xs node (and_right (is_loo
 pub spelled : (t : Network) (l : Labels) (teller : ℕ) (m : Telling) → IsLawful t → IsWritable t l m → IsBgp (bytes_in t l teller m) (message_in t l teller m)
 spelled t l teller m lawful w = told.read_again t l teller m (asn_fits t.asn lawful.asn) (loopback_fits t.loopbacks teller lawful.nodes.formed) w
 
-pub read : (t : Network) (l : Labels) (teller : ℕ) (m : Telling) → IsLawful t → IsWritable t l m → message_of (bytes_in t l teller m) ≡ Ok (message_in t l teller m)
+pub read : (t : Network) (l : Labels) (teller : ℕ) (m : Telling) → IsLawful t → IsWritable t l m →
+    message_of (bytes_in t l teller m) ≡ Ok (message_in t l teller m)
 read t l teller m lawful w = wire.message_is_read (bytes_in t l teller m) (message_in t l teller m) (spelled t l teller m lawful w)

@@ -41,8 +41,10 @@ rows_same t l teller Established Alive = refl
 rows_same t l teller Established (Announce e) = refl
 rows_same t l teller Established (Unreach v p) = refl
 
-of_peer : (t : Network) (l : Labels) (c : Config) (p : Peerings) (edge peer : ℕ) (m : Telling) → is_of_peer (session_in t c p edge peer) (message_in t l peer m) ≡ true
-of_peer t l c p edge peer Open = ap (λ b. b && ((loopback t peer == loopback t peer) && true)) (same_test t.asn) ∙ ap (λ b. b && true) (same_test (loopback t peer))
+of_peer : (t : Network) (l : Labels) (c : Config) (p : Peerings) (edge peer : ℕ) (m : Telling) →
+    is_of_peer (session_in t c p edge peer) (message_in t l peer m) ≡ true
+of_peer t l c p edge peer Open =
+    ap (λ b. b && ((loopback t peer == loopback t peer) && true)) (same_test t.asn) ∙ ap (λ b. b && true) (same_test (loopback t peer))
 of_peer t l c p edge peer Alive = refl
 of_peer t l c p edge peer (Announce e) = refl
 of_peer t l c p edge peer (Unreach v q) = refl
@@ -51,7 +53,8 @@ of_peer t l c p edge peer (Unreach v q) = refl
 pub taken : (t : Network) (l : Labels) (c : Config) (p : Peerings) (edge peer : ℕ) (m : Telling) → has_bgp_row (state_of c p edge peer) m ≡ true
     → answer_in (session_in t c p edge peer) (message_in t l peer m) ≡ Ok (reply_in (state_of c p edge peer))
 taken t l c p edge peer m row =
-    first_of_three (has_row (state_of c p edge peer) (kind_of (message_in t l peer m))) (is_of_peer (session_in t c p edge peer) (message_in t l peer m)) (Ok (reply_in (state_of c p edge peer))) _ _
+    first_of_three (has_row (state_of c p edge peer) (kind_of (message_in t l peer m))) (is_of_peer (session_in t c p edge peer) (message_in t l peer m))
+        (Ok (reply_in (state_of c p edge peer))) _ _
     (rows_same t l peer (state_of c p edge peer) m ∙ row) (of_peer t l c p edge peer m)
   where
     first_of_three : {A : Type 0} (b d : Bool) (x y z : A) → b ≡ true → d ≡ true → (if b then if d then x else y else z) ≡ x
@@ -59,7 +62,8 @@ taken t l c p edge peer m row =
 
 -- what the edge then tells
 pub told_back : (state : BgpState) (m : Telling) (exports : List Export) → has_bgp_row state m ≡ true
-    → reply state m exports ≡ cond (reply_in state).say_keep (Alive ∷ []) [] ++ cond (reply_in state).became_established (map (λ export. Announce export) exports) []
+    → reply state m exports ≡ cond (reply_in state).say_keep (Alive ∷ []) [] ++ cond (reply_in state).became_established
+        (map (λ export. Announce export) exports) []
 told_back Idle m exports h = idle m h
   where
     idle : (m : Telling) → has_bgp_row Idle m ≡ true → reply Idle m exports ≡ []
@@ -92,10 +96,12 @@ heard_more n = ap state_heard (add-one n) ∙ by_count n
 
 pub hears : (t : Network) (l : Labels) (c : Config) (p : Peerings) (a b : NodeNo) → peers_live c b.0 a.0 ≡ true
     → has_bgp_row (state_of c p b.0 a.0) (slice_index_or (p.told a.0 b.0) (p.heard b.0 a.0) Open) ≡ true
-    → session_in t c (peerings_after t c c p (step.HearBgp a b)) b.0 a.0 ≡ after_message (session_in t c p b.0 a.0) (message_in t l a.0 (slice_index_or (p.told a.0 b.0) (p.heard b.0 a.0) Open))
+    → session_in t c (peerings_after t c c p (step.HearBgp a b)) b.0 a.0 ≡ after_message (session_in t c p b.0 a.0)
+        (message_in t l a.0 (slice_index_or (p.told a.0 b.0) (p.heard b.0 a.0) Open))
 unfolding peerings_after
 hears t l c p a b alive row =
-    ap in_state (ap (λ n. if peers_live c b.0 a.0 then state_heard n else Idle) (pair_here p.heard b.0 a.0 (p.heard b.0 a.0 + 1)) ∙ ap (λ x. if x then state_heard (p.heard b.0 a.0 + 1) else Idle) alive ∙ heard_more (p.heard b.0 a.0)
+    ap in_state (ap (λ n. if peers_live c b.0 a.0 then state_heard n else Idle) (pair_here p.heard b.0 a.0 (p.heard b.0 a.0 + 1))
+        ∙ ap (λ x. if x then state_heard (p.heard b.0 a.0 + 1) else Idle) alive ∙ heard_more (p.heard b.0 a.0)
     ∙ ap (λ x. next_state (if x then state_heard (p.heard b.0 a.0) else Idle)) (sym alive))
     ∙ sym (ap (λ r. in_state (state_if r (state_of c p b.0 a.0))) (taken t l c p b.0 a.0 (slice_index_or (p.told a.0 b.0) (p.heard b.0 a.0) Open) row))
   where
@@ -104,10 +110,13 @@ hears t l c p a b alive row =
 
 -- 3. What is written is read as the message
 
-pub read_again : (t : Network) (l : Labels) (teller : ℕ) (m : Telling) → t.asn < 2 ^ 16 → loopback t teller < 2 ^ 32 → IsWritable t l m → IsBgp (bytes_in t l teller m) (message_in t l teller m)
+pub read_again : (t : Network) (l : Labels) (teller : ℕ) (m : Telling) → t.asn < 2 ^ 16 → loopback t teller < 2 ^ 32 → IsWritable t l m →
+    IsBgp (bytes_in t l teller m) (message_in t l teller m)
 read_again t l teller Open asn address w = open_is_spelled t.asn (loopback t teller) asn address
 read_again t l teller Alive asn address w = record { body = []; is_body = refl; within = omega arith; whole = refl }
 read_again t l teller (Announce e) asn address w =
-    announced_is_spelled (loopback t teller) (route_of t l e) (as_targets e.targets) address (written_short (route_of t l e) false w.0) w.1 (written_is_route (route_of t l e) false w.0) (written_are_targets (as_targets e.targets) w.2)
+    announced_is_spelled (loopback t teller) (route_of t l e) (as_targets e.targets) address (written_short (route_of t l e) false w.0) w.1
+        (written_is_route (route_of t l e) false w.0) (written_are_targets (as_targets e.targets) w.2)
 read_again t l teller (Unreach v p) asn address w =
-    withdrawn_is_spelled (vrf_at t v).rd p (written_short (withdrawn_route (vrf_at t v).rd p) true w) (written_is_route (withdrawn_route (vrf_at t v).rd p) true w)
+    withdrawn_is_spelled (vrf_at t v).rd p (written_short (withdrawn_route (vrf_at t v).rd p) true w)
+        (written_is_route (withdrawn_route (vrf_at t v).rd p) true w)

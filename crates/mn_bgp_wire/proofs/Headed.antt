@@ -1,5 +1,6 @@
 -- The header of a message, as it is read and as it is spelled.
-use Rattle.std.proofs.Common.{◌≡◌, ◌≤◌, ◌<◌, ◌+◌, ◌-◌, ◌==◌, ◌&&◌, not, ℕ, Bool, true, false, List, [], ◌∷◌, ◌++◌, length, take, drop, replicate, Ok, Err, refl, ap, sym, ◌∙◌, subst, arith, length-drop}
+use Rattle.std.proofs.Common.{◌≡◌, ◌≤◌, ◌<◌, ◌+◌, ◌-◌, ◌==◌, ◌&&◌, not, ℕ, Bool, true, false, List, [], ◌∷◌, ◌++◌, length, take, drop, replicate, Ok, Err}
+use Rattle.std.proofs.Common.{refl, ap, sym, ◌∙◌, subst, arith, length-drop}
 use Rattle.std.specs.Prelude.{nat_lt, nat_le, slice_index}
 use Rattle.std.specs.List.{list_all}
 use Rattle.std.proofs.lemmas.Bool.{eqb-true, eq-eqb, ltb-false}
@@ -14,7 +15,8 @@ use Rattle.mn_bgp_wire.specs.declared.refusal.BgpWireBad.TheVariants.{Short, Bad
 use Rattle.mn_bgp_wire.proofs.Bytes.{number_back, two_of}
 use Rattle.mn_bgp_wire.proofs.Results.{not_false, and_true}
 
-pub header_again : (kind : ℕ) (body : List ℕ) → is_kind kind ≡ true → allows kind (19 + length body) ≡ true → 19 + length body ≤ greatest_length → header_of (message_bytes kind body) ≡ Ok kind
+pub header_again : (kind : ℕ) (body : List ℕ) → is_kind kind ≡ true → allows kind (19 + length body) ≡ true → 19 + length body ≤ greatest_length →
+    header_of (message_bytes kind body) ≡ Ok kind
 unfolding header_of
 header_again kind body known allowed within =
     let bytes = message_bytes kind body in
@@ -33,7 +35,8 @@ pub record IsHeaded (bytes : List ℕ) (kind : ℕ) : Type 0 where
   pub known : is_kind kind ≡ true
   pub whole : bytes ≡ message_bytes kind (body_of bytes)
 
-rules_pass : (a b c d : Bool) (x y : ℕ) → unless (first_refusal ((a, Short) ∷ (b, BadMarker) ∷ (c, BadLength) ∷ (d, BadType) ∷ [])) x ≡ Ok y → (a ≡ false) × (b ≡ false) × (c ≡ false) × (d ≡ false) × (x ≡ y)
+rules_pass : (a b c d : Bool) (x y : ℕ) → unless (first_refusal ((a, Short) ∷ (b, BadMarker) ∷ (c, BadLength) ∷ (d, BadType) ∷ [])) x ≡ Ok y →
+    (a ≡ false) × (b ≡ false) × (c ≡ false) × (d ≡ false) × (x ≡ y)
 rules_pass true b c d x y e = absurd cc
 rules_pass false true c d x y e = absurd cc
 rules_pass false false true d x y e = absurd cc
@@ -51,7 +54,8 @@ three_of : (xs : List ℕ) → 3 ≤ length xs → xs ≡ slice_index xs 0 ∷ s
 three_of (a ∷ b ∷ c ∷ rest) h = refl
 three_of _ h = absurd (omega arith)
 
-headed : (bytes : List ℕ) → IsBytes bytes → 19 ≤ length bytes → is_marked bytes ≡ true → length_of bytes ≡ length bytes → bytes ≡ message_bytes (kind_at bytes) (body_of bytes)
+headed : (bytes : List ℕ) → IsBytes bytes → 19 ≤ length bytes → is_marked bytes ≡ true → length_of bytes ≡ length bytes →
+    bytes ≡ message_bytes (kind_at bytes) (body_of bytes)
 headed bytes fits long marked len =
     let behind = drop 16 bytes in
     let left : length behind ≡ length bytes - 16 = length-drop 16 bytes in
@@ -66,7 +70,8 @@ headed bytes fits long marked len =
     let parts = three_of behind (omega arith) in
     let rest_len : 19 + length (body_of bytes) ≡ length bytes = omega (arith, length-drop 19 bytes) in
     let two : big_bytes 2 (19 + length (body_of bytes)) ≡ slice_index behind 0 ∷ slice_index behind 1 ∷ [] =
-    ap (big_bytes 2) (rest_len ∙ sym len ∙ ap (big_number 2) parts) ∙ two_of (slice_index behind 0) (slice_index behind 1) (slice_index behind 2 ∷ drop 3 behind) (omega arith) (omega arith) in
+    ap (big_bytes 2) (rest_len ∙ sym len ∙ ap (big_number 2) parts)
+        ∙ two_of (slice_index behind 0) (slice_index behind 1) (slice_index behind 2 ∷ drop 3 behind) (omega arith) (omega arith) in
     sym (take-append-drop 16 bytes) ∙ ap (λ (xs : List ℕ). xs ++ behind) front ∙ ap (λ (xs : List ℕ). marker ++ xs) parts
     ∙ ap (λ (xs : List ℕ). marker ++ xs ++ slice_index behind 2 ∷ drop 3 behind) (sym two)
     ∙ ap (λ (n : ℕ). marker ++ big_bytes 2 (19 + length (body_of bytes)) ++ n ∷ drop 3 behind) kind
@@ -76,7 +81,8 @@ pub header_take : (bytes : List ℕ) (kind : ℕ) → IsBytes bytes → header_o
 unfolding header_of
 header_take bytes kind fits e =
     let size = length bytes in
-    let r = rules_pass (nat_lt size 19) (not (is_marked bytes)) (not (length_of bytes == size && nat_le size 4096 && allows (kind_at bytes) size)) (not (is_kind (kind_at bytes))) (kind_at bytes) kind e in
+    let r = rules_pass (nat_lt size 19) (not (is_marked bytes)) (not (length_of bytes == size && nat_le size 4096 && allows (kind_at bytes) size))
+        (not (is_kind (kind_at bytes))) (kind_at bytes) kind e in
     let long : 19 ≤ size = ltb-false _ _ r.0 in
     let t = and_true (length_of bytes == size && nat_le size 4096) (allows (kind_at bytes) size) (not_false _ r.2) in
     let u = and_true (length_of bytes == size) (nat_le size 4096) t.0 in
@@ -106,7 +112,8 @@ ne_eqb a b size n p q lt = grind (arith, nat_tests)
 pub short_front : (bytes : List ℕ) (n : ℕ) → n < 19 → header_of (take n bytes) ≡ Err Short
 short_front bytes n lt = cut_before (take n bytes) (omega (arith, length-take n bytes))
 
-pub long_front : (kind : ℕ) (body : List ℕ) (n : ℕ) → 19 + length body ≤ greatest_length → 19 ≤ n → n < length (message_bytes kind body) → header_of (take n (message_bytes kind body)) ≡ Err BadLength
+pub long_front : (kind : ℕ) (body : List ℕ) (n : ℕ) → 19 + length body ≤ greatest_length → 19 ≤ n → n < length (message_bytes kind body) →
+    header_of (take n (message_bytes kind body)) ≡ Err BadLength
 long_front kind body n within long lt =
     let bytes = message_bytes kind body in
     let size : length bytes ≡ 19 + length body = omega arith in
@@ -114,7 +121,9 @@ long_front kind body n within long lt =
     let split : n ≡ 16 + (n - 16) = omega arith in
     let marked : is_marked (take n bytes) ≡ true = ap (λ (xs : List ℕ). list_all (λ (byte : ℕ). byte == 255) xs) (take-take 16 n bytes (omega arith)) in
     let number : length_of (take n bytes) ≡ length bytes =
-    ap (λ (m : ℕ). big_number 2 (drop 16 (take m bytes))) split ∙ ap (big_number 2) (drop-take 16 (n - 16) bytes) ∙ big_from-take 0 2 (n - 16) (drop 16 bytes) (omega arith)
+    ap (λ (m : ℕ). big_number 2 (drop 16 (take m bytes))) split ∙ ap (big_number 2) (drop-take 16 (n - 16) bytes)
+        ∙ big_from-take 0 2 (n - 16) (drop 16 bytes) (omega arith)
     ∙ number_back 2 (19 + length body) (kind ∷ body) (omega arith) ∙ sym size in
-    let other : (length_of (take n bytes) == length (take n bytes)) ≡ false = ne_eqb (length_of (take n bytes)) (length (take n bytes)) (length bytes) n number len lt in
+    let other : (length_of (take n bytes) == length (take n bytes)) ≡ false =
+        ne_eqb (length_of (take n bytes)) (length (take n bytes)) (length bytes) n number len lt in
     cut_behind (take n bytes) (omega arith) marked other

@@ -1,5 +1,6 @@
 -- The attributes of an UPDATE as a list: from the bytes and back, each type once, each lawful, none missing.
-use Rattle.std.proofs.Common.{◌≡◌, ◌≢◌, ◌≤◌, ◌<◌, ◌/◌, ◌%◌, ◌^◌, ◌==◌, ◌&&◌, ◌||◌, not, ℕ, suc, Bool, true, false, cond, List, [], ◌∷◌, ◌++◌, length, Option, Some, None, refl, ap, sym, ◌∙◌, subst, arith, length-append}
+use Rattle.std.proofs.Common.{◌≡◌, ◌≢◌, ◌≤◌, ◌<◌, ◌/◌, ◌%◌, ◌^◌, ◌==◌, ◌&&◌, ◌||◌, not, ℕ, suc, Bool, true, false, cond, List, [], ◌∷◌, ◌++◌, length}
+use Rattle.std.proofs.Common.{Option, Some, None, refl, ap, sym, ◌∙◌, subst, arith, length-append}
 use Rattle.std.specs.Prelude.{slice_index_or}
 use Rattle.std.specs.Option.{option_map}
 use Rattle.std.specs.List.{list_all, find, AllByRecursion, AllPairs}
@@ -9,7 +10,9 @@ use Rattle.std.proofs.lemmas.List.Elements.{All-from_recursion}
 use Rattle.std.proofs.lemmas.List.Kept.{AllPairs-cons}
 use Rattle.byteorder.specs.Endian.{big_number, big_bytes}
 use Rattle.mn_vpn_nlri.specs.Reading.{IsBytes}
-use Rattle.mn_bgp_wire.specs.Grammar.{PathAttribute, attribute_bytes, attributes_bytes, length_bytes, is_extended, is_optional, is_known, has, value_of, update_body, IsLawful, HasAllWanted, origin_kind, local_pref_kind, as_path_kind, mp_reach_kind, mp_unreach_kind, extended_communities_kind}
+use Rattle.mn_bgp_wire.specs.Grammar.{PathAttribute, attribute_bytes, attributes_bytes, length_bytes, is_extended, is_optional, is_known, has, value_of}
+use Rattle.mn_bgp_wire.specs.Grammar.{update_body, IsLawful, HasAllWanted, origin_kind, local_pref_kind, as_path_kind, mp_reach_kind, mp_unreach_kind}
+use Rattle.mn_bgp_wire.specs.Grammar.{extended_communities_kind}
 use Rattle.mn_bgp_wire.specs.Reading.{attribute_at, attributes_of, attributes_in, has_twice, is_lawful, is_missing}
 use Rattle.mn_bgp_wire.proofs.Bytes.{bytes-rest, bytes-front, number_back, two_of}
 use Rattle.mn_bgp_wire.proofs.InTurn.{items_again, items_take}
@@ -29,7 +32,8 @@ listed : (c d : ℕ) (rest : List ℕ) → (big_number 2 (c ∷ d ∷ rest) == l
 unfolding attributes_in
 listed c d rest h = rw h refl
 
-pub list_again : (attributes : List PathAttribute) → length (attributes_bytes attributes) < 2 ^ 16 → attributes_in (update_body (attributes_bytes attributes)) ≡ Some attributes
+pub list_again : (attributes : List PathAttribute) → length (attributes_bytes attributes) < 2 ^ 16 →
+    attributes_in (update_body (attributes_bytes attributes)) ≡ Some attributes
 list_again attributes h =
     let bytes = attributes_bytes attributes in
     listed (length bytes / 256 % 256) (length bytes % 256) bytes (eq-eqb _ _ (number_back 2 (length bytes) bytes h))
@@ -44,7 +48,8 @@ respelled a b c d rest x bytes p q r s =
     let first : a ∷ b ∷ c ∷ d ∷ rest ≡ 0 ∷ 0 ∷ c ∷ d ∷ rest = cc in
     first ∙ ap (λ (y : List ℕ). (0 ∷ 0 ∷ []) ++ y ++ rest) (sym r) ∙ ap (λ (y : List ℕ). ((0 ∷ 0 ∷ []) ++ x) ++ y) s
 
-listed_takes : (a b c d : ℕ) (rest : List ℕ) (attributes : List PathAttribute) → IsBytes (a ∷ b ∷ c ∷ d ∷ rest) → attributes_in (a ∷ b ∷ c ∷ d ∷ rest) ≡ Some attributes → a ∷ b ∷ c ∷ d ∷ rest ≡ update_body (attributes_bytes attributes)
+listed_takes : (a b c d : ℕ) (rest : List ℕ) (attributes : List PathAttribute) → IsBytes (a ∷ b ∷ c ∷ d ∷ rest) →
+    attributes_in (a ∷ b ∷ c ∷ d ∷ rest) ≡ Some attributes → a ∷ b ∷ c ∷ d ∷ rest ≡ update_body (attributes_bytes attributes)
 unfolding attributes_in
 listed_takes a b c d rest attributes fits e =
     let q = none_guard (not (big_number 2 (a ∷ b ∷ c ∷ d ∷ rest) == 0) || not (big_number 2 (c ∷ d ∷ rest) == length rest)) (attributes_of rest) attributes e in
@@ -53,10 +58,12 @@ listed_takes a b c d rest attributes fits e =
     let len : big_number 2 (c ∷ d ∷ rest) ≡ length rest = eqb-true _ _ t.1 in
     let rest_fits = bytes-rest (a ∷ b ∷ c ∷ d ∷ []) rest fits in
     let spelled : rest ≡ attributes_bytes attributes = items_take attribute_at attribute_bytes attributes_take (length rest) rest attributes rest_fits q.1 in
-    let two : big_bytes 2 (length (attributes_bytes attributes)) ≡ c ∷ d ∷ [] = ap (big_bytes 2) (sym (len ∙ ap length spelled)) ∙ two_of c d rest (fits.below 2) (fits.below 3) in
+    let two : big_bytes 2 (length (attributes_bytes attributes)) ≡ c ∷ d ∷ [] =
+        ap (big_bytes 2) (sym (len ∙ ap length spelled)) ∙ two_of c d rest (fits.below 2) (fits.below 3) in
     respelled a b c d rest (big_bytes 2 (length (attributes_bytes attributes))) (attributes_bytes attributes) (omega arith) (omega arith) two spelled
 
-pub list_takes : (body : List ℕ) (attributes : List PathAttribute) → IsBytes body → 4 ≤ length body → attributes_in body ≡ Some attributes → body ≡ update_body (attributes_bytes attributes)
+pub list_takes : (body : List ℕ) (attributes : List PathAttribute) → IsBytes body → 4 ≤ length body → attributes_in body ≡ Some attributes →
+    body ≡ update_body (attributes_bytes attributes)
 list_takes (a ∷ b ∷ c ∷ d ∷ rest) attributes fits long e = listed_takes a b c d rest attributes fits e
 list_takes _ attributes fits long e = absurd (omega arith)
 
@@ -65,7 +72,8 @@ list_takes _ attributes fits long e = absurd (omega arith)
 Differ : PathAttribute → PathAttribute → Type 0
 Differ earlier later = earlier.kind ≢ later.kind
 
-has_none : (kind : ℕ) (attributes : List PathAttribute) → ((j : ℕ) (d : PathAttribute) → j < length attributes → kind ≢ (slice_index_or attributes j d).kind) → has kind attributes ≡ false
+has_none : (kind : ℕ) (attributes : List PathAttribute) →
+    ((j : ℕ) (d : PathAttribute) → j < length attributes → kind ≢ (slice_index_or attributes j d).kind) → has kind attributes ≡ false
 has_none kind [] h = refl
 has_none kind (a ∷ others) h =
     let other = h 0 a (omega arith) in
@@ -89,11 +97,13 @@ pub once_takes : (attributes : List PathAttribute) → has_twice attributes ≡ 
 once_takes [] h = λ i j d lt within. absurd (omega arith)
 once_takes (a ∷ others) h =
     let o = or_no (has a.kind others) (has_twice others) h in
-    AllPairs-cons (λ (earlier later : PathAttribute). earlier.kind ≢ later.kind) a others (All-from_recursion (λ (later : PathAttribute). a.kind ≢ later.kind) others (differs a others o.0)) (once_takes others o.1)
+    AllPairs-cons (λ (earlier later : PathAttribute). earlier.kind ≢ later.kind) a others
+        (All-from_recursion (λ (later : PathAttribute). a.kind ≢ later.kind) others (differs a others o.0)) (once_takes others o.1)
 
 -- Each lawful.
 
-lawful_by : (o l known optional one four : Bool) → (o ≡ true → one ≡ true) → (l ≡ true → four ≡ true) → (known ≡ false → optional ≡ true) → cond o one (cond l four (known || optional)) ≡ true
+lawful_by : (o l known optional one four : Bool) → (o ≡ true → one ≡ true) → (l ≡ true → four ≡ true) →
+    (known ≡ false → optional ≡ true) → cond o one (cond l four (known || optional)) ≡ true
 lawful_by true l known optional one four p q r = p refl
 lawful_by false true known optional one four p q r = q refl
 lawful_by false false true optional one four p q r = refl
@@ -116,12 +126,15 @@ is_other type kind known unknown = not_equal (kind == type) refl
 
 lawful_again : (a : PathAttribute) → IsLawful a → is_lawful a ≡ true
 unfolding is_lawful
-lawful_again a is = lawful_by (a.kind == origin_kind) (a.kind == local_pref_kind) (is_known a.kind) (is_optional a.flags) (length a.value == 1) (length a.value == 4) (λ t. eq-eqb _ _ (is.of_origin (eqb-true _ _ t))) (λ t. eq-eqb _ _ (is.of_local_pref (eqb-true _ _ t))) is.of_unknown
+lawful_again a is =
+    lawful_by (a.kind == origin_kind) (a.kind == local_pref_kind) (is_known a.kind) (is_optional a.flags) (length a.value == 1) (length a.value == 4)
+    (λ t. eq-eqb _ _ (is.of_origin (eqb-true _ _ t))) (λ t. eq-eqb _ _ (is.of_local_pref (eqb-true _ _ t))) is.of_unknown
 
 lawful_takes : (a : PathAttribute) → is_lawful a ≡ true → IsLawful a
 unfolding is_lawful
 lawful_takes a e =
-    let t = lawful_takes_by (a.kind == origin_kind) (a.kind == local_pref_kind) (is_known a.kind) (is_optional a.flags) (length a.value == 1) (length a.value == 4) e in
+    let t = lawful_takes_by (a.kind == origin_kind) (a.kind == local_pref_kind) (is_known a.kind) (is_optional a.flags) (length a.value == 1)
+        (length a.value == 4) e in
     record {
       of_origin = λ is. eqb-true _ _ (t.0 (eq-eqb _ _ is));
       of_local_pref = λ is. let other : (a.kind == origin_kind) ≡ false = grind (arith, nat_tests) in eqb-true _ _ (t.1 other (eq-eqb _ _ is));
@@ -151,20 +164,27 @@ wanted_takes_by false false beside e = absurd cc
 
 pub wanted_again : (attributes : List PathAttribute) → HasAllWanted attributes → is_missing attributes ≡ false
 unfolding is_missing
-wanted_again others w = wanted_by (has mp_reach_kind others) (has mp_unreach_kind others) (has origin_kind others && has as_path_kind others && has local_pref_kind others && has extended_communities_kind others) w.some w.beside
+wanted_again others w =
+    wanted_by (has mp_reach_kind others) (has mp_unreach_kind others)
+    (has origin_kind others && has as_path_kind others && has local_pref_kind others && has extended_communities_kind others) w.some w.beside
 
 pub wanted_take : (attributes : List PathAttribute) → is_missing attributes ≡ false → HasAllWanted attributes
 unfolding is_missing
-wanted_take others e = let w = wanted_takes_by (has mp_reach_kind others) (has mp_unreach_kind others) (has origin_kind others && has as_path_kind others && has local_pref_kind others && has extended_communities_kind others) e in record { some = w.0; beside = w.1 }
+wanted_take others e = let w =
+    wanted_takes_by (has mp_reach_kind others) (has mp_unreach_kind others)
+    (has origin_kind others && has as_path_kind others && has local_pref_kind others && has extended_communities_kind others) e in
+    record { some = w.0; beside = w.1 }
 
 -- The bytes of a value.
 
-found_fits : (b : Bool) (a : PathAttribute) (more : Option PathAttribute) (value : List ℕ) → IsBytes a.value → ((v : List ℕ) → option_map (λ (attribute : PathAttribute). attribute.value) more ≡ Some v → IsBytes v)
+found_fits : (b : Bool) (a : PathAttribute) (more : Option PathAttribute) (value : List ℕ) → IsBytes a.value →
+    ((v : List ℕ) → option_map (λ (attribute : PathAttribute). attribute.value) more ≡ Some v → IsBytes v)
     → option_map (λ (attribute : PathAttribute). attribute.value) (cond b (Some a) more) ≡ Some value → IsBytes value
 found_fits true a more value here later e = let same : a.value ≡ value = cc in subst IsBytes same here
 found_fits false a more value here later e = later value e
 
-pub value_fits : (kind : ℕ) (attributes : List PathAttribute) (value : List ℕ) → IsBytes (attributes_bytes attributes) → value_of kind attributes ≡ Some value → IsBytes value
+pub value_fits : (kind : ℕ) (attributes : List PathAttribute) (value : List ℕ) → IsBytes (attributes_bytes attributes) →
+    value_of kind attributes ≡ Some value → IsBytes value
 value_fits kind [] value fits e = absurd cc
 value_fits kind (a ∷ others) value fits e =
     let one = bytes-front (attribute_bytes a) (attributes_bytes others) fits in

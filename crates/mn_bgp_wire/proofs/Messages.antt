@@ -1,5 +1,6 @@
 -- A message, as it is read and as it is spelled.
-use Rattle.std.proofs.Common.{◌≡◌, ◌≤◌, ◌<◌, ◌+◌, ◌^◌, ◌==◌, ℕ, Bool, true, false, cond, List, [], ◌∷◌, length, take, Result, Ok, Err, refl, ap, sym, ◌∙◌, subst, arith}
+use Rattle.std.proofs.Common.{◌≡◌, ◌≤◌, ◌<◌, ◌+◌, ◌^◌, ◌==◌, ℕ, Bool, true, false, cond, List, [], ◌∷◌, length, take, Result, Ok, Err, refl, ap, sym, ◌∙◌}
+use Rattle.std.proofs.Common.{subst, arith}
 use Rattle.std.specs.Prelude.{slice_index, IfOk}
 use Rattle.std.proofs.lemmas.Bool.{eqb-true}
 use Rattle.std.proofs.lemmas.Bool.Decides.{nat_tests}
@@ -38,7 +39,8 @@ says_of_body (messages.Update says) body short is = ap (λ (r : Result Says BgpW
 says_of_body (messages.Notification code subcode) body short is = ap (λ (b : List ℕ). done (messages.Notification (slice_index b 0) (slice_index b 1))) is.1
 says_of_body messages.KeepAlive body short is = refl
 
-read_by : (bytes : List ℕ) (kind : ℕ) (message : BgpMessage) → header_of bytes ≡ Ok kind → body_says kind (body_of bytes) ≡ Ok message → message_of bytes ≡ Ok message
+read_by : (bytes : List ℕ) (kind : ℕ) (message : BgpMessage) → header_of bytes ≡ Ok kind → body_says kind (body_of bytes) ≡ Ok message →
+    message_of bytes ≡ Ok message
 unfolding message_of
 read_by bytes kind message head body = ap (λ (r : Result ℕ BgpWireBad). after r (λ k. body_says k (body_of bytes))) head ∙ body
 
@@ -51,7 +53,8 @@ message_is_read bytes message is =
     let within = is.within in
     let size : length bytes ≡ 19 + length is.body = ap length is.whole ∙ size_of (kind_of message) is.body in
     let head = header_again (kind_of message) is.body (known_of message) (allowed_of message is.body is.is_body) (omega arith) in
-    ap message_of is.whole ∙ read_by (message_bytes (kind_of message) is.body) (kind_of message) message head (says_of_body message is.body (omega arith) is.is_body)
+    ap message_of is.whole ∙ read_by (message_bytes (kind_of message) is.body) (kind_of message) message head
+        (says_of_body message is.body (omega arith) is.is_body)
 
 pub one_message : (bytes : List ℕ) (message other : BgpMessage) → IsBgp bytes message → IsBgp bytes other → message ≡ other
 one_message bytes message other is also = done_is message other (sym (message_is_read bytes message is) ∙ message_is_read bytes other also)
@@ -88,8 +91,11 @@ empty_body (b ∷ bs) h = absurd (omega arith)
 abbrev BodyOf : ℕ → List ℕ → BgpMessage → Type 0
 BodyOf kind body message = (kind_of message ≡ kind) × IsBody body message
 
-body_by : (p q r : Bool) (kind : ℕ) (body : List ℕ) (message : BgpMessage) → IsBytes body → is_kind kind ≡ true → allows kind (19 + length body) ≡ true → (kind == 1) ≡ p → (kind == 2) ≡ q → (kind == 3) ≡ r
-    → cond p (open_of body) (cond q (update_said body) (cond r (Ok (messages.Notification (slice_index body 0) (slice_index body 1))) (Ok messages.KeepAlive))) ≡ Ok message → BodyOf kind body message
+body_by : (p q r : Bool) (kind : ℕ) (body : List ℕ) (message : BgpMessage) → IsBytes body → is_kind kind ≡ true → allows kind (19 + length body) ≡ true →
+    (kind == 1) ≡ p → (kind == 2) ≡ q → (kind == 3) ≡ r
+    → cond p (open_of body)
+        (cond q (update_said body) (cond r (Ok (messages.Notification (slice_index body 0) (slice_index body 1))) (Ok messages.KeepAlive))) ≡ Ok message →
+        BodyOf kind body message
 body_by true q r kind body message fits known allowed is1 is2 is3 e =
     let same : kind ≡ 1 = eqb-true kind 1 is1 in
     let long = open_allowed (19 + length body) (subst (λ (k : ℕ). allows k (19 + length body) ≡ true) same allowed) in
@@ -103,7 +109,8 @@ body_by false true r kind body message fits known allowed is1 is2 is3 e =
 body_by false false true kind body message fits known allowed is1 is2 is3 e =
     let same : kind ≡ 3 = eqb-true kind 3 is3 in
     let long = notification_allowed (19 + length body) (subst (λ (k : ℕ). allows k (19 + length body) ≡ true) same allowed) in
-    subst (λ (m : BgpMessage). BodyOf kind body m) (done_is (messages.Notification (slice_index body 0) (slice_index body 1)) message e) (sym same, notification_body body (omega arith))
+    subst (λ (m : BgpMessage). BodyOf kind body m) (done_is (messages.Notification (slice_index body 0) (slice_index body 1)) message e)
+        (sym same, notification_body body (omega arith))
 body_by false false false kind body message fits known allowed is1 is2 is3 e =
     let same : kind ≡ 4 = last_kind kind known is1 is2 is3 in
     let size = keepalive_allowed (19 + length body) (subst (λ (k : ℕ). allows k (19 + length body) ≡ true) same allowed) in
@@ -134,7 +141,8 @@ refused_by bytes bad head = ap (λ (r : Result ℕ BgpWireBad). after r (λ k. b
 pub front_is_short : (bytes : List ℕ) (message : BgpMessage) (n : ℕ) → IsBgp bytes message → n < 19 → message_of (take n bytes) ≡ Err Short
 front_is_short bytes message n is lt = refused_by (take n bytes) Short (short_front bytes n lt)
 
-pub front_is_refused : (bytes : List ℕ) (message : BgpMessage) (n : ℕ) → IsBgp bytes message → 19 ≤ n → n < length bytes → message_of (take n bytes) ≡ Err BadLength
+pub front_is_refused : (bytes : List ℕ) (message : BgpMessage) (n : ℕ) → IsBgp bytes message → 19 ≤ n → n < length bytes →
+    message_of (take n bytes) ≡ Err BadLength
 front_is_refused bytes message n is long lt =
     let within = is.within in
     let same = ap length is.whole in
@@ -145,7 +153,8 @@ front_is_refused bytes message n is long lt =
 -- What is refused for its body.
 
 -- the length that an OPEN or an UPDATE has at least
-long_enough : (bytes : List ℕ) (kind : ℕ) → IsBytes bytes → header_of bytes ≡ Ok kind → (kind ≡ 1 → 10 ≤ length (body_of bytes)) × (kind ≡ 2 → (4 ≤ length (body_of bytes)) × (length (body_of bytes) < 2 ^ 16))
+long_enough : (bytes : List ℕ) (kind : ℕ) → IsBytes bytes → header_of bytes ≡ Ok kind →
+    (kind ≡ 1 → 10 ≤ length (body_of bytes)) × (kind ≡ 2 → (4 ≤ length (body_of bytes)) × (length (body_of bytes) < 2 ^ 16))
 long_enough bytes kind fits head =
     let h = header_take bytes kind fits head in
     let within = h.within in
@@ -158,20 +167,26 @@ by_body : (bytes : List ℕ) (kind : ℕ) → header_of bytes ≡ Ok kind → me
 unfolding message_of
 by_body bytes kind head = ap (λ (r : Result ℕ BgpWireBad). after r (λ k. body_says k (body_of bytes))) head
 
-pub open_is_bad : (bytes : List ℕ) → IsBytes bytes → header_of bytes ≡ Ok open_kind → ((version asn hold id : ℕ) (vpn : Bool) → IsOpen (body_of bytes) version asn hold id vpn → ⊥) → message_of bytes ≡ Err BadOpen
+pub open_is_bad : (bytes : List ℕ) → IsBytes bytes → header_of bytes ≡ Ok open_kind →
+    ((version asn hold id : ℕ) (vpn : Bool) → IsOpen (body_of bytes) version asn hold id vpn → ⊥) → message_of bytes ≡ Err BadOpen
 open_is_bad bytes fits head none =
     let long = (long_enough bytes 1 fits head).0 refl in
     by_body bytes 1 head ∙ open_refused (body_of bytes) (IsBytes-drop 19 bytes fits) long none
 
-pub update_misses_one : (bytes : List ℕ) (attributes : List PathAttribute) (says : Says) → IsBytes bytes → header_of bytes ≡ Ok update_kind → AreAttributes (body_of bytes) attributes says → ¬ HasAllWanted attributes → message_of bytes ≡ Err MissingAttribute
+pub update_misses_one : (bytes : List ℕ) (attributes : List PathAttribute) (says : Says) → IsBytes bytes → header_of bytes ≡ Ok update_kind →
+    AreAttributes (body_of bytes) attributes says → ¬ HasAllWanted attributes → message_of bytes ≡ Err MissingAttribute
 update_misses_one bytes attributes says fits head is lacks =
     let long = (long_enough bytes 2 fits head).1 refl in
-    by_body bytes 2 head ∙ ap (λ (r : Result Says BgpWireBad). after r (λ s. Ok (messages.Update s))) (update_misses (body_of bytes) attributes says long.1 is lacks)
+    by_body bytes 2 head
+        ∙ ap (λ (r : Result Says BgpWireBad). after r (λ s. Ok (messages.Update s))) (update_misses (body_of bytes) attributes says long.1 is lacks)
 
-pub update_has_bad : (bytes : List ℕ) → IsBytes bytes → header_of bytes ≡ Ok update_kind → ((attributes : List PathAttribute) (says : Says) → AreAttributes (body_of bytes) attributes says → ⊥) → message_of bytes ≡ Err BadAttribute
+pub update_has_bad : (bytes : List ℕ) → IsBytes bytes → header_of bytes ≡ Ok update_kind →
+    ((attributes : List PathAttribute) (says : Says) → AreAttributes (body_of bytes) attributes says → ⊥) → message_of bytes ≡ Err BadAttribute
 update_has_bad bytes fits head none =
     let long = (long_enough bytes 2 fits head).1 refl in
-    by_body bytes 2 head ∙ ap (λ (r : Result Says BgpWireBad). after r (λ s. Ok (messages.Update s))) (update_is_bad (body_of bytes) (IsBytes-drop 19 bytes fits) long.0 none)
+    by_body bytes 2 head
+        ∙ ap (λ (r : Result Says BgpWireBad). after r (λ s. Ok (messages.Update s)))
+        (update_is_bad (body_of bytes) (IsBytes-drop 19 bytes fits) long.0 none)
 
 -- What a reader answers.
 
@@ -182,6 +197,7 @@ found_by (Err bad) bytes fits given = tt
 fails_not : (bad : BgpWireBad) (bytes : List ℕ) (message : BgpMessage) → message_of bytes ≡ Ok message → Fails bad (message_of bytes) → Fails bad (done message)
 fails_not bad bytes message is given = subst (λ (r : Result BgpMessage BgpWireBad). Fails bad r) is given
 
-pub only_by : (r : Result BgpMessage BgpWireBad) (bytes : List ℕ) → Answers r (message_of bytes) → (message : BgpMessage) → IsBgp bytes message → Answers r (Ok message)
+pub only_by : (r : Result BgpMessage BgpWireBad) (bytes : List ℕ) → Answers r (message_of bytes) →
+    (message : BgpMessage) → IsBgp bytes message → Answers r (Ok message)
 only_by (Ok found) bytes given message is = sym (message_is_read bytes message is) ∙ given
 only_by (Err bad) bytes given message is = fails_not bad bytes message (message_is_read bytes message is) given

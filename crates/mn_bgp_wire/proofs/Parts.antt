@@ -1,5 +1,6 @@
 -- The front of a list of parameters, capabilities or attributes.
-use Rattle.std.proofs.Common.{◌≡◌, ◌≤◌, ◌<◌, ◌+◌, ◌*◌, ◌^◌, ℕ, Bool, true, false, cond, ltb, List, [], ◌∷◌, ◌++◌, length, take, drop, Option, Some, None, refl, ap, sym, ◌∙◌, subst, append_assoc, arith, length-append, length-drop}
+use Rattle.std.proofs.Common.{◌≡◌, ◌≤◌, ◌<◌, ◌+◌, ◌*◌, ◌^◌, ℕ, Bool, true, false, cond, ltb, List, [], ◌∷◌, ◌++◌, length, take, drop, Option, Some, None}
+use Rattle.std.proofs.Common.{refl, ap, sym, ◌∙◌, subst, append_assoc, arith, length-append, length-drop}
 use Rattle.std.proofs.lemmas.Bool.{ltb-false, le-ltb}
 use Rattle.std.proofs.lemmas.List.{take_at, drop_at, take-append-drop, length-take}
 use Rattle.byteorder.specs.Endian.{big_bytes}
@@ -112,8 +113,10 @@ attribute_again : (attribute : PathAttribute) (rest : List ℕ) → IsShort attr
 unfolding attribute_at
 attribute_again attribute rest h =
     let extended = is_extended attribute.flags in
-    let split : (length_bytes extended (length attribute.value) ++ attribute.value) ++ rest ≡ length_bytes extended (length attribute.value) ++ (attribute.value ++ rest) = append_assoc (length_bytes extended (length attribute.value)) attribute.value rest in
-    ap (λ (xs : List ℕ). attribute_at (attribute.flags ∷ attribute.kind ∷ xs)) split ∙ rw (sized_again extended (length attribute.value) (attribute.value ++ rest) h, cut_again attribute.value rest) refl
+    let split : (length_bytes extended (length attribute.value) ++ attribute.value) ++ rest ≡ length_bytes extended (length attribute.value) ++
+        (attribute.value ++ rest) = append_assoc (length_bytes extended (length attribute.value)) attribute.value rest in
+    ap (λ (xs : List ℕ). attribute_at (attribute.flags ∷ attribute.kind ∷ xs)) split
+        ∙ rw (sized_again extended (length attribute.value) (attribute.value ++ rest) h, cut_again attribute.value rest) refl
 
 pub attributes_read : Reads attribute_at attribute_bytes IsShort
 attributes_read = record { again = attribute_again }
@@ -125,9 +128,11 @@ cut_takes n rest parts e =
     let c = cut_is (n, rest) parts e in
     let whole = c.whole in
     let len : length (take n rest) ≡ n = omega (arith, length-take n rest) in
-    (sym len ∙ ap length c.value_is, sym (take-append-drop n rest) ∙ ap (λ (xs : List ℕ). xs ++ drop n rest) c.value_is ∙ ap (λ (xs : List ℕ). parts.0 ++ xs) c.rest_is)
+    (sym len ∙ ap length c.value_is, sym (take-append-drop n rest) ∙ ap (λ (xs : List ℕ). xs ++ drop n rest) c.value_is
+        ∙ ap (λ (xs : List ℕ). parts.0 ++ xs) c.rest_is)
 
-sized_takes : (extended : Bool) (rest : List ℕ) (found : ℕ × List ℕ) → IsBytes rest → sized extended rest ≡ Some found → rest ≡ length_bytes extended found.0 ++ found.1
+sized_takes : (extended : Bool) (rest : List ℕ) (found : ℕ × List ℕ) → IsBytes rest → sized extended rest ≡ Some found →
+    rest ≡ length_bytes extended found.0 ++ found.1
 sized_takes true [] found fits e = absurd cc
 sized_takes true (a ∷ []) found fits e = absurd cc
 sized_takes true (a ∷ b ∷ rest) found fits e =
@@ -136,11 +141,13 @@ sized_takes true (a ∷ b ∷ rest) found fits e =
 sized_takes false [] found fits e = absurd cc
 sized_takes false (a ∷ rest) found fits e = ap (λ (f : ℕ × List ℕ). f.0 ∷ f.1) (some_is (a, rest) found e)
 
-parts_take : (extended : Bool) (rest : List ℕ) (parts : List ℕ × List ℕ) → IsBytes rest → (sized extended rest >>= cut) ≡ Some parts → rest ≡ (length_bytes extended (length parts.0) ++ parts.0) ++ parts.1
+parts_take : (extended : Bool) (rest : List ℕ) (parts : List ℕ × List ℕ) → IsBytes rest →
+    (sized extended rest >>= cut) ≡ Some parts → rest ≡ (length_bytes extended (length parts.0) ++ parts.0) ++ parts.1
 parts_take extended rest parts fits e =
     let s = then_some (sized extended rest) cut parts e in
     let c = cut_takes s.0.0 s.0.1 parts s.2 in
-    sized_takes extended rest s.0 fits s.1 ∙ ap (λ (n : ℕ). length_bytes extended n ++ s.0.1) c.0 ∙ ap (λ (xs : List ℕ). length_bytes extended (length parts.0) ++ xs) c.1
+    sized_takes extended rest s.0 fits s.1 ∙ ap (λ (n : ℕ). length_bytes extended n ++ s.0.1) c.0
+        ∙ ap (λ (xs : List ℕ). length_bytes extended (length parts.0) ++ xs) c.1
     ∙ sym (append_assoc (length_bytes extended (length parts.0)) parts.0 parts.1)
 
 field_takes : (bytes : List ℕ) (found : Field × List ℕ) → IsBytes bytes → field_at bytes ≡ Some found → bytes ≡ field_bytes found.0 ++ found.1
@@ -154,7 +161,8 @@ field_takes (kind ∷ rest) found fits e =
 pub fields_take : Takes field_at field_bytes
 fields_take = record { parts = field_takes }
 
-attribute_takes : (bytes : List ℕ) (found : PathAttribute × List ℕ) → IsBytes bytes → attribute_at bytes ≡ Some found → bytes ≡ attribute_bytes found.0 ++ found.1
+attribute_takes : (bytes : List ℕ) (found : PathAttribute × List ℕ) → IsBytes bytes → attribute_at bytes ≡ Some found →
+    bytes ≡ attribute_bytes found.0 ++ found.1
 unfolding attribute_at
 attribute_takes [] found fits e = absurd cc
 attribute_takes (flags ∷ []) found fits e = absurd cc

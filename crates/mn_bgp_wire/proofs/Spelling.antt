@@ -1,5 +1,6 @@
 -- What is written is a message.
-use Rattle.std.proofs.Common.{◌≡◌, ◌≤◌, ◌<◌, ◌*◌, ◌^◌, ℕ, Bool, true, false, List, [], ◌∷◌, ◌++◌, length, replicate, Result, Ok, Err, refl, ap, sym, ◌∙◌, subst, arith, length-append}
+use Rattle.std.proofs.Common.{◌≡◌, ◌≤◌, ◌<◌, ◌*◌, ◌^◌, ℕ, Bool, true, false, List, [], ◌∷◌, ◌++◌, length, replicate, Result, Ok, Err, refl, ap, sym, ◌∙◌}
+use Rattle.std.proofs.Common.{subst, arith, length-append}
 use Rattle.std.specs.Prelude.{IfOk}
 use Rattle.std.specs.Global.{Vec}
 use Rattle.std.specs.List.{list_all}
@@ -48,14 +49,16 @@ pub targets_size : (targets : List Rt) → length (written_targets targets) ≡ 
 targets_size [] = refl
 targets_size (target ∷ targets) = let more = targets_size targets in let whole = length-append (community_bytes target) (written_targets targets) in omega arith
 
-pub announced_size : (hop : ℕ) (route : VpnRoute) (targets : List Rt) → length (written route false) ≤ 16 → length targets ≤ 16 → length (attributes_bytes (announced hop route targets)) ≤ 4073
+pub announced_size : (hop : ℕ) (route : VpnRoute) (targets : List Rt) → length (written route false) ≤ 16 → length targets ≤ 16 →
+    length (attributes_bytes (announced hop route targets)) ≤ 4073
 announced_size hop route targets short few =
     let count = targets_size targets in
     let last = length-append (written_targets targets) [] in
     let whole = length-append (written route false) (0xC0 ∷ 16 ∷ length (written_targets targets) ∷ (written_targets targets ++ [])) in
     omega arith
 
-pub withdrawn_size : (rd : Rd) (prefix : AddressBlock) → length (written (withdrawn_route rd prefix) true) ≤ 16 → length (attributes_bytes (withdrawn rd prefix)) ≤ 4073
+pub withdrawn_size : (rd : Rd) (prefix : AddressBlock) → length (written (withdrawn_route rd prefix) true) ≤ 16 →
+    length (attributes_bytes (withdrawn rd prefix)) ≤ 4073
 withdrawn_size rd prefix short = let whole = length-append (written (withdrawn_route rd prefix) true) [] in omega arith
 
 each_lawful : (hop : ℕ) (route : VpnRoute) (targets : List Rt) → list_all is_lawful (announced hop route targets) ≡ true
@@ -66,7 +69,8 @@ none_missing : (hop : ℕ) (route : VpnRoute) (targets : List Rt) → is_missing
 unfolding is_missing
 none_missing hop route targets = refl
 
-pub announced_is_spelled : (hop : ℕ) (route : VpnRoute) (targets : List Rt) → hop < 2 ^ 32 → length (written route false) ≤ 16 → length targets ≤ 16 → IsNlri (written route false) route → AreTargets (written_targets targets) targets
+pub announced_is_spelled : (hop : ℕ) (route : VpnRoute) (targets : List Rt) → hop < 2 ^ 32 → length (written route false) ≤ 16 → length targets ≤ 16 →
+    IsNlri (written route false) route → AreTargets (written_targets targets) targets
     → IsBgp (update_bytes (announced hop route targets)) (messages.Update (record { next_hop = hop; reached = route ∷ []; withdrawn = []; targets = targets }))
 announced_is_spelled hop route targets fits short few is_route are_targets =
     let attributes = announced hop route targets in
@@ -108,8 +112,10 @@ whole_withdrawal : (rd : Rd) (prefix : AddressBlock) → is_missing (withdrawn r
 unfolding is_missing
 whole_withdrawal rd prefix = refl
 
-pub withdrawn_is_spelled : (rd : Rd) (prefix : AddressBlock) → length (written (withdrawn_route rd prefix) true) ≤ 16 → IsNlri (written (withdrawn_route rd prefix) true) (withdrawn_route rd prefix)
-    → IsBgp (update_bytes (withdrawn rd prefix)) (messages.Update (record { next_hop = 0; reached = []; withdrawn = withdrawn_route rd prefix ∷ []; targets = [] }))
+pub withdrawn_is_spelled : (rd : Rd) (prefix : AddressBlock) → length (written (withdrawn_route rd prefix) true) ≤ 16 →
+    IsNlri (written (withdrawn_route rd prefix) true) (withdrawn_route rd prefix)
+    → IsBgp (update_bytes (withdrawn rd prefix))
+        (messages.Update (record { next_hop = 0; reached = []; withdrawn = withdrawn_route rd prefix ∷ []; targets = [] }))
 withdrawn_is_spelled rd prefix short is_route =
     let attributes = withdrawn rd prefix in
     let size = withdrawn_size rd prefix short in
@@ -138,7 +144,8 @@ withdrawn_is_spelled rd prefix short is_route =
     }
 
 -- bytes that were made are the message that is spelled so
-pub spelled_by : {E : Type 0} (r : Result (Vec ℕ) E) (bytes : List ℕ) (message : BgpMessage) → IfOk r (λ made. made.items ≡ bytes) → IsBgp bytes message → IfOk r (λ made. IsBgp made.items message)
+pub spelled_by : {E : Type 0} (r : Result (Vec ℕ) E) (bytes : List ℕ) (message : BgpMessage) → IfOk r (λ made. made.items ≡ bytes) → IsBgp bytes message →
+    IfOk r (λ made. IsBgp made.items message)
 spelled_by (Ok made) bytes message same is = subst (λ (xs : List ℕ). IsBgp xs message) (sym same) is
 spelled_by (Err e) bytes message same is = tt
 
@@ -146,6 +153,7 @@ pub same_bytes : {E : Type 0} (r : Result (Vec ℕ) E) (xs ys : List ℕ) → xs
 same_bytes (Ok made) xs ys same is = is ∙ same
 same_bytes (Err e) xs ys same is = tt
 
-pub of_attributes : {E : Type 0} (r : Result (Vec ℕ) E) (bytes : List ℕ) (attributes : List PathAttribute) → bytes ≡ attributes_bytes attributes → IfOk r (λ made. made.items ≡ message_bytes update_kind (update_body bytes)) → IfOk r (λ made. made.items ≡ update_bytes attributes)
+pub of_attributes : {E : Type 0} (r : Result (Vec ℕ) E) (bytes : List ℕ) (attributes : List PathAttribute) → bytes ≡ attributes_bytes attributes →
+    IfOk r (λ made. made.items ≡ message_bytes update_kind (update_body bytes)) → IfOk r (λ made. made.items ≡ update_bytes attributes)
 of_attributes (Ok made) bytes attributes same is = is ∙ ap (λ (xs : List ℕ). message_bytes update_kind (update_body xs)) same
 of_attributes (Err e) bytes attributes same is = tt

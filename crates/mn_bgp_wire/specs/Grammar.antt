@@ -1,5 +1,6 @@
 -- RFC 4271 and RFC 4760: which bytes are which BGP message, where the routes are VPN-IPv4 routes.
-use Rattle.std.specs.Prelude.{◌≡◌, ◌≢◌, ◌<◌, ◌≤◌, ℕ, ◌+◌, ◌/◌, ◌%◌, ◌^◌, ◌==◌, ◌&&◌, ◌||◌, Bool, true, false, List, [], ◌∷◌, ◌++◌, length, replicate, map, Option, Some, None, MatchBool, if◌then◌else◌}
+use Rattle.std.specs.Prelude.{◌≡◌, ◌≢◌, ◌<◌, ◌≤◌, ℕ, ◌+◌, ◌/◌, ◌%◌, ◌^◌, ◌==◌, ◌&&◌, ◌||◌, Bool, true, false, List, [], ◌∷◌, ◌++◌, length, replicate, map}
+use Rattle.std.specs.Prelude.{Option, Some, None, MatchBool, if◌then◌else◌}
 use Rattle.std.specs.Option.{option_map}
 use Rattle.std.specs.List.{flat_map, list_any, find, AllByRecursion, AllPairs}
 use Rattle.byteorder.specs.Endian.{big_bytes}
@@ -63,7 +64,8 @@ pub record Parameter : Type 0 where
 
 -- the value of a parameter of type 2 is its capabilities, and one of another type has none
 abbrev pub HasCapabilities : Parameter → Type 0
-HasCapabilities parameter = MatchBool (parameter.field.kind == capabilities_kind) (parameter.field.value ≡ fields_bytes parameter.capabilities) (parameter.capabilities ≡ [])
+HasCapabilities parameter =
+    MatchBool (parameter.field.kind == capabilities_kind) (parameter.field.value ≡ fields_bytes parameter.capabilities) (parameter.capabilities ≡ [])
 
 -- RFC 4760, section 8: the code of multiprotocol extensions
 abbrev pub multiprotocol : ℕ
@@ -144,7 +146,8 @@ abbrev pub extended_communities_kind : ℕ
 extended_communities_kind = 16
 
 abbrev pub known_kinds : List ℕ
-known_kinds = origin_kind ∷ as_path_kind ∷ next_hop_kind ∷ local_pref_kind ∷ atomic_aggregate_kind ∷ mp_reach_kind ∷ mp_unreach_kind ∷ extended_communities_kind ∷ []
+known_kinds =
+    origin_kind ∷ as_path_kind ∷ next_hop_kind ∷ local_pref_kind ∷ atomic_aggregate_kind ∷ mp_reach_kind ∷ mp_unreach_kind ∷ extended_communities_kind ∷ []
 
 abbrev pub is_known : ℕ → Bool
 is_known kind = list_any (λ known. known == kind) known_kinds
@@ -163,7 +166,8 @@ has kind attributes = list_any (λ attribute. attribute.kind == kind) attributes
 -- RFC 4271, section 5, and RFC 4760, section 3: what has to stand beside routes
 pub record HasAllWanted (attributes : List PathAttribute) : Type 0 where
   pub some : (has mp_reach_kind attributes || has mp_unreach_kind attributes) ≡ true
-  pub beside : has mp_reach_kind attributes ≡ true → (has origin_kind attributes && has as_path_kind attributes && has local_pref_kind attributes && has extended_communities_kind attributes) ≡ true
+  pub beside : has mp_reach_kind attributes ≡ true →
+      (has origin_kind attributes && has as_path_kind attributes && has local_pref_kind attributes && has extended_communities_kind attributes) ≡ true
 
 -- the value of the attribute of a type
 abbrev pub value_of : ℕ → List PathAttribute → Option (List ℕ)

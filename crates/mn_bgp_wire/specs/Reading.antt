@@ -1,5 +1,6 @@
 -- A message as it is read: the refusals in the order in which they are tried.
-use Rattle.std.specs.Prelude.{◌≡◌, ℕ, ◌+◌, ◌*◌, ◌==◌, ◌||◌, ◌&&◌, Bool, true, false, not, nat_lt, nat_le, List, [], ◌∷◌, length, take, drop, slice_index, Option, Some, None, Result, Ok, Err, ⊤, if◌then◌else◌}
+use Rattle.std.specs.Prelude.{◌≡◌, ℕ, ◌+◌, ◌*◌, ◌==◌, ◌||◌, ◌&&◌, Bool, true, false, not, nat_lt, nat_le, List, [], ◌∷◌, length, take, drop, slice_index}
+use Rattle.std.specs.Prelude.{Option, Some, None, Result, Ok, Err, ⊤, if◌then◌else◌}
 use Rattle.std.specs.Option.{option_map}
 use Rattle.std.specs.List.{list_any, list_all}
 use Rattle.byteorder.specs.Endian.{big_number}
@@ -9,7 +10,9 @@ use Rattle.mn_vpn_nlri.specs.declared.refusal.NlriBad.{NlriBad}
 use Rattle.mn_vpn_nlri.specs.Reading.{routes_of, targets_of}
 use Rattle.mn_bgp_wire.specs.Says.{Says}
 use Rattle.mn_bgp_wire.specs.Items.{◌>>=◌, items_of}
-use Rattle.mn_bgp_wire.specs.Grammar.{header_size, greatest_length, open_kind, update_kind, notification_kind, keepalive_kind, Field, capabilities_kind, is_vpn, PathAttribute, is_optional, is_extended, origin_kind, as_path_kind, local_pref_kind, mp_reach_kind, mp_unreach_kind, extended_communities_kind, is_known, has, value_of}
+use Rattle.mn_bgp_wire.specs.Grammar.{header_size, greatest_length, open_kind, update_kind, notification_kind, keepalive_kind, Field, capabilities_kind}
+use Rattle.mn_bgp_wire.specs.Grammar.{is_vpn, PathAttribute, is_optional, is_extended, origin_kind, as_path_kind, local_pref_kind, mp_reach_kind}
+use Rattle.mn_bgp_wire.specs.Grammar.{mp_unreach_kind, extended_communities_kind, is_known, has, value_of}
 use Rattle.mn_bgp_wire.specs.declared.message.BgpMessage.{BgpMessage}
 use Rattle.mn_bgp_wire.specs.declared.message.BgpMessage.TheVariants as messages
 use Rattle.mn_bgp_wire.specs.declared.refusal.BgpWireBad.{BgpWireBad}
@@ -95,7 +98,8 @@ is_lawful attribute =
 -- neither routes that come nor routes that go, or beside the former something is missing
 unfoldable pub is_missing : List PathAttribute → Bool
 is_missing attributes =
-    if has mp_reach_kind attributes then not (has origin_kind attributes && has as_path_kind attributes && has local_pref_kind attributes && has extended_communities_kind attributes)
+    if has mp_reach_kind attributes then not
+        (has origin_kind attributes && has as_path_kind attributes && has local_pref_kind attributes && has extended_communities_kind attributes)
     else not (has mp_unreach_kind attributes)
 
 -- What the values of 14, 15 and 16 say: RFC 4760, sections 3 and 4; RFC 4360, section 4.
@@ -115,7 +119,8 @@ reach_head = 17
 unfoldable pub reach_of : List ℕ → Result (ℕ × List VpnRoute) BgpWireBad
 reach_of value =
     if not (nat_le reach_head (length value) && is_family value && slice_index value 3 == 12) then Err BadAttribute
-    else after (in_attribute (routes_of (drop reach_head value))) (λ routes. if length routes == 0 then Err BadAttribute else Ok (big_number 4 (drop 12 value), routes))
+    else after (in_attribute (routes_of (drop reach_head value)))
+        (λ routes. if length routes == 0 then Err BadAttribute else Ok (big_number 4 (drop 12 value), routes))
 
 unfoldable pub unreach_of : List ℕ → Result (List VpnRoute) BgpWireBad
 unreach_of value = if not (nat_le 3 (length value) && is_family value) then Err BadAttribute else in_attribute (routes_of (drop 3 value))

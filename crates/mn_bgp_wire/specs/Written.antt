@@ -7,7 +7,9 @@ use Rattle.mn_prefix.specs.Prefix.{AddressBlock}
 use Rattle.mn_vpn_nlri.specs.declared.message.VpnRoute.{VpnRoute}
 use Rattle.mn_vpn_nlri.specs.Grammar.{written, written_targets, withdrawn_label}
 use Rattle.mn_bgp_wire.specs.Says.{Says}
-use Rattle.mn_bgp_wire.specs.Grammar.{Field, field_bytes, message_bytes, open_kind, update_kind, keepalive_kind, capabilities_kind, multiprotocol, vpn_family, PathAttribute, attributes_bytes, update_body, origin_kind, as_path_kind, local_pref_kind, mp_reach_kind, mp_unreach_kind, extended_communities_kind}
+use Rattle.mn_bgp_wire.specs.Grammar.{Field, field_bytes, message_bytes, open_kind, update_kind, keepalive_kind, capabilities_kind, multiprotocol}
+use Rattle.mn_bgp_wire.specs.Grammar.{vpn_family, PathAttribute, attributes_bytes, update_body, origin_kind, as_path_kind, local_pref_kind, mp_reach_kind}
+use Rattle.mn_bgp_wire.specs.Grammar.{mp_unreach_kind, extended_communities_kind}
 
 -- RFC 4760, section 8: the capability to take VPN-IPv4 routes
 abbrev pub vpn_capability : Field

@@ -1,5 +1,6 @@
 -- What a line, and a script, makes of a lawful journal is lawful.
-use Rattle.std.proofs.Common.{ℕ, zero, suc, ◌≡◌, ◌+◌, ◌≤◌, inl, inr, Bool, true, false, List, [], ◌∷◌, ◌++◌, length, refl, arith, sym, ap, ◌∙◌, subst, Option, Some, None}
+use Rattle.std.proofs.Common.{ℕ, zero, suc, ◌≡◌, ◌+◌, ◌≤◌, inl, inr, Bool, true, false, List, [], ◌∷◌, ◌++◌, length, refl, arith, sym, ap, ◌∙◌, subst}
+use Rattle.std.proofs.Common.{Option, Some, None}
 use Rattle.std.specs.Prelude.{if◌then◌else◌, ⊤}
 use Rattle.std.specs.List.{Contains}
 use Rattle.std.proofs.Math.Nat.{le-max_left}
@@ -34,8 +35,10 @@ use Rattle.mn_course.specs.declared.coming.Arrivals.TheVariants.{DueBy, News, Al
 use Rattle.mn_course.specs.declared.coming.Ending.{Ending}
 use Rattle.mn_course.specs.declared.coming.Ending.TheVariants as ending
 use Rattle.mn_course.specs.Coming.{comes_before, lost, delivery, coming, earlier, or_else, ever}
-use Rattle.mn_course.specs.Course.{Past, Course, with_step, on_to, record_of, bytes_of, input_before, inputs_of, tried, refusal_now, injected, stepped, arrived, is_full, one_by_one, next_now, deliver, all, until, most_of, played}
-use Rattle.mn_course.specs.Expansion.{Note, Refusal, Missing, Table, Expansion, table_by, after_line, with_line, unless_stopped, expanded_from, start_of, expanded}
+use Rattle.mn_course.specs.Course.{Past, Course, with_step, on_to, record_of, bytes_of, input_before, inputs_of, tried, refusal_now, injected, stepped}
+use Rattle.mn_course.specs.Course.{arrived, is_full, one_by_one, next_now, deliver, all, until, most_of, played}
+use Rattle.mn_course.specs.Expansion.{Note, Refusal, Missing, Table, Expansion, table_by, after_line, with_line, unless_stopped, expanded_from, start_of}
+use Rattle.mn_course.specs.Expansion.{expanded}
 use Rattle.mn_course.specs.Next.{IsNext}
 use Rattle.mn_course.specs.Lawful.{IsLawfulPast, IsLawfulRun}
 use Rattle.mn_course.proofs.Nexts.{what_is_next}

@@ -1,7 +1,8 @@
 -- The least of a list of items: none comes before it.
 use Rattle.std.proofs.Common.{ℕ, ◌≡◌, ◌<◌, ◌≤◌, inl, inr, Bool, true, false, List, [], ◌∷◌, refl, arith, sym, ◌∙◌, subst, Option, Some, None}
 use Rattle.std.specs.Prelude.{◌==◌, ◌&&◌, ◌||◌, nat_lt, if◌then◌else◌}
-use Rattle.mn_base.proofs.Bools.{no, two_ways, or_off, or_ways, and_parts, and_on, and_off_left, and_off_right, not_less, not_less_tells, less_tells, test_same, same_numbers}
+use Rattle.mn_base.proofs.Bools.{no, two_ways, or_off, or_ways, and_parts, and_on, and_off_left, and_off_right, not_less, not_less_tells, less_tells}
+use Rattle.mn_base.proofs.Bools.{test_same, same_numbers}
 use Rattle.mn_base.proofs.Members.{In}
 use Rattle.mn_ledger.specs.Items.{Item}
 use Rattle.mn_course.specs.Coming.{comes_before, lesser, least}

@@ -15,7 +15,8 @@ use Rattle.mn_ledger.specs.Packets.{Packets, channel, packets_after}
 use Rattle.mn_ledger.specs.Ledger.{after, start, no_packets, next_of, left_by}
 use Rattle.mn_ledger.specs.Lawful.{IsLawfulFrom, IsLawfulJournal}
 use Rattle.mn_ledger.specs.OneMore.{tick_from}
-use Rattle.mn_ledger.specs.Items.{Channel, Notices, Messages, Routes, Frames, Load, Notice, Says, Tells, Carries, Item, same_channel, delay_on, numbered, made_in, made_from, made_by, flight_of}
+use Rattle.mn_ledger.specs.Items.{Channel, Notices, Messages, Routes, Frames, Load, Notice, Says, Tells, Carries, Item, same_channel, delay_on, numbered}
+use Rattle.mn_ledger.specs.Items.{made_in, made_from, made_by, flight_of}
 use Rattle.mn_ledger.proofs.Channels.{same_chan}
 use Rattle.mn_ledger.proofs.Flows.{in_flight}
 use Rattle.mn_laws.specs.Flight.{AreAscending, AreMadeInOrder, IsOfChannel}
@@ -46,7 +47,7 @@ of_all : (P : Item → Type 0) (xs : List Item) (y : Item) → AllByRecursion P 
 of_all P [] y h i = absurd i
 of_all P (x ∷ xs) y h i = elim i [ inl e ↦ subst P e h.0 | inr j ↦ of_all P xs y h.1 j ]
 
-at_least : (low high : ℕ) (xs : List Item) (y : Item) → AreAscending low high xs → In xs y → low ≤ y.number
+pub at_least : (low high : ℕ) (xs : List Item) (y : Item) → AreAscending low high xs → In xs y → low ≤ y.number
 at_least low high [] y h i = absurd i
 at_least low high (x ∷ xs) y h i =
     let first : low ≤ x.number = h.0 in

@@ -1,5 +1,6 @@
 -- How far the clock goes on; and where nothing comes next, all that a line lets arrive has arrived.
-use Rattle.std.proofs.Common.{ℕ, zero, suc, ◌≡◌, ◌+◌, ◌*◌, ◌≤◌, Bool, true, false, List, [], ◌∷◌, length, length-append, refl, arith, sym, subst, Option, Some, None, max}
+use Rattle.std.proofs.Common.{ℕ, zero, suc, ◌≡◌, ◌+◌, ◌*◌, ◌≤◌, Bool, true, false, List, [], ◌∷◌, length, length-append, refl, arith, sym, subst, Option}
+use Rattle.std.proofs.Common.{Some, None, max}
 use Rattle.std.proofs.Math.Nat.{le-max_left, max-le}
 use Rattle.mn_base.proofs.Bools.{at_most_tells}
 use Rattle.mn_topo.specs.Lawful.{IsLawful}
@@ -19,7 +20,8 @@ use Rattle.mn_course.specs.declared.coming.Arrivals.TheVariants.{DueBy, News, Al
 use Rattle.mn_course.specs.declared.coming.Ending.{Ending}
 use Rattle.mn_course.specs.declared.coming.Ending.TheVariants as ending
 use Rattle.mn_course.specs.Coming.{delivery}
-use Rattle.mn_course.specs.Course.{Past, Course, with_step, on_to, record_of, tried, refusal_now, injected, stepped, arrived, is_full, one_by_one, next_now, deliver, all, until, most_of, played}
+use Rattle.mn_course.specs.Course.{Past, Course, with_step, on_to, record_of, tried, refusal_now, injected, stepped, arrived, is_full, one_by_one, next_now}
+use Rattle.mn_course.specs.Course.{deliver, all, until, most_of, played}
 use Rattle.mn_course.specs.Expansion.{Expansion, after_line, with_line, unless_stopped, expanded_from, start_of, expanded}
 use Rattle.mn_course.specs.Lawful.{IsLawfulPast}
 use Rattle.mn_course.specs.Paced.{ticks_of, IsPaced}

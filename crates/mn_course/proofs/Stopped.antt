@@ -1,5 +1,6 @@
 -- A line is stopped by a full journal alone, and changes nothing where it is refused.
-use Rattle.std.proofs.Common.{ℕ, zero, suc, ◌≡◌, ◌+◌, ◌≤◌, ◌⊎◌, inl, inr, Bool, true, false, cond, List, [], ◌∷◌, length, refl, arith, sym, ◌∙◌, Option, Some, None}
+use Rattle.std.proofs.Common.{ℕ, zero, suc, ◌≡◌, ◌+◌, ◌≤◌, ◌⊎◌, inl, inr, Bool, true, false, cond, List, [], ◌∷◌, length, refl, arith, sym, ◌∙◌, Option}
+use Rattle.std.proofs.Common.{Some, None}
 use Rattle.std.specs.Prelude.{nat_le}
 use Rattle.mn_base.proofs.Bools.{at_most_tells}
 use Rattle.mn_topo.specs.Lawful.{IsLawful}
@@ -14,7 +15,8 @@ use Rattle.mn_ledger.specs.Places.{vrf_of}
 use Rattle.mn_ledger.specs.World.{World}
 use Rattle.mn_ledger.specs.Packets.{Packets}
 use Rattle.mn_ledger.specs.Ledger.{world_of, packets_of}
-use Rattle.mn_ledger.specs.Refusal.{refusal_at, first_cause, where_holds, static_refusal, prefix_refusal, taken_by, is_unchanged, is_empty, is_targets_full, is_spent, is_full}
+use Rattle.mn_ledger.specs.Refusal.{refusal_at, first_cause, where_holds, static_refusal, prefix_refusal, taken_by, is_unchanged, is_empty, is_targets_full}
+use Rattle.mn_ledger.specs.Refusal.{is_spent, is_full}
 use Rattle.mn_ledger.proofs.Refusals.{few_entries, never_for_memory}
 use Rattle.mn_course.specs.declared.coming.Coming.{Coming}
 use Rattle.mn_course.specs.declared.coming.Arrivals.{Arrivals}
@@ -22,7 +24,8 @@ use Rattle.mn_course.specs.declared.coming.Arrivals.TheVariants.{DueBy, News, Al
 use Rattle.mn_course.specs.declared.coming.Ending.{Ending}
 use Rattle.mn_course.specs.declared.coming.Ending.TheVariants as ending
 use Rattle.mn_course.specs.Course as course
-use Rattle.mn_course.specs.Course.{Past, Course, ends, with_step, record_of, inputs_of, tried, refusal_now, injected, stepped, arrived, one_by_one, next_now, deliver, all, until, most_of, played}
+use Rattle.mn_course.specs.Course.{Past, Course, ends, with_step, record_of, inputs_of, tried, refusal_now, injected, stepped, arrived, one_by_one}
+use Rattle.mn_course.specs.Course.{next_now, deliver, all, until, most_of, played}
 use Rattle.mn_course.specs.Endings.{EndsWell}
 use Rattle.mn_course.specs.Lawful.{IsLawfulPast}
 use Rattle.mn_course.proofs.Going.{Has, CanCome, next_can_come, arrived_goes}

@@ -19,7 +19,7 @@ use Rattle.mn_ledger.proofs.Turning.{across-a, across-b}
 use Rattle.mn_drain.specs.Sums.{total, where_so}
 use Rattle.mn_drain.specs.Drain.{notices, unheard_on, ldp_messages, is_direction, bgp_messages}
 use Rattle.mn_drain.proofs.Sums.{total-below, total-same, total-add, total-only, total-turn, total-times}
-use Rattle.mn_drain.proofs.Weights.{total-shift}
+use Rattle.mn_drain.proofs.Weights.{total-shift, where-most}
 
 -- 1. Sums over lists of numbers
 
@@ -69,10 +69,6 @@ either-end true b false x = omega arith
 either-end false true true x = omega arith
 either-end false true false x = omega arith
 either-end false false d x = omega arith
-
-pub where-most : (b : Bool) (x : ℕ) → where_so b x ≤ x
-where-most true x = omega arith
-where-most false x = omega arith
 
 only-at : (n k : ℕ) (f : ℕ → ℕ) → total n (λ x. where_so (k == x) (f x)) ≤ f k
 only-at n k f = total-only n (λ x. where_so (k == x) (f x)) k (f k) (λ i h d. ap (λ b. where_so b (f i)) (apart i d)) (where-most (k == k) (f k))

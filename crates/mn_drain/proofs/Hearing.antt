@@ -174,7 +174,8 @@ module _ (t : Network) (lawful : IsLawful t) (c : Config) (vs : Views) (s : Sess
 
   -- on this link it hears nothing new of the FEC
   test-few : (q : ℕ) → s.heard l n < 2 → hears_of (before n) q l ≡ hears_of (after n) q l
-  test-few q few = and_off_left (is_operational (before n) l) (is_mapped false q (hearing (before n) l).messages) (few-before few) ∙ sym (none (s.heard l n) refl)
+  test-few q few =
+      and_off_left (is_operational (before n) l) (is_mapped false q (hearing (before n) l).messages) (few-before few) ∙ sym (none (s.heard l n) refl)
     where
       none : (i : ℕ) → s.heard l n ≡ i → hears_of (after n) q l ≡ false
       none zero e =

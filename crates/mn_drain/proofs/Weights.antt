@@ -27,7 +27,7 @@ where-on b n e = ap (λ c. where_so c n) e
 where-off : (b : Bool) (n : ℕ) → b ≡ false → where_so b n ≡ 0
 where-off b n e = ap (λ c. where_so c n) e
 
-where-most : (b : Bool) (n : ℕ) → where_so b n ≤ n
+pub where-most : (b : Bool) (n : ℕ) → where_so b n ≤ n
 where-most true n = omega arith
 where-most false n = omega arith
 

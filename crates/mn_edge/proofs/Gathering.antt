@@ -1,5 +1,6 @@
 -- Files that grow: a piece more is held, what is held is appended, and an append is refused.
-use Rattle.std.proofs.Common.{◌≡◌, ◌⊎◌, inl, inr, ℕ, zero, suc, ◌+◌, ◌<◌, ◌≤◌, ◌==◌, Bool, true, false, cond, List, [], ◌∷◌, ◌++◌, length, take, drop, replicate, Option, Some, None, refl, sym, ◌∙◌, ap, subst, arith, append_assoc, length-append}
+use Rattle.std.proofs.Common.{◌≡◌, ◌⊎◌, inl, inr, ℕ, zero, suc, ◌+◌, ◌<◌, ◌≤◌, ◌==◌, Bool, true, false, cond, List, [], ◌∷◌, ◌++◌, length, take, drop}
+use Rattle.std.proofs.Common.{replicate, Option, Some, None, refl, sym, ◌∙◌, ap, subst, arith, append_assoc, length-append}
 use Rattle.std.proofs.lemmas.Bool.{cases_eq, cases_lt, ne_eqb, eq-eqb}
 use Rattle.std.proofs.lemmas.List.{append-nil, get_or-set_same, get_or-set_other, take-append-drop, take_all, length-map, length-set, nil_from_length}
 use Rattle.std.proofs.lemmas.List.Sums.{sum_by-set, get_or-le-sum_by}
@@ -40,7 +41,8 @@ none_held-at : (held : List (List ℕ)) (j : ℕ) → held_for (none_held held) 
 none_held-at held j = ap (λ h. held_for h j) (none_held_is held) ∙ held_for-replicate (length held) j
 
 -- what is held goes by what is held for each file
-holds_by : (names : List (List ℕ)) (contents : ℕ → List ℕ) (held other : List (List ℕ)) (files : Option Files) → ((j : ℕ) → j < length names → held_for other j ≡ held_for held j) → HoldsOn names contents held files → HoldsOn names contents other files
+holds_by : (names : List (List ℕ)) (contents : ℕ → List ℕ) (held other : List (List ℕ)) (files : Option Files) →
+    ((j : ℕ) → j < length names → held_for other j ≡ held_for held j) → HoldsOn names contents held files → HoldsOn names contents other files
 holds_by names contents held other files same h = record {
   now = h.now;
   told = h.told;
@@ -48,11 +50,14 @@ holds_by names contents held other files same h = record {
 }
 
 -- all files have been seen: nothing is held
-pub all_appended : (names : List (List ℕ)) (contents : ℕ → List ℕ) (held : List (List ℕ)) (files : Option Files) (k : ℕ) → length names ≤ k → HoldsOn names contents (emptied k held) files → HoldsOn names contents (none_held held) files
-all_appended names contents held files k over = holds_by names contents (emptied k held) (none_held held) files (λ j within. none_held-at held j ∙ sym (emptied-before k held j (omega arith)))
+pub all_appended : (names : List (List ℕ)) (contents : ℕ → List ℕ) (held : List (List ℕ)) (files : Option Files) (k : ℕ) → length names ≤ k →
+    HoldsOn names contents (emptied k held) files → HoldsOn names contents (none_held held) files
+all_appended names contents held files k over =
+    holds_by names contents (emptied k held) (none_held held) files (λ j within. none_held-at held j ∙ sym (emptied-before k held j (omega arith)))
 
 -- nothing is held for this file
-pub passed_over : (names : List (List ℕ)) (contents : ℕ → List ℕ) (held : List (List ℕ)) (files : Option Files) (k : ℕ) → held_for held k ≡ [] → HoldsOn names contents (emptied k held) files → HoldsOn names contents (emptied (k + 1) held) files
+pub passed_over : (names : List (List ℕ)) (contents : ℕ → List ℕ) (held : List (List ℕ)) (files : Option Files) (k : ℕ) → held_for held k ≡ [] →
+    HoldsOn names contents (emptied k held) files → HoldsOn names contents (emptied (k + 1) held) files
 passed_over names contents held files k none = holds_by names contents (emptied k held) (emptied (k + 1) held) files (λ j within. by j (cases_eq j k))
   where
     by : (j : ℕ) → (j ≡ k) ⊎ (j ≡ k → ⊥) → held_for (emptied (k + 1) held) j ≡ held_for (emptied k held) j
@@ -61,19 +66,22 @@ passed_over names contents held files k none = holds_by names contents (emptied 
 
 -- one file of the names grew
 grown_there : (m : Files) (name bytes q : List ℕ) → q ≡ name → file (with_file m name bytes) q ≡ Some bytes
-grown_there m name bytes q same = file-with_file m name bytes q ∙ ap (λ b. cond b (Some bytes) (file m q)) (ap (λ n. same_name n name) same ∙ same_name-refl name)
+grown_there m name bytes q same =
+    file-with_file m name bytes q ∙ ap (λ b. cond b (Some bytes) (file m q)) (ap (λ n. same_name n name) same ∙ same_name-refl name)
 
 stays_there : (m : Files) (name bytes q : List ℕ) → same_name q name ≡ false → file (with_file m name bytes) q ≡ file m q
 stays_there m name bytes q other = file-with_file m name bytes q ∙ ap (λ b. cond b (Some bytes) (file m q)) other
 
 -- what is held for this file was appended
-pub appended : (names : List (List ℕ)) (contents : ℕ → List ℕ) (held : List (List ℕ)) (k : ℕ) (name piece : List ℕ) (old new : Option Files) → all_differ names ≡ true → k < length names → name ≡ name_of names k → piece ≡ held_for held k
+pub appended : (names : List (List ℕ)) (contents : ℕ → List ℕ) (held : List (List ℕ)) (k : ℕ) (name piece : List ℕ) (old new : Option Files) →
+    all_differ names ≡ true → k < length names → name ≡ name_of names k → piece ≡ held_for held k
     → ((m : Files) → old ≡ Some m → Grows m name piece new) → HoldsOn names contents (emptied k held) old → HoldsOn names contents (emptied (k + 1) held) new
 appended names contents held k name piece old new differ here named is grows h =
     let g = grows h.now h.told in
     record { now = with_file h.now name (g.bytes ++ piece); told = g.grown; holds = λ j within. by g j within (cases_eq j k) }
   where
-    by : (g : Grows h.now name piece new) (j : ℕ) → j < length names → (j ≡ k) ⊎ (j ≡ k → ⊥) → IsHeld names contents (emptied (k + 1) held) (with_file h.now name (g.bytes ++ piece)) j
+    by : (g : Grows h.now name piece new) (j : ℕ) → j < length names →
+        (j ≡ k) ⊎ (j ≡ k → ⊥) → IsHeld names contents (emptied (k + 1) held) (with_file h.now name (g.bytes ++ piece)) j
     by g j within (inl e) =
         let x = h.holds j within in
         let at : name_of names j ≡ name = ap (name_of names) e ∙ sym named in
@@ -88,16 +96,19 @@ appended names contents held k name piece old new differ here named is grows h =
         let x = h.holds j within in
         record {
           shelved = x.shelved;
-          there = stays_there h.now name (g.bytes ++ piece) (name_of names j) (ap (same_name (name_of names j)) named ∙ places_apart names j k differ within here ne) ∙ x.there;
+          there = stays_there h.now name (g.bytes ++ piece) (name_of names j)
+              (ap (same_name (name_of names j)) named ∙ places_apart names j k differ within here ne) ∙ x.there;
           whole = ap (λ l. x.shelved ++ l) (emptied-other k held j ne) ∙ x.whole;
         }
 
 -- the append was refused: each file is a first part of its contents
-pub refused : (names : List (List ℕ)) (contents : ℕ → List ℕ) (held : List (List ℕ)) (k : ℕ) (name piece : List ℕ) (old new : Option Files) → all_differ names ≡ true → k < length names → name ≡ name_of names k → piece ≡ held_for held k
+pub refused : (names : List (List ℕ)) (contents : ℕ → List ℕ) (held : List (List ℕ)) (k : ℕ) (name piece : List ℕ) (old new : Option Files) →
+    all_differ names ≡ true → k < length names → name ≡ name_of names k → piece ≡ held_for held k
     → ((m : Files) → old ≡ Some m → MayGrow m name piece new) → HoldsOn names contents (emptied k held) old → BeginsOn names contents new
 refused names contents held k name piece old new differ here named is may h = by (may h.now h.told)
   where
-    one : (n : ℕ) (g : Grows h.now name (take n piece) new) (j : ℕ) → j < length names → (j ≡ k) ⊎ (j ≡ k → ⊥) → HasBegun names contents (with_file h.now name (g.bytes ++ take n piece)) j
+    one : (n : ℕ) (g : Grows h.now name (take n piece) new) (j : ℕ) → j < length names →
+        (j ≡ k) ⊎ (j ≡ k → ⊥) → HasBegun names contents (with_file h.now name (g.bytes ++ take n piece)) j
     one n g j within (inl e) =
         let x = h.holds j within in
         let at : name_of names j ≡ name = ap (name_of names) e ∙ sym named in
@@ -115,43 +126,55 @@ refused names contents held k name piece old new differ here named is may h = by
         let x = h.holds j within in
         record {
           shelved = x.shelved;
-          there = stays_there h.now name (g.bytes ++ take n piece) (name_of names j) (ap (same_name (name_of names j)) named ∙ places_apart names j k differ within here ne) ∙ x.there;
+          there = stays_there h.now name (g.bytes ++ take n piece) (name_of names j)
+              (ap (same_name (name_of names j)) named ∙ places_apart names j k differ within here ne) ∙ x.there;
           part = (held_for (emptied k held) j, x.whole);
         }
 
     by : MayGrow h.now name piece new → BeginsOn names contents new
-    by (inl same) = let b = begins_on names contents (emptied k held) old h in record { now = h.now; told = same; begins = subst (λ m. (j : ℕ) → j < length names → HasBegun names contents m j) (same_some b.now h.now old b.told h.told) b.begins }
+    by (inl same) = let b = begins_on names contents (emptied k held) old h in
+        record { now = h.now; told = same; begins =
+        subst (λ m. (j : ℕ) → j < length names → HasBegun names contents m j) (same_some b.now h.now old b.told h.told) b.begins }
     by (inr (n, g)) = record { now = with_file h.now name (g.bytes ++ take n piece); told = g.grown; begins = λ j within. one n g j within (cases_eq j k) }
 
 -- an append, done or refused, changes this file alone
-pub framed_append : (names : List (List ℕ)) (k : ℕ) (name piece : List ℕ) (old new : Option Files) → k < length names → name ≡ name_of names k → (old ≡ None → new ≡ None) → ((m : Files) → old ≡ Some m → MayGrow m name piece new) → Framed names old new
+pub framed_append : (names : List (List ℕ)) (k : ℕ) (name piece : List ℕ) (old new : Option Files) → k < length names → name ≡ name_of names k →
+    (old ≡ None → new ≡ None) → ((m : Files) → old ≡ Some m → MayGrow m name piece new) → Framed names old new
 framed_append names k name piece old new here named silent may = record { silent = silent; others = λ m is. by m (may m is) }
   where
     by : (m : Files) → MayGrow m name piece new → (now : Files) × (new ≡ Some now) × ((q : List ℕ) → is_known names q ≡ false → file now q ≡ file m q)
     by m (inl same) = (m, same, λ q unknown. refl)
-    by m (inr (n, g)) = (with_file m name (g.bytes ++ take n piece), g.grown, λ q unknown. stays_there m name (g.bytes ++ take n piece) q (ap (same_name q) named ∙ unknown-apart names k q here unknown))
+    by m (inr (n, g)) =
+        (with_file m name (g.bytes ++ take n piece), g.grown, λ q unknown. stays_there m name (g.bytes ++ take n piece) q
+        (ap (same_name q) named ∙ unknown-apart names k q here unknown))
 
 pub may_grow : (m : Files) (name piece : List ℕ) (new : Option Files) → Grows m name piece new → MayGrow m name piece new
-may_grow m name piece new g = inr (length piece, record { bytes = g.bytes; there = g.there; grown = g.grown ∙ ap (λ l. Some (with_file m name (g.bytes ++ l))) (sym (take_all (length piece) piece (omega arith))) })
+may_grow m name piece new g =
+    inr (length piece, record { bytes = g.bytes; there = g.there; grown =
+    g.grown ∙ ap (λ l. Some (with_file m name (g.bytes ++ l))) (sym (take_all (length piece) piece (omega arith))) })
 
 -- nothing is held at all, so nothing for this file
 pub none_for : (held : List (List ℕ)) (k : ℕ) → k < length held → held_bytes held ≡ 0 → held_for held k ≡ []
 none_for held k within none = nil_from_length (held_for held k) (let le = get_or-le-sum_by length held k [] within in omega (arith, le, none))
 
 -- a piece is held for a file: its contents grow by it
-pub more_held : (names : List (List ℕ)) (contents : ℕ → List ℕ) (held : List (List ℕ)) (k : ℕ) (piece : List ℕ) (files : Option Files) → k < length held → HoldsOn names contents held files → HoldsOn names (grown contents k piece) (with_piece held k piece) files
+pub more_held : (names : List (List ℕ)) (contents : ℕ → List ℕ) (held : List (List ℕ)) (k : ℕ) (piece : List ℕ) (files : Option Files) → k < length held →
+    HoldsOn names contents held files → HoldsOn names (grown contents k piece) (with_piece held k piece) files
 more_held names contents held k piece files here h = record {
   now = h.now;
   told = h.told;
   holds = λ j within. let x = h.holds j within in record { shelved = x.shelved; there = x.there; whole = by j x.shelved x.whole (cases_eq j k) };
 }
   where
-    by : (j : ℕ) (shelved : List ℕ) → shelved ++ held_for held j ≡ contents j → (j ≡ k) ⊎ (j ≡ k → ⊥) → shelved ++ held_for (with_piece held k piece) j ≡ grown contents k piece j
+    by : (j : ℕ) (shelved : List ℕ) → shelved ++ held_for held j ≡ contents j →
+        (j ≡ k) ⊎ (j ≡ k → ⊥) → shelved ++ held_for (with_piece held k piece) j ≡ grown contents k piece j
     by j shelved whole (inl e) =
-        ap (λ l. shelved ++ l) (ap (held_for (with_piece held k piece)) e ∙ get_or-set_same held k (held_for held k ++ piece) [] here ∙ ap (λ i. held_for held i ++ piece) (sym e))
+        ap (λ l. shelved ++ l) (ap (held_for (with_piece held k piece)) e ∙ get_or-set_same held k (held_for held k ++ piece) [] here
+            ∙ ap (λ i. held_for held i ++ piece) (sym e))
         ∙ sym (append_assoc shelved (held_for held j) piece) ∙ ap (λ l. l ++ piece) whole ∙ ap (λ b. contents j ++ cond b piece []) (sym (eq-eqb k j (sym e)))
     by j shelved whole (inr ne) =
-        ap (λ l. shelved ++ l) (get_or-set_other held k j (held_for held k ++ piece) [] ne) ∙ whole ∙ sym (append-nil (contents j)) ∙ ap (λ b. contents j ++ cond b piece []) (sym (ne_eqb k j (λ e. ne (sym e))))
+        ap (λ l. shelved ++ l) (get_or-set_other held k j (held_for held k ++ piece) [] ne) ∙ whole ∙ sym (append-nil (contents j))
+            ∙ ap (λ b. contents j ++ cond b piece []) (sym (ne_eqb k j (λ e. ne (sym e))))
 
 -- so many bytes more are held, for as many files
 pub bytes_more : (held : List (List ℕ)) (k : ℕ) (piece : List ℕ) → k < length held → held_bytes (with_piece held k piece) ≡ held_bytes held + length piece
@@ -188,5 +211,8 @@ grown_none contents k = λ i j. at j (k == j) i
     at j true = append-nil (contents j)
     at j false = append-nil (contents j)
 
-pub grown_part : (contents : ℕ → List ℕ) (k : ℕ) (a b : List ℕ) (files : Option Files) (names : List (List ℕ)) → BeginsOn names (grown contents k a) files → BeginsOn names (grown contents k (a ++ b)) files
-grown_part contents k a b files names begins = begins_on_more names (grown contents k a) (grown contents k (a ++ b)) files (λ j. (cond (k == j) b [], ap (λ f. f j) (grown_twice contents k a b))) begins
+pub grown_part : (contents : ℕ → List ℕ) (k : ℕ) (a b : List ℕ) (files : Option Files) (names : List (List ℕ)) → BeginsOn names (grown contents k a) files →
+    BeginsOn names (grown contents k (a ++ b)) files
+grown_part contents k a b files names begins =
+    begins_on_more names (grown contents k a) (grown contents k (a ++ b)) files
+    (λ j. (cond (k == j) b [], ap (λ f. f j) (grown_twice contents k a b))) begins

@@ -1,7 +1,9 @@
 -- Pieces that wait in an arena: one more, the last one of a file, and none.
-use Rattle.std.proofs.Common.{◌≡◌, ◌⊎◌, inl, inr, ℕ, ◌+◌, ◌-◌, ◌<◌, ◌≤◌, ◌==◌, zero, suc, cond, List, [], ◌∷◌, ◌++◌, length, map, take, drop, get_or, slice_set, replicate, refl, sym, ◌∙◌, ap, arith, append_assoc, length-append, add-one}
+use Rattle.std.proofs.Common.{◌≡◌, ◌⊎◌, inl, inr, ℕ, ◌+◌, ◌-◌, ◌<◌, ◌≤◌, ◌==◌, zero, suc, cond, List, [], ◌∷◌, ◌++◌, length, map, take, drop, get_or}
+use Rattle.std.proofs.Common.{slice_set, replicate, refl, sym, ◌∙◌, ap, arith, append_assoc, length-append, add-one}
 use Rattle.std.proofs.lemmas.Bool.{ne_eqb, eq-eqb, cases_eq}
-use Rattle.std.proofs.lemmas.List.{map-set, length-map, get_or_append_left, get_or_push, get_or-map, get_or-set_same, get_or-set_other, take-append-le, drop-append-le, drop_at, length-drop, length-take-le, take_all, length_push, get_or_read, drop-drop}
+use Rattle.std.proofs.lemmas.List.{map-set, length-map, get_or_append_left, get_or_push, get_or-map, get_or-set_same, get_or-set_other, take-append-le}
+use Rattle.std.proofs.lemmas.List.{drop-append-le, drop_at, length-drop, length-take-le, take_all, length_push, get_or_read, drop-drop}
 use Rattle.std.proofs.lemmas.List.Sums.{sum_by-set, get_or-le-sum_by}
 use borrow.Rule.Slice.PartMut.{put_mid, post_of}
 use Rattle.mn_edge.specs.declared.held.Segment.{Segment}
@@ -11,7 +13,8 @@ use Rattle.mn_edge.specs.Waiting.{segment_at, piece_of, waiting, all_waiting, Is
 -- a number past those looked at is found among fewer
 skipped : (bytes : List ℕ) (segments : List Segment) (k n : ℕ) → n ≤ k → waiting bytes segments (suc k) n ≡ waiting bytes segments k n
 skipped bytes segments k n below =
-    ap (λ b. cond b (waiting bytes segments k (segment_at segments k).before ++ piece_of bytes (segment_at segments k)) (waiting bytes segments k n)) (ne_eqb n (suc k) (λ e. omega arith))
+    ap (λ b. cond b (waiting bytes segments k (segment_at segments k).before ++ piece_of bytes (segment_at segments k)) (waiting bytes segments k n))
+        (ne_eqb n (suc k) (λ e. omega arith))
 
 -- a piece stands behind what waited before it
 pub waiting-step : (bytes : List ℕ) (segments : List Segment) (fuel k : ℕ) → k < fuel → (segment_at segments k).before ≤ k
@@ -24,38 +27,47 @@ waiting-step bytes segments (suc f) k within earlier = by (cases_eq k f) (λ bel
 
     here : k ≡ f → waiting bytes segments (suc f) (suc k) ≡ waiting bytes segments f (segment_at segments f).before ++ piece_of bytes (segment_at segments f)
     here e =
-        ap (λ b. cond b (waiting bytes segments f (segment_at segments f).before ++ piece_of bytes (segment_at segments f)) (waiting bytes segments f (suc k))) (eq-eqb (suc k) (suc f) (ap suc e))
+        ap (λ b. cond b (waiting bytes segments f (segment_at segments f).before ++ piece_of bytes (segment_at segments f))
+            (waiting bytes segments f (suc k))) (eq-eqb (suc k) (suc f) (ap suc e))
 
-    by : (k ≡ f) ⊎ (k ≡ f → ⊥) → (k < f → waiting bytes segments f (suc k) ≡ waiting bytes segments f (segment_at segments k).before ++ piece_of bytes (segment_at segments k))
+    by : (k ≡ f) ⊎ (k ≡ f → ⊥) →
+        (k < f → waiting bytes segments f (suc k) ≡ waiting bytes segments f (segment_at segments k).before ++ piece_of bytes (segment_at segments k))
         → waiting bytes segments (suc f) (suc k) ≡ waiting bytes segments (suc f) (segment_at segments k).before ++ piece_of bytes (segment_at segments k)
     by (inl e) rest =
         here e ∙ ap (λ j. waiting bytes segments f (segment_at segments j).before ++ piece_of bytes (segment_at segments j)) (sym e)
         ∙ ap (λ l. l ++ piece_of bytes (segment_at segments k)) (sym (skipped bytes segments f (segment_at segments k).before (omega arith)))
     by (inr ne) rest =
         let below : k < f = omega arith in
-        skipped bytes segments f (suc k) below ∙ rest below ∙ ap (λ l. l ++ piece_of bytes (segment_at segments k)) (sym (skipped bytes segments f (segment_at segments k).before (omega arith)))
+        skipped bytes segments f (suc k) below ∙ rest below
+            ∙ ap (λ l. l ++ piece_of bytes (segment_at segments k)) (sym (skipped bytes segments f (segment_at segments k).before (omega arith)))
 
 -- more bytes and more pieces change nothing of what waited
 piece_of-more : (bytes more : List ℕ) (s : Segment) → s.from ≤ s.end → s.end ≤ length bytes → piece_of (bytes ++ more) s ≡ piece_of bytes s
 piece_of-more bytes more s ordered within =
-    ap (take (s.end - s.from)) (drop-append-le s.from bytes more (omega arith)) ∙ take-append-le (s.end - s.from) (drop s.from bytes) more (let d = length-drop s.from bytes in omega (arith, d))
+    ap (take (s.end - s.from)) (drop-append-le s.from bytes more (omega arith)) ∙ take-append-le (s.end - s.from) (drop s.from bytes) more (let d =
+        length-drop s.from bytes in omega (arith, d))
 
-waiting-more : (bytes more : List ℕ) (segments added : List Segment) (fuel n : ℕ) → fuel ≤ length segments → ((k : ℕ) → k < length segments → IsInOrder bytes segments k)
+waiting-more : (bytes more : List ℕ) (segments added : List Segment) (fuel n : ℕ) → fuel ≤ length segments →
+    ((k : ℕ) → k < length segments → IsInOrder bytes segments k)
     → waiting (bytes ++ more) (segments ++ added) fuel n ≡ waiting bytes segments fuel n
 waiting-more bytes more segments added zero n within order = refl
 waiting-more bytes more segments added (suc k) n within order =
     let here : k < length segments = omega arith in
     let o = order k here in
     let same : segment_at (segments ++ added) k ≡ segment_at segments k = get_or_append_left segments added (record { from = 0; end = 0; before = 0 }) k here in
-    (λ i. cond (n == suc k) (waiting (bytes ++ more) (segments ++ added) k (same i).before ++ piece_of (bytes ++ more) (same i)) (waiting (bytes ++ more) (segments ++ added) k n))
-    ∙ (λ i. cond (n == suc k) (waiting-more bytes more segments added k (segment_at segments k).before (omega arith) order i ++ piece_of-more bytes more (segment_at segments k) o.ordered o.within i) (waiting-more bytes more segments added k n (omega arith) order i))
+    (λ i. cond (n == suc k) (waiting (bytes ++ more) (segments ++ added) k (same i).before ++ piece_of (bytes ++ more) (same i))
+        (waiting (bytes ++ more) (segments ++ added) k n))
+    ∙ (λ i. cond (n == suc k) (waiting-more bytes more segments added k (segment_at segments k).before (omega arith) order i ++ piece_of-more bytes more
+        (segment_at segments k) o.ordered o.within i) (waiting-more bytes more segments added k n (omega arith) order i))
 
 -- the same for all files
-map-waiting_more : (bytes more : List ℕ) (segments : List Segment) (s : Segment) (last : List ℕ) → ((k : ℕ) → k < length segments → IsInOrder bytes segments k) → ((i : ℕ) → get_or last i 0 ≤ length segments)
+map-waiting_more : (bytes more : List ℕ) (segments : List Segment) (s : Segment) (last : List ℕ) →
+    ((k : ℕ) → k < length segments → IsInOrder bytes segments k) → ((i : ℕ) → get_or last i 0 ≤ length segments)
     → map (waiting (bytes ++ more) (segments ++ s ∷ []) (suc (length segments))) last ≡ map (waiting bytes segments (length segments)) last
 map-waiting_more bytes more segments s [] order lasts = refl
 map-waiting_more bytes more segments s (n ∷ last) order lasts =
-    λ i. (skipped (bytes ++ more) (segments ++ s ∷ []) (length segments) n (lasts 0) ∙ waiting-more bytes more segments (s ∷ []) (length segments) n (omega arith) order) i
+    λ i. (skipped (bytes ++ more) (segments ++ s ∷ []) (length segments) n (lasts 0)
+        ∙ waiting-more bytes more segments (s ∷ []) (length segments) n (omega arith) order) i
     ∷ map-waiting_more bytes more segments s last order (λ j. lasts (suc j)) i
 
 -- a piece is held for a file
@@ -69,7 +81,8 @@ held_more bytes piece segments s last file arena within from end before =
     waiting-more bytes piece segments (s ∷ []) n s.before (omega arith) arena.pieces
     ∙ ap (waiting bytes segments n) before ∙ sym (get_or-map (waiting bytes segments n) last file 0 [] within) in
     let its : piece_of (bytes ++ piece) s ≡ piece = (λ i. take (end i - from i) (drop (from i) (bytes ++ piece)))
-    ∙ ap (take (length (bytes ++ piece) - length bytes)) (drop_at bytes piece (length bytes) refl) ∙ take_all (length (bytes ++ piece) - length bytes) piece (let l = length-append bytes piece in omega (arith, l)) in
+    ∙ ap (take (length (bytes ++ piece) - length bytes)) (drop_at bytes piece (length bytes) refl)
+        ∙ take_all (length (bytes ++ piece) - length bytes) piece (let l = length-append bytes piece in omega (arith, l)) in
     let new : waiting (bytes ++ piece) (segments ++ s ∷ []) (suc n) (suc n) ≡ held_for (all_waiting bytes segments last) file ++ piece =
     waiting-step (bytes ++ piece) (segments ++ s ∷ []) (suc n) n (omega arith) (rw at (rw before (arena.lasts file)))
     ∙ (λ i. waiting (bytes ++ piece) (segments ++ s ∷ []) (suc n) (at i).before ++ piece_of (bytes ++ piece) (at i))
@@ -100,8 +113,10 @@ arena_more bytes piece segments s last file arena within from end before room = 
     old : (k : ℕ) → k < length segments → IsInOrder (bytes ++ piece) (segments ++ s ∷ []) k
     old k here =
         let o = arena.pieces k here in
-        let same : segment_at (segments ++ s ∷ []) k ≡ segment_at segments k = get_or_append_left segments (s ∷ []) (record { from = 0; end = 0; before = 0 }) k here in
-        record { ordered = rw same o.ordered; within = rw same (let l = length-append bytes piece in let w = o.within in omega (arith, l, w)); earlier = rw same o.earlier }
+        let same : segment_at (segments ++ s ∷ []) k ≡ segment_at segments k =
+            get_or_append_left segments (s ∷ []) (record { from = 0; end = 0; before = 0 }) k here in
+        record { ordered = rw same o.ordered; within = rw same (let l = length-append bytes piece in let w = o.within in omega (arith, l, w)); earlier =
+            rw same o.earlier }
 
     by : (k : ℕ) → (k ≡ length segments) ⊎ (k ≡ length segments → ⊥) → k < length (segments ++ s ∷ []) → IsInOrder (bytes ++ piece) (segments ++ s ∷ []) k
     by k (inl e) below =
@@ -148,12 +163,14 @@ waiting_none bytes segments zero = refl
 waiting_none bytes segments (suc fuel) = skipped bytes segments fuel 0 (omega arith) ∙ waiting_none bytes segments fuel
 
 -- what waits for a file has room where all has
-pub waiting_within : (bytes : List ℕ) (segments : List Segment) (last : List ℕ) (file : ℕ) → IsArena bytes segments last → file < length last → length (waiting bytes segments (length segments) (get_or last file 0)) ≤ 65536
+pub waiting_within : (bytes : List ℕ) (segments : List Segment) (last : List ℕ) (file : ℕ) → IsArena bytes segments last → file < length last →
+    length (waiting bytes segments (length segments) (get_or last file 0)) ≤ 65536
 waiting_within bytes segments last file arena within =
     let held = all_waiting bytes segments last in
     let w : file < length held = rw length-map within in
     let le = get_or-le-sum_by length held file [] w in
-    let same : length (get_or held file []) ≡ length (waiting bytes segments (length segments) (get_or last file 0)) = ap length (get_or-map (waiting bytes segments (length segments)) last file 0 [] within) in
+    let same : length (get_or held file []) ≡ length (waiting bytes segments (length segments) (get_or last file 0)) =
+        ap length (get_or-map (waiting bytes segments (length segments)) last file 0 [] within) in
     let a = arena.all in
     let r = arena.room in
     omega (arith, le, same, a, r)
@@ -164,17 +181,22 @@ pub record CopiesOn (bytes : List ℕ) (segments : List Segment) (number at : �
   pub earlier : s.before ≤ length segments
   pub copied : waiting bytes segments (length segments) s.before ++ (piece_of bytes s ++ drop at buf) ≡ whole
 
-pub copies_on : (bytes : List ℕ) (segments : List Segment) (last : List ℕ) (number at : ℕ) (buf whole : List ℕ) (s : Segment) → IsArena bytes segments last → 0 < number → number ≤ length segments → s ≡ get_or segments (number - 1) s
-    → at ≤ length buf → length whole ≤ length buf → waiting bytes segments (length segments) number ++ drop at buf ≡ whole → CopiesOn bytes segments number at buf whole s
+pub copies_on : (bytes : List ℕ) (segments : List Segment) (last : List ℕ) (number at : ℕ) (buf whole : List ℕ) (s : Segment) →
+    IsArena bytes segments last → 0 < number → number ≤ length segments → s ≡ get_or segments (number - 1) s
+    → at ≤ length buf → length whole ≤ length buf → waiting bytes segments (length segments) number ++ drop at buf ≡ whole →
+        CopiesOn bytes segments number at buf whole s
 copies_on bytes segments last zero at buf whole s arena some there is within fits copied = absurd (omega arith)
 copies_on bytes segments last (suc k) at buf whole s arena some there is within fits copied =
     let here : suc k - 1 ≡ k = omega arith in
-    let same : s ≡ segment_at segments k = get_or_read segments k s (omega arith) (is ∙ ap (λ j. get_or segments j s) here) (record { from = 0; end = 0; before = 0 }) in
+    let same : s ≡ segment_at segments k =
+        get_or_read segments k s (omega arith) (is ∙ ap (λ j. get_or segments j s) here) (record { from = 0; end = 0; before = 0 }) in
     let o = arena.pieces k (omega arith) in
     let early : s.before ≤ k = rw same o.earlier in
     let step : waiting bytes segments (length segments) (suc k) ≡ waiting bytes segments (length segments) s.before ++ piece_of bytes s =
-    waiting-step bytes segments (length segments) k (omega arith) o.earlier ∙ (λ i. waiting bytes segments (length segments) (sym same i).before ++ piece_of bytes (sym same i)) in
-    let whole_is : (waiting bytes segments (length segments) s.before ++ piece_of bytes s) ++ drop at buf ≡ whole = ap (λ l. l ++ drop at buf) (sym step) ∙ copied in
+    waiting-step bytes segments (length segments) k (omega arith) o.earlier
+        ∙ (λ i. waiting bytes segments (length segments) (sym same i).before ++ piece_of bytes (sym same i)) in
+    let whole_is : (waiting bytes segments (length segments) s.before ++ piece_of bytes s) ++ drop at buf ≡ whole =
+        ap (λ l. l ++ drop at buf) (sym step) ∙ copied in
     let a = ap length whole_is in
     let b = length-append (waiting bytes segments (length segments) s.before ++ piece_of bytes s) (drop at buf) in
     let d = length-append (waiting bytes segments (length segments) s.before) (piece_of bytes s) in

@@ -35,13 +35,16 @@ pub file-with_file : (m : Files) (name bytes q : List ℕ) → file (with_file m
 file-with_file m name bytes q = get-insert nat_list_cmp_total m name bytes q
 
 -- what a name has once files are laid over
-pub file-laid : (f : List ℕ → List ℕ) (names : List (List ℕ)) (m : Files) (q : List ℕ) → file (laid (each f names) m) q ≡ cond (is_known names q) (Some (f q)) (file m q)
+pub file-laid : (f : List ℕ → List ℕ) (names : List (List ℕ)) (m : Files) (q : List ℕ) →
+    file (laid (each f names) m) q ≡ cond (is_known names q) (Some (f q)) (file m q)
 file-laid f [] m q = refl
 file-laid f (n ∷ ns) m q = file-with_file (laid (each f ns) m) n (f n) q ∙ step (file-laid f ns m q) (same_name q n) refl
   where
-    step : file (laid (each f ns) m) q ≡ cond (is_known ns q) (Some (f q)) (file m q) → (b : Bool) → same_name q n ≡ b → cond b (Some (f n)) (file (laid (each f ns) m) q) ≡ cond (b || is_known ns q) (Some (f q)) (file m q)
+    step : file (laid (each f ns) m) q ≡ cond (is_known ns q) (Some (f q)) (file m q) →
+        (b : Bool) → same_name q n ≡ b → cond b (Some (f n)) (file (laid (each f ns) m) q) ≡ cond (b || is_known ns q) (Some (f q)) (file m q)
     step rest true h = ap (λ x. Some (f x)) (sym (same_name-eq q n h))
     step rest false h = rest
 
-pub file-laid_there : (f : List ℕ → List ℕ) (names : List (List ℕ)) (m : Files) (q : List ℕ) → is_known names q ≡ true → file (laid (each f names) m) q ≡ Some (f q)
+pub file-laid_there : (f : List ℕ → List ℕ) (names : List (List ℕ)) (m : Files) (q : List ℕ) → is_known names q ≡ true →
+    file (laid (each f names) m) q ≡ Some (f q)
 file-laid_there f names m q h = file-laid f names m q ∙ ap (λ b. cond b (Some (f q)) (file m q)) h

@@ -1,5 +1,6 @@
 -- What follows of files that grow, and of their names.
-use Rattle.std.proofs.Common.{◌≡◌, ◌≢◌, ◌<◌, ℕ, zero, suc, Bool, true, false, not, ◌&&◌, ◌||◌, cond, List, [], ◌∷◌, ◌++◌, length, replicate, Option, Some, None, refl, sym, ◌∙◌, ap, append_assoc, arith}
+use Rattle.std.proofs.Common.{◌≡◌, ◌≢◌, ◌<◌, ℕ, zero, suc, Bool, true, false, not, ◌&&◌, ◌||◌, cond, List, [], ◌∷◌, ◌++◌, length, replicate, Option, Some}
+use Rattle.std.proofs.Common.{None, refl, sym, ◌∙◌, ap, append_assoc, arith}
 use Rattle.mn_edge.specs.Files.{Files, file}
 use Rattle.mn_edge.specs.Written.{same_name, is_known, written, laid, IsPrefix, Stands, bytes_for}
 use Rattle.mn_edge.specs.FileLaws.{same_name-eq, same_name-refl, file-laid, file-laid_there}
@@ -10,19 +11,24 @@ pub same_some : {A : Type 0} (a b : A) (o : Option A) → o ≡ Some a → o ≡
 same_some a b o p q = let e : Some a ≡ Some b = sym p ∙ q in cc
 
 -- what is held begins
-pub held_begins : (names : List (List ℕ)) (contents : ℕ → List ℕ) (held : List (List ℕ)) (now : Files) → Holds names contents held now → Begins names contents now
+pub held_begins : (names : List (List ℕ)) (contents : ℕ → List ℕ) (held : List (List ℕ)) (now : Files) → Holds names contents held now →
+    Begins names contents now
 held_begins names contents held now h = λ k within. let x = h k within in record { shelved = x.shelved; there = x.there; part = (held_for held k, x.whole) }
 
 -- a first part of contents is one of longer contents
-pub begins_more : (names : List (List ℕ)) (contents longer : ℕ → List ℕ) (now : Files) → ((k : ℕ) → IsPrefix (contents k) (longer k)) → Begins names contents now → Begins names longer now
+pub begins_more : (names : List (List ℕ)) (contents longer : ℕ → List ℕ) (now : Files) →
+    ((k : ℕ) → IsPrefix (contents k) (longer k)) → Begins names contents now → Begins names longer now
 begins_more names contents longer now more b = λ k within.
     let x = b k within in
-    record { shelved = x.shelved; there = x.there; part = (x.part.0 ++ (more k).0, sym (append_assoc x.shelved x.part.0 (more k).0) ∙ ap (λ l. l ++ (more k).0) x.part.1 ∙ (more k).1) }
+    record { shelved = x.shelved; there = x.there; part =
+        (x.part.0 ++ (more k).0, sym (append_assoc x.shelved x.part.0 (more k).0) ∙ ap (λ l. l ++ (more k).0) x.part.1 ∙ (more k).1) }
 
-pub begins_on : (names : List (List ℕ)) (contents : ℕ → List ℕ) (held : List (List ℕ)) (files : Option Files) → HoldsOn names contents held files → BeginsOn names contents files
+pub begins_on : (names : List (List ℕ)) (contents : ℕ → List ℕ) (held : List (List ℕ)) (files : Option Files) → HoldsOn names contents held files →
+    BeginsOn names contents files
 begins_on names contents held files h = record { now = h.now; told = h.told; begins = held_begins names contents held h.now h.holds }
 
-pub begins_on_more : (names : List (List ℕ)) (contents longer : ℕ → List ℕ) (files : Option Files) → ((k : ℕ) → IsPrefix (contents k) (longer k)) → BeginsOn names contents files → BeginsOn names longer files
+pub begins_on_more : (names : List (List ℕ)) (contents longer : ℕ → List ℕ) (files : Option Files) →
+    ((k : ℕ) → IsPrefix (contents k) (longer k)) → BeginsOn names contents files → BeginsOn names longer files
 begins_on_more names contents longer files more b = record { now = b.now; told = b.told; begins = begins_more names contents longer b.now more b.begins }
 
 pub framed_same : (names : List (List ℕ)) (files : Option Files) → Framed names files files
@@ -61,7 +67,8 @@ both_hold true false h = cc
 both_hold false b h = cc
 
 not_known : (n : List ℕ) (ns : List (List ℕ)) (j : ℕ) → not (is_known ns n) ≡ true → j < length ns → n ≡ name_of ns j → ⊥
-not_known n ns j new within e = let known : is_known ns n ≡ true = ap (is_known ns) e ∙ is_known-name_of ns j within in let h : not true ≡ true = sym (ap not known) ∙ new in cc
+not_known n ns j new within e = let known : is_known ns n ≡ true = ap (is_known ns) e ∙ is_known-name_of ns j within in let h : not true ≡ true =
+    sym (ap not known) ∙ new in cc
 
 -- where the names differ, one name stands at one place
 pub one_place : (names : List (List ℕ)) (i j : ℕ) → all_differ names ≡ true → i < length names → j < length names → name_of names i ≡ name_of names j → i ≡ j
@@ -69,10 +76,12 @@ one_place [] i j differ wi wj e = absurd (omega arith)
 one_place (n ∷ ns) zero zero differ wi wj e = refl
 one_place (n ∷ ns) zero (suc j) differ wi wj e = absurd (not_known n ns j (both_hold (not (is_known ns n)) (all_differ ns) differ).0 (omega arith) e)
 one_place (n ∷ ns) (suc i) zero differ wi wj e = absurd (not_known n ns i (both_hold (not (is_known ns n)) (all_differ ns) differ).0 (omega arith) (sym e))
-one_place (n ∷ ns) (suc i) (suc j) differ wi wj e = ap suc (one_place ns i j (both_hold (not (is_known ns n)) (all_differ ns) differ).1 (omega arith) (omega arith) e)
+one_place (n ∷ ns) (suc i) (suc j) differ wi wj e =
+    ap suc (one_place ns i j (both_hold (not (is_known ns n)) (all_differ ns) differ).1 (omega arith) (omega arith) e)
 
 -- and names at two places are told apart
-pub places_apart : (names : List (List ℕ)) (i j : ℕ) → all_differ names ≡ true → i < length names → j < length names → i ≢ j → same_name (name_of names i) (name_of names j) ≡ false
+pub places_apart : (names : List (List ℕ)) (i j : ℕ) → all_differ names ≡ true → i < length names → j < length names → i ≢ j →
+    same_name (name_of names i) (name_of names j) ≡ false
 places_apart names i j differ wi wj apart = by (same_name (name_of names i) (name_of names j)) refl
   where
     by : (b : Bool) → same_name (name_of names i) (name_of names j) ≡ b → same_name (name_of names i) (name_of names j) ≡ false
@@ -87,19 +96,22 @@ known_place (n ∷ ns) q known = by (same_name q n) refl (λ h. known_place ns q
     later : (k : ℕ) × (k < length ns) × (q ≡ name_of ns k) → (k : ℕ) × (k < length (n ∷ ns)) × (q ≡ name_of (n ∷ ns) k)
     later x = (suc x.0, let h : x.0 < length ns = x.1 in omega (arith, h), x.2)
 
-    by : (b : Bool) → same_name q n ≡ b → (is_known ns q ≡ true → (k : ℕ) × (k < length ns) × (q ≡ name_of ns k)) → (k : ℕ) × (k < length (n ∷ ns)) × (q ≡ name_of (n ∷ ns) k)
+    by : (b : Bool) → same_name q n ≡ b → (is_known ns q ≡ true → (k : ℕ) × (k < length ns) × (q ≡ name_of ns k)) →
+        (k : ℕ) × (k < length (n ∷ ns)) × (q ≡ name_of (n ∷ ns) k)
     by true h rest = (0, omega arith, same_name-eq q n h)
     by false h rest = later (rest (sym (ap (λ b. b || is_known ns q) h) ∙ known))
 
 -- names of which each stands at one place differ
-pub all_differ-from : (names : List (List ℕ)) → ((i j : ℕ) → i < length names → j < length names → name_of names i ≡ name_of names j → i ≡ j) → all_differ names ≡ true
+pub all_differ-from : (names : List (List ℕ)) → ((i j : ℕ) → i < length names → j < length names → name_of names i ≡ name_of names j → i ≡ j) →
+    all_differ names ≡ true
 all_differ-from [] one = refl
 all_differ-from (n ∷ ns) one =
     ap (λ b. not b && all_differ ns) (new (is_known ns n) refl)
     ∙ all_differ-from ns (λ i j wi wj e. let s : suc i ≡ suc j = one (suc i) (suc j) (omega (arith, wi)) (omega (arith, wj)) e in omega (arith, s))
   where
     new : (b : Bool) → is_known ns n ≡ b → is_known ns n ≡ false
-    new true h = let x = known_place ns n h in let w : x.0 < length ns = x.1 in let z : 0 ≡ suc x.0 = one 0 (suc x.0) (omega arith) (omega (arith, w)) x.2 in absurd (omega (arith, z))
+    new true h = let x = known_place ns n h in let w : x.0 < length ns = x.1 in let z : 0 ≡ suc x.0 =
+        one 0 (suc x.0) (omega arith) (omega (arith, w)) x.2 in absurd (omega (arith, z))
     new false h = h
 
 -- for none of any number of files something is held

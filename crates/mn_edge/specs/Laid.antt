@@ -1,5 +1,6 @@
 -- From files that grow to files that are laid over those of before: what stands after a run, and after a cut.
-use Rattle.std.proofs.Common.{◌≡◌, ℕ, zero, suc, ◌<◌, Bool, true, false, cond, ◌||◌, List, [], ◌∷◌, ◌++◌, map, take, length, Option, Some, None, refl, sym, ◌∙◌, ap, subst, arith}
+use Rattle.std.proofs.Common.{◌≡◌, ℕ, zero, suc, ◌<◌, Bool, true, false, cond, ◌||◌, List, [], ◌∷◌, ◌++◌, map, take, length, Option, Some, None, refl, sym}
+use Rattle.std.proofs.Common.{◌∙◌, ap, subst, arith}
 use Rattle.std.proofs.lemmas.List.{append-nil}
 use Rattle.mn_edge.specs.Files.{Files, file}
 use Rattle.mn_edge.specs.Written.{same_name, is_known, each, written, laid, IsPrefix, IsPart, PartWritten, Stands}
@@ -22,11 +23,15 @@ names-each [] f = refl
 names-each (name ∷ names) f = ap (λ l. name ∷ l) (names-each names f)
 
 -- under each name stands what was laid under it, and else what stood before
-file_is : (names : List (List ℕ)) (contents : ℕ → List ℕ) (m now : Files) (q : List ℕ) → ((k : ℕ) → k < length names → file now (name_of names k) ≡ Some (contents k)) → (is_known names q ≡ false → file now q ≡ file m q) → file (laid (named names contents) m) q ≡ file now q
+file_is : (names : List (List ℕ)) (contents : ℕ → List ℕ) (m now : Files) (q : List ℕ) →
+    ((k : ℕ) → k < length names → file now (name_of names k) ≡ Some (contents k)) →
+    (is_known names q ≡ false → file now q ≡ file m q) → file (laid (named names contents) m) q ≡ file now q
 file_is [] contents m now q here others = sym (others refl)
 file_is (name ∷ names) contents m now q here others =
     file-with_file (laid (named names (λ k. contents (suc k))) m) name (contents 0) q
-    ∙ by (same_name q name) refl (λ e. file_is names (λ k. contents (suc k)) m now q (λ k within. here (suc k) (omega (arith, within))) (λ h. others (ap (λ b. b || is_known names q) e ∙ h)))
+    ∙ by (same_name q name) refl
+        (λ e. file_is names (λ k. contents (suc k)) m now q (λ k within. here (suc k) (omega (arith, within)))
+        (λ h. others (ap (λ b. b || is_known names q) e ∙ h)))
   where
     by : (b : Bool) → same_name q name ≡ b → (same_name q name ≡ false → file (laid (named names (λ k. contents (suc k))) m) q ≡ file now q)
         → cond b (Some (contents 0)) (file (laid (named names (λ k. contents (suc k))) m) q) ≡ file now q
@@ -42,18 +47,23 @@ abbrev or_nothing : Option (List ℕ) → List ℕ
 or_nothing None = []
 or_nothing (Some bytes) = bytes
 
-parts : (names : List (List ℕ)) (some contents : ℕ → List ℕ) → ((k : ℕ) → k < length names → IsPrefix (some k) (contents k)) → IsPart (named names some) (named names contents)
+parts : (names : List (List ℕ)) (some contents : ℕ → List ℕ) →
+    ((k : ℕ) → k < length names → IsPrefix (some k) (contents k)) → IsPart (named names some) (named names contents)
 parts [] some contents h = tt
-parts (name ∷ names) some contents h = (refl, h 0 (omega arith), parts names (λ k. some (suc k)) (λ k. contents (suc k)) (λ k within. h (suc k) (omega (arith, within))))
+parts (name ∷ names) some contents h =
+    (refl, h 0 (omega arith), parts names (λ k. some (suc k)) (λ k. contents (suc k)) (λ k within. h (suc k) (omega (arith, within))))
 
 -- each file has begun: the call was cut off
-pub part_written : (names : List (List ℕ)) (contents : ℕ → List ℕ) (m : Files) (after : Option Files) → Framed names (Some m) after → BeginsOn names contents after → PartWritten (named names contents) m after
+pub part_written : (names : List (List ℕ)) (contents : ℕ → List ℕ) (m : Files) (after : Option Files) → Framed names (Some m) after →
+    BeginsOn names contents after → PartWritten (named names contents) m after
 part_written names contents m after framed begins =
     let front : ℕ → List ℕ = λ k. or_nothing (file begins.now (name_of names k)) in
     let x = framed.others m refl in
     record {
       stands = named names front;
-      is_part = parts names front contents (λ k within. let b = begins.begins k within in subst (λ l. IsPrefix l (contents k)) (sym (ap or_nothing b.there)) b.part);
+      is_part =
+          parts names front contents (λ k within. let b = begins.begins k within in
+          subst (λ l. IsPrefix l (contents k)) (sym (ap or_nothing b.there)) b.part);
       after_is = x.1 ∙ ap Some (all_laid names front m x.0
           (λ k within. let b = begins.begins k within in
           ap (λ f. file f (name_of names k)) (same_some x.0 begins.now after x.1 begins.told) ∙ b.there ∙ ap Some (sym (ap or_nothing b.there)))
@@ -67,15 +77,19 @@ all_written names contents held m after framed none holds =
     let x = framed.others m refl in
     x.1 ∙ ap Some (all_laid names contents m x.0
     (λ k within. let h = holds.holds k within in
-    ap (λ f. file f (name_of names k)) (same_some x.0 holds.now after x.1 holds.told) ∙ h.there ∙ ap Some (sym (append-nil h.shelved) ∙ ap (λ l. h.shelved ++ l) (sym (none k)) ∙ h.whole))
+    ap (λ f. file f (name_of names k)) (same_some x.0 holds.now after x.1 holds.told) ∙ h.there
+        ∙ ap Some (sym (append-nil h.shelved) ∙ ap (λ l. h.shelved ++ l) (sym (none k)) ∙ h.whole))
     x.2)
 
 -- the first few files were begun, and no more: the call was cut off
-pub begun_part : (names : List (List ℕ)) (files : List (List ℕ × List ℕ)) (m : Files) (after : Option Files) (n : ℕ) → map (λ f. f.0) files ≡ names → Stands (take n names) [] m after → PartWritten files m after
+pub begun_part : (names : List (List ℕ)) (files : List (List ℕ × List ℕ)) (m : Files) (after : Option Files) (n : ℕ) → map (λ f. f.0) files ≡ names →
+    Stands (take n names) [] m after → PartWritten files m after
 begun_part names files m after n are stands = record { stands = written (take n names) []; is_part = few n names files are; after_is = stands }
   where
     few : (n : ℕ) (names : List (List ℕ)) (files : List (List ℕ × List ℕ)) → map (λ f. f.0) files ≡ names → IsPart (written (take n names) []) files
     few zero names files are = tt
     few (suc n) [] files are = tt
-    few (suc n) (name ∷ names) [] are = let e : ◌≡◌ {A = List (List ℕ)} [] (name ∷ names) = are in absurd (let f : ◌≡◌ {A = List (List ℕ)} [] (name ∷ names) = e in cc)
-    few (suc n) (name ∷ names) (f ∷ fs) are = let same : f.0 ≡ name = cc in let rest : map (λ f. f.0) fs ≡ names = cc in (sym same, (f.1, refl), few n names fs rest)
+    few (suc n) (name ∷ names) [] are = let e : ◌≡◌ {A = List (List ℕ)} [] (name ∷ names) = are in
+        absurd (let f : ◌≡◌ {A = List (List ℕ)} [] (name ∷ names) = e in cc)
+    few (suc n) (name ∷ names) (f ∷ fs) are = let same : f.0 ≡ name = cc in let rest : map (λ f. f.0) fs ≡ names = cc in
+        (sym same, (f.1, refl), few n names fs rest)

@@ -1,5 +1,6 @@
 -- The devices in memory, as contracts see them, and which of their calls fail.
-use Rattle.std.specs.Prelude.{◌≡◌, ℕ, ◌+◌, ◌-◌, ◌/◌, ◌^◌, ◌==◌, min, Bool, true, false, not, ◌&&◌, List, [], ◌∷◌, ◌++◌, map, take, length, is_none, String, Vec, string_bytes, Result, Ok, Err, ⊤, refl}
+use Rattle.std.specs.Prelude.{◌≡◌, ℕ, ◌+◌, ◌-◌, ◌/◌, ◌^◌, ◌==◌, min, Bool, true, false, not, ◌&&◌, List, [], ◌∷◌, ◌++◌, map, take, length, is_none, String}
+use Rattle.std.specs.Prelude.{Vec, string_bytes, Result, Ok, Err, ⊤, refl}
 use Rattle.std.specs.List.{list_any}
 use Rattle.std.specs.Option.{option_map_or}
 use Rattle.std.specs.FinMap as fin
@@ -36,7 +37,8 @@ pub record ShelfState : Type 0 where
 
 abbrev pub shelf_code : Coded ShelfState
 shelf_code =
-    code_by (Files × (List ℕ × (ℕ × (ℕ × ℕ)))) (coded× files_code (coded× (coded_list coded_ℕ) (coded× coded_ℕ (coded× coded_ℕ coded_ℕ)))) (λ s. (s.files, (s.failing, (s.calls, (s.read_faults, s.write_faults)))))
+    code_by (Files × (List ℕ × (ℕ × (ℕ × ℕ)))) (coded× files_code (coded× (coded_list coded_ℕ) (coded× coded_ℕ (coded× coded_ℕ coded_ℕ))))
+        (λ s. (s.files, (s.failing, (s.calls, (s.read_faults, s.write_faults)))))
     (λ p. record { files = p.0; failing = p.1.0; calls = p.1.1.0; read_faults = p.1.1.1.0; write_faults = p.1.1.1.1 }) (λ _. refl)
 
 -- a sink in memory: its bytes, and the rest alike

@@ -1,5 +1,6 @@
 -- Pieces that wait in one arena: each knows where its bytes lie, and which piece of its file came before it.
-use Rattle.std.specs.Prelude.{◌≡◌, ℕ, ◌-◌, ◌<◌, ◌≤◌, ◌==◌, zero, suc, List, [], ◌++◌, length, map, take, drop, sum_by, slice_index, slice_index_or, if◌then◌else◌}
+use Rattle.std.specs.Prelude.{◌≡◌, ℕ, ◌-◌, ◌<◌, ◌≤◌, ◌==◌, zero, suc, List, [], ◌++◌, length, map, take, drop, sum_by, slice_index, slice_index_or}
+use Rattle.std.specs.Prelude.{if◌then◌else◌}
 use Rattle.mn_edge.specs.declared.held.Segment.{Segment}
 
 -- the piece at a place, from 0
@@ -12,7 +13,8 @@ piece_of bytes s = take (s.end - s.from) (drop s.from bytes)
 -- the bytes of the piece of this number, from 1, and of those before it, looked for among the first few pieces; 0 is none
 abbrev pub waiting : List ℕ → List Segment → ℕ → ℕ → List ℕ
 waiting bytes segments zero n = []
-waiting bytes segments (suc k) n = if n == suc k then waiting bytes segments k (segment_at segments k).before ++ piece_of bytes (segment_at segments k) else waiting bytes segments k n
+waiting bytes segments (suc k) n =
+    if n == suc k then waiting bytes segments k (segment_at segments k).before ++ piece_of bytes (segment_at segments k) else waiting bytes segments k n
 
 -- what waits for each file, whose last piece's number is given
 abbrev pub all_waiting : List ℕ → List Segment → List ℕ → List (List ℕ)

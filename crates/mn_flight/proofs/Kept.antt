@@ -16,10 +16,12 @@ module _ {T : Type 0} where
   pub none_flies : (channels : ℕ) → IsFlight {T = T} channels []
   none_flies channels = record { ascending = λ i j d p q. absurd (omega arith); on_channels = λ i d p. absurd (omega arith) }
 
-  pub flight_push : (channels : ℕ) (xs : List (Item T)) (x : Item T) → IsFlight channels xs → All (λ (e : Item T). e.number < x.number) xs → x.channel < channels → IsFlight channels (xs ++ x ∷ [])
+  pub flight_push : (channels : ℕ) (xs : List (Item T)) (x : Item T) → IsFlight channels xs → All (λ (e : Item T). e.number < x.number) xs →
+      x.channel < channels → IsFlight channels (xs ++ x ∷ [])
   flight_push channels xs x h above on = record { ascending = ascends h.ascending above; on_channels = grind (arith, common_steps, h.on_channels, on) }
     where
-      ascends : AllPairs (λ (a : Item T) (b : Item T). a.number < b.number) xs → All (λ (e : Item T). e.number < x.number) xs → AllPairs (λ (a : Item T) (b : Item T). a.number < b.number) (xs ++ x ∷ [])
+      ascends : AllPairs (λ (a : Item T) (b : Item T). a.number < b.number) xs → All (λ (e : Item T). e.number < x.number) xs →
+          AllPairs (λ (a : Item T) (b : Item T). a.number < b.number) (xs ++ x ∷ [])
       ascends up less = grind (arith, common_steps, up, less)
 
   pub flight_without : (channels : ℕ) (xs : List (Item T)) (taken : Option (Item T)) → IsFlight channels xs → IsFlight channels (without taken xs)
@@ -30,12 +32,14 @@ module _ {T : Type 0} where
   flight_off channels channel xs h = kept channels (λ (item : Item T). not (item.channel == channel)) xs h
 
   -- one item of an ascending list has a number, so one goes with it
-  one_less : (xs : List (Item T)) (x : Item T) → AllPairs (λ (a : Item T) (b : Item T). a.number < b.number) xs → IsIn x xs → length (without (Some x) xs) + 1 ≡ length xs
+  one_less : (xs : List (Item T)) (x : Item T) → AllPairs (λ (a : Item T) (b : Item T). a.number < b.number) xs → IsIn x xs →
+      length (without (Some x) xs) + 1 ≡ length xs
   one_less [] x up i = absurd i
   one_less (y ∷ ys) x up (inl e) =
       let gone : not (y.number == x.number) ≡ false = rw (eq-eqb y.number x.number (ap (λ (z : Item T). z.number) (sym e))) refl in
       let others : filter (λ (other : Item T). not (other.number == x.number)) ys ≡ ys =
-      filter_all (λ (other : Item T). not (other.number == x.number)) ys (λ z j. let less : y.number < z.number = first_below y ys up z j in let same : x.number ≡ y.number = ap (λ (w : Item T). w.number) e in grind (arith, nat_tests)) in
+      filter_all (λ (other : Item T). not (other.number == x.number)) ys (λ z j. let less : y.number < z.number = first_below y ys up z j in
+          let same : x.number ≡ y.number = ap (λ (w : Item T). w.number) e in grind (arith, nat_tests)) in
       rw (gone, others) (omega arith)
   one_less (y ∷ ys) x up (inr j) =
       let less : y.number < x.number = first_below y ys up x j in
@@ -47,10 +51,13 @@ module _ {T : Type 0} where
   in_of_get (y ∷ ys) zero x h = inl (sym (same_Some y x h))
   in_of_get (y ∷ ys) (suc place) x h = inr (in_of_get ys place x h)
 
-  pub placed_less : (channels channel place : ℕ) (xs : List (Item T)) (x : Item T) → IsFlight channels xs → slice_get (on_channel channel xs) place ≡ Some x → length (without (Some x) xs) + 1 ≡ length xs
-  placed_less channels channel place xs x h e = one_less xs x h.ascending (from_filter (λ (item : Item T). item.channel == channel) x xs (in_of_get (on_channel channel xs) place x e)).1
+  pub placed_less : (channels channel place : ℕ) (xs : List (Item T)) (x : Item T) → IsFlight channels xs →
+      slice_get (on_channel channel xs) place ≡ Some x → length (without (Some x) xs) + 1 ≡ length xs
+  placed_less channels channel place xs x h e =
+      one_less xs x h.ascending (from_filter (λ (item : Item T). item.channel == channel) x xs (in_of_get (on_channel channel xs) place x e)).1
 
-  pub earliest_less : (channels limit : ℕ) (xs : List (Item T)) (x : Item T) → IsFlight channels xs → earliest limit xs ≡ Some x → length (without (Some x) xs) + 1 ≡ length xs
+  pub earliest_less : (channels limit : ℕ) (xs : List (Item T)) (x : Item T) → IsFlight channels xs → earliest limit xs ≡ Some x →
+      length (without (Some x) xs) + 1 ≡ length xs
   earliest_less channels limit xs x h e = one_less xs x h.ascending (in_of_contains xs x (is_earliest limit xs x e).flies)
 
   -- where all numbers are below a bound, those that are left are below the next
@@ -62,7 +69,9 @@ module _ {T : Type 0} where
 
   pub below_without : (n : ℕ) (xs : List (Item T)) (taken : Option (Item T)) → Below n xs → Below (n + 1) (without taken xs)
   below_without n xs None h = below_next n xs h
-  below_without n xs (Some x) h = below_next n (without (Some x) xs) (All-filter (λ (other : Item T). not (other.number == x.number)) (λ (e : Item T). e.number < n) xs h)
+  below_without n xs (Some x) h =
+      below_next n (without (Some x) xs) (All-filter (λ (other : Item T). not (other.number == x.number)) (λ (e : Item T). e.number < n) xs h)
 
   pub below_off : (n channel : ℕ) (xs : List (Item T)) → Below n xs → Below (n + 1) (off_channel channel xs)
-  below_off n channel xs h = below_next n (off_channel channel xs) (All-filter (λ (item : Item T). not (item.channel == channel)) (λ (e : Item T). e.number < n) xs h)
+  below_off n channel xs h =
+      below_next n (off_channel channel xs) (All-filter (λ (item : Item T). not (item.channel == channel)) (λ (e : Item T). e.number < n) xs h)

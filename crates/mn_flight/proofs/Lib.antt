@@ -2,3 +2,4 @@ pub mod Members
 pub mod Taken
 pub mod First
 pub mod Kept
+pub mod OnChannels

@@ -14,7 +14,9 @@ module _ {A : Type 0} where
   filter_within f g [] h = refl
   filter_within f g (x ∷ xs) h = by (f x) refl (g x) refl (filter_within f g xs (λ y i. h y (inr i)))
     where
-      by : (a : Bool) → f x ≡ a → (b : Bool) → g x ≡ b → filter f (filter g xs) ≡ filter f xs → filter f (cond b (x ∷ filter g xs) (filter g xs)) ≡ cond a (x ∷ filter f xs) (filter f xs)
+      by : (a : Bool) → f x ≡ a →
+          (b : Bool) → g x ≡ b → filter f (filter g xs) ≡ filter f xs →
+          filter f (cond b (x ∷ filter g xs) (filter g xs)) ≡ cond a (x ∷ filter f xs) (filter f xs)
       by true e true k rest = rw e (ap (λ l. x ∷ l) rest)
       by true e false k rest = absurd (clash (g x) (h x (inl refl) e) k)
         where
@@ -33,9 +35,11 @@ module _ {T : Type 0} (channels c : ℕ) (xs : List (Item T)) (flight : IsFlight
   off_without None e = refl
   off_without (Some x) e =
       let at = members.from_filter (λ (item : Item T). item.channel == c) x xs (first_in (on_channel c xs) x (sym e)) in
-      filter_within (λ (item : Item T). not (item.channel == c)) (λ (other : Item T). not (other.number == x.number)) xs (λ y i off. by y i off (y.number == x.number) refl at.0 at.1)
+      filter_within (λ (item : Item T). not (item.channel == c)) (λ (other : Item T). not (other.number == x.number)) xs
+          (λ y i off. by y i off (y.number == x.number) refl at.0 at.1)
     where
-      by : (y : Item T) → members.IsIn y xs → not (y.channel == c) ≡ true → (b : Bool) → (y.number == x.number) ≡ b → (x.channel == c) ≡ true → members.IsIn x xs → not (y.number == x.number) ≡ true
+      by : (y : Item T) → members.IsIn y xs → not (y.channel == c) ≡ true → (b : Bool) → (y.number == x.number) ≡ b →
+          (x.channel == c) ≡ true → members.IsIn x xs → not (y.number == x.number) ≡ true
       by y i off true k on j =
           let one : y ≡ x = one_item xs flight.ascending y x i j (eqb-true y.number x.number k) in
           absurd (clash (y.channel == c) (ap (λ (z : Item T). z.channel == c) one ∙ on) off)

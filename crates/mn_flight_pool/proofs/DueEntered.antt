@@ -1,5 +1,6 @@
 -- A node that takes an item comes to stand in the ring by due tick, behind all that are due no later.
-use Rattle.std.proofs.Common.{◌≡◌, ◌<◌, ◌≤◌, ◌⊎◌, inl, inr, ℕ, Bool, true, false, List, [], ◌∷◌, ◌++◌, length, Some, None, IsSome, refl, sym, ap, ◌∙◌, subst, arith, append_assoc, length-append}
+use Rattle.std.proofs.Common.{◌≡◌, ◌<◌, ◌≤◌, ◌⊎◌, inl, inr, ℕ, Bool, true, false, List, [], ◌∷◌, ◌++◌, length, Some, None, IsSome, refl, sym, ap, ◌∙◌}
+use Rattle.std.proofs.Common.{subst, arith, append_assoc, length-append}
 use Rattle.std.specs.Prelude.{nat_lt, slice_get}
 use Rattle.std.proofs.lemmas.Option.{same_Some}
 use Rattle.std.proofs.lemmas.Bool.Decides.{nat_tests}
@@ -17,7 +18,9 @@ use Rattle.mn_flight_pool.proofs.Found.{some_value}
 use Rattle.mn_flight_pool.proofs.Neighbours.{free_from, free_at}
 use Rattle.mn_flight_pool.proofs.Rings.{ring_front, ring_behind, ring_past_link, ring_past_item, item_past_link, item_else}
 use Rattle.mn_flight_pool.proofs.Entered.{old_item, new_item, alone_heads, alone_order, p_there, three_there}
-use Rattle.mn_flight_pool.proofs.Sooner.{in_cut, in_front, in_back, in_either, in_with, in_middle, all_in, sooner_same, sooner_with, sooner_before, sooner_after, as_items, of_items, no_later, not_before, tick_item, item_tick, last_by_is, asc_put, all_put, has_new, has_put}
+use Rattle.mn_flight_pool.proofs.Sooner.{in_cut, in_front, in_back, in_either, in_with, in_middle, all_in, sooner_same, sooner_with, sooner_before}
+use Rattle.mn_flight_pool.proofs.Sooner.{sooner_after, as_items, of_items, no_later, not_before, tick_item, item_tick, last_by_is, asc_put, all_put}
+use Rattle.mn_flight_pool.proofs.Sooner.{has_new, has_put}
 
 pub number_due : Number ≡ Due → ⊥
 number_due e = cc
@@ -60,7 +63,8 @@ module _ {T : Type 0} where
       | inr some ↦ some_place some.0 some.1 some.2 some.3 some.4
     ]
       where
-        some_place : (t : Tick) → IsTick cells order t → t.due ≤ at → last_by at head ticks ≡ t.last.ptr → ((e : ℕ) → HasTick e ticks → e ≤ at → e ≤ t.due) → Stand head dues at (last_by at head ticks) cells
+        some_place : (t : Tick) → IsTick cells order t → t.due ≤ at → last_by at head ticks ≡ t.last.ptr →
+            ((e : ℕ) → HasTick e ticks → e ≤ at → e ≤ t.due) → Stand head dues at (last_by at head ticks) cells
         some_place t is below a_is greatest =
             let a = t.last.ptr in
             let c = in_cut a dues (due.stands a is.there) in
@@ -73,8 +77,12 @@ module _ {T : Type 0} where
               cut = c.2 ∙ sym (append_assoc us (a ∷ []) vs);
               end = inr (us, refl);
               by_then = λ q y i e. elim (in_either q us (a ∷ []) i) [
-                | inl k ↦ omega (arith, no_later y last.0 (as_items (item_at cells q) (item_at cells a) y last.0 e last.1 (sooner_before cells us a vs sooner q k)), last.2, below)
-                | inr k ↦ elim k [ inl s ↦ omega (arith, ap (λ (z : Item T). z.due) (same_Some y last.0 (sym e ∙ ap (item_at cells) s ∙ last.1)), last.2, below) | inr j ↦ absurd j ]
+                | inl k ↦ omega
+                    (arith, no_later y last.0 (as_items (item_at cells q) (item_at cells a) y last.0 e last.1 (sooner_before cells us a vs sooner q k)),
+                    last.2, below)
+                | inr k ↦ elim k
+                    [ inl s ↦ omega (arith, ap (λ (z : Item T). z.due) (same_Some y last.0 (sym e ∙ ap (item_at cells) s ∙ last.1)), last.2, below) | inr j
+                    ↦ absurd j ]
               ];
               later = λ q y i e.
                   let flies : IsIn q order = due.flies q (subst (λ l. IsIn q l) (sym c.2) (in_back q us (a ∷ vs) (inr i))) in
@@ -87,7 +95,9 @@ module _ {T : Type 0} where
             })
 
   -- linking in at the end of a front part
-  linked_at : (p s a : Ptr) (cells : List (Ptr × Node T)) → IsSome (value_at p cells) → (us vs : List Ptr) → IsEnd s us a → IsRing Due cells s (us ++ vs) → IsFree p (s ∷ (us ++ vs)) → IsRing Due (link_behind Due p a cells) s (us ++ p ∷ vs)
+  linked_at : (p s a : Ptr) (cells : List (Ptr × Node T)) → IsSome (value_at p cells) →
+      (us vs : List Ptr) → IsEnd s us a → IsRing Due cells s (us ++ vs) → IsFree p (s ∷ (us ++ vs)) →
+      IsRing Due (link_behind Due p a cells) s (us ++ p ∷ vs)
   linked_at p s a cells there us vs (inl e) ring free =
       subst (λ b. IsRing Due (link_behind Due p b cells) s (us ++ p ∷ vs)) (sym e.1)
       (subst (λ l. IsRing Due (link_behind Due p s cells) s (l ++ p ∷ vs)) (sym e.0)
@@ -98,8 +108,10 @@ module _ {T : Type 0} where
       subst (λ l. IsRing Due (link_behind Due p a cells) s l) (sym new)
       (ring_behind Due p s cells there e.0 a vs (subst (λ l. IsRing Due cells s l) old ring) (subst (λ l. IsFree p (s ∷ l)) old free))
 
-  module _ (head : Ptr) (heads free order : List Ptr) (p : Ptr) (cells : List (Ptr × Node T)) (linked : IsLinked head heads (free ++ p ∷ []) order cells) (x : Item T) (first : Ptr) (at : slice_get heads x.channel ≡ Some first)
-      (dues : List Ptr) (ticks : List Tick) (due : IsByDue head order dues ticks cells) (greatest : (q : Ptr) (y : Item T) → IsIn q order → item_at cells q ≡ Some y → y.number < x.number) where
+  module _ (head : Ptr) (heads free order : List Ptr) (p : Ptr) (cells : List (Ptr × Node T)) (linked : IsLinked head heads (free ++ p ∷ []) order cells)
+      (x : Item T) (first : Ptr) (at : slice_get heads x.channel ≡ Some first)
+      (dues : List Ptr) (ticks : List Tick) (due : IsByDue head order dues ticks cells) (greatest : (q : Ptr) (y : Item T) → IsIn q order →
+          item_at cells q ≡ Some y → y.number < x.number) where
     abbrev pub three : List (Ptr × Node T)
     three = entered head first p x cells
 
@@ -142,9 +154,11 @@ module _ {T : Type 0} where
     before_it u i =
         let flies = in_dues u (in_front u stand.front stand.behind i) in
         let y = some_value (item_at cells u) (all_in (λ q. IsSome (item_at cells q)) order u linked.held flies) in
-        of_items (item_at four u) (item_at four p) y.0 x (old_four u flies ∙ y.1) new_four (by y.0 (nat_lt y.0.due x.due) refl (stand.by_then u y.0 i y.1) (greatest u y.0 flies y.1))
+        of_items (item_at four u) (item_at four p) y.0 x (old_four u flies ∙ y.1) new_four
+            (by y.0 (nat_lt y.0.due x.due) refl (stand.by_then u y.0 i y.1) (greatest u y.0 flies y.1))
       where
-        by : (y : Item T) (v : Bool) → nat_lt y.due x.due ≡ v → y.due ≤ x.due → y.number < x.number → (y.due < x.due) ⊎ ((y.due ≡ x.due) × (y.number < x.number))
+        by : (y : Item T) (v : Bool) → nat_lt y.due x.due ≡ v → y.due ≤ x.due → y.number < x.number →
+            (y.due < x.due) ⊎ ((y.due ≡ x.due) × (y.number < x.number))
         by y true t le lt = inl (grind (arith, nat_tests, t))
         by y false f le lt = inr (grind (arith, nat_tests, f, le), lt)
 
@@ -160,9 +174,11 @@ module _ {T : Type 0} where
         let last = tick_item cells order t.due (item_at cells t.last.ptr) is.last in
         record {
           there = in_front t.last.ptr order (p ∷ []) is.there;
-          last = item_tick four (order ++ p ∷ []) t.due (item_at four t.last.ptr) last.0 (old_four t.last.ptr is.there ∙ last.1) last.2 (λ q y i e f. elim (in_either q order (p ∷ []) i) [
+          last = item_tick four (order ++ p ∷ []) t.due (item_at four t.last.ptr) last.0 (old_four t.last.ptr is.there ∙ last.1) last.2
+              (λ q y i e f. elim (in_either q order (p ∷ []) i) [
             | inl k ↦ last.3 q y k (sym (old_four q k) ∙ e) f
-            | inr k ↦ elim k [ inl s ↦ absurd (other (sym f ∙ ap (λ (z : Item T). z.due) (same_Some y x (sym e ∙ ap (item_at four) s ∙ new_four)))) | inr j ↦ absurd j ]
+            | inr k ↦ elim k [ inl s ↦ absurd (other (sym f ∙ ap (λ (z : Item T). z.due) (same_Some y x (sym e ∙ ap (item_at four) s ∙ new_four)))) | inr j
+                ↦ absurd j ]
           ]);
         }
 
@@ -177,9 +193,12 @@ module _ {T : Type 0} where
 
     pub due_entered : IsByDue head (order ++ p ∷ []) then (put_tick x.due p ticks) four
     due_entered = record {
-      ring = linked_at p head a three (three_there head heads free order p cells linked x first at p (p_there head heads free order p cells linked x first at)) stand.front stand.behind stand.end (subst (λ l. IsRing Due three head l) stand.cut due_three) (subst (λ l. IsFree p (head ∷ l)) stand.cut fresh);
+      ring = linked_at p head a three
+          (three_there head heads free order p cells linked x first at p (p_there head heads free order p cells linked x first at)) stand.front stand.behind
+          stand.end (subst (λ l. IsRing Due three head l) stand.cut due_three) (subst (λ l. IsFree p (head ∷ l)) stand.cut fresh);
       vacant = item_past_link Due p a head three ∙ vacant_three;
-      sooner = sooner_with four stand.front p stand.behind before_it behind_it (subst (λ l. AreSooner four l) stand.cut (sooner_same cells four dues (λ q i. old_four q (due.flies q i)) due.sooner));
+      sooner = sooner_with four stand.front p stand.behind before_it behind_it
+          (subst (λ l. AreSooner four l) stand.cut (sooner_same cells four dues (λ q i. old_four q (due.flies q i)) due.sooner));
       flies = λ q i. elim (in_either q stand.front (p ∷ stand.behind) i) [
         | inl k ↦ in_front q order (p ∷ []) (in_dues q (in_front q stand.front stand.behind k))
         | inr k ↦ elim k [ inl s ↦ in_back q order (p ∷ []) (inl s) | inr j ↦ in_front q order (p ∷ []) (in_dues q (in_back q stand.front stand.behind j)) ]
@@ -188,12 +207,15 @@ module _ {T : Type 0} where
         | inl k ↦ in_with q stand.front p stand.behind (subst (λ l. IsIn q l) stand.cut (due.stands q k))
         | inr k ↦ elim k [ inl s ↦ subst (λ r. IsIn r then) (sym s) (in_middle stand.front p stand.behind) | inr j ↦ absurd j ]
       ];
-      many = omega (arith, length-append order (p ∷ []), length-append stand.front (p ∷ stand.behind), length-append stand.front stand.behind, ap length stand.cut, due.many);
+      many = omega
+          (arith, length-append order (p ∷ []), length-append stand.front (p ∷ stand.behind), length-append stand.front stand.behind, ap length stand.cut,
+          due.many);
       ascending = asc_put x.due p ticks due.ascending;
       lasts = all_put (IsTick cells order) (IsTick four (order ++ p ∷ [])) x.due p ticks kept put due.ascending due.lasts;
       each = λ q y i e. elim (in_either q order (p ∷ []) i) [
         | inl k ↦ has_put y.due x.due p ticks (due.each q y k (sym (old_four q k) ∙ e))
-        | inr k ↦ elim k [ inl s ↦ subst (λ d. HasTick d (put_tick x.due p ticks)) (sym (ap (λ (z : Item T). z.due) (same_Some y x (sym e ∙ ap (item_at four) s ∙ new_four)))) (has_new x.due p ticks) | inr j ↦ absurd j ]
+        | inr k ↦ elim k [ inl s ↦ subst (λ d. HasTick d (put_tick x.due p ticks))
+            (sym (ap (λ (z : Item T). z.due) (same_Some y x (sym e ∙ ap (item_at four) s ∙ new_four)))) (has_new x.due p ticks) | inr j ↦ absurd j ]
       ];
     }
       where
@@ -201,4 +223,5 @@ module _ {T : Type 0} where
         vacant_three =
             let one = with_item p (Some x) cells in
             let two = link_behind Number p (prev_of Number one head) one in
-            item_past_link Channel p (prev_of Channel two first) head two ∙ item_past_link Number p (prev_of Number one head) head one ∙ item_else p head (Some x) cells fresh.0 ∙ due.vacant
+            item_past_link Channel p (prev_of Channel two first) head two ∙ item_past_link Number p (prev_of Number one head) head one
+                ∙ item_else p head (Some x) cells fresh.0 ∙ due.vacant

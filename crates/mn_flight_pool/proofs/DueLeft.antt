@@ -1,5 +1,6 @@
 -- A node leaves the ring by due tick, and another is the last of its tick, or none.
-use Rattle.std.proofs.Common.{◌≡◌, ◌<◌, ◌≤◌, ◌⊎◌, inl, inr, ℕ, Bool, true, false, cond, List, [], ◌∷◌, ◌++◌, length, Option, Some, None, IsSome, refl, sym, ap, ◌∙◌, subst, arith, append_assoc, length-append, eq-eqb}
+use Rattle.std.proofs.Common.{◌≡◌, ◌<◌, ◌≤◌, ◌⊎◌, inl, inr, ℕ, Bool, true, false, cond, List, [], ◌∷◌, ◌++◌, length, Option, Some, None, IsSome, refl, sym}
+use Rattle.std.proofs.Common.{ap, ◌∙◌, subst, arith, append_assoc, length-append, eq-eqb}
 use Rattle.std.specs.List.{AllByRecursion, IsDistinct}
 use Rattle.std.proofs.lemmas.Bool.{eqb-true}
 use Rattle.std.proofs.lemmas.Option.{same_Some}
@@ -18,7 +19,9 @@ use Rattle.mn_flight_pool.specs.declared.node.Node.{Node}
 use Rattle.mn_flight_pool.proofs.Found.{some_value, same_ptr_eq, same_ptr_refl}
 use Rattle.mn_flight_pool.proofs.Neighbours.{neighbour, last_of_cons, free_at, others_free}
 use Rattle.mn_flight_pool.proofs.Rings.{ring_unlinked, ring_past_unlink, ring_past_item, item_past_unlink, item_else}
-use Rattle.mn_flight_pool.proofs.Sooner.{in_cut, in_front, in_back, in_either, in_with, in_without, in_middle, all_in, sooner_same, sooner_without, sooner_before, sooner_after, as_items, no_later, not_before, number_before, tick_item, item_tick, asc_set, asc_drop, all_set, all_drop, all_kept, has_set, has_drop}
+use Rattle.mn_flight_pool.proofs.Sooner.{in_cut, in_front, in_back, in_either, in_with, in_without, in_middle, all_in, sooner_same, sooner_without}
+use Rattle.mn_flight_pool.proofs.Sooner.{sooner_before, sooner_after, as_items, no_later, not_before, number_before, tick_item, item_tick, asc_set}
+use Rattle.mn_flight_pool.proofs.Sooner.{asc_drop, all_set, all_drop, all_kept, has_set, has_drop}
 use Rattle.mn_flight_pool.proofs.DueEntered.{IsEnd, number_due, channel_due}
 
 abbrev IsStart : Ptr → List Ptr → Ptr → Type 0
@@ -30,26 +33,33 @@ tail_apart s ps d = d.1
 
 module _ {T : Type 0} where
   -- what stands before and after a node of a ring
-  ring_before : (pair : Pair) (cells : List (Ptr × Node T)) (s : Ptr) (us : List Ptr) (p : Ptr) (vs : List Ptr) → IsRing pair cells s (us ++ p ∷ vs) → IsEnd s us (prev_of pair cells p)
+  ring_before : (pair : Pair) (cells : List (Ptr × Node T)) (s : Ptr) (us : List Ptr) (p : Ptr) (vs : List Ptr) → IsRing pair cells s (us ++ p ∷ vs) →
+      IsEnd s us (prev_of pair cells p)
   ring_before pair cells s [] p vs ring = inl (refl, ring.round.1)
   ring_before pair cells s (u ∷ us) p vs ring =
       let N = next_of pair cells in let P = prev_of pair cells in
       let last = last_of_cons u us in let ws = last.0 in let b = last.1 in
-      let sources : s ∷ ((u ∷ us) ++ p ∷ vs) ≡ (s ∷ ws) ++ b ∷ p ∷ vs = ap (λ l. s ∷ (l ++ p ∷ vs)) last.2 ∙ ap (λ l. s ∷ l) (append_assoc ws (b ∷ []) (p ∷ vs)) in
-      let targets : ((u ∷ us) ++ p ∷ vs) ++ s ∷ [] ≡ (ws ++ b ∷ []) ++ p ∷ (vs ++ s ∷ []) = ap (λ l. (l ++ p ∷ vs) ++ s ∷ []) last.2 ∙ append_assoc (ws ++ b ∷ []) (p ∷ vs) (s ∷ []) in
+      let sources : s ∷ ((u ∷ us) ++ p ∷ vs) ≡ (s ∷ ws) ++ b ∷ p ∷ vs =
+          ap (λ l. s ∷ (l ++ p ∷ vs)) last.2 ∙ ap (λ l. s ∷ l) (append_assoc ws (b ∷ []) (p ∷ vs)) in
+      let targets : ((u ∷ us) ++ p ∷ vs) ++ s ∷ [] ≡ (ws ++ b ∷ []) ++ p ∷ (vs ++ s ∷ []) =
+          ap (λ l. (l ++ p ∷ vs) ++ s ∷ []) last.2 ∙ append_assoc (ws ++ b ∷ []) (p ∷ vs) (s ∷ []) in
       let split : (ws ++ b ∷ []) ++ p ∷ (vs ++ s ∷ []) ≡ ws ++ b ∷ p ∷ (vs ++ s ∷ []) = append_assoc ws (b ∷ []) (p ∷ (vs ++ s ∷ [])) in
       let e : length (s ∷ ws) ≡ length (ws ++ b ∷ []) = omega (arith, length-append ws (b ∷ [])) in
-      let round = subst (λ l. AreNeighbours N P l ((ws ++ b ∷ []) ++ p ∷ (vs ++ s ∷ []))) sources (subst (λ l. AreNeighbours N P (s ∷ ((u ∷ us) ++ p ∷ vs)) l) targets ring.round) in
+      let round =
+          subst (λ l. AreNeighbours N P l ((ws ++ b ∷ []) ++ p ∷ (vs ++ s ∷ []))) sources
+          (subst (λ l. AreNeighbours N P (s ∷ ((u ∷ us) ++ p ∷ vs)) l) targets ring.round) in
       let prev_is : P p ≡ b = (neighbour N P (s ∷ ws) b (p ∷ vs) (ws ++ b ∷ []) p (vs ++ s ∷ []) e round).1 in
       inr (ws, subst (λ c. u ∷ us ≡ ws ++ c ∷ []) (sym prev_is) last.2)
 
-  ring_after : (pair : Pair) (cells : List (Ptr × Node T)) (s : Ptr) (us : List Ptr) (p : Ptr) (vs : List Ptr) → IsRing pair cells s (us ++ p ∷ vs) → IsStart s vs (next_of pair cells p)
+  ring_after : (pair : Pair) (cells : List (Ptr × Node T)) (s : Ptr) (us : List Ptr) (p : Ptr) (vs : List Ptr) → IsRing pair cells s (us ++ p ∷ vs) →
+      IsStart s vs (next_of pair cells p)
   ring_after pair cells s us p [] ring =
       let e : length (s ∷ us) ≡ length (us ++ p ∷ []) = omega (arith, length-append us (p ∷ [])) in
       inl (refl, (neighbour (next_of pair cells) (prev_of pair cells) (s ∷ us) p [] (us ++ p ∷ []) s [] e ring.round).0)
   ring_after pair cells s us p (v ∷ vs) ring =
       let e : length (s ∷ us) ≡ length (us ++ p ∷ []) = omega (arith, length-append us (p ∷ [])) in
-      let targets : (us ++ p ∷ v ∷ vs) ++ s ∷ [] ≡ (us ++ p ∷ []) ++ v ∷ (vs ++ s ∷ []) = append_assoc us (p ∷ v ∷ vs) (s ∷ []) ∙ sym (append_assoc us (p ∷ []) (v ∷ (vs ++ s ∷ []))) in
+      let targets : (us ++ p ∷ v ∷ vs) ++ s ∷ [] ≡ (us ++ p ∷ []) ++ v ∷ (vs ++ s ∷ []) =
+          append_assoc us (p ∷ v ∷ vs) (s ∷ []) ∙ sym (append_assoc us (p ∷ []) (v ∷ (vs ++ s ∷ []))) in
       let round = subst (λ l. AreNeighbours (next_of pair cells) (prev_of pair cells) (s ∷ (us ++ p ∷ v ∷ vs)) l) targets ring.round in
       let next_is = (neighbour (next_of pair cells) (prev_of pair cells) (s ∷ us) p (v ∷ vs) (us ++ p ∷ []) v (vs ++ s ∷ []) e round).0 in
       inr (vs, subst (λ c. v ∷ vs ≡ c ∷ vs) (sym next_is) refl)
@@ -64,7 +74,8 @@ module _ {T : Type 0} where
   no_item : (o : Option (Item T)) (y : Item T) → o ≡ None → o ≡ Some y → ⊥
   no_item o y e f = cc
 
-  module _ (head : Ptr) (heads free us₀ : List Ptr) (p : Ptr) (vs₀ : List Ptr) (cells : List (Ptr × Node T)) (linked : IsLinked head heads free (us₀ ++ p ∷ vs₀) cells) (x : Item T) (holds : item_at cells p ≡ Some x)
+  module _ (head : Ptr) (heads free us₀ : List Ptr) (p : Ptr) (vs₀ : List Ptr) (cells : List (Ptr × Node T))
+      (linked : IsLinked head heads free (us₀ ++ p ∷ vs₀) cells) (x : Item T) (holds : item_at cells p ≡ Some x)
       (dues : List Ptr) (ticks : List Tick) (due : IsByDue head (us₀ ++ p ∷ vs₀) dues ticks cells) where
     abbrev pub order : List Ptr
     order = us₀ ++ p ∷ vs₀
@@ -98,10 +109,14 @@ module _ {T : Type 0} where
 
     -- 1. The node is none of the others
     other_rest : (q : Ptr) → IsIn q rest → q ≡ p → ⊥
-    other_rest q i e = not_both_ways (same_ptr p q) (subst (λ r. same_ptr p r ≡ true) (sym e) (same_ptr_refl p)) (free_at p rest q (others_free us₀ p vs₀ (tail_apart head order linked.number.apart)) i)
+    other_rest q i e =
+        not_both_ways (same_ptr p q) (subst (λ r. same_ptr p r ≡ true) (sym e) (same_ptr_refl p))
+        (free_at p rest q (others_free us₀ p vs₀ (tail_apart head order linked.number.apart)) i)
 
     other_then : (q : Ptr) → IsIn q then → q ≡ p → ⊥
-    other_then q i e = not_both_ways (same_ptr p q) (subst (λ r. same_ptr p r ≡ true) (sym e) (same_ptr_refl p)) (free_at p then q (others_free us p vs (tail_apart head (us ++ p ∷ vs) ring.apart)) i)
+    other_then q i e =
+        not_both_ways (same_ptr p q) (subst (λ r. same_ptr p r ≡ true) (sym e) (same_ptr_refl p))
+        (free_at p then q (others_free us p vs (tail_apart head (us ++ p ∷ vs) ring.apart)) i)
 
     flies : (q : Ptr) → IsIn q then → IsIn q order
     flies q i = due.flies q (subst (λ l. IsIn q l) (sym cut.2) (in_with q us p vs i))
@@ -114,7 +129,8 @@ module _ {T : Type 0} where
 
     item_kept : (q : Ptr) → (q ≡ p → ⊥) → item_at three q ≡ item_at cells q
     item_kept q n =
-        item_else p q None (unlink Channel p (unlink Number p one)) (apart (same_ptr p q) refl) ∙ item_past_unlink Channel p q (unlink Number p one) ∙ item_past_unlink Number p q one ∙ item_past_unlink Due p q cells
+        item_else p q None (unlink Channel p (unlink Number p one)) (apart (same_ptr p q) refl) ∙ item_past_unlink Channel p q (unlink Number p one)
+            ∙ item_past_unlink Number p q one ∙ item_past_unlink Due p q cells
       where
         apart : (b : Bool) → same_ptr p q ≡ b → same_ptr p q ≡ false
         apart true t = absurd (n (sym (same_ptr_eq p q t)))
@@ -130,7 +146,8 @@ module _ {T : Type 0} where
     ring_then : IsRing Due three head then
     ring_then =
         ring_past_item Due p None (unlink Channel p (unlink Number p one)) head then
-        (ring_past_unlink Channel Due channel_due p (unlink Number p one) head then (ring_past_unlink Number Due number_due p one head then (ring_unlinked Due head cells us p vs ring)))
+        (ring_past_unlink Channel Due channel_due p (unlink Number p one) head then
+            (ring_past_unlink Number Due number_due p one head then (ring_unlinked Due head cells us p vs ring)))
 
     sooner_then : AreSooner three then
     sooner_then = sooner_same cells three then item_then (sooner_without cells us p vs sooner)
@@ -154,7 +171,8 @@ module _ {T : Type 0} where
         let last = tick_item cells order t.due (item_at cells t.last.ptr) is.last in
         record {
           there = in_without t.last.ptr us₀ p vs₀ is.there n;
-          last = item_tick three rest t.due (item_at three t.last.ptr) last.0 (item_kept t.last.ptr n ∙ last.1) last.2 (λ q y i e f. last.3 q y (in_with q us₀ p vs₀ i) (sym (item_rest q i) ∙ e) f);
+          last = item_tick three rest t.due (item_at three t.last.ptr) last.0 (item_kept t.last.ptr n ∙ last.1) last.2
+              (λ q y i e f. last.3 q y (in_with q us₀ p vs₀ i) (sym (item_rest q i) ∙ e) f);
         }
 
     keep_other : (t : Tick) → (t.due ≡ x.due → ⊥) → IsTick cells order t → IsTick three rest t
@@ -207,7 +225,8 @@ module _ {T : Type 0} where
         later : (w : Ptr) (z : Item T) → w ≡ after → IsIn w vs → item_at cells w ≡ Some z → x.due < z.due
         later w z s j f = elim (after_x w z j f) [
           | inl k ↦ k
-          | inr k ↦ absurd (not_both_ways (is_due x.due (item_at cells after)) (item_due x.due (item_at cells after) z (ap (item_at cells) (sym s) ∙ f) (sym k.0)) h)
+          | inr k ↦ absurd
+              (not_both_ways (is_due x.due (item_at cells after)) (item_due x.due (item_at cells after) z (ap (item_at cells) (sym s) ∙ f) (sym k.0)) h)
         ]
 
         started : (ws : List Ptr) → vs ≡ after ∷ ws → x.due < y.due
@@ -215,9 +234,12 @@ module _ {T : Type 0} where
           | inl same ↦ later v y same i e
           | inr j ↦
               let first_in : IsIn after vs = subst (λ l. IsIn after l) (sym s) (inl refl) in
-              let z = some_value (item_at cells after) (all_in (λ q. IsSome (item_at cells q)) order after linked.held (flies after (in_back after us vs first_in))) in
+              let z = some_value (item_at cells after)
+                  (all_in (λ q. IsSome (item_at cells q)) order after linked.held (flies after (in_back after us vs first_in))) in
               let behind : AreSooner cells (after ∷ ws) = subst (λ l. AreSooner cells l) s (sooner_tail us vs sooner) in
-              let follows = as_items (item_at cells after) (item_at cells v) z.0 y z.1 e (all_in (λ r. IsSooner (item_at cells after) (item_at cells r)) ws v behind.0 j) in
+              let follows =
+                  as_items (item_at cells after) (item_at cells v) z.0 y z.1 e
+                  (all_in (λ r. IsSooner (item_at cells after) (item_at cells r)) ws v behind.0 j) in
               omega (arith, later after z.0 refl first_in z.1, no_later z.0 y follows)
         ]
           where
@@ -238,7 +260,8 @@ module _ {T : Type 0} where
         ended ws s =
             let z = due_item x.due (item_at cells before) k in
             let at : IsIn before us = subst (λ l. IsIn before l) (sym s) (in_middle ws before []) in
-            let front : AreSooner cells (ws ++ before ∷ (p ∷ vs)) = subst (λ l. AreSooner cells l) (ap (λ l. l ++ p ∷ vs) s ∙ append_assoc ws (before ∷ []) (p ∷ vs)) sooner in
+            let front : AreSooner cells (ws ++ before ∷ (p ∷ vs)) =
+                subst (λ l. AreSooner cells l) (ap (λ l. l ++ p ∷ vs) s ∙ append_assoc ws (before ∷ []) (p ∷ vs)) sooner in
             record {
               ascending = asc_set x.due before ticks due.ascending;
               lasts = all_set (IsTick cells order) (IsTick three rest) x.due before ticks keep_other (record {
@@ -247,8 +270,12 @@ module _ {T : Type 0} where
                     let old : item_at cells q ≡ Some y = sym (item_rest q i) ∙ e in
                     elim (in_either q us vs (stands q i)) [
                       | inl j ↦ elim (in_either q ws (before ∷ []) (subst (λ l. IsIn q l) s j)) [
-                        | inl m ↦ number_before y z.0 (as_items (item_at cells q) (item_at cells before) y z.0 old z.1 (sooner_before cells ws before (p ∷ vs) front q m)) (f ∙ sym z.2)
-                        | inr m ↦ elim m [ inl same ↦ omega (arith, ap (λ (w : Item T). w.number) (same_Some y z.0 (sym old ∙ ap (item_at cells) same ∙ z.1))) | inr n ↦ absurd n ]
+                        | inl m ↦ number_before y z.0
+                            (as_items (item_at cells q) (item_at cells before) y z.0 old z.1 (sooner_before cells ws before (p ∷ vs) front q m))
+                            (f ∙ sym z.2)
+                        | inr m ↦ elim m
+                            [ inl same ↦ omega (arith, ap (λ (w : Item T). w.number) (same_Some y z.0 (sym old ∙ ap (item_at cells) same ∙ z.1))) | inr n ↦
+                            absurd n ]
                       ]
                       | inr j ↦ absurd (omega (arith, all_later h q y j old, f))
                     ]);
@@ -266,16 +293,21 @@ module _ {T : Type 0} where
         earlier : (w : Ptr) (z : Item T) → w ≡ before → IsIn w us → item_at cells w ≡ Some z → z.due < x.due
         earlier w z s j f = elim (before_x w z j f) [
           | inl k ↦ k
-          | inr k ↦ absurd (not_both_ways (is_due x.due (item_at cells before)) (item_due x.due (item_at cells before) z (ap (item_at cells) (sym s) ∙ f) k.0) h)
+          | inr k ↦ absurd
+              (not_both_ways (is_due x.due (item_at cells before)) (item_due x.due (item_at cells before) z (ap (item_at cells) (sym s) ∙ f) k.0) h)
         ]
 
         ended : (ws : List Ptr) → us ≡ ws ++ before ∷ [] → y.due < x.due
         ended ws s = elim (in_either u ws (before ∷ []) (subst (λ l. IsIn u l) s i)) [
           | inl m ↦
               let at : IsIn before us = subst (λ l. IsIn before l) (sym s) (in_middle ws before []) in
-              let front : AreSooner cells (ws ++ before ∷ (p ∷ vs)) = subst (λ l. AreSooner cells l) (ap (λ l. l ++ p ∷ vs) s ∙ append_assoc ws (before ∷ []) (p ∷ vs)) sooner in
-              let z = some_value (item_at cells before) (all_in (λ q. IsSome (item_at cells q)) order before linked.held (flies before (in_front before us vs at))) in
-              omega (arith, no_later y z.0 (as_items (item_at cells u) (item_at cells before) y z.0 e z.1 (sooner_before cells ws before (p ∷ vs) front u m)), earlier before z.0 refl at z.1)
+              let front : AreSooner cells (ws ++ before ∷ (p ∷ vs)) =
+                  subst (λ l. AreSooner cells l) (ap (λ l. l ++ p ∷ vs) s ∙ append_assoc ws (before ∷ []) (p ∷ vs)) sooner in
+              let z = some_value (item_at cells before)
+                  (all_in (λ q. IsSome (item_at cells q)) order before linked.held (flies before (in_front before us vs at))) in
+              omega (arith, no_later y z.0
+                  (as_items (item_at cells u) (item_at cells before) y z.0 e z.1 (sooner_before cells ws before (p ∷ vs) front u m)), earlier before z.0
+                  refl at z.1)
           | inr m ↦ elim m [ inl same ↦ earlier u y same i e | inr n ↦ absurd n ]
         ]
 
@@ -298,7 +330,8 @@ module _ {T : Type 0} where
     ticked : Ticked ticks_then
     ticked = by (is_due x.due (item_at cells after)) refl
       where
-        by : (b : Bool) → is_due x.due (item_at cells after) ≡ b → Ticked (cond b ticks (cond (is_due x.due (item_at cells before)) (set_tick x.due before ticks) (drop_tick x.due ticks)))
+        by : (b : Bool) → is_due x.due (item_at cells after) ≡ b →
+            Ticked (cond b ticks (cond (is_due x.due (item_at cells before)) (set_tick x.due before ticks) (drop_tick x.due ticks)))
         by true h = goes_on h
         by false h = further (is_due x.due (item_at cells before)) refl
           where

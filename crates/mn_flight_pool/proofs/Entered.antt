@@ -1,5 +1,6 @@
 -- A node that takes an item comes to stand in the ring of all and in its channel's.
-use Rattle.std.proofs.Common.{◌≡◌, ℕ, true, false, cond, Bool, List, [], ◌∷◌, ◌++◌, Option, Some, None, IsSome, inl, inr, refl, sym, ap, ◌∙◌, subst, append_assoc, append-nil, eq-eqb}
+use Rattle.std.proofs.Common.{◌≡◌, ℕ, true, false, cond, Bool, List, [], ◌∷◌, ◌++◌, Option, Some, None, IsSome, inl, inr, refl, sym, ap, ◌∙◌, subst}
+use Rattle.std.proofs.Common.{append_assoc, append-nil, eq-eqb}
 use Rattle.std.specs.Prelude.{◌==◌, filter, filter_map, slice_get}
 use Rattle.std.specs.List.{AllByRecursion, IsDistinct, cons_option}
 use Rattle.std.proofs.lemmas.Bool.{eqb-true}
@@ -14,7 +15,8 @@ use Rattle.mn_flight_pool.specs.declared.node.Pair.TheVariants.{Number, Channel}
 use Rattle.mn_flight_pool.specs.declared.node.Node.{Node}
 use Rattle.mn_flight_pool.proofs.Found.{same_ptr_eq}
 use Rattle.mn_flight_pool.proofs.Changed.{same_ptr_symm, stays}
-use Rattle.mn_flight_pool.proofs.Neighbours.{in_left, in_at, free_left, free_right, free_from, free_at, others_free, distinct_with, distinct_without, apart_parts, at_places}
+use Rattle.mn_flight_pool.proofs.Neighbours.{in_left, in_at, free_left, free_right, free_from, free_at, others_free, distinct_with, distinct_without}
+use Rattle.mn_flight_pool.proofs.Neighbours.{apart_parts, at_places}
 use Rattle.mn_flight_pool.proofs.Rings.{ring_back, ring_last, ring_past_link, ring_past_item, ring_aside_link, link_stays, item_past_link, item_put, item_else}
 
 pub in_right : (xs ys : List Ptr) (x : Ptr) → IsIn x ys → IsIn x (xs ++ ys)
@@ -25,7 +27,8 @@ pub from_filter : (test : Ptr → Bool) (x : Ptr) (xs : List Ptr) → IsIn x (fi
 from_filter test x [] i = absurd i
 from_filter test x (y ∷ ys) i = split (test y) refl (from_filter test x ys) i
   where
-    split : (b : Bool) → test y ≡ b → (IsIn x (filter test ys) → (test x ≡ true) × IsIn x ys) → IsIn x (cond b (y ∷ filter test ys) (filter test ys)) → (test x ≡ true) × IsIn x (y ∷ ys)
+    split : (b : Bool) → test y ≡ b → (IsIn x (filter test ys) → (test x ≡ true) × IsIn x ys) → IsIn x (cond b (y ∷ filter test ys) (filter test ys)) →
+        (test x ≡ true) × IsIn x (y ∷ ys)
     split true t f k = elim k [ inl e ↦ (ap test e ∙ t, inl e) | inr j ↦ ((f j).0, inr (f j).1) ]
     split false t f k = ((f k).0, inr (f k).1)
 
@@ -44,15 +47,20 @@ module _ {T : Type 0} where
   one_channel c d (Some x) p q = sym (eqb-true x.channel c p) ∙ eqb-true x.channel d q
 
   -- lists whose nodes hold the same items
-  pub same_nodes_on : (old new : List (Ptr × Node T)) (c : ℕ) (ps : List Ptr) → ((x : Ptr) → IsIn x ps → item_at new x ≡ item_at old x) → nodes_on new c ps ≡ nodes_on old c ps
+  pub same_nodes_on : (old new : List (Ptr × Node T)) (c : ℕ) (ps : List Ptr) →
+      ((x : Ptr) → IsIn x ps → item_at new x ≡ item_at old x) → nodes_on new c ps ≡ nodes_on old c ps
   same_nodes_on old new c [] h = refl
-  same_nodes_on old new c (p ∷ ps) h = (λ i. cond (is_on c (h p (inl refl) i)) (p ∷ nodes_on new c ps) (nodes_on new c ps)) ∙ ap (λ l. cond (is_on c (item_at old p)) (p ∷ l) l) (same_nodes_on old new c ps (λ x i. h x (inr i)))
+  same_nodes_on old new c (p ∷ ps) h =
+      (λ i. cond (is_on c (h p (inl refl) i)) (p ∷ nodes_on new c ps) (nodes_on new c ps))
+      ∙ ap (λ l. cond (is_on c (item_at old p)) (p ∷ l) l) (same_nodes_on old new c ps (λ x i. h x (inr i)))
 
   pub same_items : (old new : List (Ptr × Node T)) (ps : List Ptr) → ((x : Ptr) → IsIn x ps → item_at new x ≡ item_at old x) → items_in new ps ≡ items_in old ps
   same_items old new [] h = refl
-  same_items old new (p ∷ ps) h = (λ i. cons_option (h p (inl refl) i) (items_in new ps)) ∙ ap (λ l. cons_option (item_at old p) l) (same_items old new ps (λ x i. h x (inr i)))
+  same_items old new (p ∷ ps) h =
+      (λ i. cons_option (h p (inl refl) i) (items_in new ps)) ∙ ap (λ l. cons_option (item_at old p) l) (same_items old new ps (λ x i. h x (inr i)))
 
-  module _ (head : Ptr) (heads free order : List Ptr) (p : Ptr) (cells : List (Ptr × Node T)) (linked : IsLinked head heads (free ++ p ∷ []) order cells) (x : Item T) (first : Ptr) (at : slice_get heads x.channel ≡ Some first) where
+  module _ (head : Ptr) (heads free order : List Ptr) (p : Ptr) (cells : List (Ptr × Node T)) (linked : IsLinked head heads (free ++ p ∷ []) order cells)
+      (x : Item T) (first : Ptr) (at : slice_get heads x.channel ≡ Some first) where
     abbrev one : List (Ptr × Node T)
     one = with_item p (Some x) cells
 
@@ -73,7 +81,8 @@ module _ {T : Type 0} where
     alone = subst (λ l. IsFree p l) (append-nil others) (others_free others p [] (subst (λ l. IsDistinct same_ptr l) all_nodes linked.apart))
 
     pub rest_apart : IsDistinct same_ptr others
-    rest_apart = subst (λ l. IsDistinct same_ptr l) (append-nil others) (distinct_without others p [] (subst (λ l. IsDistinct same_ptr l) all_nodes linked.apart))
+    rest_apart =
+        subst (λ l. IsDistinct same_ptr l) (append-nil others) (distinct_without others p [] (subst (λ l. IsDistinct same_ptr l) all_nodes linked.apart))
 
     pub alone_heads : IsFree p (head ∷ heads)
     alone_heads = free_left p (head ∷ heads) (order ++ free) alone
@@ -90,10 +99,14 @@ module _ {T : Type 0} where
 
     -- 2. What holds of the others' items, and of its own
     pub old_item : (q : Ptr) → IsIn q order → item_at three q ≡ item_at cells q
-    old_item q i = item_past_link Channel p (prev_of Channel two first) q two ∙ item_past_link Number p (prev_of Number one head) q one ∙ item_else p q (Some x) cells (free_at p order q alone_order i)
+    old_item q i =
+        item_past_link Channel p (prev_of Channel two first) q two ∙ item_past_link Number p (prev_of Number one head) q one
+        ∙ item_else p q (Some x) cells (free_at p order q alone_order i)
 
     pub new_item : item_at three p ≡ Some x
-    new_item = item_past_link Channel p (prev_of Channel two first) p two ∙ item_past_link Number p (prev_of Number one head) p one ∙ item_put p (Some x) cells p_there
+    new_item =
+        item_past_link Channel p (prev_of Channel two first) p two ∙ item_past_link Number p (prev_of Number one head) p one
+        ∙ item_put p (Some x) cells p_there
 
     one_there : IsSome (value_at p one)
     one_there = stays p p (λ (node : Node T). record node { item = Some x }) cells p_there
@@ -109,7 +122,9 @@ module _ {T : Type 0} where
 
     -- 4. The channels' rings
     ring_two : (c : ℕ) (f : Ptr) → slice_get heads c ≡ Some f → IsRing Channel two f (nodes_on cells c order)
-    ring_two c f e = ring_past_link Number Channel unlike p (prev_of Number one head) one f (nodes_on cells c order) (ring_past_item Channel p (Some x) cells f (nodes_on cells c order) (linked.channel c f e))
+    ring_two c f e =
+        ring_past_link Number Channel unlike p (prev_of Number one head) one f (nodes_on cells c order)
+        (ring_past_item Channel p (Some x) cells f (nodes_on cells c order) (linked.channel c f e))
 
     alone_ring : (c : ℕ) (f : Ptr) → slice_get heads c ≡ Some f → IsFree p (f ∷ nodes_on cells c order)
     alone_ring c f e = (free_at p heads f alone_heads.1 (in_at heads c f e), free_filter p (λ q. is_on c (item_at cells q)) order alone_order)
@@ -121,7 +136,8 @@ module _ {T : Type 0} where
     head_node f q i j = apart_parts (head ∷ heads) (order ++ free) f q rest_apart (inr i) (in_left order free q j)
 
     -- a node of one channel's ring is none of another's
-    strangers : (c d : ℕ) (f g : Ptr) → slice_get heads c ≡ Some f → slice_get heads d ≡ Some g → (c ≡ d → ⊥) → (a : Ptr) → IsIn a (f ∷ nodes_on cells c order) → IsFree a (g ∷ nodes_on cells d order)
+    strangers : (c d : ℕ) (f g : Ptr) → slice_get heads c ≡ Some f → slice_get heads d ≡ Some g → (c ≡ d → ⊥) →
+        (a : Ptr) → IsIn a (f ∷ nodes_on cells c order) → IsFree a (g ∷ nodes_on cells d order)
     unfolding IsDistinct
     strangers c d f g ef eg ne a i = free_from a (g ∷ nodes_on cells d order) (λ q j. elim i [
       | inl e ↦ subst (λ r. same_ptr r q ≡ false) (sym e) (elim j [
@@ -130,7 +146,9 @@ module _ {T : Type 0} where
       ])
       | inr e ↦ elim j [
         | inl k ↦ subst (λ r. same_ptr a r ≡ false) (sym k) (same_ptr_symm a g ∙ head_node g a (in_at heads d g eg) (in_order c a e).1)
-        | inr k ↦ differ a q (λ same. ne (one_channel c d (item_at cells a) (in_order c a e).0 (subst (λ r. is_on d (item_at cells r) ≡ true) (sym same) (in_order d q k).0)))
+        | inr k ↦ differ a q
+            (λ same. ne
+            (one_channel c d (item_at cells a) (in_order c a e).0 (subst (λ r. is_on d (item_at cells r) ≡ true) (sym same) (in_order d q k).0)))
       ]
     ])
       where
@@ -143,7 +161,8 @@ module _ {T : Type 0} where
 
     pub nodes_then : (c : ℕ) → nodes_on three c (order ++ p ∷ []) ≡ nodes_on cells c order ++ cond (x.channel == c) (p ∷ []) []
     nodes_then c =
-        filter-append (λ q. is_on c (item_at three q)) order (p ∷ []) ∙ ap (λ l. l ++ filter (λ q. is_on c (item_at three q)) (p ∷ [])) (same_nodes_on cells three c order old_item)
+        filter-append (λ q. is_on c (item_at three q)) order (p ∷ [])
+            ∙ ap (λ l. l ++ filter (λ q. is_on c (item_at three q)) (p ∷ [])) (same_nodes_on cells three c order old_item)
         ∙ ap (λ o. nodes_on cells c order ++ cond (is_on c o) (p ∷ []) []) new_item
 
     pub channel_entered : (c : ℕ) (f : Ptr) → slice_get heads c ≡ Some f → IsRing Channel three f (nodes_on three c (order ++ p ∷ []))
@@ -187,22 +206,29 @@ module _ {T : Type 0} where
     all_front P (y ∷ ys) h = (h.0, all_front P ys h.1)
 
     pub three_there : (q : Ptr) → IsSome (value_at q cells) → IsSome (value_at q three)
-    three_there q h = link_stays Channel p (prev_of Channel two first) q two (link_stays Number p (prev_of Number one head) q one (stays p q (λ (node : Node T). record node { item = Some x }) cells h))
+    three_there q h =
+        link_stays Channel p (prev_of Channel two first) q two
+        (link_stays Number p (prev_of Number one head) q one (stays p q (λ (node : Node T). record node { item = Some x }) cells h))
 
     pub linked_entered : IsLinked head heads free (order ++ p ∷ []) three
     linked_entered = record {
       number = number_entered;
       channel = channel_entered;
       apart =
-          let moved : ((head ∷ heads) ++ order) ++ p ∷ free ≡ (head ∷ heads) ++ ((order ++ p ∷ []) ++ free) = append_assoc (head ∷ heads) order (p ∷ free) ∙ ap (λ l. (head ∷ heads) ++ l) (sym (append_assoc order (p ∷ []) free)) in
+          let moved : ((head ∷ heads) ++ order) ++ p ∷ free ≡ (head ∷ heads) ++ ((order ++ p ∷ []) ++ free) =
+              append_assoc (head ∷ heads) order (p ∷ free) ∙ ap (λ l. (head ∷ heads) ++ l) (sym (append_assoc order (p ∷ []) free)) in
           let split : (head ∷ heads) ++ (order ++ free) ≡ ((head ∷ heads) ++ order) ++ free = sym (append_assoc (head ∷ heads) order free) in
-          subst (λ l. IsDistinct same_ptr l) moved (distinct_with ((head ∷ heads) ++ order) p free (subst (λ l. IsFree p l) split alone) (subst (λ l. IsDistinct same_ptr l) split rest_apart));
+          subst (λ l. IsDistinct same_ptr l) moved
+              (distinct_with ((head ∷ heads) ++ order) p free (subst (λ l. IsFree p l) split alone) (subst (λ l. IsDistinct same_ptr l) split rest_apart));
       held =
           all_push (λ q. IsSome (item_at three q)) order
-          (all_old (λ q. IsSome (item_at three q)) order (λ q i. rw (old_item q i) (all_at (λ r. IsSome (item_at cells r)) order q linked.held i))) (rw new_item refl);
-      there = all_old (λ q. IsSome (value_at q three)) free (λ q i. three_there q (all_at (λ r. IsSome (value_at r cells)) free q (all_front (λ r. IsSome (value_at r cells)) free linked.there) i));
+          (all_old (λ q. IsSome (item_at three q)) order (λ q i. rw (old_item q i) (all_at (λ r. IsSome (item_at cells r)) order q linked.held i)))
+              (rw new_item refl);
+      there = all_old (λ q. IsSome (value_at q three)) free
+          (λ q i. three_there q (all_at (λ r. IsSome (value_at r cells)) free q (all_front (λ r. IsSome (value_at r cells)) free linked.there) i));
     }
 
     pub items_entered : items_in three (order ++ p ∷ []) ≡ items_in cells order ++ x ∷ []
     items_entered =
-        filter_map-append (item_at three) order (p ∷ []) ∙ ap (λ l. l ++ filter_map (item_at three) (p ∷ [])) (same_items cells three order old_item) ∙ ap (λ o. items_in cells order ++ cons_option o []) new_item
+        filter_map-append (item_at three) order (p ∷ []) ∙ ap (λ l. l ++ filter_map (item_at three) (p ∷ [])) (same_items cells three order old_item)
+            ∙ ap (λ o. items_in cells order ++ cons_option o []) new_item

@@ -1,5 +1,6 @@
 -- A whole pool with one more node or one more channel, and the one that holds nothing.
-use Rattle.std.proofs.Common.{◌≡◌, ◌<◌, ◌+◌, ℕ, zero, suc, false, List, [], ◌∷◌, ◌++◌, length, Some, None, IsSome, refl, sym, ap, ◌∙◌, subst, arith, append_assoc, length-append, get_or}
+use Rattle.std.proofs.Common.{◌≡◌, ◌<◌, ◌+◌, ℕ, zero, suc, false, List, [], ◌∷◌, ◌++◌, length, Some, None, IsSome, refl, sym, ap, ◌∙◌, subst, arith}
+use Rattle.std.proofs.Common.{append_assoc, length-append, get_or}
 use Rattle.std.specs.Prelude.{slice_get}
 use Rattle.std.specs.List.{AllByRecursion, IsDistinct}
 use Rattle.std.proofs.lemmas.Option.{same_Some}
@@ -27,15 +28,7 @@ use Rattle.mn_flight_pool.proofs.Sooner.{all_in, all_from, sooner_same, tick_ite
 use Rattle.mn_flight_pool.proofs.Traces.{trace_ring}
 use Rattle.mn_flight_pool.proofs.Whole.{order_length}
 use Rattle.mn_flight_pool.proofs.Put.{ptrs_push}
-
-channel_number : Channel ≡ Number → ⊥
-channel_number e = cc
-
-channel_due : Channel ≡ Due → ⊥
-channel_due e = cc
-
-due_number : Due ≡ Number → ⊥
-due_number e = cc
+use Rattle.mn_flight_pool.proofs.PastDue.{due_number}
 
 one_apart : (p : Ptr) → IsDistinct same_ptr (p ∷ [])
 unfolding IsDistinct
@@ -44,7 +37,8 @@ one_apart p = (tt, tt)
 module _ {T : Type 0} where
   -- 1. A ring of one node
   lone_stays : (pair : Pair) (p x : Ptr) (cells : List (Ptr × Node T)) → IsSome (value_at x cells) → IsSome (value_at x (lone pair p cells))
-  lone_stays pair p x cells h = prev_stays pair p p x (set_next pair p p cells) (lone pair p cells) refl (next_stays pair p p x cells (set_next pair p p cells) refl h)
+  lone_stays pair p x cells h =
+      prev_stays pair p p x (set_next pair p p cells) (lone pair p cells) refl (next_stays pair p p x cells (set_next pair p p cells) refl h)
 
   ring_lone : (pair : Pair) (p : Ptr) (cells : List (Ptr × Node T)) → IsSome (value_at p cells) → IsRing pair (lone pair p cells) p []
   ring_lone pair p cells there = record {
@@ -57,18 +51,25 @@ module _ {T : Type 0} where
     );
   }
 
-  ring_past_lone : (pair other : Pair) → Unlike pair other → (p : Ptr) (cells : List (Ptr × Node T)) (s : Ptr) (ps : List Ptr) → IsRing other cells s ps → IsRing other (lone pair p cells) s ps
+  ring_past_lone : (pair other : Pair) → Unlike pair other → (p : Ptr) (cells : List (Ptr × Node T)) (s : Ptr) (ps : List Ptr) → IsRing other cells s ps →
+      IsRing other (lone pair p cells) s ps
   ring_past_lone pair other u p cells =
       ring_same cells (lone pair p cells) (λ x h. lone_stays pair p x cells h) other
-      (λ x h. set_prev_leaves pair (next_in other) (λ link node. ap (λ (l : Link). l.next.ptr) (link_unlike pair other u link node)) p p x (set_next pair p p cells) ∙ set_next_leaves pair (next_in other) (λ link node. ap (λ (l : Link). l.next.ptr) (link_unlike pair other u link node)) p p x cells)
-      (λ x h. set_prev_leaves pair (prev_in other) (λ link node. ap (λ (l : Link). l.prev.ptr) (link_unlike pair other u link node)) p p x (set_next pair p p cells) ∙ set_next_leaves pair (prev_in other) (λ link node. ap (λ (l : Link). l.prev.ptr) (link_unlike pair other u link node)) p p x cells)
+      (λ x h. set_prev_leaves pair (next_in other) (λ link node. ap (λ (l : Link). l.next.ptr) (link_unlike pair other u link node)) p p x
+          (set_next pair p p cells)
+          ∙ set_next_leaves pair (next_in other) (λ link node. ap (λ (l : Link). l.next.ptr) (link_unlike pair other u link node)) p p x cells)
+      (λ x h. set_prev_leaves pair (prev_in other) (λ link node. ap (λ (l : Link). l.prev.ptr) (link_unlike pair other u link node)) p p x
+          (set_next pair p p cells)
+          ∙ set_next_leaves pair (prev_in other) (λ link node. ap (λ (l : Link). l.prev.ptr) (link_unlike pair other u link node)) p p x cells)
 
   item_lone : (pair : Pair) (p x : Ptr) (cells : List (Ptr × Node T)) → item_at (lone pair p cells) x ≡ item_at cells x
-  item_lone pair p x cells = set_prev_leaves pair item_in (item_kept pair) p p x (set_next pair p p cells) ∙ set_next_leaves pair item_in (item_kept pair) p p x cells
+  item_lone pair p x cells =
+      set_prev_leaves pair item_in (item_kept pair) p p x (set_next pair p p cells) ∙ set_next_leaves pair item_in (item_kept pair) p p x cells
 
   value_lone : (pair : Pair) (p x : Ptr) (cells : List (Ptr × Node T)) → same_ptr p x ≡ false → value_at x (lone pair p cells) ≡ value_at x cells
   value_lone pair p x cells h =
-      value_other p x (λ node. with_link pair (record (link_of pair node) { prev = record { ptr = p } }) node) (set_next pair p p cells) h ∙ value_other p x (λ node. with_link pair (record (link_of pair node) { next = record { ptr = p } }) node) cells h
+      value_other p x (λ node. with_link pair (record (link_of pair node) { prev = record { ptr = p } }) node) (set_next pair p p cells) h
+          ∙ value_other p x (λ node. with_link pair (record (link_of pair node) { next = record { ptr = p } }) node) cells h
 
   first_there : (p : Ptr) (old new : List (Ptr × Node T)) → IsVacantFirst p old new → IsSome (value_at p new)
   first_there p old new added = rw added.1 here
@@ -83,7 +84,8 @@ module _ {T : Type 0} where
       here = rw same_ptr_refl added.2
 
   -- 2. The ring by due tick where the items stay
-  by_due_same : (head : Ptr) (order dues : List Ptr) (ticks : List Tick) (old new : List (Ptr × Node T)) → IsByDue head order dues ticks old → IsRing Due new head dues → item_at new head ≡ None → ((q : Ptr) → IsIn q order → item_at new q ≡ item_at old q)
+  by_due_same : (head : Ptr) (order dues : List Ptr) (ticks : List Tick) (old new : List (Ptr × Node T)) → IsByDue head order dues ticks old →
+      IsRing Due new head dues → item_at new head ≡ None → ((q : Ptr) → IsIn q order → item_at new q ≡ item_at old q)
       → IsByDue head order dues ticks new
   by_due_same head order dues ticks old new due ring vacant same = record {
     ring = ring;
@@ -95,20 +97,26 @@ module _ {T : Type 0} where
     ascending = due.ascending;
     lasts = all_kept (IsTick old order) (IsTick new order) ticks (λ t is.
         let last = tick_item old order t.due (item_at old t.last.ptr) is.last in
-        record { there = is.there; last = item_tick new order t.due (item_at new t.last.ptr) last.0 (same t.last.ptr is.there ∙ last.1) last.2 (λ q y i e f. last.3 q y i (sym (same q i) ∙ e) f) }) due.lasts;
+        record { there = is.there; last =
+            item_tick new order t.due (item_at new t.last.ptr) last.0 (same t.last.ptr is.there ∙ last.1) last.2
+            (λ q y i e f. last.3 q y i (sym (same q i) ∙ e) f) }) due.lasts;
     each = λ q y i e. due.each q y i (sym (same q i) ∙ e);
   }
 
   -- 3. One more node
-  module _ (pool : Pool T) (whole : IsWhole pool) (node : Place) (new : List (Ptr × Node T)) (added : IsVacantFirst node.ptr pool.store new) (fresh : value_at node.ptr pool.store ≡ None) where
+  module _ (pool : Pool T) (whole : IsWhole pool) (node : Place) (new : List (Ptr × Node T)) (added : IsVacantFirst node.ptr pool.store new)
+      (fresh : value_at node.ptr pool.store ≡ None) where
     heads_there : AllByRecursion (λ q. IsSome (value_at q pool.store)) (ptrs pool.heads.items)
     heads_there = held.heads_there pool.head.ptr (ptrs pool.heads.items) (ptrs pool.free.items) (order_in pool) pool.store whole.held.linked
 
     same_order : order_of pool.head.ptr pool.count new ≡ order_in pool
-    same_order = held.order_kept node.ptr pool.store new added fresh pool.head.ptr (ptrs pool.heads.items) (ptrs pool.free.items) pool.count whole.held heads_there
+    same_order =
+        held.order_kept node.ptr pool.store new added fresh pool.head.ptr (ptrs pool.heads.items) (ptrs pool.free.items) pool.count whole.held heads_there
 
     same_item : (q : Ptr) → IsIn q (order_in pool) → item_at new q ≡ item_at pool.store q
-    same_item q i = held.item_kept node.ptr pool.store new added fresh pool.head.ptr (ptrs pool.heads.items) (ptrs pool.free.items) pool.count whole.held heads_there q i
+    same_item q i =
+        held.item_kept node.ptr pool.store new added fresh pool.head.ptr (ptrs pool.heads.items)
+        (ptrs pool.free.items) pool.count whole.held heads_there q i
 
     pub grown_held : (then : List Place) → then ≡ pool.free.items ++ node ∷ [] → IsHeld pool.head.ptr (ptrs pool.heads.items) (ptrs then) pool.count new
     grown_held then e =
@@ -116,12 +124,14 @@ module _ {T : Type 0} where
         (held.held_added node.ptr pool.store new added fresh pool.head.ptr (ptrs pool.heads.items) (ptrs pool.free.items) pool.count whole.held heads_there)
 
     pub grown_items : items_in new (order_of pool.head.ptr pool.count new) ≡ items_of pool
-    grown_items = held.items_added node.ptr pool.store new added fresh pool.head.ptr (ptrs pool.heads.items) (ptrs pool.free.items) pool.count whole.held heads_there
+    grown_items =
+        held.items_added node.ptr pool.store new added fresh pool.head.ptr (ptrs pool.heads.items) (ptrs pool.free.items) pool.count whole.held heads_there
 
     pub grown_counted : IsCounted pool.counts.items (length pool.heads.items) (order_of pool.head.ptr pool.count new) new
     grown_counted =
         subst (λ o. IsCounted pool.counts.items (length pool.heads.items) o new) (sym same_order)
-        (record { many = whole.counted.many; each = λ c h. whole.counted.each c h ∙ ap length (sym (same_nodes_on pool.store new c (order_in pool) same_item)) })
+        (record { many = whole.counted.many; each =
+            λ c h. whole.counted.each c h ∙ ap length (sym (same_nodes_on pool.store new c (order_in pool) same_item)) })
 
     abbrev dues : List Ptr
     dues = dues_of pool.head.ptr pool.count pool.store
@@ -167,7 +177,8 @@ module _ {T : Type 0} where
       stays x h = lone_stays Channel p x new (subst (λ o. IsSome o) (sym (held.value_kept p pool.store new added fresh x h)) h)
 
       value_same : (x : Ptr) → IsSome (value_at x pool.store) → value_at x last ≡ value_at x pool.store
-      value_same x h = value_lone Channel p x new (same_ptr_symm p x ∙ held.not_p p pool.store new added fresh x h) ∙ held.value_kept p pool.store new added fresh x h
+      value_same x h =
+          value_lone Channel p x new (same_ptr_symm p x ∙ held.not_p p pool.store new added fresh x h) ∙ held.value_kept p pool.store new added fresh x h
 
       ring_last : (pair : Pair) (s : Ptr) (ps : List Ptr) → IsRing pair pool.store s ps → IsRing pair last s ps
       ring_last pair = ring_same pool.store last stays pair (λ x h. ap (next_in pair) (value_same x h)) (λ x h. ap (prev_in pair) (value_same x h))
@@ -175,7 +186,8 @@ module _ {T : Type 0} where
       channels : (c : ℕ) (f : Ptr) → slice_get (heads ++ p ∷ []) c ≡ Some f → IsRing Channel last f []
       channels c f e = by heads c (λ k g h. ring_last Channel g [] (held_none.linked.channel k g h)) e
         where
-          by : (hs : List Ptr) (k : ℕ) → ((m : ℕ) (g : Ptr) → slice_get hs m ≡ Some g → IsRing Channel last g []) → slice_get (hs ++ p ∷ []) k ≡ Some f → IsRing Channel last f []
+          by : (hs : List Ptr) (k : ℕ) → ((m : ℕ) (g : Ptr) → slice_get hs m ≡ Some g → IsRing Channel last g []) → slice_get (hs ++ p ∷ []) k ≡ Some f →
+              IsRing Channel last f []
           by [] zero old h = subst (λ g. IsRing Channel last g []) (same_Some p f h) (ring_lone Channel p new (first_there p pool.store new added))
           by [] (suc k) old h = cc
           by (h₀ ∷ hs) zero old h = old 0 f h
@@ -200,13 +212,16 @@ module _ {T : Type 0} where
       channel_held heads_then e =
           subst (λ c. IsHeld head (ptrs heads_then) free pool.count c) (sym two_is)
           (subst (λ n. IsHeld head (ptrs heads_then) free n last) (sym none)
-          (subst (λ l. IsHeld head l free 0 last) (sym (ap (λ l. ptrs l) e ∙ ptrs_push pool.heads.items node)) (record { linked = linked_last; flight = none_flies (length (heads ++ p ∷ [])) })))
+          (subst (λ l. IsHeld head l free 0 last) (sym (ap (λ l. ptrs l) e ∙ ptrs_push pool.heads.items node)) (record { linked = linked_last; flight =
+              none_flies (length (heads ++ p ∷ [])) })))
 
-      pub channel_counted : (counts : List ℕ) (n : ℕ) → counts ≡ pool.counts.items ++ 0 ∷ [] → n ≡ length pool.heads.items + 1 → IsCounted counts n (order_of head pool.count two) two
+      pub channel_counted : (counts : List ℕ) (n : ℕ) → counts ≡ pool.counts.items ++ 0 ∷ [] → n ≡ length pool.heads.items + 1 →
+          IsCounted counts n (order_of head pool.count two) two
       channel_counted counts n e m =
           subst (λ k. IsCounted counts n (order_of head k two) two) (sym none)
           (subst (λ l. IsCounted l n [] two) (sym e)
-          (record { many = length-append pool.counts.items (0 ∷ []) ∙ ap (λ k. k + 1) whole.counted.many ∙ sym m; each = λ c h. zeros pool.counts.items c (λ k b. old k (omega (arith, b, whole.counted.many))) }))
+          (record { many = length-append pool.counts.items (0 ∷ []) ∙ ap (λ k. k + 1) whole.counted.many ∙ sym m; each =
+              λ c h. zeros pool.counts.items c (λ k b. old k (omega (arith, b, whole.counted.many))) }))
         where
           old : (k : ℕ) → k < length pool.heads.items → get_or pool.counts.items k 0 ≡ 0
           old k b = whole.counted.each k b ∙ ap (λ j. length (nodes_on pool.store k (order_of head j pool.store))) none
@@ -230,7 +245,8 @@ module _ {T : Type 0} where
           vacant = ap item_in (value_same head held_none.linked.number.there.0) ∙ whole.by_due.vacant
 
   -- 5. The pool that holds nothing, on no channel
-  module _ (head : Ptr) (one two three : List (Ptr × Node T)) (added : IsVacantFirst head [] one) (two_is : two ≡ lone Number head one) (three_is : three ≡ lone Due head two) where
+  module _ (head : Ptr) (one two three : List (Ptr × Node T)) (added : IsVacantFirst head [] one) (two_is : two ≡ lone Number head one)
+      (three_is : three ≡ lone Due head two) where
     abbrev alone_head : List (Ptr × Node T)
     alone_head = lone Due head (lone Number head one)
 

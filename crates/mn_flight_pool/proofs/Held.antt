@@ -1,5 +1,6 @@
 -- What a pool keeps, as an item comes and as a node is added.
-use Rattle.std.proofs.Common.{◌≡◌, ◌<◌, ◌+◌, ℕ, zero, suc, true, false, Bool, List, [], ◌∷◌, ◌++◌, length, Option, Some, None, IsSome, inl, inr, refl, sym, ap, ◌∙◌, subst, append_assoc, append-nil, arith, length-append}
+use Rattle.std.proofs.Common.{◌≡◌, ◌<◌, ◌+◌, ℕ, zero, suc, true, false, Bool, List, [], ◌∷◌, ◌++◌, length, Option, Some, None, IsSome, inl, inr, refl, sym}
+use Rattle.std.proofs.Common.{ap, ◌∙◌, subst, append_assoc, append-nil, arith, length-append}
 use Rattle.std.specs.Prelude.{slice_get, slice_index_or, remove}
 use Rattle.mn_flight.specs.Flying.{without}
 use Rattle.mn_flight.proofs.Taken.{removed, removed_flies}
@@ -35,7 +36,8 @@ module _ {T : Type 0} where
   pub order_is : (head : Ptr) (n : ℕ) (cells : List (Ptr × Node T)) (ps : List Ptr) → IsRing Number cells head ps → length ps ≡ n → order_of head n cells ≡ ps
   order_is head n cells ps ring e = ap (λ k. trace (next_of Number cells) head k) (sym e) ∙ trace_ring Number cells head ps ring
 
-  module _ (head : Ptr) (heads free : List Ptr) (n : ℕ) (p : Ptr) (cells : List (Ptr × Node T)) (held : IsHeld head heads (free ++ p ∷ []) n cells) (x : Item T) (first : Ptr) (at : slice_get heads x.channel ≡ Some first) where
+  module _ (head : Ptr) (heads free : List Ptr) (n : ℕ) (p : Ptr) (cells : List (Ptr × Node T)) (held : IsHeld head heads (free ++ p ∷ []) n cells)
+      (x : Item T) (first : Ptr) (at : slice_get heads x.channel ≡ Some first) where
     abbrev pub order : List Ptr
     order = order_of head n cells
 
@@ -46,7 +48,9 @@ module _ {T : Type 0} where
     now_linked = linked_entered head heads free order p cells held.linked x first at
 
     pub order_then : order_of head (n + 1) new ≡ order ++ p ∷ []
-    order_then = order_is head (n + 1) new (order ++ p ∷ []) now_linked.number (length-append order (p ∷ []) ∙ ap (λ k. k + 1) (length-trace (next_of Number cells) head n))
+    order_then =
+        order_is head (n + 1) new (order ++ p ∷ []) now_linked.number
+        (length-append order (p ∷ []) ∙ ap (λ k. k + 1) (length-trace (next_of Number cells) head n))
 
     -- the items are those from before and the new one
     pub items_pushed : items_in new (order_of head (n + 1) new) ≡ items_in cells order ++ x ∷ []
@@ -79,7 +83,8 @@ module _ {T : Type 0} where
 
     pub ring_kept : (pair : Pair) (s : Ptr) (ps : List Ptr) → IsRing pair old s ps → IsRing pair new s ps
     ring_kept pair =
-        ring_same old new (λ x h. subst (λ o. IsSome o) (sym (value_kept x h)) h) pair (λ x h. ap (next_in pair) (value_kept x h)) (λ x h. ap (prev_in pair) (value_kept x h))
+        ring_same old new (λ x h. subst (λ o. IsSome o) (sym (value_kept x h)) h) pair (λ x h. ap (next_in pair) (value_kept x h))
+            (λ x h. ap (prev_in pair) (value_kept x h))
 
     all_in : (P : Ptr → Type 0) (xs : List Ptr) (q : Ptr) → AllByRecursion P xs → IsIn q xs → P q
     all_in P [] q h i = absurd i
@@ -99,7 +104,8 @@ module _ {T : Type 0} where
         here : IsSome (value_at p ((p, added.0) ∷ old))
         here = rw same_ptr_refl refl
 
-    module _ (head : Ptr) (heads free : List Ptr) (n : ℕ) (held : IsHeld head heads free n old) (heads_there : AllByRecursion (λ q. IsSome (value_at q old)) heads) where
+    module _ (head : Ptr) (heads free : List Ptr) (n : ℕ) (held : IsHeld head heads free n old)
+        (heads_there : AllByRecursion (λ q. IsSome (value_at q old)) heads) where
       abbrev pub ring_order : List Ptr
       ring_order = order_of head n old
 
@@ -116,7 +122,9 @@ module _ {T : Type 0} where
       alone =
           free_both p (head ∷ heads) (ring_order ++ free)
           (apart head held.linked.number.there.0, free_from p heads (λ q i. apart q (all_in (λ r. IsSome (value_at r old)) heads q heads_there i)))
-          (free_both p ring_order free (free_from p ring_order (λ q i. apart q (all_in (λ r. IsSome (value_at r old)) ring_order q held.linked.number.there.1 i))) (free_from p free (λ q i. apart q (all_in (λ r. IsSome (value_at r old)) free q held.linked.there i))))
+          (free_both p ring_order free
+              (free_from p ring_order (λ q i. apart q (all_in (λ r. IsSome (value_at r old)) ring_order q held.linked.number.there.1 i)))
+              (free_from p free (λ q i. apart q (all_in (λ r. IsSome (value_at r old)) free q held.linked.there i))))
         where
           apart : (q : Ptr) → IsSome (value_at q old) → same_ptr p q ≡ false
           apart q h = same_ptr_symm p q ∙ not_p q h
@@ -125,18 +133,28 @@ module _ {T : Type 0} where
       held_added = record {
         linked = subst (λ ps. IsLinked head heads (free ++ p ∷ []) ps new) (sym order_kept) (record {
           number = ring_kept Number head ring_order held.linked.number;
-          channel = λ c f e. subst (λ l. IsRing Channel new f l) (sym (same_nodes_on old new c ring_order item_kept)) (ring_kept Channel f (nodes_on old c ring_order) (held.linked.channel c f e));
+          channel =
+              λ c f e. subst (λ l. IsRing Channel new f l) (sym (same_nodes_on old new c ring_order item_kept))
+              (ring_kept Channel f (nodes_on old c ring_order) (held.linked.channel c f e));
           apart =
-              let whole : ((head ∷ heads) ++ (ring_order ++ free)) ++ p ∷ [] ≡ (head ∷ heads) ++ (ring_order ++ (free ++ p ∷ [])) = append_assoc (head ∷ heads) (ring_order ++ free) (p ∷ []) ∙ ap (λ l. (head ∷ heads) ++ l) (append_assoc ring_order free (p ∷ [])) in
-              subst (λ l. IsDistinct same_ptr l) whole (distinct_with ((head ∷ heads) ++ (ring_order ++ free)) p [] (free_both p ((head ∷ heads) ++ (ring_order ++ free)) [] alone tt) (subst (λ l. IsDistinct same_ptr l) (sym (append-nil ((head ∷ heads) ++ (ring_order ++ free)))) held.linked.apart));
-          held = all_old (λ q. IsSome (item_at new q)) ring_order (λ q i. subst (λ o. IsSome o) (sym (item_kept q i)) (all_in (λ r. IsSome (item_at old r)) ring_order q held.linked.held i));
-          there = all_push (λ q. IsSome (value_at q new)) free (all_old (λ q. IsSome (value_at q new)) free (λ q i. subst (λ o. IsSome o) (sym (value_kept q (all_in (λ r. IsSome (value_at r old)) free q held.linked.there i))) (all_in (λ r. IsSome (value_at r old)) free q held.linked.there i))) there_p;
+              let whole : ((head ∷ heads) ++ (ring_order ++ free)) ++ p ∷ [] ≡ (head ∷ heads) ++ (ring_order ++ (free ++ p ∷ [])) =
+                  append_assoc (head ∷ heads) (ring_order ++ free) (p ∷ []) ∙ ap (λ l. (head ∷ heads) ++ l) (append_assoc ring_order free (p ∷ [])) in
+              subst (λ l. IsDistinct same_ptr l) whole
+                  (distinct_with ((head ∷ heads) ++ (ring_order ++ free)) p [] (free_both p ((head ∷ heads) ++ (ring_order ++ free)) [] alone tt)
+                  (subst (λ l. IsDistinct same_ptr l) (sym (append-nil ((head ∷ heads) ++ (ring_order ++ free)))) held.linked.apart));
+          held = all_old (λ q. IsSome (item_at new q)) ring_order
+              (λ q i. subst (λ o. IsSome o) (sym (item_kept q i)) (all_in (λ r. IsSome (item_at old r)) ring_order q held.linked.held i));
+          there = all_push (λ q. IsSome (value_at q new)) free
+              (all_old (λ q. IsSome (value_at q new)) free
+              (λ q i. subst (λ o. IsSome o) (sym (value_kept q (all_in (λ r. IsSome (value_at r old)) free q held.linked.there i)))
+              (all_in (λ r. IsSome (value_at r old)) free q held.linked.there i))) there_p;
         });
         flight = subst (λ xs. IsFlight (length heads) xs) (sym items_added) held.flight;
       }
 
   -- the channels' first nodes are there
-  pub heads_there : (head : Ptr) (heads free order : List Ptr) (cells : List (Ptr × Node T)) → IsLinked head heads free order cells → AllByRecursion (λ q. IsSome (value_at q cells)) heads
+  pub heads_there : (head : Ptr) (heads free order : List Ptr) (cells : List (Ptr × Node T)) → IsLinked head heads free order cells →
+      AllByRecursion (λ q. IsSome (value_at q cells)) heads
   heads_there head heads free ps cells linked = all heads (λ q i. let on = place_of q heads i in (linked.channel on.0 q on.1).there.0)
     where
       all : (xs : List Ptr) → ((q : Ptr) → IsIn q xs → IsSome (value_at q cells)) → AllByRecursion (λ q. IsSome (value_at q cells)) xs
@@ -144,7 +162,9 @@ module _ {T : Type 0} where
       all (q ∷ qs) h = (h q (inl refl), all qs (λ r i. h r (inr i)))
 
   -- an item leaves
-  module _ (head : Ptr) (heads free us : List Ptr) (p : Ptr) (vs : List Ptr) (n : ℕ) (cells : List (Ptr × Node T)) (held : IsHeld head heads free (suc n) cells) (cut : order_of head (suc n) cells ≡ us ++ p ∷ vs) (x : Item T) (first : Ptr) (holds : item_at cells p ≡ Some x) (at : slice_get heads x.channel ≡ Some first) where
+  module _ (head : Ptr) (heads free us : List Ptr) (p : Ptr) (vs : List Ptr) (n : ℕ) (cells : List (Ptr × Node T))
+      (held : IsHeld head heads free (suc n) cells) (cut : order_of head (suc n) cells ≡ us ++ p ∷ vs) (x : Item T) (first : Ptr)
+      (holds : item_at cells p ≡ Some x) (at : slice_get heads x.channel ≡ Some first) where
     before_linked : IsLinked head heads free (us ++ p ∷ vs) cells
     before_linked = subst (λ ps. IsLinked head heads free ps cells) cut held.linked
 
@@ -185,10 +205,13 @@ module _ {T : Type 0} where
     -- what is left is all but the item
     pub items_without : items_in (left p cells) (order_of head n (left p cells)) ≡ without (Some x) (items_in cells (order_of head (suc n) cells))
     items_without =
-        items_after ∙ sym dropped ∙ removed (length heads) (items_in cells us ++ x ∷ items_in cells vs) (length (items_in cells us)) x inside read flight_before ∙ ap (λ xs. without (Some x) xs) (sym items_before_it)
+        items_after ∙ sym dropped
+            ∙ removed (length heads) (items_in cells us ++ x ∷ items_in cells vs) (length (items_in cells us)) x inside read flight_before
+            ∙ ap (λ xs. without (Some x) xs) (sym items_before_it)
 
     pub held_left : IsHeld head heads (free ++ p ∷ []) n (left p cells)
     held_left = record {
       linked = subst (λ ps. IsLinked head heads (free ++ p ∷ []) ps (left p cells)) (sym order_after) after_linked;
-      flight = removed_flies (length heads) (items_in cells us ++ x ∷ items_in cells vs) (items_in (left p cells) (order_of head n (left p cells))) (length (items_in cells us)) x inside read flight_before (items_after ∙ sym dropped);
+      flight = removed_flies (length heads) (items_in cells us ++ x ∷ items_in cells vs) (items_in (left p cells) (order_of head n (left p cells)))
+          (length (items_in cells us)) x inside read flight_before (items_after ∙ sym dropped);
     }

@@ -1,5 +1,6 @@
 -- The items in nodes, and those of one channel.
-use Rattle.std.proofs.Common.{◌≡◌, ◌<◌, ◌≤◌, ℕ, zero, suc, Bool, true, false, cond, List, [], ◌∷◌, ◌++◌, length, Option, Some, None, IsSome, inl, inr, refl, sym, ap, ◌∙◌, subst, arith}
+use Rattle.std.proofs.Common.{◌≡◌, ◌<◌, ◌≤◌, ℕ, zero, suc, Bool, true, false, cond, List, [], ◌∷◌, ◌++◌, length, Option, Some, None, IsSome, inl, inr, refl}
+use Rattle.std.proofs.Common.{sym, ap, ◌∙◌, subst, arith}
 use Rattle.std.specs.Prelude.{◌==◌, filter, find, slice_get}
 use Rattle.std.specs.List.{AllByRecursion, AllPairs, cons_option}
 use Rattle.std.proofs.lemmas.Bool.Decides.{nat_tests}
@@ -45,7 +46,9 @@ module _ {T : Type 0} where
         by None e rest = rest
         by (Some x) e rest = split (x.channel == c)
           where
-            split : (b : Bool) → items_in cells (cond b (p ∷ nodes_on cells c ps) (nodes_on cells c ps)) ≡ cond b (x ∷ on_channel c (items_in cells ps)) (on_channel c (items_in cells ps))
+            split : (b : Bool) →
+                items_in cells (cond b (p ∷ nodes_on cells c ps) (nodes_on cells c ps)) ≡ cond b (x ∷ on_channel c (items_in cells ps))
+                (on_channel c (items_in cells ps))
             split true = rw e (ap (λ l. x ∷ l) rest)
             split false = rest
 
@@ -61,7 +64,9 @@ module _ {T : Type 0} where
     item_placed [] n p h e = cc
     item_placed (q ∷ ps) n p h e = by (item_at cells q) refl h.0 n e (λ m. item_placed ps m p h.1)
       where
-        by : (o : Option (Item T)) → item_at cells q ≡ o → IsSome o → (m : ℕ) → slice_get (q ∷ ps) m ≡ Some p → ((k : ℕ) → slice_get ps k ≡ Some p → slice_get (items_in cells ps) k ≡ item_at cells p) → slice_get (cons_option o (items_in cells ps)) m ≡ item_at cells p
+        by : (o : Option (Item T)) → item_at cells q ≡ o → IsSome o → (m : ℕ) → slice_get (q ∷ ps) m ≡ Some p →
+            ((k : ℕ) → slice_get ps k ≡ Some p → slice_get (items_in cells ps) k ≡ item_at cells p) →
+            slice_get (cons_option o (items_in cells ps)) m ≡ item_at cells p
         by None f s m g rest = cc
         by (Some x) f s zero g rest = sym f ∙ ap (item_at cells) (same_Some q p g)
         by (Some x) f s (suc m) g rest = rest m g
@@ -79,7 +84,8 @@ module _ {T : Type 0} where
     item_member [] q y i e = absurd i
     item_member (p ∷ ps) q y i e = by (item_at cells p) refl i (item_member ps q y)
       where
-        by : (o : Option (Item T)) → item_at cells p ≡ o → IsIn q (p ∷ ps) → (IsIn q ps → item_at cells q ≡ Some y → members.IsIn y (items_in cells ps)) → members.IsIn y (cons_option o (items_in cells ps))
+        by : (o : Option (Item T)) → item_at cells p ≡ o → IsIn q (p ∷ ps) →
+            (IsIn q ps → item_at cells q ≡ Some y → members.IsIn y (items_in cells ps)) → members.IsIn y (cons_option o (items_in cells ps))
         by None f (inl s) rest = absurd (none (item_at cells q) (ap (item_at cells) s ∙ f) e)
           where
             none : (o : Option (Item T)) → o ≡ None → o ≡ Some y → ⊥
@@ -92,14 +98,17 @@ module _ {T : Type 0} where
     member_node [] y i = absurd i
     member_node (p ∷ ps) y i = by (item_at cells p) refl i (member_node ps y)
       where
-        by : (o : Option (Item T)) → item_at cells p ≡ o → members.IsIn y (cons_option o (items_in cells ps)) → (members.IsIn y (items_in cells ps) → (q : Ptr) × IsIn q ps × (item_at cells q ≡ Some y)) → (q : Ptr) × IsIn q (p ∷ ps) × (item_at cells q ≡ Some y)
+        by : (o : Option (Item T)) → item_at cells p ≡ o → members.IsIn y (cons_option o (items_in cells ps)) →
+            (members.IsIn y (items_in cells ps) → (q : Ptr) × IsIn q ps × (item_at cells q ≡ Some y)) →
+            (q : Ptr) × IsIn q (p ∷ ps) × (item_at cells q ≡ Some y)
         by None f j rest = let on = rest j in (on.0, inr on.1, on.2)
         by (Some x) f (inl s) rest = (p, inl refl, f ∙ ap (λ z. Some z) (sym s))
         by (Some x) f (inr j) rest = let on = rest j in (on.0, inr on.1, on.2)
 
   -- 4. Numbers
   -- in front of an item stand those of lesser numbers
-  pub lesser_before : (xs : List (Item T)) (x : Item T) (ys : List (Item T)) → AllPairs (λ (a : Item T) (b : Item T). a.number < b.number) (xs ++ x ∷ ys) → (y : Item T) → members.IsIn y xs → y.number < x.number
+  pub lesser_before : (xs : List (Item T)) (x : Item T) (ys : List (Item T)) → AllPairs (λ (a : Item T) (b : Item T). a.number < b.number) (xs ++ x ∷ ys) →
+      (y : Item T) → members.IsIn y xs → y.number < x.number
   lesser_before [] x ys up y i = absurd i
   lesser_before (z ∷ zs) x ys up y (inl e) = subst (λ (w : Item T). w.number < x.number) (sym e) (members.first_below z (zs ++ x ∷ ys) up x (there zs))
     where
@@ -108,7 +117,8 @@ module _ {T : Type 0} where
       there (w ∷ ws) = inr (there ws)
   lesser_before (z ∷ zs) x ys up y (inr j) = lesser_before zs x ys (members.rest_ascends z (zs ++ x ∷ ys) up) y j
 
-  pub one_item : (xs : List (Item T)) → AllPairs (λ (a : Item T) (b : Item T). a.number < b.number) xs → (a b : Item T) → members.IsIn a xs → members.IsIn b xs → a.number ≡ b.number → a ≡ b
+  pub one_item : (xs : List (Item T)) → AllPairs (λ (a : Item T) (b : Item T). a.number < b.number) xs →
+      (a b : Item T) → members.IsIn a xs → members.IsIn b xs → a.number ≡ b.number → a ≡ b
   one_item [] up a b i j e = absurd i
   one_item (x ∷ xs) up a b i j e = elim i [
     | inl p ↦ elim j [

@@ -1,5 +1,6 @@
 -- A node leaves the rings with its item, and is free.
-use Rattle.std.proofs.Common.{◌≡◌, ℕ, true, false, cond, Bool, List, [], ◌∷◌, ◌++◌, Some, None, IsSome, inl, inr, refl, sym, ap, ◌∙◌, subst, append_assoc, append-nil, eq-eqb}
+use Rattle.std.proofs.Common.{◌≡◌, ℕ, true, false, cond, Bool, List, [], ◌∷◌, ◌++◌, Some, None, IsSome, inl, inr, refl, sym, ap, ◌∙◌, subst, append_assoc}
+use Rattle.std.proofs.Common.{append-nil, eq-eqb}
 use Rattle.std.specs.Prelude.{◌==◌, slice_get}
 use Rattle.std.specs.List.{AllByRecursion, IsDistinct, cons_option}
 use Rattle.std.proofs.lemmas.List.Elements.{filter-append, filter_map-append}
@@ -12,11 +13,15 @@ use Rattle.mn_flight_pool.specs.declared.node.Pair.TheVariants.{Number, Channel}
 use Rattle.mn_flight_pool.specs.declared.node.Node.{Node}
 use Rattle.mn_flight_pool.proofs.Found.{same_ptr_eq}
 use Rattle.mn_flight_pool.proofs.Changed.{same_ptr_symm, stays}
-use Rattle.mn_flight_pool.proofs.Neighbours.{in_left, in_at, free_left, free_right, free_both, free_from, free_at, others_free, distinct_with, distinct_without, apart_parts, at_places, all_without}
-use Rattle.mn_flight_pool.proofs.Rings.{ring_unlinked, ring_past_unlink, ring_past_item, ring_aside_unlink, ring_sides, unlink_stays, item_past_unlink, item_put, item_else}
+use Rattle.mn_flight_pool.proofs.Neighbours.{in_left, in_at, free_left, free_right, free_both, free_from, free_at, others_free, distinct_with}
+use Rattle.mn_flight_pool.proofs.Neighbours.{distinct_without, apart_parts, at_places, all_without}
+use Rattle.mn_flight_pool.proofs.Rings.{ring_unlinked, ring_past_unlink, ring_past_item, ring_aside_unlink, ring_sides, unlink_stays, item_past_unlink}
+use Rattle.mn_flight_pool.proofs.Rings.{item_put, item_else}
 use Rattle.mn_flight_pool.proofs.Entered.{from_filter, unlike, unlike', one_channel, same_nodes_on, same_items}
 
-module _ {T : Type 0} (head : Ptr) (heads free us : List Ptr) (p : Ptr) (vs : List Ptr) (cells : List (Ptr × Node T)) (linked : IsLinked head heads free (us ++ p ∷ vs) cells) (x : Item T) (first : Ptr) (holds : item_at cells p ≡ Some x) (at : slice_get heads x.channel ≡ Some first) where
+module _ {T : Type 0} (head : Ptr) (heads free us : List Ptr) (p : Ptr) (vs : List Ptr) (cells : List (Ptr × Node T))
+    (linked : IsLinked head heads free (us ++ p ∷ vs) cells) (x : Item T) (first : Ptr) (holds : item_at cells p ≡ Some x)
+    (at : slice_get heads x.channel ≡ Some first) where
   abbrev order : List Ptr
   order = us ++ p ∷ vs
 
@@ -44,7 +49,8 @@ module _ {T : Type 0} (head : Ptr) (heads free us : List Ptr) (p : Ptr) (vs : Li
 
   pub alone_order : IsFree p (us ++ vs)
   alone_order =
-      free_both p us vs (free_right p (head ∷ heads) us (free_left p ((head ∷ heads) ++ us) (vs ++ free) alone)) (free_left p vs free (free_right p ((head ∷ heads) ++ us) (vs ++ free) alone))
+      free_both p us vs (free_right p (head ∷ heads) us (free_left p ((head ∷ heads) ++ us) (vs ++ free) alone))
+          (free_left p vs free (free_right p ((head ∷ heads) ++ us) (vs ++ free) alone))
 
   here : (xs : List Ptr) → IsIn p (xs ++ p ∷ vs)
   here [] = inl refl
@@ -72,7 +78,9 @@ module _ {T : Type 0} (head : Ptr) (heads free us : List Ptr) (p : Ptr) (vs : Li
 
   -- 3. The ring of all
   pub number_left : IsRing Number three head (us ++ vs)
-  number_left = ring_past_item Number p None two head (us ++ vs) (ring_past_unlink Channel Number unlike' p one head (us ++ vs) (ring_unlinked Number head cells us p vs linked.number))
+  number_left =
+      ring_past_item Number p None two head (us ++ vs)
+      (ring_past_unlink Channel Number unlike' p one head (us ++ vs) (ring_unlinked Number head cells us p vs linked.number))
 
   -- 4. The channels' rings
   in_order : (c : ℕ) (q : Ptr) → IsIn q (nodes_on cells c order) → (is_on c (item_at cells q) ≡ true) × IsIn q order
@@ -81,7 +89,8 @@ module _ {T : Type 0} (head : Ptr) (heads free us : List Ptr) (p : Ptr) (vs : Li
   head_node : (f q : Ptr) → IsIn f heads → IsIn q order → same_ptr f q ≡ false
   head_node f q i j = apart_parts (head ∷ heads) (order ++ free) f q linked.apart (inr i) (in_left order free q j)
 
-  strangers : (c d : ℕ) (f g : Ptr) → slice_get heads c ≡ Some f → slice_get heads d ≡ Some g → (c ≡ d → ⊥) → (a : Ptr) → IsIn a (f ∷ nodes_on cells c order) → IsFree a (g ∷ nodes_on cells d order)
+  strangers : (c d : ℕ) (f g : Ptr) → slice_get heads c ≡ Some f → slice_get heads d ≡ Some g → (c ≡ d → ⊥) →
+      (a : Ptr) → IsIn a (f ∷ nodes_on cells c order) → IsFree a (g ∷ nodes_on cells d order)
   unfolding IsDistinct
   strangers c d f g ef eg ne a i = free_from a (g ∷ nodes_on cells d order) (λ q j. elim i [
     | inl e ↦ subst (λ r. same_ptr r q ≡ false) (sym e) (elim j [
@@ -90,7 +99,8 @@ module _ {T : Type 0} (head : Ptr) (heads free us : List Ptr) (p : Ptr) (vs : Li
     ])
     | inr e ↦ elim j [
       | inl k ↦ subst (λ r. same_ptr a r ≡ false) (sym k) (same_ptr_symm a g ∙ head_node g a (in_at heads d g eg) (in_order c a e).1)
-      | inr k ↦ differ a q (λ same. ne (one_channel c d (item_at cells a) (in_order c a e).0 (subst (λ r. is_on d (item_at cells r) ≡ true) (sym same) (in_order d q k).0)))
+      | inr k ↦ differ a q
+          (λ same. ne (one_channel c d (item_at cells a) (in_order c a e).0 (subst (λ r. is_on d (item_at cells r) ≡ true) (sym same) (in_order d q k).0)))
     ]
   ])
     where
@@ -102,7 +112,9 @@ module _ {T : Type 0} (head : Ptr) (heads free us : List Ptr) (p : Ptr) (vs : Li
           by false t = t
 
   pub nodes_before : (c : ℕ) → nodes_on cells c order ≡ nodes_on cells c us ++ cond (x.channel == c) (p ∷ nodes_on cells c vs) (nodes_on cells c vs)
-  nodes_before c = filter-append (λ q. is_on c (item_at cells q)) us (p ∷ vs) ∙ ap (λ o. nodes_on cells c us ++ cond (is_on c o) (p ∷ nodes_on cells c vs) (nodes_on cells c vs)) holds
+  nodes_before c =
+      filter-append (λ q. is_on c (item_at cells q)) us (p ∷ vs)
+      ∙ ap (λ o. nodes_on cells c us ++ cond (is_on c o) (p ∷ nodes_on cells c vs) (nodes_on cells c vs)) holds
 
   pub nodes_then : (c : ℕ) → nodes_on three c (us ++ vs) ≡ nodes_on cells c us ++ nodes_on cells c vs
   nodes_then c = same_nodes_on cells three c (us ++ vs) old_item ∙ filter-append (λ q. is_on c (item_at cells q)) us vs
@@ -111,22 +123,34 @@ module _ {T : Type 0} (head : Ptr) (heads free us : List Ptr) (p : Ptr) (vs : Li
   ring_one c f e = ring_past_unlink Number Channel unlike p cells f (nodes_on cells c order) (linked.channel c f e)
 
   own_ring : IsRing Channel one first (nodes_on cells x.channel us ++ p ∷ nodes_on cells x.channel vs)
-  own_ring = subst (λ l. IsRing Channel one first l) (nodes_before x.channel ∙ ap (λ b. nodes_on cells x.channel us ++ cond b (p ∷ nodes_on cells x.channel vs) (nodes_on cells x.channel vs)) (eq-eqb x.channel x.channel refl)) (ring_one x.channel first at)
+  own_ring =
+      subst (λ l. IsRing Channel one first l)
+      (nodes_before x.channel ∙ ap (λ b. nodes_on cells x.channel us ++ cond b (p ∷ nodes_on cells x.channel vs) (nodes_on cells x.channel vs))
+      (eq-eqb x.channel x.channel refl)) (ring_one x.channel first at)
 
   sides : IsIn (prev_of Channel one p) (first ∷ nodes_on cells x.channel order) × IsIn (next_of Channel one p) (first ∷ nodes_on cells x.channel order)
   sides =
-      let back : nodes_on cells x.channel us ++ p ∷ nodes_on cells x.channel vs ≡ nodes_on cells x.channel order = sym (nodes_before x.channel ∙ ap (λ b. nodes_on cells x.channel us ++ cond b (p ∷ nodes_on cells x.channel vs) (nodes_on cells x.channel vs)) (eq-eqb x.channel x.channel refl)) in
+      let back : nodes_on cells x.channel us ++ p ∷ nodes_on cells x.channel vs ≡ nodes_on cells x.channel order =
+          sym (nodes_before x.channel ∙ ap (λ b. nodes_on cells x.channel us ++ cond b (p ∷ nodes_on cells x.channel vs) (nodes_on cells x.channel vs))
+          (eq-eqb x.channel x.channel refl)) in
       let both = ring_sides Channel one first (nodes_on cells x.channel us) p (nodes_on cells x.channel vs) own_ring in
       (subst (λ l. IsIn (prev_of Channel one p) (first ∷ l)) back both.0, subst (λ l. IsIn (next_of Channel one p) (first ∷ l)) back both.1)
 
   pub channel_left : (c : ℕ) (f : Ptr) → slice_get heads c ≡ Some f → IsRing Channel three f (nodes_on three c (us ++ vs))
-  channel_left c f e = subst (λ l. IsRing Channel three f l) (sym (nodes_then c)) (ring_past_item Channel p None two f (nodes_on cells c us ++ nodes_on cells c vs) (by (x.channel == c) refl))
+  channel_left c f e =
+      subst (λ l. IsRing Channel three f l) (sym (nodes_then c))
+      (ring_past_item Channel p None two f (nodes_on cells c us ++ nodes_on cells c vs) (by (x.channel == c) refl))
     where
       by : (b : Bool) → (x.channel == c) ≡ b → IsRing Channel two f (nodes_on cells c us ++ nodes_on cells c vs)
-      by true t = ring_unlinked Channel f one (nodes_on cells c us) p (nodes_on cells c vs) (subst (λ l. IsRing Channel one f l) (nodes_before c ∙ ap (λ b. nodes_on cells c us ++ cond b (p ∷ nodes_on cells c vs) (nodes_on cells c vs)) t) (ring_one c f e))
+      by true t =
+          ring_unlinked Channel f one (nodes_on cells c us) p (nodes_on cells c vs)
+          (subst (λ l. IsRing Channel one f l) (nodes_before c ∙ ap (λ b. nodes_on cells c us ++ cond b (p ∷ nodes_on cells c vs) (nodes_on cells c vs)) t)
+          (ring_one c f e))
       by false t =
           let ne : x.channel ≡ c → ⊥ = λ same. clash (x.channel == c) (eq-eqb x.channel c same) t in
-          let ring = ring_aside_unlink Channel p one f (nodes_on cells c order) (strangers x.channel c first f at e ne (prev_of Channel one p) sides.0) (strangers x.channel c first f at e ne (next_of Channel one p) sides.1) (ring_one c f e) in
+          let ring =
+              ring_aside_unlink Channel p one f (nodes_on cells c order) (strangers x.channel c first f at e ne (prev_of Channel one p) sides.0)
+              (strangers x.channel c first f at e ne (next_of Channel one p) sides.1) (ring_one c f e) in
           subst (λ l. IsRing Channel two f l) (nodes_before c ∙ ap (λ b. nodes_on cells c us ++ cond b (p ∷ nodes_on cells c vs) (nodes_on cells c vs)) t) ring
         where
           clash : (b : Bool) → b ≡ true → b ≡ false → ⊥
@@ -154,9 +178,15 @@ module _ {T : Type 0} (head : Ptr) (heads free us : List Ptr) (p : Ptr) (vs : Li
         let whole : others ++ p ∷ [] ≡ (head ∷ heads) ++ ((us ++ vs) ++ (free ++ p ∷ [])) =
         append_assoc ((head ∷ heads) ++ us) (vs ++ free) (p ∷ []) ∙ append_assoc (head ∷ heads) us ((vs ++ free) ++ p ∷ [])
         ∙ ap (λ l. (head ∷ heads) ++ (us ++ l)) (append_assoc vs free (p ∷ [])) ∙ ap (λ l. (head ∷ heads) ++ l) (sym (append_assoc us vs (free ++ p ∷ []))) in
-        subst (λ l. IsDistinct same_ptr l) whole (distinct_with others p [] (subst (λ l. IsFree p l) (sym (append-nil others)) alone) (subst (λ l. IsDistinct same_ptr l) (sym (append-nil others)) rest_apart));
-    held = all_old (λ q. IsSome (item_at three q)) (us ++ vs) (λ q i. rw (old_item q i) (all_in (λ r. IsSome (item_at cells r)) (us ++ vs) q (all_without (λ r. IsSome (item_at cells r)) us p vs linked.held) i));
-    there = all_push (λ q. IsSome (value_at q three)) free (all_old (λ q. IsSome (value_at q three)) free (λ q i. three_there q (all_in (λ r. IsSome (value_at r cells)) free q linked.there i))) (three_there p p_there);
+        subst (λ l. IsDistinct same_ptr l) whole
+            (distinct_with others p [] (subst (λ l. IsFree p l) (sym (append-nil others)) alone)
+            (subst (λ l. IsDistinct same_ptr l) (sym (append-nil others)) rest_apart));
+    held = all_old (λ q. IsSome (item_at three q)) (us ++ vs)
+        (λ q i. rw (old_item q i)
+        (all_in (λ r. IsSome (item_at cells r)) (us ++ vs) q (all_without (λ r. IsSome (item_at cells r)) us p vs linked.held) i));
+    there = all_push (λ q. IsSome (value_at q three)) free
+        (all_old (λ q. IsSome (value_at q three)) free (λ q i. three_there q (all_in (λ r. IsSome (value_at r cells)) free q linked.there i)))
+        (three_there p p_there);
   }
 
   -- the items before are those after and, between them, the item taken

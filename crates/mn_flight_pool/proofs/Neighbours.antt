@@ -29,7 +29,8 @@ others_free (x ∷ xs) p ys d = (same_ptr_symm p x ∙ (free_right x xs (p ∷ y
 pub distinct_with : (xs : List Ptr) (p : Ptr) (ys : List Ptr) → IsFree p (xs ++ ys) → IsDistinct same_ptr (xs ++ ys) → IsDistinct same_ptr (xs ++ p ∷ ys)
 unfolding IsDistinct
 distinct_with [] p ys f d = (f, d)
-distinct_with (x ∷ xs) p ys f d = (free_both x xs (p ∷ ys) (free_left x xs ys d.0) (same_ptr_symm x p ∙ f.0, free_right x xs ys d.0), distinct_with xs p ys f.1 d.1)
+distinct_with (x ∷ xs) p ys f d =
+    (free_both x xs (p ∷ ys) (free_left x xs ys d.0) (same_ptr_symm x p ∙ f.0, free_right x xs ys d.0), distinct_with xs p ys f.1 d.1)
 
 pub distinct_without : (xs : List Ptr) (p : Ptr) (ys : List Ptr) → IsDistinct same_ptr (xs ++ p ∷ ys) → IsDistinct same_ptr (xs ++ ys)
 unfolding IsDistinct
@@ -51,14 +52,16 @@ module _ (next prev next' prev' : Ptr → Ptr) where
     pub nexts : AllByRecursion (λ p. next' p ≡ next p) ps
     pub prevs : AllByRecursion (λ q. prev' q ≡ prev q) qs
 
-  pub same_neighbours : (ps qs : List Ptr) → AllByRecursion (λ p. next' p ≡ next p) ps → AllByRecursion (λ q. prev' q ≡ prev q) qs → AreNeighbours next prev ps qs → AreNeighbours next' prev' ps qs
+  pub same_neighbours : (ps qs : List Ptr) → AllByRecursion (λ p. next' p ≡ next p) ps → AllByRecursion (λ q. prev' q ≡ prev q) qs →
+      AreNeighbours next prev ps qs → AreNeighbours next' prev' ps qs
   same_neighbours [] [] f g h = tt
   same_neighbours [] (q ∷ qs) f g h = absurd h
   same_neighbours (p ∷ ps) [] f g h = absurd h
   same_neighbours (p ∷ ps) (q ∷ qs) f g h = (f.0 ∙ h.0, g.0 ∙ h.1, same_neighbours ps qs f.1 g.1 h.2)
 
   -- q comes between a and b
-  pub between : (us : List Ptr) (a : Ptr) (vs us' : List Ptr) (b : Ptr) (vs' : List Ptr) (q : Ptr) → length us ≡ length us' → AreNeighbours next prev (us ++ a ∷ vs) (us' ++ b ∷ vs')
+  pub between : (us : List Ptr) (a : Ptr) (vs us' : List Ptr) (b : Ptr) (vs' : List Ptr) (q : Ptr) → length us ≡ length us' →
+      AreNeighbours next prev (us ++ a ∷ vs) (us' ++ b ∷ vs')
       → next' a ≡ q → prev' q ≡ a → next' q ≡ b → prev' b ≡ q
       → AllByRecursion (λ p. next' p ≡ next p) (us ++ vs) → AllByRecursion (λ p. prev' p ≡ prev p) (us' ++ vs')
       → AreNeighbours next' prev' (us ++ a ∷ q ∷ vs) (us' ++ q ∷ b ∷ vs')
@@ -69,7 +72,8 @@ module _ (next prev next' prev' : Ptr → Ptr) where
       let same : length us ≡ length us' = cc in (f.0 ∙ h.0, g.0 ∙ h.1, between us a vs us' b vs' q same h.2 na pq nq pb f.1 g.1)
 
   -- q leaves its place between a and b
-  pub beside : (us : List Ptr) (a : Ptr) (vs us' : List Ptr) (b : Ptr) (vs' : List Ptr) (q : Ptr) → length us ≡ length us' → AreNeighbours next prev (us ++ a ∷ q ∷ vs) (us' ++ q ∷ b ∷ vs')
+  pub beside : (us : List Ptr) (a : Ptr) (vs us' : List Ptr) (b : Ptr) (vs' : List Ptr) (q : Ptr) → length us ≡ length us' →
+      AreNeighbours next prev (us ++ a ∷ q ∷ vs) (us' ++ q ∷ b ∷ vs')
       → next' a ≡ b → prev' b ≡ a
       → AllByRecursion (λ p. next' p ≡ next p) (us ++ vs) → AllByRecursion (λ p. prev' p ≡ prev p) (us' ++ vs')
       → AreNeighbours next' prev' (us ++ a ∷ vs) (us' ++ b ∷ vs')
@@ -80,7 +84,8 @@ module _ (next prev next' prev' : Ptr → Ptr) where
       let same : length us ≡ length us' = cc in (f.0 ∙ h.0, g.0 ∙ h.1, beside us a vs us' b vs' q same h.2 na pb f.1 g.1)
 
 -- what the lists say of the node at a place
-pub neighbour : (next prev : Ptr → Ptr) (us : List Ptr) (a : Ptr) (vs us' : List Ptr) (b : Ptr) (vs' : List Ptr) → length us ≡ length us' → AreNeighbours next prev (us ++ a ∷ vs) (us' ++ b ∷ vs') → (next a ≡ b) × (prev b ≡ a)
+pub neighbour : (next prev : Ptr → Ptr) (us : List Ptr) (a : Ptr) (vs us' : List Ptr) (b : Ptr) (vs' : List Ptr) → length us ≡ length us' →
+    AreNeighbours next prev (us ++ a ∷ vs) (us' ++ b ∷ vs') → (next a ≡ b) × (prev b ≡ a)
 neighbour next prev [] a vs [] b vs' e h = (h.0, h.1)
 neighbour next prev [] a vs (x' ∷ us') b vs' e h = cc
 neighbour next prev (x ∷ us) a vs [] b vs' e h = cc
@@ -140,10 +145,13 @@ in_at (z ∷ zs) zero x h = inl (sym (same_Some z x h))
 in_at (z ∷ zs) (suc c) x h = inr (in_at zs c x h)
 
 -- two different places of a row of different nodes
-pub at_places : (xs ys : List Ptr) (c d : ℕ) (x y : Ptr) → IsDistinct same_ptr (xs ++ ys) → slice_get xs c ≡ Some x → slice_get xs d ≡ Some y → (c ≡ d → ⊥) → same_ptr x y ≡ false
+pub at_places : (xs ys : List Ptr) (c d : ℕ) (x y : Ptr) → IsDistinct same_ptr (xs ++ ys) → slice_get xs c ≡ Some x → slice_get xs d ≡ Some y →
+    (c ≡ d → ⊥) → same_ptr x y ≡ false
 unfolding IsDistinct
 at_places [] ys c d x y dis p q ne = cc
 at_places (z ∷ zs) ys zero zero x y dis p q ne = absurd (ne refl)
-at_places (z ∷ zs) ys zero (suc d) x y dis p q ne = subst (λ w. same_ptr w y ≡ false) (same_Some z x p) (free_at z zs y (free_left z zs ys dis.0) (in_at zs d y q))
-at_places (z ∷ zs) ys (suc c) zero x y dis p q ne = same_ptr_symm x y ∙ subst (λ w. same_ptr w x ≡ false) (same_Some z y q) (free_at z zs x (free_left z zs ys dis.0) (in_at zs c x p))
+at_places (z ∷ zs) ys zero (suc d) x y dis p q ne =
+    subst (λ w. same_ptr w y ≡ false) (same_Some z x p) (free_at z zs y (free_left z zs ys dis.0) (in_at zs d y q))
+at_places (z ∷ zs) ys (suc c) zero x y dis p q ne =
+    same_ptr_symm x y ∙ subst (λ w. same_ptr w x ≡ false) (same_Some z y q) (free_at z zs x (free_left z zs ys dis.0) (in_at zs c x p))
 at_places (z ∷ zs) ys (suc c) (suc d) x y dis p q ne = at_places zs ys c d x y dis.1 p q (λ e. ne (ap suc e))

@@ -1,5 +1,6 @@
 -- A walk from the newest node back finds the item of a number.
-use Rattle.std.proofs.Common.{◌≡◌, ◌<◌, ◌+◌, ℕ, suc, Bool, true, false, List, [], ◌∷◌, ◌++◌, length, Option, Some, None, IsSome, inl, inr, refl, sym, ap, ◌∙◌, subst, arith, append_assoc, append-nil, length-append}
+use Rattle.std.proofs.Common.{◌≡◌, ◌<◌, ◌+◌, ℕ, suc, Bool, true, false, List, [], ◌∷◌, ◌++◌, length, Option, Some, None, IsSome, inl, inr, refl, sym, ap}
+use Rattle.std.proofs.Common.{◌∙◌, subst, arith, append_assoc, append-nil, length-append}
 use Rattle.std.specs.Prelude.{◌==◌, find}
 use Rattle.std.specs.List.{AllPairs, cons_option}
 use Rattle.std.proofs.lemmas.List.Elements.{filter_map-append}
@@ -41,17 +42,27 @@ module _ {T : Type 0} (pool : Pool T) (whole : IsWhole pool) (number : ℕ) wher
       by (u ∷ us) cut =
           let last = last_of_cons u us in let ws = last.0 in let p = last.1 in
           let new : order_in pool ≡ ws ++ p ∷ is.passed = cut ∙ ap (λ l. l ++ is.passed) last.2 ∙ append_assoc ws (p ∷ []) is.passed in
-          let steps : steps_of (prev_of Number pool.store) pool.head.ptr (suc k) ≡ p = ap (λ n. steps_of (prev_of Number pool.store) pool.head.ptr (suc n)) (sym is.count) ∙ back_at Number pool.store pool.head.ptr is.passed ws p (subst (λ l. IsRing Number pool.store pool.head.ptr l) new whole.held.linked.number) in
+          let steps : steps_of (prev_of Number pool.store) pool.head.ptr (suc k) ≡ p =
+              ap (λ n. steps_of (prev_of Number pool.store) pool.head.ptr (suc n)) (sym is.count)
+              ∙ back_at Number pool.store pool.head.ptr is.passed ws p (subst (λ l. IsRing Number pool.store pool.head.ptr l) new whole.held.linked.number)
+              in
           let here : node ≡ p = e ∙ ap (prev_of Number pool.store) is.node ∙ steps in
-          record { front = ws; passed = is.passed; cut = subst (λ r. order_in pool ≡ ws ++ r ∷ is.passed) (sym here) new; count = is.count; greater = is.greater }
+          record { front = ws; passed = is.passed; cut = subst (λ r. order_in pool ≡ ws ++ r ∷ is.passed) (sym here) new; count = is.count; greater =
+              is.greater }
 
   pub at_there : (k : ℕ) (at : Ptr) → IsPassed pool number k at → k < pool.count → IsSome (value_at at pool.store)
   at_there k at is below = by is.passed is.cut is.count is.node
     where
-      by : (vs : List Ptr) → order_in pool ≡ is.front ++ vs → length vs ≡ k → at ≡ steps_of (prev_of Number pool.store) pool.head.ptr k → IsSome (value_at at pool.store)
-      by [] cut count node = subst (λ p. IsSome (value_at p pool.store)) (sym (node ∙ ap (steps_of (prev_of Number pool.store) pool.head.ptr) (sym count))) whole.held.linked.number.there.0
+      by : (vs : List Ptr) → order_in pool ≡ is.front ++ vs → length vs ≡ k → at ≡ steps_of (prev_of Number pool.store) pool.head.ptr k →
+          IsSome (value_at at pool.store)
+      by [] cut count node =
+          subst (λ p. IsSome (value_at p pool.store)) (sym (node ∙ ap (steps_of (prev_of Number pool.store) pool.head.ptr) (sym count)))
+          whole.held.linked.number.there.0
       by (v ∷ vs) cut count node =
-          let steps : steps_of (prev_of Number pool.store) pool.head.ptr k ≡ v = ap (steps_of (prev_of Number pool.store) pool.head.ptr) (sym count) ∙ back_at Number pool.store pool.head.ptr vs is.front v (subst (λ l. IsRing Number pool.store pool.head.ptr l) cut whole.held.linked.number) in
+          let steps : steps_of (prev_of Number pool.store) pool.head.ptr k ≡ v =
+              ap (steps_of (prev_of Number pool.store) pool.head.ptr) (sym count)
+              ∙ back_at Number pool.store pool.head.ptr vs is.front v (subst (λ l. IsRing Number pool.store pool.head.ptr l) cut whole.held.linked.number)
+              in
           subst (λ p. IsSome (value_at p pool.store)) (sym (node ∙ steps)) (node_there pool whole v (subst (λ l. IsIn v l) (sym cut) (in_middle is.front v vs)))
 
   module _ (k : ℕ) (node : Ptr) (n : Next k node) where
@@ -78,7 +89,10 @@ module _ {T : Type 0} (pool : Pool T) (whole : IsWhole pool) (number : ℕ) wher
             passed = node ∷ n.passed;
             cut = n.cut;
             count = ap suc n.count ∙ sym steps;
-            node = sym (ap (steps_of (prev_of Number pool.store) pool.head.ptr) steps ∙ ap (λ m. steps_of (prev_of Number pool.store) pool.head.ptr (suc m)) (sym n.count) ∙ back_at Number pool.store pool.head.ptr n.passed n.front node (subst (λ l. IsRing Number pool.store pool.head.ptr l) n.cut whole.held.linked.number));
+            node = sym (ap (steps_of (prev_of Number pool.store) pool.head.ptr) steps
+                ∙ ap (λ m. steps_of (prev_of Number pool.store) pool.head.ptr (suc m)) (sym n.count)
+                ∙ back_at Number pool.store pool.head.ptr n.passed n.front node
+                (subst (λ l. IsRing Number pool.store pool.head.ptr l) n.cut whole.held.linked.number));
             greater = λ q y i e. elim i [
               | inl s ↦ let same : x ≡ y = same_Some x y (holds ∙ ap (item_at pool.store) (sym s) ∙ e) in subst (λ (z : Item T). number < z.number) same h
               | inr j ↦ n.greater q y j e
@@ -118,10 +132,13 @@ module _ {T : Type 0} (pool : Pool T) (whole : IsWhole pool) (number : ℕ) wher
               split false t = t
 
           parts : items_of pool ≡ items_in pool.store n.front ++ x ∷ items_in pool.store n.passed
-          parts = ap (λ l. items_in pool.store l) n.cut ∙ filter_map-append (item_at pool.store) n.front (node ∷ n.passed) ∙ ap (λ o. items_in pool.store n.front ++ cons_option o (items_in pool.store n.passed)) (sym holds)
+          parts = ap (λ l. items_in pool.store l) n.cut ∙ filter_map-append (item_at pool.store) n.front (node ∷ n.passed)
+              ∙ ap (λ o. items_in pool.store n.front ++ cons_option o (items_in pool.store n.passed)) (sym holds)
 
           lesser : (y : Item T) → members.IsIn y (items_in pool.store n.front) → y.number < x.number
-          lesser y i = lesser_before (items_in pool.store n.front) x (items_in pool.store n.passed) (subst (λ l. AllPairs (λ (a : Item T) (b : Item T). a.number < b.number) l) parts (flight pool whole).ascending) y i
+          lesser y i =
+              lesser_before (items_in pool.store n.front) x (items_in pool.store n.passed)
+              (subst (λ l. AllPairs (λ (a : Item T) (b : Item T). a.number < b.number) l) parts (flight pool whole).ascending) y i
 
   -- all were greater
   pub all_greater : (at : Ptr) → IsPassed pool number pool.count at → find (λ (item : Item T). item.number == number) (items_of pool) ≡ None

@@ -12,7 +12,7 @@ use Rattle.mn_flight_pool.proofs.Rings.{ring_past_link, ring_past_unlink, link_s
 use Rattle.mn_flight_pool.proofs.Entered.{same_nodes_on, same_items}
 use Rattle.mn_flight_pool.proofs.Held.{order_is, length-trace}
 
-due_number : Due ≡ Number → ⊥
+pub due_number : Due ≡ Number → ⊥
 due_number e = cc
 
 due_channel : Due ≡ Channel → ⊥
@@ -40,7 +40,9 @@ module _ {T : Type 0} (old new : List (Ptr × Node T)) where
     linked_alike : (head : Ptr) (heads free order : List Ptr) → IsLinked head heads free order old → IsLinked head heads free order new
     linked_alike head heads free order linked = record {
       number = alike.number head order linked.number;
-      channel = λ c first e. subst (λ l. IsRing Channel new first l) (sym (nodes_alike c order)) (alike.channel first (nodes_on old c order) (linked.channel c first e));
+      channel =
+          λ c first e. subst (λ l. IsRing Channel new first l) (sym (nodes_alike c order))
+          (alike.channel first (nodes_on old c order) (linked.channel c first e));
       apart = linked.apart;
       held = all_alike (λ q. IsSome (item_at old q)) (λ q. IsSome (item_at new q)) order (λ q h. subst (λ o. IsSome o) (sym (alike.items q)) h) linked.held;
       there = all_alike (λ q. IsSome (value_at q old)) (λ q. IsSome (value_at q new)) free alike.stay linked.there;
@@ -48,7 +50,8 @@ module _ {T : Type 0} (old new : List (Ptr × Node T)) where
 
     module _ (head : Ptr) (heads free : List Ptr) (n : ℕ) (held : IsHeld head heads free n old) where
       pub order_alike : order_of head n new ≡ order_of head n old
-      order_alike = order_is head n new (order_of head n old) (alike.number head (order_of head n old) held.linked.number) (length-trace (next_of Number old) head n)
+      order_alike =
+          order_is head n new (order_of head n old) (alike.number head (order_of head n old) held.linked.number) (length-trace (next_of Number old) head n)
 
       pub held_alike : IsHeld head heads free n new
       held_alike = record {

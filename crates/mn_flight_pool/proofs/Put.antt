@@ -1,5 +1,6 @@
 -- A whole pool takes an item.
-use Rattle.std.proofs.Common.{◌≡◌, ◌<◌, ◌≤◌, ◌+◌, ℕ, zero, suc, List, [], ◌∷◌, ◌++◌, length, Option, Some, None, IsSome, inl, inr, refl, sym, ap, ◌∙◌, subst, arith, length-append, get_or}
+use Rattle.std.proofs.Common.{◌≡◌, ◌<◌, ◌≤◌, ◌+◌, ℕ, zero, suc, List, [], ◌∷◌, ◌++◌, length, Option, Some, None, IsSome, inl, inr, refl, sym, ap, ◌∙◌}
+use Rattle.std.proofs.Common.{subst, arith, length-append, get_or}
 use Rattle.std.specs.Prelude.{slice_get, slice_index_or, slice_set}
 use Rattle.std.specs.List.{All, AllByRecursion}
 use Rattle.std.proofs.lemmas.List.{map-append}
@@ -35,8 +36,11 @@ module _ {T : Type 0} (pool : Pool T) (whole : IsWhole pool) where
   -- there are no more ticks than items
   pub ticks_count : length pool.ticks.items ≤ pool.count
   ticks_count =
-      let few = fewer due_at pool.ticks.items (order_in pool) whole.by_due.ascending (all_kept (IsTick pool.store (order_in pool)) (λ t. IsIn t.last.ptr (order_in pool) × (due_at t.last.ptr ≡ t.due)) pool.ticks.items
-      (λ t is. let last = tick_item pool.store (order_in pool) t.due (item_at pool.store t.last.ptr) is.last in (is.there, ap due_of last.1 ∙ last.2)) whole.by_due.lasts) in
+      let few =
+          fewer due_at pool.ticks.items (order_in pool) whole.by_due.ascending
+          (all_kept (IsTick pool.store (order_in pool)) (λ t. IsIn t.last.ptr (order_in pool) × (due_at t.last.ptr ≡ t.due)) pool.ticks.items
+      (λ t is. let last = tick_item pool.store (order_in pool) t.due (item_at pool.store t.last.ptr) is.last in
+          (is.there, ap due_of last.1 ∙ last.2)) whole.by_due.lasts) in
       omega (arith, few, order_length pool whole)
     where
       due_of : Option (Item T) → ℕ
@@ -93,17 +97,25 @@ module _ {T : Type 0} (pool : Pool T) (whole : IsWhole pool) where
             subst (λ (z : Item T). z.number < x.number) at.2 (above at.0 y at.1)
 
         abbrev dues_then : List Ptr
-        dues_then = then pool.head.ptr (ptrs pool.heads.items) (ptrs front) (order_in pool) node.ptr pool.store held_cut.linked x first.ptr at dues pool.ticks.items whole.by_due greatest
+        dues_then =
+            then pool.head.ptr (ptrs pool.heads.items) (ptrs front) (order_in pool) node.ptr pool.store held_cut.linked x first.ptr at dues pool.ticks.items
+            whole.by_due greatest
 
-        entered_dues : IsByDue pool.head.ptr (order_in pool ++ node.ptr ∷ []) dues_then (put_tick x.due node.ptr pool.ticks.items) (link_behind Due node.ptr last three)
-        entered_dues = due_entered pool.head.ptr (ptrs pool.heads.items) (ptrs front) (order_in pool) node.ptr pool.store held_cut.linked x first.ptr at dues pool.ticks.items whole.by_due greatest
+        entered_dues : IsByDue pool.head.ptr (order_in pool ++ node.ptr ∷ []) dues_then (put_tick x.due node.ptr pool.ticks.items)
+            (link_behind Due node.ptr last three)
+        entered_dues =
+            due_entered pool.head.ptr (ptrs pool.heads.items) (ptrs front)
+            (order_in pool) node.ptr pool.store held_cut.linked x first.ptr at dues pool.ticks.items whole.by_due greatest
 
         three_ring : IsRing Due three pool.head.ptr dues
-        three_ring = due_three pool.head.ptr (ptrs pool.heads.items) (ptrs front) (order_in pool) node.ptr pool.store held_cut.linked x first.ptr at dues pool.ticks.items whole.by_due greatest
+        three_ring =
+            due_three pool.head.ptr (ptrs pool.heads.items) (ptrs front)
+            (order_in pool) node.ptr pool.store held_cut.linked x first.ptr at dues pool.ticks.items whole.by_due greatest
 
         last_in : IsIn last (pool.head.ptr ∷ dues)
         last_in =
-            let s = stand pool.head.ptr (ptrs pool.heads.items) (ptrs front) (order_in pool) node.ptr pool.store held_cut.linked x first.ptr at dues pool.ticks.items whole.by_due greatest in
+            let s = stand pool.head.ptr (ptrs pool.heads.items) (ptrs front)
+                (order_in pool) node.ptr pool.store held_cut.linked x first.ptr at dues pool.ticks.items whole.by_due greatest in
             elim s.end [
               | inl e ↦ inl e.1
               | inr e ↦ inr (subst (λ l. IsIn last l) (sym s.cut) (in_front last s.front s.behind (subst (λ l. IsIn last l) (sym e.1) (in_middle e.0 last []))))
@@ -113,15 +125,19 @@ module _ {T : Type 0} (pool : Pool T) (whole : IsWhole pool) where
           pub node_in_one : IsSome (value_at node.ptr one)
           node_in_one =
               subst (λ c. IsSome (value_at node.ptr c)) (sym one_is)
-              (three_there pool.head.ptr (ptrs pool.heads.items) (ptrs front) (order_in pool) node.ptr pool.store held_cut.linked x first.ptr at node.ptr (p_there pool.head.ptr (ptrs pool.heads.items) (ptrs front) (order_in pool) node.ptr pool.store held_cut.linked x first.ptr at))
+              (three_there pool.head.ptr (ptrs pool.heads.items) (ptrs front) (order_in pool) node.ptr pool.store held_cut.linked x first.ptr at node.ptr
+                  (p_there pool.head.ptr (ptrs pool.heads.items) (ptrs front) (order_in pool) node.ptr pool.store held_cut.linked x first.ptr at))
 
           pub last_in_one : IsSome (value_at last one)
-          last_in_one = subst (λ c. IsSome (value_at last c)) (sym one_is) (all_in (λ q. IsSome (value_at q three)) (pool.head.ptr ∷ dues) last three_ring.there last_in)
+          last_in_one =
+              subst (λ c. IsSome (value_at last c)) (sym one_is)
+              (all_in (λ q. IsSome (value_at q three)) (pool.head.ptr ∷ dues) last three_ring.there last_in)
 
           pub next_in_one : IsSome (value_at (next_of Due one last) one)
           next_in_one =
               subst (λ c. IsSome (value_at (next_of Due c last) c)) (sym one_is)
-              (all_in (λ q. IsSome (value_at q three)) (pool.head.ptr ∷ dues) (next_of Due three last) three_ring.there (ring_next Due three pool.head.ptr dues three_ring last last_in))
+              (all_in (λ q. IsSome (value_at q three)) (pool.head.ptr ∷ dues) (next_of Due three last) three_ring.there
+                  (ring_next Due three pool.head.ptr dues three_ring last last_in))
 
           module _ (two : List (Ptr × Node T)) (two_is : two ≡ link_behind Due node.ptr last one) where
             abbrev four : List (Ptr × Node T)
@@ -131,7 +147,9 @@ module _ {T : Type 0} (pool : Pool T) (whole : IsWhole pool) where
             is = two_is ∙ ap (λ c. link_behind Due node.ptr last c) one_is
 
             held_three : IsHeld pool.head.ptr (ptrs pool.heads.items) (ptrs front) (pool.count + 1) three
-            held_three = held_pushed pool.head.ptr (ptrs pool.heads.items) (ptrs front) pool.count node.ptr pool.store held_cut x first.ptr at above (omega (arith, below, ptrs_length pool.heads.items))
+            held_three =
+                held_pushed pool.head.ptr (ptrs pool.heads.items) (ptrs front) pool.count node.ptr pool.store held_cut x first.ptr at above
+                (omega (arith, below, ptrs_length pool.heads.items))
 
             order_four : order_of pool.head.ptr (pool.count + 1) four ≡ order_in pool ++ node.ptr ∷ []
             order_four =
@@ -140,11 +158,14 @@ module _ {T : Type 0} (pool : Pool T) (whole : IsWhole pool) where
 
             dues_four : dues_of pool.head.ptr (pool.count + 1) four ≡ dues_then
             dues_four =
-                let many : length dues_then ≡ pool.count + 1 = omega (arith, entered_dues.many, length-append (order_in pool) (node.ptr ∷ []), order_length pool whole) in
+                let many : length dues_then ≡ pool.count + 1 =
+                    omega (arith, entered_dues.many, length-append (order_in pool) (node.ptr ∷ []), order_length pool whole) in
                 ap (λ n. trace (next_of Due four) pool.head.ptr n) (sym many) ∙ trace_ring Due four pool.head.ptr dues_then entered_dues.ring
 
             pub put_held : IsHeld pool.head.ptr (ptrs pool.heads.items) (ptrs front) (pool.count + 1) two
-            put_held = subst (λ c. IsHeld pool.head.ptr (ptrs pool.heads.items) (ptrs front) (pool.count + 1) c) (sym is) (held_alike three four (alike_link node.ptr last three) pool.head.ptr (ptrs pool.heads.items) (ptrs front) (pool.count + 1) held_three)
+            put_held =
+                subst (λ c. IsHeld pool.head.ptr (ptrs pool.heads.items) (ptrs front) (pool.count + 1) c) (sym is)
+                (held_alike three four (alike_link node.ptr last three) pool.head.ptr (ptrs pool.heads.items) (ptrs front) (pool.count + 1) held_three)
 
             pub put_items : items_in two (order_of pool.head.ptr (pool.count + 1) two) ≡ items_of pool ++ x ∷ []
             put_items =
@@ -152,15 +173,18 @@ module _ {T : Type 0} (pool : Pool T) (whole : IsWhole pool) where
                 (items_kept three four (alike_link node.ptr last three) pool.head.ptr (ptrs pool.heads.items) (ptrs front) (pool.count + 1) held_three
                 ∙ items_pushed pool.head.ptr (ptrs pool.heads.items) (ptrs front) pool.count node.ptr pool.store held_cut x first.ptr at)
 
-            pub put_counted : (counts : List ℕ) → counts ≡ slice_set pool.counts.items x.channel (get_or pool.counts.items x.channel 0 + 1) → IsCounted counts (length pool.heads.items) (order_of pool.head.ptr (pool.count + 1) two) two
+            pub put_counted : (counts : List ℕ) → counts ≡ slice_set pool.counts.items x.channel (get_or pool.counts.items x.channel 0 + 1) →
+                IsCounted counts (length pool.heads.items) (order_of pool.head.ptr (pool.count + 1) two) two
             put_counted counts e =
                 subst (λ c. IsCounted counts (length pool.heads.items) (order_of pool.head.ptr (pool.count + 1) c) c) (sym is)
                 (subst (λ o. IsCounted counts (length pool.heads.items) o four) (sym order_four)
                 (subst (λ l. IsCounted l (length pool.heads.items) (order_in pool ++ node.ptr ∷ []) four) (sym e)
                 (counted_alike _ (length pool.heads.items) (order_in pool ++ node.ptr ∷ []) three four (alike_link node.ptr last three)
-                (counted_entered pool.head.ptr (ptrs pool.heads.items) (ptrs front) (order_in pool) node.ptr pool.store held_cut.linked x first.ptr at pool.counts.items (length pool.heads.items) whole.counted below))))
+                (counted_entered pool.head.ptr (ptrs pool.heads.items) (ptrs front)
+                    (order_in pool) node.ptr pool.store held_cut.linked x first.ptr at pool.counts.items (length pool.heads.items) whole.counted below))))
 
-            pub put_by_due : (ticks : List Tick) → ticks ≡ put_tick x.due node.ptr pool.ticks.items → IsByDue pool.head.ptr (order_of pool.head.ptr (pool.count + 1) two) (dues_of pool.head.ptr (pool.count + 1) two) ticks two
+            pub put_by_due : (ticks : List Tick) → ticks ≡ put_tick x.due node.ptr pool.ticks.items →
+                IsByDue pool.head.ptr (order_of pool.head.ptr (pool.count + 1) two) (dues_of pool.head.ptr (pool.count + 1) two) ticks two
             put_by_due ticks e =
                 subst (λ c. IsByDue pool.head.ptr (order_of pool.head.ptr (pool.count + 1) c) (dues_of pool.head.ptr (pool.count + 1) c) ticks c) (sym is)
                 (subst (λ o. IsByDue pool.head.ptr o (dues_of pool.head.ptr (pool.count + 1) four) ticks four) (sym order_four)

@@ -1,16 +1,20 @@
 -- Linking and unlinking a node keeps the rings.
-use Rattle.std.proofs.Common.{◌≡◌, false, List, [], ◌∷◌, ◌++◌, length, Option, Some, None, IsSome, option_map, inl, inr, refl, sym, ap, ◌∙◌, subst, arith, append_assoc, length-append}
+use Rattle.std.proofs.Common.{◌≡◌, false, List, [], ◌∷◌, ◌++◌, length, Option, Some, None, IsSome, option_map, inl, inr, refl, sym, ap, ◌∙◌, subst, arith}
+use Rattle.std.proofs.Common.{append_assoc, length-append}
 use Rattle.std.specs.List.{AllByRecursion, IsDistinct}
 use denote.RawPtr.{Ptr}
 use Rattle.mn_flight_pool.specs.Cells.{same_ptr, value_at}
-use Rattle.mn_flight_pool.specs.Rings.{AreNeighbours, IsFree, item_in, item_at, with_item, link_of, with_link, next_in, prev_in, next_of, prev_of, set_next, set_prev, link_behind, unlink, IsRing, IsIn}
+use Rattle.mn_flight_pool.specs.Rings.{AreNeighbours, IsFree, item_in, item_at, with_item, link_of, with_link, next_in, prev_in, next_of, prev_of, set_next}
+use Rattle.mn_flight_pool.specs.Rings.{set_prev, link_behind, unlink, IsRing, IsIn}
 use Rattle.mn_flight.specs.declared.Item.{Item}
 use Rattle.mn_flight_pool.specs.declared.node.Pair.{Pair}
 use Rattle.mn_flight_pool.specs.declared.node.Pair.TheVariants.{Number, Channel, Due}
 use Rattle.mn_flight_pool.specs.declared.node.Link.{Link}
 use Rattle.mn_flight_pool.specs.declared.node.Node.{Node}
 use Rattle.mn_flight_pool.proofs.Changed.{same_ptr_symm, stays, value_same, value_other, next_stays, prev_stays, keeps}
-use Rattle.mn_flight_pool.proofs.Neighbours.{free_left, free_right, free_both, others_free, distinct_with, distinct_without, distinct_turned, same_neighbours, between, beside, neighbour, first_of_push, last_of_cons, all_turned, all_at, all_with, all_without}
+use Rattle.mn_flight_pool.proofs.Neighbours.{free_left, free_right, free_both, others_free, distinct_with, distinct_without, distinct_turned}
+use Rattle.mn_flight_pool.proofs.Neighbours.{same_neighbours, between, beside, neighbour, first_of_push, last_of_cons, all_turned, all_at, all_with}
+use Rattle.mn_flight_pool.proofs.Neighbours.{all_without}
 
 -- a pair's pointers are no other pair's
 abbrev pub Unlike : Pair → Pair → Type 0
@@ -23,43 +27,56 @@ module _ {T : Type 0} where
   linked Channel link node = refl
   linked Due link node = refl
 
-  next_same : (pair : Pair) (q : Ptr) (o : Option (Node T)) → IsSome o → next_in pair (option_map (λ node. with_link pair (record (link_of pair node) { next = record { ptr = q } }) node) o) ≡ q
+  next_same : (pair : Pair) (q : Ptr) (o : Option (Node T)) → IsSome o →
+      next_in pair (option_map (λ node. with_link pair (record (link_of pair node) { next = record { ptr = q } }) node) o) ≡ q
   next_same pair q None h = cc
   next_same pair q (Some node) h = ap (λ (l : Link). l.next.ptr) (linked pair (record (link_of pair node) { next = record { ptr = q } }) node)
 
-  prev_same : (pair : Pair) (q : Ptr) (o : Option (Node T)) → IsSome o → prev_in pair (option_map (λ node. with_link pair (record (link_of pair node) { prev = record { ptr = q } }) node) o) ≡ q
+  prev_same : (pair : Pair) (q : Ptr) (o : Option (Node T)) → IsSome o →
+      prev_in pair (option_map (λ node. with_link pair (record (link_of pair node) { prev = record { ptr = q } }) node) o) ≡ q
   prev_same pair q None h = cc
   prev_same pair q (Some node) h = ap (λ (l : Link). l.prev.ptr) (linked pair (record (link_of pair node) { prev = record { ptr = q } }) node)
 
-  next_kept : (pair : Pair) (q : Ptr) (o : Option (Node T)) → next_in pair (option_map (λ node. with_link pair (record (link_of pair node) { prev = record { ptr = q } }) node) o) ≡ next_in pair o
+  next_kept : (pair : Pair) (q : Ptr) (o : Option (Node T)) →
+      next_in pair (option_map (λ node. with_link pair (record (link_of pair node) { prev = record { ptr = q } }) node) o) ≡ next_in pair o
   next_kept pair q None = refl
   next_kept pair q (Some node) = ap (λ (l : Link). l.next.ptr) (linked pair (record (link_of pair node) { prev = record { ptr = q } }) node)
 
-  prev_kept : (pair : Pair) (q : Ptr) (o : Option (Node T)) → prev_in pair (option_map (λ node. with_link pair (record (link_of pair node) { next = record { ptr = q } }) node) o) ≡ prev_in pair o
+  prev_kept : (pair : Pair) (q : Ptr) (o : Option (Node T)) →
+      prev_in pair (option_map (λ node. with_link pair (record (link_of pair node) { next = record { ptr = q } }) node) o) ≡ prev_in pair o
   prev_kept pair q None = refl
   prev_kept pair q (Some node) = ap (λ (l : Link). l.prev.ptr) (linked pair (record (link_of pair node) { next = record { ptr = q } }) node)
 
   module _ (pair : Pair) where
     pub next_at : (p q : Ptr) (cells : List (Ptr × Node T)) → IsSome (value_at p cells) → next_of pair (set_next pair p q cells) p ≡ q
-    next_at p q cells h = ap (next_in pair) (value_same p (λ node. with_link pair (record (link_of pair node) { next = record { ptr = q } }) node) cells) ∙ next_same pair q (value_at p cells) h
+    next_at p q cells h =
+        ap (next_in pair) (value_same p (λ node. with_link pair (record (link_of pair node) { next = record { ptr = q } }) node) cells)
+        ∙ next_same pair q (value_at p cells) h
 
     pub prev_at : (p q : Ptr) (cells : List (Ptr × Node T)) → IsSome (value_at p cells) → prev_of pair (set_prev pair p q cells) p ≡ q
-    prev_at p q cells h = ap (prev_in pair) (value_same p (λ node. with_link pair (record (link_of pair node) { prev = record { ptr = q } }) node) cells) ∙ prev_same pair q (value_at p cells) h
+    prev_at p q cells h =
+        ap (prev_in pair) (value_same p (λ node. with_link pair (record (link_of pair node) { prev = record { ptr = q } }) node) cells)
+        ∙ prev_same pair q (value_at p cells) h
 
     next_else : (p q x : Ptr) (cells : List (Ptr × Node T)) → same_ptr p x ≡ false → next_of pair (set_next pair p q cells) x ≡ next_of pair cells x
-    next_else p q x cells h = ap (next_in pair) (value_other p x (λ node. with_link pair (record (link_of pair node) { next = record { ptr = q } }) node) cells h)
+    next_else p q x cells h =
+        ap (next_in pair) (value_other p x (λ node. with_link pair (record (link_of pair node) { next = record { ptr = q } }) node) cells h)
 
     prev_else : (p q x : Ptr) (cells : List (Ptr × Node T)) → same_ptr p x ≡ false → prev_of pair (set_prev pair p q cells) x ≡ prev_of pair cells x
-    prev_else p q x cells h = ap (prev_in pair) (value_other p x (λ node. with_link pair (record (link_of pair node) { prev = record { ptr = q } }) node) cells h)
+    prev_else p q x cells h =
+        ap (prev_in pair) (value_other p x (λ node. with_link pair (record (link_of pair node) { prev = record { ptr = q } }) node) cells h)
 
     pub next_past : (p q x : Ptr) (cells : List (Ptr × Node T)) → next_of pair (set_prev pair p q cells) x ≡ next_of pair cells x
-    next_past p q x cells = keeps (next_in pair) p x (λ node. with_link pair (record (link_of pair node) { prev = record { ptr = q } }) node) cells (next_kept pair q)
+    next_past p q x cells =
+        keeps (next_in pair) p x (λ node. with_link pair (record (link_of pair node) { prev = record { ptr = q } }) node) cells (next_kept pair q)
 
     pub prev_past : (p q x : Ptr) (cells : List (Ptr × Node T)) → prev_of pair (set_next pair p q cells) x ≡ prev_of pair cells x
-    prev_past p q x cells = keeps (prev_in pair) p x (λ node. with_link pair (record (link_of pair node) { next = record { ptr = q } }) node) cells (prev_kept pair q)
+    prev_past p q x cells =
+        keeps (prev_in pair) p x (λ node. with_link pair (record (link_of pair node) { next = record { ptr = q } }) node) cells (prev_kept pair q)
 
     -- 2. A node between a and b, which is not at either
-    module _ (p a b : Ptr) (cells : List (Ptr × Node T)) (there : IsSome (value_at p cells)) (there_a : IsSome (value_at a cells)) (there_b : IsSome (value_at b cells)) (not_a : same_ptr p a ≡ false) (not_b : same_ptr p b ≡ false) where
+    module _ (p a b : Ptr) (cells : List (Ptr × Node T)) (there : IsSome (value_at p cells)) (there_a : IsSome (value_at a cells))
+        (there_b : IsSome (value_at b cells)) (not_a : same_ptr p a ≡ false) (not_b : same_ptr p b ≡ false) where
       abbrev one : List (Ptr × Node T)
       one = set_next pair p b cells
 
@@ -118,8 +135,10 @@ module _ {T : Type 0} where
       gone us vs x h = free_both p us vs (free_left p us (x ∷ vs) h) (free_right p us (x ∷ vs) h).1
 
       -- p comes to stand between a and b in the lists of neighbours
-      round : (us vs us' vs' : List Ptr) → length us ≡ length us' → IsDistinct same_ptr (us ++ a ∷ vs) → IsDistinct same_ptr (us' ++ b ∷ vs') → IsFree p (us ++ a ∷ vs) → IsFree p (us' ++ b ∷ vs')
-          → AreNeighbours (next_of pair cells) (prev_of pair cells) (us ++ a ∷ vs) (us' ++ b ∷ vs') → AreNeighbours (next_of pair four) (prev_of pair four) (us ++ a ∷ p ∷ vs) (us' ++ p ∷ b ∷ vs')
+      round : (us vs us' vs' : List Ptr) → length us ≡ length us' → IsDistinct same_ptr (us ++ a ∷ vs) → IsDistinct same_ptr (us' ++ b ∷ vs') →
+          IsFree p (us ++ a ∷ vs) → IsFree p (us' ++ b ∷ vs')
+          → AreNeighbours (next_of pair cells) (prev_of pair cells) (us ++ a ∷ vs) (us' ++ b ∷ vs') →
+              AreNeighbours (next_of pair four) (prev_of pair four) (us ++ a ∷ p ∷ vs) (us' ++ p ∷ b ∷ vs')
       round us vs us' vs' e d d' f f' h =
           between (next_of pair cells) (prev_of pair cells) (next_of pair four) (prev_of pair four) us a vs us' b vs' p e h next_a prev_p next_p prev_b
           (all_next (us ++ vs) (others_free us a vs d) (gone us vs a f)) (all_prev (us' ++ vs') (others_free us' b vs' d') (gone us' vs' b f'))
@@ -142,19 +161,25 @@ module _ {T : Type 0} where
           let not_b : same_ptr p b ≡ false = all_at (λ q. same_ptr p q ≡ false) us' b vs' free_t in
           let apart_s = subst (λ l. IsDistinct same_ptr l) es ring.apart in
           let apart_t = subst (λ l. IsDistinct same_ptr l) et (distinct_turned s ps ring.apart) in
-          let h = subst (λ l. AreNeighbours (next_of pair cells) (prev_of pair cells) l (us' ++ b ∷ vs')) es (subst (λ l. AreNeighbours (next_of pair cells) (prev_of pair cells) (s ∷ ps) l) et ring.round) in
+          let h = subst (λ l. AreNeighbours (next_of pair cells) (prev_of pair cells) l (us' ++ b ∷ vs')) es
+              (subst (λ l. AreNeighbours (next_of pair cells) (prev_of pair cells) (s ∷ ps) l) et ring.round) in
           let next_is : next_of pair cells a ≡ b = (neighbour (next_of pair cells) (prev_of pair cells) us a vs us' b vs' e h).0 in
-          let four_is : four p a b cells there there_a there_b not_a not_b ≡ link_behind pair p a cells = ap (λ c. set_prev pair c p (set_next pair a p (set_prev pair p a (set_next pair p c cells)))) (sym next_is) in
+          let four_is : four p a b cells there there_a there_b not_a not_b ≡ link_behind pair p a cells =
+              ap (λ c. set_prev pair c p (set_next pair a p (set_prev pair p a (set_next pair p c cells)))) (sym next_is) in
           let at_a_p : us ++ a ∷ p ∷ vs ≡ (us ++ a ∷ []) ++ p ∷ vs = sym (append_assoc us (a ∷ []) (p ∷ vs)) in
           let at_a : us ++ a ∷ vs ≡ (us ++ a ∷ []) ++ vs = sym (append_assoc us (a ∷ []) vs) in
           subst (λ c. IsRing pair c s qs) four_is (record {
-            apart = subst (λ l. IsDistinct same_ptr l) (sym (fs ∙ at_a_p)) (distinct_with (us ++ a ∷ []) p vs (subst (λ l. IsFree p l) at_a free_s) (subst (λ l. IsDistinct same_ptr l) at_a apart_s));
+            apart = subst (λ l. IsDistinct same_ptr l) (sym (fs ∙ at_a_p))
+                (distinct_with (us ++ a ∷ []) p vs (subst (λ l. IsFree p l) at_a free_s) (subst (λ l. IsDistinct same_ptr l) at_a apart_s));
             there =
                 subst (λ l. AllByRecursion (λ x. IsSome (value_at x (four p a b cells there there_a there_b not_a not_b))) l) (sym (fs ∙ at_a_p))
-                (all_there p a b cells there there_a there_b not_a not_b ((us ++ a ∷ []) ++ p ∷ vs) (all_with Here (us ++ a ∷ []) p vs there (subst (λ l. AllByRecursion Here l) at_a sources)));
+                (all_there p a b cells there there_a there_b not_a not_b ((us ++ a ∷ []) ++ p ∷ vs)
+                    (all_with Here (us ++ a ∷ []) p vs there (subst (λ l. AllByRecursion Here l) at_a sources)));
             round =
-                subst (λ l. AreNeighbours (next_of pair (four p a b cells there there_a there_b not_a not_b)) (prev_of pair (four p a b cells there there_a there_b not_a not_b)) l (qs ++ s ∷ [])) (sym fs)
-                (subst (λ l. AreNeighbours (next_of pair (four p a b cells there there_a there_b not_a not_b)) (prev_of pair (four p a b cells there there_a there_b not_a not_b)) (us ++ a ∷ p ∷ vs) l) (sym ft)
+                subst (λ l. AreNeighbours (next_of pair (four p a b cells there there_a there_b not_a not_b))
+                    (prev_of pair (four p a b cells there there_a there_b not_a not_b)) l (qs ++ s ∷ [])) (sym fs)
+                (subst (λ l. AreNeighbours (next_of pair (four p a b cells there there_a there_b not_a not_b))
+                    (prev_of pair (four p a b cells there there_a there_b not_a not_b)) (us ++ a ∷ p ∷ vs) l) (sym ft)
                 (round p a b cells there there_a there_b not_a not_b us vs us' vs' e apart_s apart_t free_s free_t h));
           })
 
@@ -165,12 +190,16 @@ module _ {T : Type 0} where
           cut_ring ps [] s ps [] on.0 on.1 (p ∷ ps) ring free refl on.2 refl refl (ap (λ l. p ∷ l) on.2)
 
       -- or behind another of its nodes
-      pub ring_behind : (us : List Ptr) (a : Ptr) (vs : List Ptr) → IsRing pair cells s (us ++ a ∷ vs) → IsFree p (s ∷ (us ++ a ∷ vs)) → IsRing pair (link_behind pair p a cells) s (us ++ a ∷ p ∷ vs)
+      pub ring_behind : (us : List Ptr) (a : Ptr) (vs : List Ptr) → IsRing pair cells s (us ++ a ∷ vs) → IsFree p (s ∷ (us ++ a ∷ vs)) →
+          IsRing pair (link_behind pair p a cells) s (us ++ a ∷ p ∷ vs)
       ring_behind us a vs ring free =
           let on = first_of_push vs s in
-          let targets : (us ++ a ∷ vs) ++ s ∷ [] ≡ (us ++ a ∷ []) ++ on.0 ∷ on.1 = append_assoc us (a ∷ vs) (s ∷ []) ∙ ap (λ l. us ++ a ∷ l) on.2 ∙ sym (append_assoc us (a ∷ []) (on.0 ∷ on.1)) in
-          let later : (us ++ a ∷ p ∷ vs) ++ s ∷ [] ≡ (us ++ a ∷ []) ++ p ∷ on.0 ∷ on.1 = append_assoc us (a ∷ p ∷ vs) (s ∷ []) ∙ ap (λ l. us ++ a ∷ p ∷ l) on.2 ∙ sym (append_assoc us (a ∷ []) (p ∷ on.0 ∷ on.1)) in
-          cut_ring (us ++ a ∷ vs) (s ∷ us) a vs (us ++ a ∷ []) on.0 on.1 (us ++ a ∷ p ∷ vs) ring free refl targets (omega (arith, length-append us (a ∷ []))) refl later
+          let targets : (us ++ a ∷ vs) ++ s ∷ [] ≡ (us ++ a ∷ []) ++ on.0 ∷ on.1 =
+              append_assoc us (a ∷ vs) (s ∷ []) ∙ ap (λ l. us ++ a ∷ l) on.2 ∙ sym (append_assoc us (a ∷ []) (on.0 ∷ on.1)) in
+          let later : (us ++ a ∷ p ∷ vs) ++ s ∷ [] ≡ (us ++ a ∷ []) ++ p ∷ on.0 ∷ on.1 =
+              append_assoc us (a ∷ p ∷ vs) (s ∷ []) ∙ ap (λ l. us ++ a ∷ p ∷ l) on.2 ∙ sym (append_assoc us (a ∷ []) (p ∷ on.0 ∷ on.1)) in
+          cut_ring (us ++ a ∷ vs) (s ∷ us) a vs (us ++ a ∷ []) on.0 on.1 (us ++ a ∷ p ∷ vs) ring free refl targets
+              (omega (arith, length-append us (a ∷ []))) refl later
 
     -- a node leaves its ring
     module _ (s : Ptr) (cells : List (Ptr × Node T)) where
@@ -189,7 +218,8 @@ module _ {T : Type 0} where
           let prev_is : P p ≡ a = (neighbour N P us₁ a (p ∷ vs) us p (b ∷ vs') e h).1 in
           let second : us₁ ++ a ∷ p ∷ vs ≡ (us₁ ++ a ∷ []) ++ p ∷ vs = sym (append_assoc us₁ (a ∷ []) (p ∷ vs)) in
           let third : us ++ p ∷ b ∷ vs' ≡ (us ++ p ∷ []) ++ b ∷ vs' = sym (append_assoc us (p ∷ []) (b ∷ vs')) in
-          let next_is : N p ≡ b = (neighbour N P (us₁ ++ a ∷ []) p vs (us ++ p ∷ []) b vs' (omega (arith, e, length-append us₁ (a ∷ []), length-append us (p ∷ [])))
+          let next_is : N p ≡ b =
+              (neighbour N P (us₁ ++ a ∷ []) p vs (us ++ p ∷ []) b vs' (omega (arith, e, length-append us₁ (a ∷ []), length-append us (p ∷ [])))
           (subst (λ l. AreNeighbours N P l ((us ++ p ∷ []) ++ b ∷ vs')) second (subst (λ l. AreNeighbours N P (us₁ ++ a ∷ p ∷ vs) l) third h))).0 in
           let apart' : IsDistinct same_ptr (s ∷ (us ++ vs)) = distinct_without (s ∷ us) p vs ring.apart in
           let there' : AllByRecursion Here (s ∷ (us ++ vs)) = all_without Here (s ∷ us) p vs ring.there in
@@ -214,11 +244,13 @@ module _ {T : Type 0} where
           all_stay P Q f [] h = tt
           all_stay P Q f (x ∷ xs) h = (f x h.0, all_stay P Q f xs h.1)
 
-          every_next : (a b : Ptr) (xs : List Ptr) → IsFree a xs → AllByRecursion (λ x. next_of pair (set_prev pair b a (set_next pair a b cells)) x ≡ next_of pair cells x) xs
+          every_next : (a b : Ptr) (xs : List Ptr) → IsFree a xs →
+              AllByRecursion (λ x. next_of pair (set_prev pair b a (set_next pair a b cells)) x ≡ next_of pair cells x) xs
           every_next a b [] f = tt
           every_next a b (x ∷ xs) f = (next_past b a x (set_next pair a b cells) ∙ next_else a b x cells f.0, every_next a b xs f.1)
 
-          every_prev : (a b : Ptr) (xs : List Ptr) → IsFree b xs → AllByRecursion (λ x. prev_of pair (set_prev pair b a (set_next pair a b cells)) x ≡ prev_of pair cells x) xs
+          every_prev : (a b : Ptr) (xs : List Ptr) → IsFree b xs →
+              AllByRecursion (λ x. prev_of pair (set_prev pair b a (set_next pair a b cells)) x ≡ prev_of pair cells x) xs
           every_prev a b [] f = tt
           every_prev a b (x ∷ xs) f = (prev_else b a x (set_next pair a b cells) f.0 ∙ prev_past a b x cells, every_prev a b xs f.1)
 
@@ -229,7 +261,8 @@ module _ {T : Type 0} where
           let e : length (s ∷ us) ≡ length (us ++ a ∷ []) = omega (arith, length-append us (a ∷ [])) in
           (neighbour (next_of pair cells) (prev_of pair cells) (s ∷ us) a [] (us ++ a ∷ []) s [] e ring.round).1
 
-      pub ring_back : (ps : List Ptr) → IsRing pair cells s ps → IsFree p (s ∷ ps) → IsRing pair (link_behind pair p (prev_of pair cells s) cells) s (ps ++ p ∷ [])
+      pub ring_back : (ps : List Ptr) → IsRing pair cells s ps → IsFree p (s ∷ ps) →
+          IsRing pair (link_behind pair p (prev_of pair cells s) cells) s (ps ++ p ∷ [])
       ring_back [] ring free = subst (λ a. IsRing pair (link_behind pair p a cells) s (p ∷ [])) (sym ring.round.1) (ring_front p s cells there [] ring free)
       ring_back (x ∷ xs) ring free =
           let last = last_of_cons x xs in let us = last.0 in let a = last.1 in
@@ -240,7 +273,8 @@ module _ {T : Type 0} where
 
   -- 4. What a change leaves alone
   module _ (old new : List (Ptr × Node T)) (stay : (x : Ptr) → IsSome (value_at x old) → IsSome (value_at x new)) (pair : Pair) where
-    pub ring_same : ((x : Ptr) → IsSome (value_at x old) → next_of pair new x ≡ next_of pair old x) → ((x : Ptr) → IsSome (value_at x old) → prev_of pair new x ≡ prev_of pair old x)
+    pub ring_same : ((x : Ptr) → IsSome (value_at x old) → next_of pair new x ≡ next_of pair old x) →
+        ((x : Ptr) → IsSome (value_at x old) → prev_of pair new x ≡ prev_of pair old x)
         → (s : Ptr) (ps : List Ptr) → IsRing pair old s ps → IsRing pair new s ps
     ring_same n p s ps ring =
         let Here : Ptr → Type 0 = λ x. IsSome (value_at x old) in
@@ -249,7 +283,8 @@ module _ {T : Type 0} where
           there = each Here (λ x. IsSome (value_at x new)) stay (s ∷ ps) ring.there;
           round =
               same_neighbours (next_of pair old) (prev_of pair old) (next_of pair new) (prev_of pair new) (s ∷ ps) (ps ++ s ∷ [])
-              (each Here (λ x. next_of pair new x ≡ next_of pair old x) n (s ∷ ps) ring.there) (each Here (λ x. prev_of pair new x ≡ prev_of pair old x) p (ps ++ s ∷ []) (all_turned Here s ps ring.there)) ring.round;
+              (each Here (λ x. next_of pair new x ≡ next_of pair old x) n (s ∷ ps) ring.there)
+                  (each Here (λ x. prev_of pair new x ≡ prev_of pair old x) p (ps ++ s ∷ []) (all_turned Here s ps ring.there)) ring.round;
         }
       where
         each : (P Q : Ptr → Type 0) → ((x : Ptr) → P x → Q x) → (xs : List Ptr) → AllByRecursion P xs → AllByRecursion Q xs
@@ -282,15 +317,23 @@ module _ {T : Type 0} where
     mapped f k (Some node) = k node
 
     pub set_next_leaves : (p q x : Ptr) (cells : List (Ptr × Node T)) → see (value_at x (set_next pair p q cells)) ≡ see (value_at x cells)
-    set_next_leaves p q x cells = keeps see p x (λ node. with_link pair (record (link_of pair node) { next = record { ptr = q } }) node) cells (mapped (λ node. with_link pair (record (link_of pair node) { next = record { ptr = q } }) node) (λ node. sees (record (link_of pair node) { next = record { ptr = q } }) node))
+    set_next_leaves p q x cells =
+        keeps see p x (λ node. with_link pair (record (link_of pair node) { next = record { ptr = q } }) node) cells
+        (mapped (λ node. with_link pair (record (link_of pair node) { next = record { ptr = q } }) node)
+        (λ node. sees (record (link_of pair node) { next = record { ptr = q } }) node))
 
     pub set_prev_leaves : (p q x : Ptr) (cells : List (Ptr × Node T)) → see (value_at x (set_prev pair p q cells)) ≡ see (value_at x cells)
-    set_prev_leaves p q x cells = keeps see p x (λ node. with_link pair (record (link_of pair node) { prev = record { ptr = q } }) node) cells (mapped (λ node. with_link pair (record (link_of pair node) { prev = record { ptr = q } }) node) (λ node. sees (record (link_of pair node) { prev = record { ptr = q } }) node))
+    set_prev_leaves p q x cells =
+        keeps see p x (λ node. with_link pair (record (link_of pair node) { prev = record { ptr = q } }) node) cells
+        (mapped (λ node. with_link pair (record (link_of pair node) { prev = record { ptr = q } }) node)
+        (λ node. sees (record (link_of pair node) { prev = record { ptr = q } }) node))
 
     pub link_leaves : (p a x : Ptr) (cells : List (Ptr × Node T)) → see (value_at x (link_behind pair p a cells)) ≡ see (value_at x cells)
     link_leaves p a x cells =
         let b = next_of pair cells a in
-        set_prev_leaves b p x (set_next pair a p (set_prev pair p a (set_next pair p b cells))) ∙ set_next_leaves a p x (set_prev pair p a (set_next pair p b cells)) ∙ set_prev_leaves p a x (set_next pair p b cells) ∙ set_next_leaves p b x cells
+        set_prev_leaves b p x (set_next pair a p (set_prev pair p a (set_next pair p b cells)))
+            ∙ set_next_leaves a p x (set_prev pair p a (set_next pair p b cells)) ∙ set_prev_leaves p a x (set_next pair p b cells)
+            ∙ set_next_leaves p b x cells
 
     pub unlink_leaves : (p x : Ptr) (cells : List (Ptr × Node T)) → see (value_at x (unlink pair p cells)) ≡ see (value_at x cells)
     unlink_leaves p x cells =
@@ -301,23 +344,29 @@ module _ {T : Type 0} where
   link_stays pair p a x cells h =
       let b = next_of pair cells a in
       let one = set_next pair p b cells in let two = set_prev pair p a one in let three = set_next pair a p two in
-      prev_stays pair b p x three (set_prev pair b p three) refl (next_stays pair a p x two three refl (prev_stays pair p a x one two refl (next_stays pair p b x cells one refl h)))
+      prev_stays pair b p x three (set_prev pair b p three) refl
+          (next_stays pair a p x two three refl (prev_stays pair p a x one two refl (next_stays pair p b x cells one refl h)))
 
   pub unlink_stays : (pair : Pair) (p x : Ptr) (cells : List (Ptr × Node T)) → IsSome (value_at x cells) → IsSome (value_at x (unlink pair p cells))
   unlink_stays pair p x cells h =
       let a = prev_of pair cells p in let b = next_of pair cells p in
-      prev_stays pair b a x (set_next pair a b cells) (set_prev pair b a (set_next pair a b cells)) refl (next_stays pair a b x cells (set_next pair a b cells) refl h)
+      prev_stays pair b a x (set_next pair a b cells) (set_prev pair b a (set_next pair a b cells)) refl
+          (next_stays pair a b x cells (set_next pair a b cells) refl h)
 
   -- a ring of another pair stays as it is
-  pub ring_past_link : (pair other : Pair) → Unlike pair other → (p a : Ptr) (cells : List (Ptr × Node T)) (s : Ptr) (ps : List Ptr) → IsRing other cells s ps → IsRing other (link_behind pair p a cells) s ps
+  pub ring_past_link : (pair other : Pair) → Unlike pair other →
+      (p a : Ptr) (cells : List (Ptr × Node T)) (s : Ptr) (ps : List Ptr) → IsRing other cells s ps → IsRing other (link_behind pair p a cells) s ps
   ring_past_link pair other u p a cells =
       ring_same cells (link_behind pair p a cells) (λ x. link_stays pair p a x cells) other
-      (λ x h. link_leaves pair (next_in other) (λ link node. ap (λ (l : Link). l.next.ptr) (link_unlike pair other u link node)) p a x cells) (λ x h. link_leaves pair (prev_in other) (λ link node. ap (λ (l : Link). l.prev.ptr) (link_unlike pair other u link node)) p a x cells)
+      (λ x h. link_leaves pair (next_in other) (λ link node. ap (λ (l : Link). l.next.ptr) (link_unlike pair other u link node)) p a x cells)
+          (λ x h. link_leaves pair (prev_in other) (λ link node. ap (λ (l : Link). l.prev.ptr) (link_unlike pair other u link node)) p a x cells)
 
-  pub ring_past_unlink : (pair other : Pair) → Unlike pair other → (p : Ptr) (cells : List (Ptr × Node T)) (s : Ptr) (ps : List Ptr) → IsRing other cells s ps → IsRing other (unlink pair p cells) s ps
+  pub ring_past_unlink : (pair other : Pair) → Unlike pair other →
+      (p : Ptr) (cells : List (Ptr × Node T)) (s : Ptr) (ps : List Ptr) → IsRing other cells s ps → IsRing other (unlink pair p cells) s ps
   ring_past_unlink pair other u p cells =
       ring_same cells (unlink pair p cells) (λ x. unlink_stays pair p x cells) other
-      (λ x h. unlink_leaves pair (next_in other) (λ link node. ap (λ (l : Link). l.next.ptr) (link_unlike pair other u link node)) p x cells) (λ x h. unlink_leaves pair (prev_in other) (λ link node. ap (λ (l : Link). l.prev.ptr) (link_unlike pair other u link node)) p x cells)
+      (λ x h. unlink_leaves pair (next_in other) (λ link node. ap (λ (l : Link). l.next.ptr) (link_unlike pair other u link node)) p x cells)
+          (λ x h. unlink_leaves pair (prev_in other) (λ link node. ap (λ (l : Link). l.prev.ptr) (link_unlike pair other u link node)) p x cells)
 
   -- linking and unlinking keep the items
   pub item_past_link : (pair : Pair) (p a x : Ptr) (cells : List (Ptr × Node T)) → item_at (link_behind pair p a cells) x ≡ item_at cells x
@@ -327,22 +376,26 @@ module _ {T : Type 0} where
   item_past_unlink pair p x cells = unlink_leaves pair item_in (item_kept pair) p x cells
 
   -- a change of items keeps the rings
-  item_next : (pair : Pair) (item : Option (Item T)) (o : Option (Node T)) → next_in pair (option_map (λ (node : Node T). record node { item = item }) o) ≡ next_in pair o
+  item_next : (pair : Pair) (item : Option (Item T)) (o : Option (Node T)) →
+      next_in pair (option_map (λ (node : Node T). record node { item = item }) o) ≡ next_in pair o
   item_next pair item None = refl
   item_next Number item (Some node) = refl
   item_next Channel item (Some node) = refl
   item_next Due item (Some node) = refl
 
-  item_prev : (pair : Pair) (item : Option (Item T)) (o : Option (Node T)) → prev_in pair (option_map (λ (node : Node T). record node { item = item }) o) ≡ prev_in pair o
+  item_prev : (pair : Pair) (item : Option (Item T)) (o : Option (Node T)) →
+      prev_in pair (option_map (λ (node : Node T). record node { item = item }) o) ≡ prev_in pair o
   item_prev pair item None = refl
   item_prev Number item (Some node) = refl
   item_prev Channel item (Some node) = refl
   item_prev Due item (Some node) = refl
 
-  pub ring_past_item : (pair : Pair) (p : Ptr) (item : Option (Item T)) (cells : List (Ptr × Node T)) (s : Ptr) (ps : List Ptr) → IsRing pair cells s ps → IsRing pair (with_item p item cells) s ps
+  pub ring_past_item : (pair : Pair) (p : Ptr) (item : Option (Item T)) (cells : List (Ptr × Node T)) (s : Ptr) (ps : List Ptr) → IsRing pair cells s ps →
+      IsRing pair (with_item p item cells) s ps
   ring_past_item pair p item cells =
       ring_same cells (with_item p item cells) (λ x. stays p x (λ (node : Node T). record node { item = item }) cells) pair
-      (λ x h. keeps (next_in pair) p x (λ (node : Node T). record node { item = item }) cells (item_next pair item)) (λ x h. keeps (prev_in pair) p x (λ (node : Node T). record node { item = item }) cells (item_prev pair item))
+      (λ x h. keeps (next_in pair) p x (λ (node : Node T). record node { item = item }) cells (item_next pair item))
+          (λ x h. keeps (prev_in pair) p x (λ (node : Node T). record node { item = item }) cells (item_prev pair item))
 
   pub item_put : (p : Ptr) (item : Option (Item T)) (cells : List (Ptr × Node T)) → IsSome (value_at p cells) → item_at (with_item p item cells) p ≡ item
   item_put p item cells h = ap item_in (value_same p (λ (node : Node T). record node { item = item }) cells) ∙ put (value_at p cells) h
@@ -351,20 +404,25 @@ module _ {T : Type 0} where
       put None h = cc
       put (Some node) h = refl
 
-  pub item_else : (p x : Ptr) (item : Option (Item T)) (cells : List (Ptr × Node T)) → same_ptr p x ≡ false → item_at (with_item p item cells) x ≡ item_at cells x
+  pub item_else : (p x : Ptr) (item : Option (Item T)) (cells : List (Ptr × Node T)) → same_ptr p x ≡ false →
+      item_at (with_item p item cells) x ≡ item_at cells x
   item_else p x item cells h = ap item_in (value_other p x (λ (node : Node T). record node { item = item }) cells h)
 
   -- another ring of the pair, in which none of the linked nodes stands, stays as it is
-  pub ring_aside_link : (pair : Pair) (p a : Ptr) (cells : List (Ptr × Node T)) (s : Ptr) (ps : List Ptr) → IsFree p (s ∷ ps) → IsFree a (s ∷ ps) → IsFree (next_of pair cells a) (s ∷ ps) → IsRing pair cells s ps → IsRing pair (link_behind pair p a cells) s ps
+  pub ring_aside_link : (pair : Pair) (p a : Ptr) (cells : List (Ptr × Node T)) (s : Ptr) (ps : List Ptr) → IsFree p (s ∷ ps) → IsFree a (s ∷ ps) →
+      IsFree (next_of pair cells a) (s ∷ ps) → IsRing pair cells s ps → IsRing pair (link_behind pair p a cells) s ps
   ring_aside_link pair p a cells s ps fp fa fb ring =
       let b = next_of pair cells a in
       let one = set_next pair p b cells in let two = set_prev pair p a one in let three = set_next pair a p two in
       record {
         apart = ring.apart;
-        there = each (λ x. IsSome (value_at x cells)) (λ x. IsSome (value_at x (link_behind pair p a cells))) (λ x. link_stays pair p a x cells) (s ∷ ps) ring.there;
+        there = each (λ x. IsSome (value_at x cells)) (λ x. IsSome (value_at x (link_behind pair p a cells))) (λ x. link_stays pair p a x cells)
+            (s ∷ ps) ring.there;
         round =
-            same_neighbours (next_of pair cells) (prev_of pair cells) (next_of pair (link_behind pair p a cells)) (prev_of pair (link_behind pair p a cells)) (s ∷ ps) (ps ++ s ∷ [])
-            (nexts (s ∷ ps) fp fa) (prevs (ps ++ s ∷ []) (all_turned (λ q. same_ptr p q ≡ false) s ps fp) (all_turned (λ q. same_ptr b q ≡ false) s ps fb)) ring.round;
+            same_neighbours (next_of pair cells) (prev_of pair cells) (next_of pair (link_behind pair p a cells))
+                (prev_of pair (link_behind pair p a cells)) (s ∷ ps) (ps ++ s ∷ [])
+            (nexts (s ∷ ps) fp fa) (prevs (ps ++ s ∷ []) (all_turned (λ q. same_ptr p q ≡ false) s ps fp) (all_turned (λ q. same_ptr b q ≡ false) s ps fb))
+                ring.round;
       }
     where
       each : (P Q : Ptr → Type 0) → ((x : Ptr) → P x → Q x) → (xs : List Ptr) → AllByRecursion P xs → AllByRecursion Q xs
@@ -378,7 +436,8 @@ module _ {T : Type 0} where
           let one = set_next pair p b cells in let two = set_prev pair p a one in let three = set_next pair a p two in
           (next_past pair b p x three ∙ next_else pair a p x two g.0 ∙ next_past pair p a x one ∙ next_else pair p b x cells f.0, nexts xs f.1 g.1)
 
-      prevs : (xs : List Ptr) → IsFree p xs → IsFree (next_of pair cells a) xs → AllByRecursion (λ x. prev_of pair (link_behind pair p a cells) x ≡ prev_of pair cells x) xs
+      prevs : (xs : List Ptr) → IsFree p xs → IsFree (next_of pair cells a) xs →
+          AllByRecursion (λ x. prev_of pair (link_behind pair p a cells) x ≡ prev_of pair cells x) xs
       prevs [] f g = tt
       prevs (x ∷ xs) f g =
           let b = next_of pair cells a in
@@ -386,7 +445,8 @@ module _ {T : Type 0} where
           (prev_else pair b p x three g.0 ∙ prev_past pair a p x two ∙ prev_else pair p a x one f.0 ∙ prev_past pair p b x cells, prevs xs f.1 g.1)
 
   -- what leads to a ring's first node is the first itself or one of its others, and leads on to the first
-  pub ring_last : (pair : Pair) (cells : List (Ptr × Node T)) (s : Ptr) (ps : List Ptr) → IsRing pair cells s ps → IsIn (prev_of pair cells s) (s ∷ ps) × (next_of pair cells (prev_of pair cells s) ≡ s)
+  pub ring_last : (pair : Pair) (cells : List (Ptr × Node T)) (s : Ptr) (ps : List Ptr) → IsRing pair cells s ps →
+      IsIn (prev_of pair cells s) (s ∷ ps) × (next_of pair cells (prev_of pair cells s) ≡ s)
   ring_last pair cells s [] ring = (inl ring.round.1, ap (next_of pair cells) ring.round.1 ∙ ring.round.0)
   ring_last pair cells s (x ∷ xs) ring =
       let last = last_of_cons x xs in let us = last.0 in let a = last.1 in
@@ -428,12 +488,14 @@ module _ {T : Type 0} where
       in_turned x s (q ∷ qs) i = elim i [ inl e ↦ inr (inl e) | inr j ↦ elim (in_turned x s qs j) [ inl e ↦ inl e | inr k ↦ inr (inr k) ] ]
 
   -- another ring of the pair, in which none of the unlinked node's neighbours stands, stays as it is
-  pub ring_aside_unlink : (pair : Pair) (p : Ptr) (cells : List (Ptr × Node T)) (s : Ptr) (ps : List Ptr) → IsFree (prev_of pair cells p) (s ∷ ps) → IsFree (next_of pair cells p) (s ∷ ps) → IsRing pair cells s ps → IsRing pair (unlink pair p cells) s ps
+  pub ring_aside_unlink : (pair : Pair) (p : Ptr) (cells : List (Ptr × Node T)) (s : Ptr) (ps : List Ptr) → IsFree (prev_of pair cells p) (s ∷ ps) →
+      IsFree (next_of pair cells p) (s ∷ ps) → IsRing pair cells s ps → IsRing pair (unlink pair p cells) s ps
   ring_aside_unlink pair p cells s ps fa fb ring = record {
     apart = ring.apart;
     there = each (λ x. IsSome (value_at x cells)) (λ x. IsSome (value_at x (unlink pair p cells))) (λ x. unlink_stays pair p x cells) (s ∷ ps) ring.there;
     round =
-        same_neighbours (next_of pair cells) (prev_of pair cells) (next_of pair (unlink pair p cells)) (prev_of pair (unlink pair p cells)) (s ∷ ps) (ps ++ s ∷ [])
+        same_neighbours (next_of pair cells) (prev_of pair cells) (next_of pair (unlink pair p cells)) (prev_of pair (unlink pair p cells)) (s ∷ ps)
+            (ps ++ s ∷ [])
         (nexts (s ∷ ps) fa) (prevs (ps ++ s ∷ []) (all_turned (λ q. same_ptr (next_of pair cells p) q ≡ false) s ps fb)) ring.round;
   }
     where

@@ -1,5 +1,6 @@
 -- Nodes in the order of their items' due ticks and numbers, and the ticks with their last nodes.
-use Rattle.std.proofs.Common.{◌≡◌, ◌<◌, ◌≤◌, ◌⊎◌, inl, inr, ℕ, Bool, true, false, cond, nat_lt, nat_le, List, [], ◌∷◌, ◌++◌, length, Option, Some, None, refl, sym, ap, ◌∙◌, subst, arith, length-append}
+use Rattle.std.proofs.Common.{◌≡◌, ◌<◌, ◌≤◌, ◌⊎◌, inl, inr, ℕ, Bool, true, false, cond, nat_lt, nat_le, List, [], ◌∷◌, ◌++◌, length, Option, Some, None}
+use Rattle.std.proofs.Common.{refl, sym, ap, ◌∙◌, subst, arith, length-append}
 use Rattle.std.specs.Prelude.{◌==◌}
 use Rattle.std.specs.List.{AllByRecursion}
 use Rattle.mn_base.proofs.Bools.{at_most_tells, less_tells, not_at_most_tells, not_less_tells, other_numbers, same_numbers}
@@ -53,11 +54,13 @@ all_from P (y ∷ ys) h = (h y (inl refl), all_from P ys (λ q i. h q (inr i)))
 
 module _ {T : Type 0} where
   -- 2. The order by due tick and number
-  pub sooner_same : (old new : List (Ptr × Node T)) (ps : List Ptr) → ((q : Ptr) → IsIn q ps → item_at new q ≡ item_at old q) → AreSooner old ps → AreSooner new ps
+  pub sooner_same : (old new : List (Ptr × Node T)) (ps : List Ptr) →
+      ((q : Ptr) → IsIn q ps → item_at new q ≡ item_at old q) → AreSooner old ps → AreSooner new ps
   sooner_same old new [] same h = tt
   sooner_same old new (p ∷ ps) same h = (
     all_from (λ q. IsSooner (item_at new p) (item_at new q)) ps
-        (λ q i. subst (λ o. IsSooner o (item_at new q)) (sym (same p (inl refl))) (subst (λ o. IsSooner (item_at old p) o) (sym (same q (inr i))) (all_in (λ r. IsSooner (item_at old p) (item_at old r)) ps q h.0 i))),
+        (λ q i. subst (λ o. IsSooner o (item_at new q)) (sym (same p (inl refl)))
+            (subst (λ o. IsSooner (item_at old p) o) (sym (same q (inr i))) (all_in (λ r. IsSooner (item_at old p) (item_at old r)) ps q h.0 i))),
     sooner_same old new ps (λ q i. same q (inr i)) h.1,
   )
 
@@ -65,7 +68,8 @@ module _ {T : Type 0} where
     abbrev Sooner : Ptr → Ptr → Type 0
     Sooner p q = IsSooner (item_at cells p) (item_at cells q)
 
-    pub sooner_with : (us : List Ptr) (p : Ptr) (vs : List Ptr) → ((u : Ptr) → IsIn u us → Sooner u p) → ((v : Ptr) → IsIn v vs → Sooner p v) → AreSooner cells (us ++ vs) → AreSooner cells (us ++ p ∷ vs)
+    pub sooner_with : (us : List Ptr) (p : Ptr) (vs : List Ptr) → ((u : Ptr) → IsIn u us → Sooner u p) →
+        ((v : Ptr) → IsIn v vs → Sooner p v) → AreSooner cells (us ++ vs) → AreSooner cells (us ++ p ∷ vs)
     sooner_with [] p vs f g h = (all_from (λ q. Sooner p q) vs g, h)
     sooner_with (u ∷ us) p vs f g h = (
       all_from (λ q. Sooner u q) (us ++ p ∷ vs) (λ q i. elim (in_either q us (p ∷ vs) i) [
@@ -77,7 +81,8 @@ module _ {T : Type 0} where
 
     pub sooner_without : (us : List Ptr) (p : Ptr) (vs : List Ptr) → AreSooner cells (us ++ p ∷ vs) → AreSooner cells (us ++ vs)
     sooner_without [] p vs h = h.1
-    sooner_without (u ∷ us) p vs h = (all_from (λ q. Sooner u q) (us ++ vs) (λ q i. all_in (λ r. Sooner u r) (us ++ p ∷ vs) q h.0 (in_with q us p vs i)), sooner_without us p vs h.1)
+    sooner_without (u ∷ us) p vs h =
+        (all_from (λ q. Sooner u q) (us ++ vs) (λ q i. all_in (λ r. Sooner u r) (us ++ p ∷ vs) q h.0 (in_with q us p vs i)), sooner_without us p vs h.1)
 
     pub sooner_before : (us : List Ptr) (p : Ptr) (vs : List Ptr) → AreSooner cells (us ++ p ∷ vs) → (u : Ptr) → IsIn u us → Sooner u p
     sooner_before [] p vs h u i = absurd i
@@ -113,11 +118,13 @@ module _ {T : Type 0} where
 
   -- 3. Last nodes of ticks
   pub tick_item : (cells : List (Ptr × Node T)) (order : List Ptr) (due : ℕ) (o : Option (Item T)) → IsLastAt cells order due o
-      → (last : Item T) × (o ≡ Some last) × (last.due ≡ due) × ((q : Ptr) (item : Item T) → IsIn q order → item_at cells q ≡ Some item → item.due ≡ due → item.number ≤ last.number)
+      → (last : Item T) × (o ≡ Some last) × (last.due ≡ due) × ((q : Ptr) (item : Item T) → IsIn q order → item_at cells q ≡ Some item → item.due ≡ due →
+          item.number ≤ last.number)
   tick_item cells order due None h = absurd h
   tick_item cells order due (Some last) h = (last, refl, h.0, h.1)
 
-  pub item_tick : (cells : List (Ptr × Node T)) (order : List Ptr) (due : ℕ) (o : Option (Item T)) (last : Item T) → o ≡ Some last → last.due ≡ due → ((q : Ptr) (item : Item T) → IsIn q order → item_at cells q ≡ Some item → item.due ≡ due → item.number ≤ last.number)
+  pub item_tick : (cells : List (Ptr × Node T)) (order : List Ptr) (due : ℕ) (o : Option (Item T)) (last : Item T) → o ≡ Some last → last.due ≡ due →
+      ((q : Ptr) (item : Item T) → IsIn q order → item_at cells q ≡ Some item → item.due ≡ due → item.number ≤ last.number)
       → IsLastAt cells order due o
   item_tick cells order due o last e f h = subst (λ r. IsLastAt cells order due r) (sym e) (f, h)
 
@@ -138,16 +145,27 @@ later_has n (t ∷ ts) h e (inr j) = later_has n ts h.1 e j
 
 -- the last tick that is not after one
 pub last_by_is : (P : Tick → Type 0) (due : ℕ) (s : Ptr) (ts : List Tick) → AreAscending ts → AllByRecursion P ts
-    → ((last_by due s ts ≡ s) × ((e : ℕ) → HasTick e ts → due < e)) ⊎ ((t : Tick) × (P t) × (t.due ≤ due) × (last_by due s ts ≡ t.last.ptr) × ((e : ℕ) → HasTick e ts → e ≤ due → e ≤ t.due) × HasTick t.due ts)
+    → ((last_by due s ts ≡ s) × ((e : ℕ) → HasTick e ts → due < e)) ⊎ ((t : Tick) × (P t) × (t.due ≤ due) × (last_by due s ts ≡ t.last.ptr)
+        × ((e : ℕ) → HasTick e ts → e ≤ due → e ≤ t.due) × HasTick t.due ts)
 last_by_is P due s [] up h = inl (refl, λ e i. absurd i)
 last_by_is P due s (t ∷ ts) up h = by (nat_le t.due due) refl (last_by_is P due t.last.ptr ts up.1 h.1)
   where
     by : (b : Bool) → nat_le t.due due ≡ b
-        → ((last_by due t.last.ptr ts ≡ t.last.ptr) × ((e : ℕ) → HasTick e ts → due < e)) ⊎ ((u : Tick) × (P u) × (u.due ≤ due) × (last_by due t.last.ptr ts ≡ u.last.ptr) × ((e : ℕ) → HasTick e ts → e ≤ due → e ≤ u.due) × HasTick u.due ts)
-        → ((cond b (last_by due t.last.ptr ts) s ≡ s) × ((e : ℕ) → HasTick e (t ∷ ts) → due < e)) ⊎ ((u : Tick) × (P u) × (u.due ≤ due) × (cond b (last_by due t.last.ptr ts) s ≡ u.last.ptr) × ((e : ℕ) → HasTick e (t ∷ ts) → e ≤ due → e ≤ u.due) × HasTick u.due (t ∷ ts))
-    by true le (inl rest) = inr (t, h.0, at_most_tells t.due due le, rest.0, λ e i k. elim i [ inl f ↦ omega (arith, f) | inr j ↦ absurd (omega (arith, rest.1 e j, k)) ], inl refl)
-    by true le (inr rest) = inr (rest.0, rest.1, rest.2, rest.3, λ e i k. elim i [ inl f ↦ omega (arith, f, later_has t.due ts up.0 rest.0.due rest.5) | inr j ↦ rest.4 e j k ], inr rest.5)
-    by false gt rest = inl (refl, λ e i. elim i [ inl f ↦ omega (arith, not_at_most_tells t.due due gt, f) | inr j ↦ omega (arith, not_at_most_tells t.due due gt, later_has t.due ts up.0 e j) ])
+        → ((last_by due t.last.ptr ts ≡ t.last.ptr) × ((e : ℕ) → HasTick e ts → due < e)) ⊎
+            ((u : Tick) × (P u) × (u.due ≤ due) × (last_by due t.last.ptr ts ≡ u.last.ptr) × ((e : ℕ) → HasTick e ts → e ≤ due → e ≤ u.due)
+            × HasTick u.due ts)
+        → ((cond b (last_by due t.last.ptr ts) s ≡ s) × ((e : ℕ) → HasTick e (t ∷ ts) → due < e)) ⊎
+            ((u : Tick) × (P u) × (u.due ≤ due) × (cond b (last_by due t.last.ptr ts) s ≡ u.last.ptr) × ((e : ℕ) → HasTick e (t ∷ ts) → e ≤ due → e ≤ u.due)
+            × HasTick u.due (t ∷ ts))
+    by true le (inl rest) =
+        inr (t, h.0, at_most_tells t.due due le, rest.0, λ e i k. elim i [ inl f ↦ omega (arith, f) | inr j ↦ absurd (omega (arith, rest.1 e j, k)) ], inl
+        refl)
+    by true le (inr rest) =
+        inr (rest.0, rest.1, rest.2, rest.3, λ e i k. elim i [ inl f ↦ omega (arith, f, later_has t.due ts up.0 rest.0.due rest.5) | inr j ↦ rest.4 e j k ],
+        inr rest.5)
+    by false gt rest =
+        inl (refl, λ e i. elim i [ inl f ↦ omega (arith, not_at_most_tells t.due due gt, f) | inr j ↦ omega
+        (arith, not_at_most_tells t.due due gt, later_has t.due ts up.0 e j) ])
 
 -- a tick that is put, and those that are kept
 pub asc_put : (due : ℕ) (p : Ptr) (ts : List Tick) → AreAscending ts → AreAscending (put_tick due p ts)
@@ -158,7 +176,8 @@ asc_put due p (t ∷ ts) up = by (nat_lt t.due due) refl (asc_put due p ts up.1)
     after_put h [] all = (h, tt)
     after_put h (u ∷ us) all = split (nat_lt u.due due) (after_put h us all.1)
       where
-        split : (b : Bool) → AllByRecursion (λ later. t.due < later.due) (put_tick due p us) → AllByRecursion (λ later. t.due < later.due) (cond b (u ∷ put_tick due p us) (tick_at due p ∷ cond (u.due == due) us (u ∷ us)))
+        split : (b : Bool) → AllByRecursion (λ later. t.due < later.due) (put_tick due p us) →
+            AllByRecursion (λ later. t.due < later.due) (cond b (u ∷ put_tick due p us) (tick_at due p ∷ cond (u.due == due) us (u ∷ us)))
         split true rest = (all.0, rest)
         split false rest = (h, kept (u.due == due))
           where
@@ -166,7 +185,8 @@ asc_put due p (t ∷ ts) up = by (nat_lt t.due due) refl (asc_put due p ts up.1)
             kept true = all.1
             kept false = all
 
-    by : (b : Bool) → nat_lt t.due due ≡ b → AreAscending (put_tick due p ts) → (c : Bool) → (t.due == due) ≡ c → AreAscending (cond b (t ∷ put_tick due p ts) (tick_at due p ∷ cond c ts (t ∷ ts)))
+    by : (b : Bool) → nat_lt t.due due ≡ b → AreAscending (put_tick due p ts) → (c : Bool) →
+        (t.due == due) ≡ c → AreAscending (cond b (t ∷ put_tick due p ts) (tick_at due p ∷ cond c ts (t ∷ ts)))
     by true l rest c e = (after_put (less_tells t.due due l) ts up.0, rest)
     by false l rest true e = (subst (λ n. AllByRecursion (λ (later : Tick). n < later.due) ts) (same_numbers t.due due e) up.0, up.1)
     by false l rest false e =
@@ -180,14 +200,16 @@ asc_put due p (t ∷ ts) up = by (nat_lt t.due due) refl (asc_put due p ts up.1)
             further true k = less_tells due t.due k
             further false k = absurd (n (omega (arith, h, not_less_tells due t.due k)))
 
-pub all_put : (P Q : Tick → Type 0) (due : ℕ) (p : Ptr) (ts : List Tick) → ((t : Tick) → (t.due ≡ due → ⊥) → P t → Q t) → Q (tick_at due p) → AreAscending ts → AllByRecursion P ts → AllByRecursion Q (put_tick due p ts)
+pub all_put : (P Q : Tick → Type 0) (due : ℕ) (p : Ptr) (ts : List Tick) →
+    ((t : Tick) → (t.due ≡ due → ⊥) → P t → Q t) → Q (tick_at due p) → AreAscending ts → AllByRecursion P ts → AllByRecursion Q (put_tick due p ts)
 all_put P Q due p [] f q up h = (q, tt)
 all_put P Q due p (t ∷ ts) f q up h = by (nat_lt t.due due) refl (all_put P Q due p ts f q up.1 h.1) (t.due == due) refl
   where
     after : due ≤ t.due → AllByRecursion Q ts
     after k = all_ticks (λ u. P u × (t.due < u.due)) Q ts (λ u g. f u (λ e. omega (arith, e, k, g.1)) g.0) (both_ticks P (λ u. t.due < u.due) ts h.1 up.0)
 
-    by : (b : Bool) → nat_lt t.due due ≡ b → AllByRecursion Q (put_tick due p ts) → (c : Bool) → (t.due == due) ≡ c → AllByRecursion Q (cond b (t ∷ put_tick due p ts) (tick_at due p ∷ cond c ts (t ∷ ts)))
+    by : (b : Bool) → nat_lt t.due due ≡ b → AllByRecursion Q (put_tick due p ts) → (c : Bool) →
+        (t.due == due) ≡ c → AllByRecursion Q (cond b (t ∷ put_tick due p ts) (tick_at due p ∷ cond c ts (t ∷ ts)))
     by true l rest c e = let less : t.due < due = less_tells t.due due l in (f t (λ k. omega (arith, k, less)) h.0, rest)
     by false l rest true e = (q, after (not_less_tells t.due due l))
     by false l rest false e = (q, (f t (other_numbers t.due due e) h.0, after (not_less_tells t.due due l)))
@@ -204,7 +226,8 @@ pub has_put : (e due : ℕ) (p : Ptr) (ts : List Tick) → HasTick e ts → HasT
 has_put e due p [] i = absurd i
 has_put e due p (t ∷ ts) i = by (nat_lt t.due due) (has_put e due p ts) (t.due == due) refl
   where
-    by : (b : Bool) → (HasTick e ts → HasTick e (put_tick due p ts)) → (c : Bool) → (t.due == due) ≡ c → HasTick e (cond b (t ∷ put_tick due p ts) (tick_at due p ∷ cond c ts (t ∷ ts)))
+    by : (b : Bool) → (HasTick e ts → HasTick e (put_tick due p ts)) → (c : Bool) →
+        (t.due == due) ≡ c → HasTick e (cond b (t ∷ put_tick due p ts) (tick_at due p ∷ cond c ts (t ∷ ts)))
     by true rest c k = elim i [ inl f ↦ inl f | inr j ↦ inr (rest j) ]
     by false rest true k = elim i [ inl f ↦ inl (sym (same_numbers t.due due k) ∙ f) | inr j ↦ inr j ]
     by false rest false k = inr i
@@ -218,7 +241,8 @@ asc_set due p (t ∷ ts) up = by (t.due == due) refl (asc_set due p ts up.1)
     after_set n [] all = tt
     after_set n (u ∷ us) all = split (u.due == due) refl (after_set n us all.1)
       where
-        split : (b : Bool) → (u.due == due) ≡ b → AllByRecursion (λ later. n < later.due) (set_tick due p us) → AllByRecursion (λ later. n < later.due) (cond b (tick_at due p ∷ us) (u ∷ set_tick due p us))
+        split : (b : Bool) → (u.due == due) ≡ b → AllByRecursion (λ later. n < later.due) (set_tick due p us) →
+            AllByRecursion (λ later. n < later.due) (cond b (tick_at due p ∷ us) (u ∷ set_tick due p us))
         split true e rest = (subst (λ m. n < m) (same_numbers u.due due e) all.0, all.1)
         split false e rest = (all.0, rest)
 
@@ -234,7 +258,8 @@ asc_drop due (t ∷ ts) up = by (t.due == due) (asc_drop due ts up.1)
     after_drop n [] all = tt
     after_drop n (u ∷ us) all = split (u.due == due) (after_drop n us all.1)
       where
-        split : (b : Bool) → AllByRecursion (λ later. n < later.due) (drop_tick due us) → AllByRecursion (λ later. n < later.due) (cond b us (u ∷ drop_tick due us))
+        split : (b : Bool) → AllByRecursion (λ later. n < later.due) (drop_tick due us) →
+            AllByRecursion (λ later. n < later.due) (cond b us (u ∷ drop_tick due us))
         split true rest = all.1
         split false rest = (all.0, rest)
 
@@ -243,10 +268,13 @@ asc_drop due (t ∷ ts) up = by (t.due == due) (asc_drop due ts up.1)
     by false rest = (after_drop t.due ts up.0, rest)
 
 -- of ticks that ascend, those behind this one are others
-others : (P Q : Tick → Type 0) (due : ℕ) (t : Tick) (ts : List Tick) → t.due ≡ due → ((u : Tick) → (u.due ≡ due → ⊥) → P u → Q u) → AllByRecursion (λ later. t.due < later.due) ts → AllByRecursion P ts → AllByRecursion Q ts
-others P Q due t ts e f up h = all_ticks (λ u. P u × (t.due < u.due)) Q ts (λ u g. f u (λ k. omega (arith, e, k, g.1)) g.0) (both_ticks P (λ u. t.due < u.due) ts h up)
+others : (P Q : Tick → Type 0) (due : ℕ) (t : Tick) (ts : List Tick) → t.due ≡ due →
+    ((u : Tick) → (u.due ≡ due → ⊥) → P u → Q u) → AllByRecursion (λ later. t.due < later.due) ts → AllByRecursion P ts → AllByRecursion Q ts
+others P Q due t ts e f up h =
+    all_ticks (λ u. P u × (t.due < u.due)) Q ts (λ u g. f u (λ k. omega (arith, e, k, g.1)) g.0) (both_ticks P (λ u. t.due < u.due) ts h up)
 
-pub all_set : (P Q : Tick → Type 0) (due : ℕ) (p : Ptr) (ts : List Tick) → ((t : Tick) → (t.due ≡ due → ⊥) → P t → Q t) → Q (tick_at due p) → AreAscending ts → AllByRecursion P ts → AllByRecursion Q (set_tick due p ts)
+pub all_set : (P Q : Tick → Type 0) (due : ℕ) (p : Ptr) (ts : List Tick) →
+    ((t : Tick) → (t.due ≡ due → ⊥) → P t → Q t) → Q (tick_at due p) → AreAscending ts → AllByRecursion P ts → AllByRecursion Q (set_tick due p ts)
 all_set P Q due p [] f q up h = tt
 all_set P Q due p (t ∷ ts) f q up h = by (t.due == due) refl (all_set P Q due p ts f q up.1 h.1)
   where
@@ -254,7 +282,8 @@ all_set P Q due p (t ∷ ts) f q up h = by (t.due == due) refl (all_set P Q due 
     by true e rest = (q, others P Q due t ts (same_numbers t.due due e) f up.0 h.1)
     by false e rest = (f t (other_numbers t.due due e) h.0, rest)
 
-pub all_drop : (P Q : Tick → Type 0) (due : ℕ) (ts : List Tick) → ((t : Tick) → (t.due ≡ due → ⊥) → P t → Q t) → AreAscending ts → AllByRecursion P ts → AllByRecursion Q (drop_tick due ts)
+pub all_drop : (P Q : Tick → Type 0) (due : ℕ) (ts : List Tick) → ((t : Tick) → (t.due ≡ due → ⊥) → P t → Q t) → AreAscending ts → AllByRecursion P ts →
+    AllByRecursion Q (drop_tick due ts)
 all_drop P Q due [] f up h = tt
 all_drop P Q due (t ∷ ts) f up h = by (t.due == due) refl (all_drop P Q due ts f up.1 h.1)
   where
@@ -282,11 +311,16 @@ has_drop e due (t ∷ ts) n i = by (t.due == due) refl (has_drop e due ts n)
     by false k rest = elim i [ inl f ↦ inl f | inr j ↦ inr (rest j) ]
 
 -- ticks that ascend, with the due ticks of their nodes, are no more than the nodes
-pub fewer : (due_at : Ptr → ℕ) (ts : List Tick) (ps : List Ptr) → AreAscending ts → AllByRecursion (λ t. IsIn t.last.ptr ps × (due_at t.last.ptr ≡ t.due)) ts → length ts ≤ length ps
+pub fewer : (due_at : Ptr → ℕ) (ts : List Tick) (ps : List Ptr) → AreAscending ts →
+    AllByRecursion (λ t. IsIn t.last.ptr ps × (due_at t.last.ptr ≡ t.due)) ts → length ts ≤ length ps
 fewer due_at [] ps up h = omega arith
 fewer due_at (t ∷ ts) ps up h =
     let cut = in_cut t.last.ptr ps h.0.0 in
-    let rest = fewer due_at ts (cut.0 ++ cut.1) up.1 (all_ticks (λ u. (IsIn u.last.ptr ps × (due_at u.last.ptr ≡ u.due)) × (t.due < u.due)) (λ u. IsIn u.last.ptr (cut.0 ++ cut.1) × (due_at u.last.ptr ≡ u.due)) ts
-    (λ u g. (in_without u.last.ptr cut.0 t.last.ptr cut.1 (subst (λ l. IsIn u.last.ptr l) cut.2 g.0.0) (λ e. omega (arith, g.1, g.0.1, h.0.1, ap due_at e)), g.0.1))
+    let rest =
+        fewer due_at ts (cut.0 ++ cut.1) up.1
+        (all_ticks (λ u. (IsIn u.last.ptr ps × (due_at u.last.ptr ≡ u.due)) × (t.due < u.due))
+        (λ u. IsIn u.last.ptr (cut.0 ++ cut.1) × (due_at u.last.ptr ≡ u.due)) ts
+    (λ u g. (in_without u.last.ptr cut.0 t.last.ptr cut.1 (subst (λ l. IsIn u.last.ptr l) cut.2 g.0.0)
+        (λ e. omega (arith, g.1, g.0.1, h.0.1, ap due_at e)), g.0.1))
     (both_ticks (λ u. IsIn u.last.ptr ps × (due_at u.last.ptr ≡ u.due)) (λ u. t.due < u.due) ts h.1 up.0)) in
     omega (arith, rest, length-append cut.0 cut.1, length-append cut.0 (t.last.ptr ∷ cut.1), ap length cut.2)

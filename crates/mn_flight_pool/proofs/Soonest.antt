@@ -25,12 +25,15 @@ goes_of d n e m (inr h) = let p : d ≡ e = h.0 in let q : n < m = h.1 in grind 
 goes_self : (d n : ℕ) → (nat_lt d d || ((d == d) && nat_le n n)) ≡ true
 goes_self d n = grind (arith, nat_tests)
 
-module _ {T : Type 0} (head : Ptr) (order : List Ptr) (channels : ℕ) (ticks : List Tick) (cells : List (Ptr × Node T)) (flight : IsFlight channels (items_in cells order)) where
+module _ {T : Type 0} (head : Ptr) (order : List Ptr) (channels : ℕ) (ticks : List Tick) (cells : List (Ptr × Node T))
+    (flight : IsFlight channels (items_in cells order)) where
   abbrev items : List (Item T)
   items = items_in cells order
 
   -- while there is one, the first of the ring is sooner than any other
-  pub soonest : (dues : List Ptr) → IsByDue head order dues ticks cells → 0 < length order → (IsIn (next_of Due cells head) order) × ((x y : Item T) (q : Ptr) → item_at cells (next_of Due cells head) ≡ Some x → IsIn q order → item_at cells q ≡ Some y → (q ≡ next_of Due cells head) ⊎ ((x.due < y.due) ⊎ ((x.due ≡ y.due) × (x.number < y.number))))
+  pub soonest : (dues : List Ptr) → IsByDue head order dues ticks cells → 0 < length order →
+      (IsIn (next_of Due cells head) order) × ((x y : Item T) (q : Ptr) → item_at cells (next_of Due cells head) ≡ Some x → IsIn q order →
+      item_at cells q ≡ Some y → (q ≡ next_of Due cells head) ⊎ ((x.due < y.due) ⊎ ((x.due ≡ y.due) × (x.number < y.number))))
   soonest [] due some = absurd (omega (arith, some, due.many))
   soonest (p ∷ ps) due some =
       let first : next_of Due cells head ≡ p = due.ring.round.0 in (
@@ -41,7 +44,8 @@ module _ {T : Type 0} (head : Ptr) (order : List Ptr) (channels : ℕ) (ticks : 
         ],
       )
 
-  module _ (dues : List Ptr) (due : IsByDue head order dues ticks cells) (some : 0 < length order) (limit : ℕ) (x : Item T) (holds : item_at cells (next_of Due cells head) ≡ Some x) where
+  module _ (dues : List Ptr) (due : IsByDue head order dues ticks cells) (some : 0 < length order) (limit : ℕ) (x : Item T)
+      (holds : item_at cells (next_of Due cells head) ≡ Some x) where
     abbrev p : Ptr
     p = next_of Due cells head
 
@@ -55,7 +59,8 @@ module _ {T : Type 0} (head : Ptr) (order : List Ptr) (channels : ℕ) (ticks : 
       first = λ y c k.
           let at = member_node cells order y (members.in_of_contains items y c) in
           elim ((soonest dues due some).1 x y at.0 holds at.1 at.2) [
-            | inl s ↦ let same : x ≡ y = same_Some x y (sym holds ∙ ap (item_at cells) (sym s) ∙ at.2) in subst (λ (z : Item T). goes_before x z ≡ true) same (goes_self x.due x.number)
+            | inl s ↦ let same : x ≡ y = same_Some x y (sym holds ∙ ap (item_at cells) (sym s) ∙ at.2) in
+                subst (λ (z : Item T). goes_before x z ≡ true) same (goes_self x.due x.number)
             | inr b ↦ goes_of x.due x.number y.due y.number b
           ];
     })
@@ -64,6 +69,7 @@ module _ {T : Type 0} (head : Ptr) (order : List Ptr) (channels : ℕ) (ticks : 
     earliest_none h = (law_none channels limit items flight).1 (λ k d below.
         let at = member_node cells order (slice_index_or items k d) (members.in_of_place items k d below) in
         elim ((soonest dues due some).1 x (slice_index_or items k d) at.0 holds at.1 at.2) [
-          | inl s ↦ let same : x ≡ slice_index_or items k d = same_Some x (slice_index_or items k d) (sym holds ∙ ap (item_at cells) (sym s) ∙ at.2) in subst (λ (z : Item T). limit < z.due) same h
+          | inl s ↦ let same : x ≡ slice_index_or items k d = same_Some x (slice_index_or items k d) (sym holds ∙ ap (item_at cells) (sym s) ∙ at.2) in
+              subst (λ (z : Item T). limit < z.due) same h
           | inr b ↦ let later : x.due ≤ (slice_index_or items k d).due = no_later x (slice_index_or items k d) b in omega (arith, later, h)
         ])

@@ -1,5 +1,6 @@
 -- A whole pool gives an item out, and its node is free.
-use Rattle.std.proofs.Common.{◌≡◌, ◌<◌, ◌-◌, ℕ, zero, suc, cond, List, [], ◌∷◌, ◌++◌, length, Option, Some, None, IsSome, refl, sym, ap, ◌∙◌, subst, arith, length-append, get_or, eq-eqb}
+use Rattle.std.proofs.Common.{◌≡◌, ◌<◌, ◌-◌, ℕ, zero, suc, cond, List, [], ◌∷◌, ◌++◌, length, Option, Some, None, IsSome, refl, sym, ap, ◌∙◌, subst, arith}
+use Rattle.std.proofs.Common.{length-append, get_or, eq-eqb}
 use Rattle.std.specs.Prelude.{slice_get, slice_set}
 use Rattle.std.proofs.lemmas.Option.{same_Some}
 use denote.RawPtr.{Ptr}
@@ -86,7 +87,8 @@ module _ {T : Type 0} (pool : Pool T) (whole : IsWhole pool) (p : Ptr) (i : IsIn
   no_item (Some y) e h = cc
 
   -- the item that is read and the one that is taken are one
-  pub same_item : (one : List (Ptr × Node T)) → one ≡ unlink Due p pool.store → (x y : Item T) → Some x ≡ item_at pool.store p → Some y ≡ item_at one p → (item_at pool.store p ≡ Some y) × (x ≡ y)
+  pub same_item : (one : List (Ptr × Node T)) → one ≡ unlink Due p pool.store → (x y : Item T) → Some x ≡ item_at pool.store p → Some y ≡ item_at one p →
+      (item_at pool.store p ≡ Some y) × (x ≡ y)
   same_item one e x y f h =
       let there : item_at pool.store p ≡ Some y = sym (h ∙ ap (λ c. item_at c p) e ∙ (alike_unlink p pool.store).items p) in
       (there, same_Some x y (f ∙ there))
@@ -107,10 +109,13 @@ module _ {T : Type 0} (pool : Pool T) (whole : IsWhole pool) (p : Ptr) (i : IsIn
     mid = unlink Due p pool.store
 
     held_mid : IsHeld head heads free (suc n) mid
-    held_mid = held_alike pool.store mid (alike_unlink p pool.store) head heads free (suc n) (subst (λ m. IsHeld head heads free m pool.store) count_is whole.held)
+    held_mid =
+        held_alike pool.store mid (alike_unlink p pool.store) head heads free (suc n) (subst (λ m. IsHeld head heads free m pool.store) count_is whole.held)
 
     order_mid : order_of head (suc n) mid ≡ us ++ p ∷ vs
-    order_mid = order_alike pool.store mid (alike_unlink p pool.store) head heads free (suc n) (subst (λ m. IsHeld head heads free m pool.store) count_is whole.held) ∙ ap (λ m. order_of head m pool.store) (sym count_is) ∙ cut.2
+    order_mid =
+        order_alike pool.store mid (alike_unlink p pool.store) head heads free (suc n)
+        (subst (λ m. IsHeld head heads free m pool.store) count_is whole.held) ∙ ap (λ m. order_of head m pool.store) (sym count_is) ∙ cut.2
 
     holds_mid : item_at mid p ≡ Some x
     holds_mid = (alike_unlink p pool.store).items p ∙ holds
@@ -119,7 +124,9 @@ module _ {T : Type 0} (pool : Pool T) (whole : IsWhole pool) (p : Ptr) (i : IsIn
     linked_mid = subst (λ l. IsLinked head heads free l mid) order_mid held_mid.linked
 
     counted_mid : IsCounted pool.counts.items (length pool.heads.items) (us ++ p ∷ vs) mid
-    counted_mid = counted_alike pool.counts.items (length pool.heads.items) (us ++ p ∷ vs) pool.store mid (alike_unlink p pool.store) (subst (λ l. IsCounted pool.counts.items (length pool.heads.items) l pool.store) cut.2 whole.counted)
+    counted_mid =
+        counted_alike pool.counts.items (length pool.heads.items) (us ++ p ∷ vs) pool.store mid (alike_unlink p pool.store)
+        (subst (λ l. IsCounted pool.counts.items (length pool.heads.items) l pool.store) cut.2 whole.counted)
 
     pub some_on : 0 < get_or pool.counts.items x.channel 0
     some_on = some_counted head heads free us p vs mid linked_mid x first holds_mid first_at.1 pool.counts.items (length pool.heads.items) counted_mid below
@@ -138,7 +145,8 @@ module _ {T : Type 0} (pool : Pool T) (whole : IsWhole pool) (p : Ptr) (i : IsIn
         first,
         nodes_on mid x.channel us,
         nodes_on mid x.channel vs,
-        subst (λ c. IsRing Channel c first (nodes_on mid x.channel us ++ p ∷ nodes_on mid x.channel vs)) (sym one_is) (subst (λ l. IsRing Channel mid first l) own (linked_mid.channel x.channel first first_at.1)),
+        subst (λ c. IsRing Channel c first (nodes_on mid x.channel us ++ p ∷ nodes_on mid x.channel vs)) (sym one_is)
+            (subst (λ l. IsRing Channel mid first l) own (linked_mid.channel x.channel first first_at.1)),
       )
 
       pub item_one : item_at one p ≡ Some x
@@ -154,16 +162,20 @@ module _ {T : Type 0} (pool : Pool T) (whole : IsWhole pool) (p : Ptr) (i : IsIn
         pub take_held : (frees : List Ptr) → frees ≡ free ++ p ∷ [] → IsHeld head heads frees n two
         take_held frees e =
             subst (λ l. IsHeld head heads l n two) (sym e)
-            (subst (λ c. IsHeld head heads (free ++ p ∷ []) n c) (sym is) (held_left head heads free us p vs n mid held_mid order_mid x first holds_mid first_at.1))
+            (subst (λ c. IsHeld head heads (free ++ p ∷ []) n c) (sym is)
+                (held_left head heads free us p vs n mid held_mid order_mid x first holds_mid first_at.1))
 
         pub take_items : items_in two (order_of head n two) ≡ without (Some x) (items_of pool)
         take_items =
             subst (λ c. items_in c (order_of head n c) ≡ without (Some x) (items_of pool)) (sym is)
             (items_without head heads free us p vs n mid held_mid order_mid x first holds_mid first_at.1
-            ∙ ap (λ l. without (Some x) l) (items_kept pool.store mid (alike_unlink p pool.store) head heads free (suc n) (subst (λ m. IsHeld head heads free m pool.store) count_is whole.held)
+            ∙ ap (λ l. without (Some x) l)
+                (items_kept pool.store mid (alike_unlink p pool.store) head heads free (suc n)
+                (subst (λ m. IsHeld head heads free m pool.store) count_is whole.held)
             ∙ ap (λ m. items_in pool.store (order_of head m pool.store)) (sym count_is)))
 
-        pub take_counted : (counts : List ℕ) → counts ≡ slice_set pool.counts.items x.channel (get_or pool.counts.items x.channel 0 - 1) → IsCounted counts (length pool.heads.items) (order_of head n two) two
+        pub take_counted : (counts : List ℕ) → counts ≡ slice_set pool.counts.items x.channel (get_or pool.counts.items x.channel 0 - 1) →
+            IsCounted counts (length pool.heads.items) (order_of head n two) two
         take_counted counts e =
             subst (λ c. IsCounted counts (length pool.heads.items) (order_of head n c) c) (sym is)
             (subst (λ o. IsCounted counts (length pool.heads.items) o (left p mid)) (sym order_two)
@@ -174,14 +186,17 @@ module _ {T : Type 0} (pool : Pool T) (whole : IsWhole pool) (p : Ptr) (i : IsIn
         dues_then = dues.then head heads free us p vs pool.store linked x holds old_dues pool.ticks.items due
 
         abbrev ticks_then : List Tick
-        ticks_then = ticks_left x.due (prev_of Due pool.store p) (item_at pool.store (prev_of Due pool.store p)) (item_at pool.store (next_of Due pool.store p)) pool.ticks.items
+        ticks_then =
+            ticks_left x.due (prev_of Due pool.store p) (item_at pool.store (prev_of Due pool.store p))
+            (item_at pool.store (next_of Due pool.store p)) pool.ticks.items
 
         left_due : IsByDue head (us ++ vs) dues_then ticks_then (left p mid)
         left_due = dues.due_left head heads free us p vs pool.store linked x holds old_dues pool.ticks.items due
 
         dues_two : dues_of head n (left p mid) ≡ dues_then
         dues_two =
-            let many : length dues_then ≡ n = omega (arith, left_due.many, order_length pool whole, ap length cut.2, length-append us vs, length-append us (p ∷ vs)) in
+            let many : length dues_then ≡ n =
+                omega (arith, left_due.many, order_length pool whole, ap length cut.2, length-append us vs, length-append us (p ∷ vs)) in
             ap (λ m. trace (next_of Due (left p mid)) head m) (sym many) ∙ trace_ring Due (left p mid) head dues_then left_due.ring
 
         pub take_by_due : (ticks : List Tick) → ticks ≡ ticks_then → IsByDue head (order_of head n two) (dues_of head n two) ticks two

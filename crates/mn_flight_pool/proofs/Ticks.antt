@@ -1,5 +1,6 @@
 -- Ticks that ascend: where one stands, and what a change at its place gives.
-use Rattle.std.proofs.Common.{◌≡◌, ◌<◌, ◌≤◌, ◌-◌, ℕ, zero, suc, Bool, true, false, cond, nat_lt, nat_le, List, [], ◌∷◌, length, refl, sym, ap, ◌∙◌, subst, arith}
+use Rattle.std.proofs.Common.{◌≡◌, ◌<◌, ◌≤◌, ◌-◌, ℕ, zero, suc, Bool, true, false, cond, nat_lt, nat_le, List, [], ◌∷◌, length, refl, sym, ap, ◌∙◌, subst}
+use Rattle.std.proofs.Common.{arith}
 use Rattle.std.specs.Prelude.{◌==◌, slice_index_or, slice_set, insert, remove}
 use Rattle.std.specs.List.{AllByRecursion}
 use Rattle.mn_base.proofs.Bools.{at_most_is, less_is, less_tells, not_at_most, not_less, not_less_tells, other_test, test_same}
@@ -49,7 +50,9 @@ pub not_earlier : (due : ℕ) (ts : List Tick) (d : Tick) → earlier due ts < l
 not_earlier due [] d h = absurd (omega (arith, h))
 not_earlier due (t ∷ ts) d h = by (nat_lt t.due due) refl h (not_earlier due ts d)
   where
-    by : (b : Bool) → nat_lt t.due due ≡ b → cond b (suc (earlier due ts)) 0 < suc (length ts) → (earlier due ts < length ts → due ≤ (slice_index_or ts (earlier due ts) d).due) → due ≤ (slice_index_or (t ∷ ts) (cond b (suc (earlier due ts)) 0) d).due
+    by : (b : Bool) → nat_lt t.due due ≡ b → cond b (suc (earlier due ts)) 0 < suc (length ts) →
+        (earlier due ts < length ts → due ≤ (slice_index_or ts (earlier due ts) d).due) →
+        due ≤ (slice_index_or (t ∷ ts) (cond b (suc (earlier due ts)) 0) d).due
     by true e k rest = rest (omega (arith, k))
     by false e k rest = not_less_tells t.due due e
 
@@ -58,26 +61,35 @@ none_by : (due : ℕ) (s : Ptr) (ts : List Tick) → AllByRecursion (λ later. d
 none_by due s [] h = refl
 none_by due s (t ∷ ts) h = rw (not_at_most t.due due h.0) refl
 
-found_last : (due : ℕ) (s : Ptr) (ts : List Tick) (d : Tick) → AreAscending ts → earlier due ts < length ts → (slice_index_or ts (earlier due ts) d).due ≡ due → (slice_index_or ts (earlier due ts) d).last.ptr ≡ last_by due s ts
+found_last : (due : ℕ) (s : Ptr) (ts : List Tick) (d : Tick) → AreAscending ts → earlier due ts < length ts →
+    (slice_index_or ts (earlier due ts) d).due ≡ due → (slice_index_or ts (earlier due ts) d).last.ptr ≡ last_by due s ts
 found_last due s [] d up h e = absurd (omega (arith, h))
 found_last due s (t ∷ ts) d up h e = by (nat_lt t.due due) refl h e (found_last due t.last.ptr ts d up.1)
   where
-    by : (b : Bool) → nat_lt t.due due ≡ b → cond b (suc (earlier due ts)) 0 < suc (length ts) → (slice_index_or (t ∷ ts) (cond b (suc (earlier due ts)) 0) d).due ≡ due
-        → (earlier due ts < length ts → (slice_index_or ts (earlier due ts) d).due ≡ due → (slice_index_or ts (earlier due ts) d).last.ptr ≡ last_by due t.last.ptr ts)
+    by : (b : Bool) → nat_lt t.due due ≡ b → cond b (suc (earlier due ts)) 0 < suc (length ts) →
+        (slice_index_or (t ∷ ts) (cond b (suc (earlier due ts)) 0) d).due ≡ due
+        → (earlier due ts < length ts → (slice_index_or ts (earlier due ts) d).due ≡ due →
+            (slice_index_or ts (earlier due ts) d).last.ptr ≡ last_by due t.last.ptr ts)
         → (slice_index_or (t ∷ ts) (cond b (suc (earlier due ts)) 0) d).last.ptr ≡ cond (nat_le t.due due) (last_by due t.last.ptr ts) s
     by true l k q rest = rw (at_most_is t.due due (omega (arith, less_tells t.due due l))) (rest (omega (arith, k)) q)
-    by false l k q rest = rw (at_most_is t.due due (omega (arith, q))) (sym (none_by due t.last.ptr ts (subst (λ n. AllByRecursion (λ (later : Tick). n < later.due) ts) q up.0)))
+    by false l k q rest =
+        rw (at_most_is t.due due (omega (arith, q)))
+        (sym (none_by due t.last.ptr ts (subst (λ n. AllByRecursion (λ (later : Tick). n < later.due) ts) q up.0)))
 
 first_last : (due : ℕ) (s : Ptr) (ts : List Tick) (d : Tick) → earlier due ts ≡ 0 → (0 < length ts → due < (slice_index_or ts 0 d).due) → s ≡ last_by due s ts
 first_last due s [] d e h = refl
 first_last due s (t ∷ ts) d e h = rw (not_at_most t.due due (h (omega arith))) refl
 
-missing_last : (due : ℕ) (s : Ptr) (ts : List Tick) (d : Tick) → (earlier due ts < length ts → due < (slice_index_or ts (earlier due ts) d).due) → 0 < earlier due ts → (slice_index_or ts (earlier due ts - 1) d).last.ptr ≡ last_by due s ts
+missing_last : (due : ℕ) (s : Ptr) (ts : List Tick) (d : Tick) → (earlier due ts < length ts → due < (slice_index_or ts (earlier due ts) d).due) →
+    0 < earlier due ts → (slice_index_or ts (earlier due ts - 1) d).last.ptr ≡ last_by due s ts
 missing_last due s [] d h pos = absurd (omega (arith, pos))
 missing_last due s (t ∷ ts) d h pos = by (nat_lt t.due due) refl h pos (missing_last due t.last.ptr ts d)
   where
-    by : (b : Bool) → nat_lt t.due due ≡ b → (cond b (suc (earlier due ts)) 0 < suc (length ts) → due < (slice_index_or (t ∷ ts) (cond b (suc (earlier due ts)) 0) d).due) → 0 < cond b (suc (earlier due ts)) 0
-        → ((earlier due ts < length ts → due < (slice_index_or ts (earlier due ts) d).due) → 0 < earlier due ts → (slice_index_or ts (earlier due ts - 1) d).last.ptr ≡ last_by due t.last.ptr ts)
+    by : (b : Bool) → nat_lt t.due due ≡ b →
+        (cond b (suc (earlier due ts)) 0 < suc (length ts) → due < (slice_index_or (t ∷ ts) (cond b (suc (earlier due ts)) 0) d).due) →
+        0 < cond b (suc (earlier due ts)) 0
+        → ((earlier due ts < length ts → due < (slice_index_or ts (earlier due ts) d).due) → 0 < earlier due ts →
+            (slice_index_or ts (earlier due ts - 1) d).last.ptr ≡ last_by due t.last.ptr ts)
         → (slice_index_or (t ∷ ts) (cond b (suc (earlier due ts)) 0 - 1) d).last.ptr ≡ cond (nat_le t.due due) (last_by due t.last.ptr ts) s
     by true l k q rest = rw (at_most_is t.due due (omega (arith, less_tells t.due due l))) (at_place (earlier due ts) refl)
       where
@@ -91,50 +103,62 @@ missing_last due s (t ∷ ts) d h pos = by (nat_lt t.due due) refl h pos (missin
     by false l k q rest = absurd (omega (arith, q))
 
 -- 3. A change at the place
-found_put : (due : ℕ) (p : Ptr) (ts : List Tick) (d : Tick) → earlier due ts < length ts → (slice_index_or ts (earlier due ts) d).due ≡ due → slice_set ts (earlier due ts) (tick_at due p) ≡ put_tick due p ts
+found_put : (due : ℕ) (p : Ptr) (ts : List Tick) (d : Tick) → earlier due ts < length ts →
+    (slice_index_or ts (earlier due ts) d).due ≡ due → slice_set ts (earlier due ts) (tick_at due p) ≡ put_tick due p ts
 found_put due p [] d h e = absurd (omega (arith, h))
 found_put due p (t ∷ ts) d h e = by (nat_lt t.due due) refl h e (found_put due p ts d)
   where
-    by : (b : Bool) → nat_lt t.due due ≡ b → cond b (suc (earlier due ts)) 0 < suc (length ts) → (slice_index_or (t ∷ ts) (cond b (suc (earlier due ts)) 0) d).due ≡ due
+    by : (b : Bool) → nat_lt t.due due ≡ b → cond b (suc (earlier due ts)) 0 < suc (length ts) →
+        (slice_index_or (t ∷ ts) (cond b (suc (earlier due ts)) 0) d).due ≡ due
         → (earlier due ts < length ts → (slice_index_or ts (earlier due ts) d).due ≡ due → slice_set ts (earlier due ts) (tick_at due p) ≡ put_tick due p ts)
-        → slice_set (t ∷ ts) (cond b (suc (earlier due ts)) 0) (tick_at due p) ≡ cond b (t ∷ put_tick due p ts) (tick_at due p ∷ cond (t.due == due) ts (t ∷ ts))
+        → slice_set (t ∷ ts) (cond b (suc (earlier due ts)) 0) (tick_at due p) ≡ cond b (t ∷ put_tick due p ts)
+            (tick_at due p ∷ cond (t.due == due) ts (t ∷ ts))
     by true l k q rest = ap (λ r. t ∷ r) (rest (omega (arith, k)) q)
     by false l k q rest = rw (test_same t.due due q) refl
 
-missing_put : (due : ℕ) (p : Ptr) (ts : List Tick) (d : Tick) → (earlier due ts < length ts → due < (slice_index_or ts (earlier due ts) d).due) → insert ts (earlier due ts) (tick_at due p) ≡ put_tick due p ts
+missing_put : (due : ℕ) (p : Ptr) (ts : List Tick) (d : Tick) → (earlier due ts < length ts → due < (slice_index_or ts (earlier due ts) d).due) →
+    insert ts (earlier due ts) (tick_at due p) ≡ put_tick due p ts
 missing_put due p [] d h = refl
 missing_put due p (t ∷ ts) d h = by (nat_lt t.due due) refl h (missing_put due p ts d)
   where
-    by : (b : Bool) → nat_lt t.due due ≡ b → (cond b (suc (earlier due ts)) 0 < suc (length ts) → due < (slice_index_or (t ∷ ts) (cond b (suc (earlier due ts)) 0) d).due)
+    by : (b : Bool) → nat_lt t.due due ≡ b →
+        (cond b (suc (earlier due ts)) 0 < suc (length ts) → due < (slice_index_or (t ∷ ts) (cond b (suc (earlier due ts)) 0) d).due)
         → ((earlier due ts < length ts → due < (slice_index_or ts (earlier due ts) d).due) → insert ts (earlier due ts) (tick_at due p) ≡ put_tick due p ts)
         → insert (t ∷ ts) (cond b (suc (earlier due ts)) 0) (tick_at due p) ≡ cond b (t ∷ put_tick due p ts) (tick_at due p ∷ cond (t.due == due) ts (t ∷ ts))
     by true l k rest = ap (λ r. t ∷ r) (rest (λ b. k (omega (arith, b))))
     by false l k rest = let later : due < t.due = k (omega arith) in rw (other_test t.due due (λ e. omega (arith, later, e))) refl
 
-found_set : (due : ℕ) (p : Ptr) (ts : List Tick) (d : Tick) → earlier due ts < length ts → (slice_index_or ts (earlier due ts) d).due ≡ due → slice_set ts (earlier due ts) (tick_at due p) ≡ set_tick due p ts
+found_set : (due : ℕ) (p : Ptr) (ts : List Tick) (d : Tick) → earlier due ts < length ts →
+    (slice_index_or ts (earlier due ts) d).due ≡ due → slice_set ts (earlier due ts) (tick_at due p) ≡ set_tick due p ts
 found_set due p [] d h e = absurd (omega (arith, h))
 found_set due p (t ∷ ts) d h e = by (nat_lt t.due due) refl h e (found_set due p ts d)
   where
-    by : (b : Bool) → nat_lt t.due due ≡ b → cond b (suc (earlier due ts)) 0 < suc (length ts) → (slice_index_or (t ∷ ts) (cond b (suc (earlier due ts)) 0) d).due ≡ due
+    by : (b : Bool) → nat_lt t.due due ≡ b → cond b (suc (earlier due ts)) 0 < suc (length ts) →
+        (slice_index_or (t ∷ ts) (cond b (suc (earlier due ts)) 0) d).due ≡ due
         → (earlier due ts < length ts → (slice_index_or ts (earlier due ts) d).due ≡ due → slice_set ts (earlier due ts) (tick_at due p) ≡ set_tick due p ts)
         → slice_set (t ∷ ts) (cond b (suc (earlier due ts)) 0) (tick_at due p) ≡ cond (t.due == due) (tick_at due p ∷ ts) (t ∷ set_tick due p ts)
-    by true l k q rest = let before : t.due < due = less_tells t.due due l in rw (other_test t.due due (λ e. omega (arith, before, e))) (ap (λ r. t ∷ r) (rest (omega (arith, k)) q))
+    by true l k q rest = let before : t.due < due = less_tells t.due due l in
+        rw (other_test t.due due (λ e. omega (arith, before, e))) (ap (λ r. t ∷ r) (rest (omega (arith, k)) q))
     by false l k q rest = rw (test_same t.due due q) refl
 
-found_drop : (due : ℕ) (ts : List Tick) (d : Tick) → earlier due ts < length ts → (slice_index_or ts (earlier due ts) d).due ≡ due → remove ts (earlier due ts) ≡ drop_tick due ts
+found_drop : (due : ℕ) (ts : List Tick) (d : Tick) → earlier due ts < length ts →
+    (slice_index_or ts (earlier due ts) d).due ≡ due → remove ts (earlier due ts) ≡ drop_tick due ts
 found_drop due [] d h e = absurd (omega (arith, h))
 found_drop due (t ∷ ts) d h e = by (nat_lt t.due due) refl h e (found_drop due ts d)
   where
-    by : (b : Bool) → nat_lt t.due due ≡ b → cond b (suc (earlier due ts)) 0 < suc (length ts) → (slice_index_or (t ∷ ts) (cond b (suc (earlier due ts)) 0) d).due ≡ due
+    by : (b : Bool) → nat_lt t.due due ≡ b → cond b (suc (earlier due ts)) 0 < suc (length ts) →
+        (slice_index_or (t ∷ ts) (cond b (suc (earlier due ts)) 0) d).due ≡ due
         → (earlier due ts < length ts → (slice_index_or ts (earlier due ts) d).due ≡ due → remove ts (earlier due ts) ≡ drop_tick due ts)
         → remove (t ∷ ts) (cond b (suc (earlier due ts)) 0) ≡ cond (t.due == due) ts (t ∷ drop_tick due ts)
-    by true l k q rest = let before : t.due < due = less_tells t.due due l in rw (other_test t.due due (λ e. omega (arith, before, e))) (ap (λ r. t ∷ r) (rest (omega (arith, k)) q))
+    by true l k q rest = let before : t.due < due = less_tells t.due due l in
+        rw (other_test t.due due (λ e. omega (arith, before, e))) (ap (λ r. t ∷ r) (rest (omega (arith, k)) q))
     by false l k q rest = rw (test_same t.due due q) refl
 
 -- where it isn't there, nothing is changed
 later_set : (due : ℕ) (p : Ptr) (ts : List Tick) → AllByRecursion (λ later. due < later.due) ts → set_tick due p ts ≡ ts
 later_set due p [] h = refl
-later_set due p (t ∷ ts) h = let after : due < t.due = h.0 in rw (other_test t.due due (λ e. omega (arith, after, e))) (ap (λ r. t ∷ r) (later_set due p ts h.1))
+later_set due p (t ∷ ts) h = let after : due < t.due = h.0 in
+    rw (other_test t.due due (λ e. omega (arith, after, e))) (ap (λ r. t ∷ r) (later_set due p ts h.1))
 
 later_drop : (due : ℕ) (ts : List Tick) → AllByRecursion (λ later. due < later.due) ts → drop_tick due ts ≡ ts
 later_drop due [] h = refl
@@ -144,25 +168,33 @@ further : (m n : ℕ) (ts : List Tick) → m < n → AllByRecursion (λ later. n
 further m n [] l h = tt
 further m n (t ∷ ts) l h = (omega (arith, l, h.0), further m n ts l h.1)
 
-missing_set : (due : ℕ) (p : Ptr) (ts : List Tick) (d : Tick) → AreAscending ts → (earlier due ts < length ts → due < (slice_index_or ts (earlier due ts) d).due) → ts ≡ set_tick due p ts
+missing_set : (due : ℕ) (p : Ptr) (ts : List Tick) (d : Tick) → AreAscending ts →
+    (earlier due ts < length ts → due < (slice_index_or ts (earlier due ts) d).due) → ts ≡ set_tick due p ts
 missing_set due p [] d up h = refl
 missing_set due p (t ∷ ts) d up h = by (nat_lt t.due due) refl h (missing_set due p ts d up.1)
   where
-    by : (b : Bool) → nat_lt t.due due ≡ b → (cond b (suc (earlier due ts)) 0 < suc (length ts) → due < (slice_index_or (t ∷ ts) (cond b (suc (earlier due ts)) 0) d).due)
+    by : (b : Bool) → nat_lt t.due due ≡ b →
+        (cond b (suc (earlier due ts)) 0 < suc (length ts) → due < (slice_index_or (t ∷ ts) (cond b (suc (earlier due ts)) 0) d).due)
         → ((earlier due ts < length ts → due < (slice_index_or ts (earlier due ts) d).due) → ts ≡ set_tick due p ts)
         → t ∷ ts ≡ cond (t.due == due) (tick_at due p ∷ ts) (t ∷ set_tick due p ts)
-    by true l k rest = let before : t.due < due = less_tells t.due due l in rw (other_test t.due due (λ e. omega (arith, before, e))) (ap (λ r. t ∷ r) (rest (λ b. k (omega (arith, b)))))
-    by false l k rest = let after : due < t.due = k (omega arith) in rw (other_test t.due due (λ e. omega (arith, after, e))) (ap (λ r. t ∷ r) (sym (later_set due p ts (further due t.due ts after up.0))))
+    by true l k rest = let before : t.due < due = less_tells t.due due l in
+        rw (other_test t.due due (λ e. omega (arith, before, e))) (ap (λ r. t ∷ r) (rest (λ b. k (omega (arith, b)))))
+    by false l k rest = let after : due < t.due = k (omega arith) in
+        rw (other_test t.due due (λ e. omega (arith, after, e))) (ap (λ r. t ∷ r) (sym (later_set due p ts (further due t.due ts after up.0))))
 
-missing_drop : (due : ℕ) (ts : List Tick) (d : Tick) → AreAscending ts → (earlier due ts < length ts → due < (slice_index_or ts (earlier due ts) d).due) → ts ≡ drop_tick due ts
+missing_drop : (due : ℕ) (ts : List Tick) (d : Tick) → AreAscending ts → (earlier due ts < length ts → due < (slice_index_or ts (earlier due ts) d).due) →
+    ts ≡ drop_tick due ts
 missing_drop due [] d up h = refl
 missing_drop due (t ∷ ts) d up h = by (nat_lt t.due due) refl h (missing_drop due ts d up.1)
   where
-    by : (b : Bool) → nat_lt t.due due ≡ b → (cond b (suc (earlier due ts)) 0 < suc (length ts) → due < (slice_index_or (t ∷ ts) (cond b (suc (earlier due ts)) 0) d).due)
+    by : (b : Bool) → nat_lt t.due due ≡ b →
+        (cond b (suc (earlier due ts)) 0 < suc (length ts) → due < (slice_index_or (t ∷ ts) (cond b (suc (earlier due ts)) 0) d).due)
         → ((earlier due ts < length ts → due < (slice_index_or ts (earlier due ts) d).due) → ts ≡ drop_tick due ts)
         → t ∷ ts ≡ cond (t.due == due) ts (t ∷ drop_tick due ts)
-    by true l k rest = let before : t.due < due = less_tells t.due due l in rw (other_test t.due due (λ e. omega (arith, before, e))) (ap (λ r. t ∷ r) (rest (λ b. k (omega (arith, b)))))
-    by false l k rest = let after : due < t.due = k (omega arith) in rw (other_test t.due due (λ e. omega (arith, after, e))) (ap (λ r. t ∷ r) (sym (later_drop due ts (further due t.due ts after up.0))))
+    by true l k rest = let before : t.due < due = less_tells t.due due l in
+        rw (other_test t.due due (λ e. omega (arith, before, e))) (ap (λ r. t ∷ r) (rest (λ b. k (omega (arith, b)))))
+    by false l k rest = let after : due < t.due = k (omega arith) in
+        rw (other_test t.due due (λ e. omega (arith, after, e))) (ap (λ r. t ∷ r) (sym (later_drop due ts (further due t.due ts after up.0))))
 
 -- 4. As the calls come upon them
 module _ (due : ℕ) (ts : List Tick) (i : ℕ) (d : Tick) where
@@ -199,7 +231,8 @@ module _ (due : ℕ) (ts : List Tick) (i : ℕ) (d : Tick) where
     last_first s e = first_last due s ts d (sym missing.place ∙ e) (subst (λ n. n < length ts → due < (slice_index_or ts n d).due) e (missing.later d))
 
     pub last_missing : (s : Ptr) → 0 < i → (slice_index_or ts (i - 1) d).last.ptr ≡ last_by due s ts
-    last_missing s pos = at (λ n. (slice_index_or ts (n - 1) d).last.ptr ≡ last_by due s ts) (missing_last due s ts d later (subst (λ n. 0 < n) missing.place pos))
+    last_missing s pos =
+        at (λ n. (slice_index_or ts (n - 1) d).last.ptr ≡ last_by due s ts) (missing_last due s ts d later (subst (λ n. 0 < n) missing.place pos))
 
     pub put_missing : (p : Ptr) → insert ts i (tick_at due p) ≡ put_tick due p ts
     put_missing p = at (λ n. insert ts n (tick_at due p) ≡ put_tick due p ts) (missing_put due p ts d later)

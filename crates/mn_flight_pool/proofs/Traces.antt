@@ -12,5 +12,6 @@ trace_path next prev a (p ∷ ps) z h =
     (λ i. h.0 i ∷ trace next (h.0 i) (length ps)) ∙ ap (λ l. p ∷ l) (trace_path next prev p ps z h.2)
 
 module _ {T : Type 0} where
-  pub trace_ring : (pair : Pair) (cells : List (Ptr × Node T)) (s : Ptr) (ps : List Ptr) → IsRing pair cells s ps → trace (next_of pair cells) s (length ps) ≡ ps
+  pub trace_ring : (pair : Pair) (cells : List (Ptr × Node T)) (s : Ptr) (ps : List Ptr) → IsRing pair cells s ps →
+      trace (next_of pair cells) s (length ps) ≡ ps
   trace_ring pair cells s ps ring = trace_path (next_of pair cells) (prev_of pair cells) s ps s ring.round

@@ -1,5 +1,6 @@
 -- Steps along a ring.
-use Rattle.std.proofs.Common.{◌≡◌, ◌<◌, ℕ, zero, suc, List, [], ◌∷◌, ◌++◌, length, Some, IsSome, inl, inr, refl, sym, ap, ◌∙◌, subst, arith, append_assoc, length-append}
+use Rattle.std.proofs.Common.{◌≡◌, ◌<◌, ℕ, zero, suc, List, [], ◌∷◌, ◌++◌, length, Some, IsSome, inl, inr, refl, sym, ap, ◌∙◌, subst, arith, append_assoc}
+use Rattle.std.proofs.Common.{length-append}
 use Rattle.std.specs.Prelude.{slice_get}
 use denote.RawPtr.{Ptr}
 use Rattle.mn_flight_pool.specs.Cells.{value_at}
@@ -49,10 +50,14 @@ module _ {T : Type 0} (pair : Pair) (cells : List (Ptr × Node T)) (s : Ptr) (ps
 
   -- each step comes to a node
   pub forth_there : (n : ℕ) (p : Ptr) → p ≡ steps_of (next_of pair cells) s n → IsSome (value_at p cells)
-  forth_there n p e = subst (λ q. IsSome (value_at q cells)) (sym e) (all_in (λ q. IsSome (value_at q cells)) (s ∷ ps) (steps_of (next_of pair cells) s n) ring.there (forth_in n))
+  forth_there n p e =
+      subst (λ q. IsSome (value_at q cells)) (sym e)
+      (all_in (λ q. IsSome (value_at q cells)) (s ∷ ps) (steps_of (next_of pair cells) s n) ring.there (forth_in n))
 
   pub back_there : (n : ℕ) (p : Ptr) → p ≡ steps_of (prev_of pair cells) s n → IsSome (value_at p cells)
-  back_there n p e = subst (λ q. IsSome (value_at q cells)) (sym e) (all_in (λ q. IsSome (value_at q cells)) (s ∷ ps) (steps_of (prev_of pair cells) s n) ring.there (back_in n))
+  back_there n p e =
+      subst (λ q. IsSome (value_at q cells)) (sym e)
+      (all_in (λ q. IsSome (value_at q cells)) (s ∷ ps) (steps_of (prev_of pair cells) s n) ring.there (back_in n))
 
   -- so many steps forth come to the node at that place
   pub forth_at : (n : ℕ) → n < length ps → slice_get ps n ≡ Some (steps_of (next_of pair cells) s (suc n))
@@ -68,7 +73,8 @@ module _ {T : Type 0} (pair : Pair) (cells : List (Ptr × Node T)) (s : Ptr) whe
       let moved : us ++ p ∷ v ∷ vs ≡ (us ++ p ∷ []) ++ v ∷ vs = sym (append_assoc us (p ∷ []) (v ∷ vs)) in
       let rest = back_at vs (us ++ p ∷ []) v (subst (λ l. IsRing pair cells s l) moved ring) in
       let sources : s ∷ (us ++ p ∷ v ∷ vs) ≡ (s ∷ us) ++ p ∷ v ∷ vs = refl in
-      let targets : (us ++ p ∷ v ∷ vs) ++ s ∷ [] ≡ (us ++ p ∷ []) ++ v ∷ (vs ++ s ∷ []) = append_assoc us (p ∷ v ∷ vs) (s ∷ []) ∙ sym (append_assoc us (p ∷ []) (v ∷ (vs ++ s ∷ []))) in
+      let targets : (us ++ p ∷ v ∷ vs) ++ s ∷ [] ≡ (us ++ p ∷ []) ++ v ∷ (vs ++ s ∷ []) =
+          append_assoc us (p ∷ v ∷ vs) (s ∷ []) ∙ sym (append_assoc us (p ∷ []) (v ∷ (vs ++ s ∷ []))) in
       let e : length (s ∷ us) ≡ length (us ++ p ∷ []) = omega (arith, length-append us (p ∷ [])) in
       let round = subst (λ l. AreNeighbours (next_of pair cells) (prev_of pair cells) (s ∷ (us ++ p ∷ v ∷ vs)) l) targets ring.round in
       ap (prev_of pair cells) rest ∙ (neighbour (next_of pair cells) (prev_of pair cells) (s ∷ us) p (v ∷ vs) (us ++ p ∷ []) v (vs ++ s ∷ []) e round).1

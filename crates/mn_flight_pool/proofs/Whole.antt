@@ -1,5 +1,6 @@
 -- What a whole pool says of its nodes and items.
-use Rattle.std.proofs.Common.{◌≡◌, ◌<◌, ◌≤◌, ◌+◌, ◌-◌, ℕ, zero, suc, List, [], ◌∷◌, ◌++◌, length, Option, Some, None, IsSome, inl, inr, refl, sym, ap, ◌∙◌, subst, arith, length-append, get_or}
+use Rattle.std.proofs.Common.{◌≡◌, ◌<◌, ◌≤◌, ◌+◌, ◌-◌, ℕ, zero, suc, List, [], ◌∷◌, ◌++◌, length, Option, Some, None, IsSome, inl, inr, refl, sym, ap, ◌∙◌}
+use Rattle.std.proofs.Common.{subst, arith, length-append, get_or}
 use Rattle.std.specs.Prelude.{slice_get, slice_index_or}
 use Rattle.std.specs.List.{AllByRecursion}
 use denote.RawPtr.{Ptr}
@@ -52,7 +53,9 @@ module _ {T : Type 0} (pool : Pool T) (whole : IsWhole pool) where
 
   -- 1. Channels
   pub on_length : (c : ℕ) → length (on_channel c (items_of pool)) ≡ length (nodes_on pool.store c (order_in pool))
-  on_length c = ap length (sym (items_on pool.store c (order_in pool))) ∙ items_length pool.store (nodes_on pool.store c (order_in pool)) (held_on pool.store c (order_in pool) held_order)
+  on_length c =
+      ap length (sym (items_on pool.store c (order_in pool)))
+      ∙ items_length pool.store (nodes_on pool.store c (order_in pool)) (held_on pool.store c (order_in pool) held_order)
 
   pub count_there : (c n : ℕ) → c < length pool.counts.items → n ≡ get_or pool.counts.items c 0 → n ≡ length (on_channel c (items_of pool))
   count_there c n h e = e ∙ whole.counted.each c (omega (arith, h, whole.counted.many)) ∙ sym (on_length c)
@@ -61,28 +64,36 @@ module _ {T : Type 0} (pool : Pool T) (whole : IsWhole pool) where
   count_none c h = sym (none_on (length pool.heads.items) c (items_of pool) flight (omega (arith, h, whole.counted.many)))
 
   -- the node at a place of its channel
-  placed : (c n : ℕ) (p : Ptr) → slice_get (nodes_on pool.store c (order_in pool)) n ≡ Some p → IsIn p (order_in pool) × (item_at pool.store p ≡ slice_get (on_channel c (items_of pool)) n)
+  placed : (c n : ℕ) (p : Ptr) → slice_get (nodes_on pool.store c (order_in pool)) n ≡ Some p →
+      IsIn p (order_in pool) × (item_at pool.store p ≡ slice_get (on_channel c (items_of pool)) n)
   placed c n p e =
       let nodes = nodes_on pool.store c (order_in pool) in
-      ((from_filter _ p (order_in pool) (in_at nodes n p e)).1, sym (item_placed pool.store nodes n p (held_on pool.store c (order_in pool) held_order) e) ∙ ap (λ l. slice_get l n) (items_on pool.store c (order_in pool)))
+      ((from_filter _ p (order_in pool) (in_at nodes n p e)).1, sym (item_placed pool.store nodes n p (held_on pool.store c (order_in pool) held_order) e)
+          ∙ ap (λ l. slice_get l n) (items_on pool.store c (order_in pool)))
 
   module _ (c : ℕ) (f : Place) (below : c < length pool.heads.items) (read : f ≡ slice_index_or pool.heads.items c f) where
     pub channel_ring : IsRing Channel pool.store f.ptr (nodes_on pool.store c (order_in pool))
     channel_ring = whole.held.linked.channel c f.ptr (head_at pool.heads.items c f below read)
 
-    pub forth_placed : (n : ℕ) (p : Ptr) → p ≡ steps_of (next_of Channel pool.store) f.ptr (n + 1) → n < length (on_channel c (items_of pool)) → IsIn p (order_in pool) × (item_at pool.store p ≡ slice_get (on_channel c (items_of pool)) n)
+    pub forth_placed : (n : ℕ) (p : Ptr) → p ≡ steps_of (next_of Channel pool.store) f.ptr (n + 1) → n < length (on_channel c (items_of pool)) →
+        IsIn p (order_in pool) × (item_at pool.store p ≡ slice_get (on_channel c (items_of pool)) n)
     forth_placed n p e h =
         let below : n < length (nodes_on pool.store c (order_in pool)) = omega (arith, h, on_length c) in
         let steps : n + 1 ≡ suc n = omega arith in
-        placed c n p (forth_at Channel pool.store f.ptr (nodes_on pool.store c (order_in pool)) channel_ring n below ∙ ap (λ q. Some q) (sym (e ∙ ap (steps_of (next_of Channel pool.store) f.ptr) steps)))
+        placed c n p (forth_at Channel pool.store f.ptr (nodes_on pool.store c (order_in pool)) channel_ring n below
+            ∙ ap (λ q. Some q) (sym (e ∙ ap (steps_of (next_of Channel pool.store) f.ptr) steps)))
 
-    pub back_placed : (n count : ℕ) (p : Ptr) → p ≡ steps_of (prev_of Channel pool.store) f.ptr (count - n) → count ≡ length (on_channel c (items_of pool)) → n < count → IsIn p (order_in pool) × (item_at pool.store p ≡ slice_get (on_channel c (items_of pool)) n)
+    pub back_placed : (n count : ℕ) (p : Ptr) → p ≡ steps_of (prev_of Channel pool.store) f.ptr (count - n) →
+        count ≡ length (on_channel c (items_of pool)) → n < count →
+        IsIn p (order_in pool) × (item_at pool.store p ≡ slice_get (on_channel c (items_of pool)) n)
     back_placed n count p e m h =
         let nodes = nodes_on pool.store c (order_in pool) in
         let cut = place_cut n nodes (omega (arith, h, m, on_length c)) in
         let us = cut.0 in let q = cut.1 in let vs = cut.2 in
         let steps : count - n ≡ suc (length vs) = omega (arith, m, on_length c, cut.4, ap length cut.3, length-append us (q ∷ vs)) in
-        let same : p ≡ q = e ∙ ap (steps_of (prev_of Channel pool.store) f.ptr) steps ∙ back_at Channel pool.store f.ptr vs us q (subst (λ l. IsRing Channel pool.store f.ptr l) cut.3 channel_ring) in
+        let same : p ≡ q =
+            e ∙ ap (steps_of (prev_of Channel pool.store) f.ptr) steps
+            ∙ back_at Channel pool.store f.ptr vs us q (subst (λ l. IsRing Channel pool.store f.ptr l) cut.3 channel_ring) in
         placed c n p (ap (λ l. slice_get l n) cut.3 ∙ ap (λ k. slice_get (us ++ q ∷ vs) k) (sym cut.4) ∙ at_cut us q vs ∙ ap (λ r. Some r) (sym same))
 
   -- past the end of its channel there is none
@@ -109,18 +120,23 @@ module _ {T : Type 0} (pool : Pool T) (whole : IsWhole pool) where
         at [] r = subst (λ p. IsSome (value_at p pool.store)) (sym r.round.0) r.there.0
         at (p ∷ ps) r = subst (λ q. IsSome (value_at q pool.store)) (sym r.round.0) r.there.1.0
 
-    pub first_due : (x : Item T) → Some x ≡ item_at pool.store node → x.due ≤ limit → IsIn node (order_in pool) × (item_at pool.store node ≡ earliest limit (items_of pool))
+    pub first_due : (x : Item T) → Some x ≡ item_at pool.store node → x.due ≤ limit →
+        IsIn node (order_in pool) × (item_at pool.store node ≡ earliest limit (items_of pool))
     first_due x e h =
         let holds : item_at pool.store (next_of Due pool.store pool.head.ptr) ≡ Some x = ap (item_at pool.store) (sym is) ∙ sym e in
         let dues = dues_of pool.head.ptr pool.count pool.store in (
-          subst (λ p. IsIn p (order_in pool)) (sym is) (p_in pool.head.ptr (order_in pool) (length pool.heads.items) pool.ticks.items pool.store flight dues whole.by_due many limit x holds),
-          sym e ∙ sym (earliest_first pool.head.ptr (order_in pool) (length pool.heads.items) pool.ticks.items pool.store flight dues whole.by_due many limit x holds h),
+          subst (λ p. IsIn p (order_in pool)) (sym is)
+              (p_in pool.head.ptr (order_in pool) (length pool.heads.items) pool.ticks.items pool.store flight dues whole.by_due many limit x holds),
+          sym e ∙ sym
+              (earliest_first pool.head.ptr (order_in pool) (length pool.heads.items) pool.ticks.items pool.store flight dues whole.by_due many limit x
+              holds h),
         )
 
     pub later_due : (x : Item T) → Some x ≡ item_at pool.store node → limit < x.due → earliest limit (items_of pool) ≡ None
     later_due x e h =
         let holds : item_at pool.store (next_of Due pool.store pool.head.ptr) ≡ Some x = ap (item_at pool.store) (sym is) ∙ sym e in
-        earliest_none pool.head.ptr (order_in pool) (length pool.heads.items) pool.ticks.items pool.store flight (dues_of pool.head.ptr pool.count pool.store) whole.by_due many limit x holds h
+        earliest_none pool.head.ptr (order_in pool) (length pool.heads.items) pool.ticks.items pool.store flight
+            (dues_of pool.head.ptr pool.count pool.store) whole.by_due many limit x holds h
 
     pub first_holds : None ≡ item_at pool.store node → ⊥
     first_holds e = at (dues_of pool.head.ptr pool.count pool.store) whole.by_due.ring whole.by_due.flies (omega (arith, many, whole.by_due.many))

@@ -51,7 +51,8 @@ abbrev pub on_its_way : List JournalEntry
 on_its_way = settling ++ at_start (Inject (site_no 0) 1) ∷ []
 
 pub it_is_lawful : IsLawfulJournal two_links on_its_way (packet ∷ [])
-unfolding next knowledge_of news sessions_after peerings_after held packets_after is_not_ipv4 is_malformed is_truncated has_bad_checksum good checksum_for with_ttl aged in_flight bytes_flying
+unfolding next knowledge_of news sessions_after peerings_after held packets_after is_not_ipv4 is_malformed is_truncated has_bad_checksum good checksum_for
+    with_ttl aged in_flight bytes_flying
 it_is_lawful = search rules
 
 pub it_injects_one : length (packet ∷ []) ≡ injections on_its_way
@@ -105,21 +106,24 @@ no_use : (label : ℕ) (x y z : Use) → label ≢ 16 → label ≢ 17 → label
 no_use label x y z a b c = rw (other_key label 16 a, other_key label 17 b, other_key label 18 c) refl
 
 fecs_of_pe1 : (edge : ℕ) → edge < 3 → edge ≢ 0 → use_of uses_of_pe1 (label_in (labels 0) (fec_of edge)) ≡ fec_use (next_entry two_links labels world 0 edge)
-unfolding next knowledge_of news sessions_after peerings_after held packets_after is_not_ipv4 is_malformed is_truncated has_bad_checksum good checksum_for with_ttl aged in_flight bytes_flying given
+unfolding next knowledge_of news sessions_after peerings_after held packets_after is_not_ipv4 is_malformed is_truncated has_bad_checksum good checksum_for
+    with_ttl aged in_flight bytes_flying given
 fecs_of_pe1 zero h apart = absurd (apart refl)
 fecs_of_pe1 (suc zero) h apart = refl
 fecs_of_pe1 (suc (suc zero)) h apart = refl
 fecs_of_pe1 (suc (suc (suc n))) h apart = absurd (too_high n h)
 
 fecs_of_p : (edge : ℕ) → edge < 3 → edge ≢ 1 → use_of uses_of_p (label_in (labels 1) (fec_of edge)) ≡ fec_use (next_entry two_links labels world 1 edge)
-unfolding next knowledge_of news sessions_after peerings_after held packets_after is_not_ipv4 is_malformed is_truncated has_bad_checksum good checksum_for with_ttl aged in_flight bytes_flying given
+unfolding next knowledge_of news sessions_after peerings_after held packets_after is_not_ipv4 is_malformed is_truncated has_bad_checksum good checksum_for
+    with_ttl aged in_flight bytes_flying given
 fecs_of_p zero h apart = refl
 fecs_of_p (suc zero) h apart = absurd (apart refl)
 fecs_of_p (suc (suc zero)) h apart = refl
 fecs_of_p (suc (suc (suc n))) h apart = absurd (too_high n h)
 
 fecs_of_pe2 : (edge : ℕ) → edge < 3 → edge ≢ 2 → use_of uses_of_pe2 (label_in (labels 2) (fec_of edge)) ≡ fec_use (next_entry two_links labels world 2 edge)
-unfolding next knowledge_of news sessions_after peerings_after held packets_after is_not_ipv4 is_malformed is_truncated has_bad_checksum good checksum_for with_ttl aged in_flight bytes_flying given
+unfolding next knowledge_of news sessions_after peerings_after held packets_after is_not_ipv4 is_malformed is_truncated has_bad_checksum good checksum_for
+    with_ttl aged in_flight bytes_flying given
 fecs_of_pe2 zero h apart = refl
 fecs_of_pe2 (suc zero) h apart = refl
 fecs_of_pe2 (suc (suc zero)) h apart = absurd (apart refl)
@@ -138,11 +142,13 @@ no_site site k (inr (inl e)) = let none : fec_of 2 ≡ attachment_of site k → 
 no_site site k (inr (inr i)) = i
 
 site_a : use_of uses_of_pe1 (label_in (labels 0) (attachment_of 0 1)) ≡ Some (site_entry world 0 1)
-unfolding next knowledge_of news sessions_after peerings_after held packets_after is_not_ipv4 is_malformed is_truncated has_bad_checksum good checksum_for with_ttl aged in_flight bytes_flying given
+unfolding next knowledge_of news sessions_after peerings_after held packets_after is_not_ipv4 is_malformed is_truncated has_bad_checksum good checksum_for
+    with_ttl aged in_flight bytes_flying given
 site_a = refl
 
 site_b : use_of uses_of_pe2 (label_in (labels 2) (attachment_of 1 1)) ≡ Some (site_entry world 1 1)
-unfolding next knowledge_of news sessions_after peerings_after held packets_after is_not_ipv4 is_malformed is_truncated has_bad_checksum good checksum_for with_ttl aged in_flight bytes_flying given
+unfolding next knowledge_of news sessions_after peerings_after held packets_after is_not_ipv4 is_malformed is_truncated has_bad_checksum good checksum_for
+    with_ttl aged in_flight bytes_flying given
 site_b = refl
 
 below : (label m : ℕ) → label < 16 → 16 ≤ m → label ≢ m
@@ -195,14 +201,16 @@ one_use : (label : ℕ) (x : Use) → label ≢ 18 → use_of ((18, x) ∷ []) l
 one_use label x apart = rw (other_key label 18 apart) refl
 
 first_fecs_of_pe1 : (edge : ℕ) → edge < 3 → edge ≢ 0 →
-    use_of ((18, label_of.Site (site_no 0)) ∷ []) (label_in (first_labels 0) (fec_of edge)) ≡ fec_use (next_entry two_links first_labels (start two_links) 0 edge)
+    use_of ((18, label_of.Site (site_no 0)) ∷ []) (label_in (first_labels 0) (fec_of edge)) ≡ fec_use
+        (next_entry two_links first_labels (start two_links) 0 edge)
 unfolding next knowledge_of given
 first_fecs_of_pe1 zero h apart = absurd (apart refl)
 first_fecs_of_pe1 (suc zero) h apart = refl
 first_fecs_of_pe1 (suc (suc zero)) h apart = refl
 first_fecs_of_pe1 (suc (suc (suc n))) h apart = absurd (too_high n h)
 
-first_fecs_of_p : (edge : ℕ) → edge < 3 → edge ≢ 1 → use_of [] (label_in (first_labels 1) (fec_of edge)) ≡ fec_use (next_entry two_links first_labels (start two_links) 1 edge)
+first_fecs_of_p : (edge : ℕ) → edge < 3 → edge ≢ 1 →
+    use_of [] (label_in (first_labels 1) (fec_of edge)) ≡ fec_use (next_entry two_links first_labels (start two_links) 1 edge)
 unfolding next knowledge_of given
 first_fecs_of_p zero h apart = refl
 first_fecs_of_p (suc zero) h apart = absurd (apart refl)
@@ -210,7 +218,8 @@ first_fecs_of_p (suc (suc zero)) h apart = refl
 first_fecs_of_p (suc (suc (suc n))) h apart = absurd (too_high n h)
 
 first_fecs_of_pe2 : (edge : ℕ) → edge < 3 → edge ≢ 2 →
-    use_of ((18, label_of.Site (site_no 1)) ∷ []) (label_in (first_labels 2) (fec_of edge)) ≡ fec_use (next_entry two_links first_labels (start two_links) 2 edge)
+    use_of ((18, label_of.Site (site_no 1)) ∷ []) (label_in (first_labels 2) (fec_of edge)) ≡ fec_use
+        (next_entry two_links first_labels (start two_links) 2 edge)
 unfolding next knowledge_of given
 first_fecs_of_pe2 zero h apart = refl
 first_fecs_of_pe2 (suc zero) h apart = refl
@@ -241,16 +250,19 @@ pub the_first_table_of_pe1 : TableStands two_links first_labels (start two_links
 the_first_table_of_pe1 = record {
   fecs = first_fecs_of_pe1;
   sites = λ site k c. one_site 1 2 0 site k
-      (λ x n. use_of ((18, label_of.Site (site_no 0)) ∷ []) (label_in (first_labels 0) (attachment_of x n)) ≡ Some (site_entry (start two_links) x n)) first_site_a
+      (λ x n. use_of ((18, label_of.Site (site_no 0)) ∷ []) (label_in (first_labels 0) (attachment_of x n)) ≡ Some (site_entry (start two_links) x n))
+          first_site_a
       (subst (λ binds. In binds (attachment_of site k)) first_of_pe1 (in_contained (first_labels 0) (attachment_of site k) c));
   reserved = λ label h. one_use label _ (below label 18 h (omega arith));
-  later = λ label h. let high : 16 + 3 ≤ label = subst (λ binds. 16 + length binds ≤ label) first_of_pe1 h in one_use label _ (above label 18 high (omega arith));
+  later = λ label h. let high : 16 + 3 ≤ label = subst (λ binds. 16 + length binds ≤ label) first_of_pe1 h in
+      one_use label _ (above label 18 high (omega arith));
 }
 
 pub the_first_table_of_p : TableStands two_links first_labels (start two_links) 1 []
 the_first_table_of_p = record {
   fecs = first_fecs_of_p;
-  sites = λ site k c. absurd (no_site site k (subst (λ binds. In binds (attachment_of site k)) first_of_p (in_contained (first_labels 1) (attachment_of site k) c)));
+  sites = λ site k c. absurd
+      (no_site site k (subst (λ binds. In binds (attachment_of site k)) first_of_p (in_contained (first_labels 1) (attachment_of site k) c)));
   reserved = λ label h. refl;
   later = λ label h. refl;
 }
@@ -259,10 +271,12 @@ pub the_first_table_of_pe2 : TableStands two_links first_labels (start two_links
 the_first_table_of_pe2 = record {
   fecs = first_fecs_of_pe2;
   sites = λ site k c. one_site 0 1 1 site k
-      (λ x n. use_of ((18, label_of.Site (site_no 1)) ∷ []) (label_in (first_labels 2) (attachment_of x n)) ≡ Some (site_entry (start two_links) x n)) first_site_b
+      (λ x n. use_of ((18, label_of.Site (site_no 1)) ∷ []) (label_in (first_labels 2) (attachment_of x n)) ≡ Some (site_entry (start two_links) x n))
+          first_site_b
       (subst (λ binds. In binds (attachment_of site k)) first_of_pe2 (in_contained (first_labels 2) (attachment_of site k) c));
   reserved = λ label h. one_use label _ (below label 18 h (omega arith));
-  later = λ label h. let high : 16 + 3 ≤ label = subst (λ binds. 16 + length binds ≤ label) first_of_pe2 h in one_use label _ (above label 18 high (omega arith));
+  later = λ label h. let high : 16 + 3 ≤ label = subst (λ binds. 16 + length binds ≤ label) first_of_pe2 h in
+      one_use label _ (above label 18 high (omega arith));
 }
 
 -- 4. The packet on its way, and its frames
@@ -271,7 +285,8 @@ abbrev pub token : Token
 token = record { packet = 0; edge = 2; site = 1; attachment = 1; pushed = 63; ttl = 63; bytes = aged packet 1 }
 
 pub the_packet_flies : flying_on (packets_of two_links on_its_way (packet ∷ [])) 0 Forth ≡ token ∷ []
-unfolding next knowledge_of news sessions_after peerings_after held packets_after is_not_ipv4 is_malformed is_truncated has_bad_checksum good checksum_for with_ttl aged in_flight bytes_flying
+unfolding next knowledge_of news sessions_after peerings_after held packets_after is_not_ipv4 is_malformed is_truncated has_bad_checksum good checksum_for
+    with_ttl aged in_flight bytes_flying
 the_packet_flies = refl
 
 pub it_is_sound : IsSound two_links labels token
@@ -306,7 +321,8 @@ abbrev pub route : HeldRoute
 route = record { prefix = record { address = 167903232; length = 16 }; source = Far 3221225987 279172874240002; edge = 2; site = 1; attachment = 1 }
 
 pub it_is_bound_to_the_far_edge : fate two_links (world_of two_links settling) 0 packet ≡ Leaves route
-unfolding next knowledge_of news sessions_after peerings_after held packets_after is_not_ipv4 is_malformed is_truncated has_bad_checksum good checksum_for with_ttl aged in_flight bytes_flying
+unfolding next knowledge_of news sessions_after peerings_after held packets_after is_not_ipv4 is_malformed is_truncated has_bad_checksum good checksum_for
+    with_ttl aged in_flight bytes_flying
 it_is_bound_to_the_far_edge = refl
 
 pub it_is_pushed : IsPushed two_links labels route packet (record { entries = entry 18 true 63 ∷ []; packet = aged packet 1; room = 1 })

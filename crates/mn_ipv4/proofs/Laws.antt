@@ -1,8 +1,10 @@
 -- Laws of the header's definitions, for the proofs of this crate and of the crates above it.
-use Rattle.std.proofs.Common.{◌≡◌, ◌≢◌, ℕ, ◌+◌, ◌-◌, ◌*◌, ◌/◌, ◌%◌, ◌<◌, ◌≤◌, IsTrue, List, [], ◌∷◌, length, take, get_or, set, None, refl, sym, ap, ◌∙◌, arith, suc, zero}
+use Rattle.std.proofs.Common.{◌≡◌, ◌≢◌, ℕ, ◌+◌, ◌-◌, ◌*◌, ◌/◌, ◌%◌, ◌<◌, ◌≤◌, IsTrue, List, [], ◌∷◌, length, take, get_or, set, None, refl, sym, ap, ◌∙◌}
+use Rattle.std.proofs.Common.{arith, suc, zero}
 use Rattle.std.proofs.lemmas.List.{length-set, length-take, get_or-set_other, get_or-take, take-take, take_all}
 use Rattle.mn_ipv4.specs.Checksum.{words, ones_complement_sum}
-use Rattle.mn_ipv4.specs.Header.{version_of, header_words, header_length, total_length, ttl_of, destination_of, header_bytes, is_not_ipv4, is_malformed, is_truncated, has_bad_checksum, good, with_checksum, checksum_for, with_ttl, aged}
+use Rattle.mn_ipv4.specs.Header.{version_of, header_words, header_length, total_length, ttl_of, destination_of, header_bytes, is_not_ipv4, is_malformed}
+use Rattle.mn_ipv4.specs.Header.{is_truncated, has_bad_checksum, good, with_checksum, checksum_for, with_ttl, aged}
 use Rattle.mn_ipv4.specs.Check.{fault_of}
 use Rattle.mn_ipv4.proofs.Sum.{IsBytes, StandsFor, same_form, stands-words, total, total-words-field}
 

@@ -1,5 +1,6 @@
 -- A journal, read line by line.
-use Rattle.std.proofs.Common.{◌≡◌, ◌<◌, ℕ, zero, suc, true, List, [], ◌∷◌, ◌++◌, length, Some, None, Option, refl, ap, sym, ◌∙◌, subst, arith, append-nil, append_assoc}
+use Rattle.std.proofs.Common.{◌≡◌, ◌<◌, ℕ, zero, suc, true, List, [], ◌∷◌, ◌++◌, length, Some, None, Option, refl, ap, sym, ◌∙◌, subst, arith, append-nil}
+use Rattle.std.proofs.Common.{append_assoc}
 use Rattle.std.specs.Prelude.{All, map}
 use Rattle.std.specs.Str.Lines.{lines}
 use Rattle.std.proofs.lemmas.List.{map-append}
@@ -26,7 +27,8 @@ all_fit network entries all = λ k d below. (all k d below).fit
 
 -- one line more
 pub one_more : (network : Network) (all : List (List ℕ)) (done new : List JournalEntry) (line : List ℕ) (rest next : List (List ℕ)) (entry : JournalEntry)
-    → all ≡ map (text_of network) done ++ rest → rest ≡ line ∷ next → line ≡ text_of network entry → new ≡ done ++ entry ∷ [] → all ≡ map (text_of network) new ++ next
+    → all ≡ map (text_of network) done ++ rest → rest ≡ line ∷ next → line ≡ text_of network entry → new ≡ done ++ entry ∷ [] →
+        all ≡ map (text_of network) new ++ next
 one_more network all done new line rest next entry before first is pushed =
     before
     ∙ ap (λ ls. map (text_of network) done ++ ls) (first ∙ ap (λ l. l ∷ next) is)
@@ -34,21 +36,25 @@ one_more network all done new line rest next entry before first is pushed =
     ∙ ap (λ ls. ls ++ next) (sym (map-append (text_of network) done (entry ∷ [])) ∙ ap (map (text_of network)) (sym pushed))
 
 -- entries whose texts are the same
-pub same_entries : (network : Network) (found entries : List JournalEntry) → IsLawful network → All (IsRead network) found → All (IsEntry network) entries → map (text_of network) found ≡ map (text_of network) entries → found ≡ entries
+pub same_entries : (network : Network) (found entries : List JournalEntry) → IsLawful network → All (IsRead network) found → All (IsEntry network) entries →
+    map (text_of network) found ≡ map (text_of network) entries → found ≡ entries
 same_entries network [] [] lawful one other is = refl
 same_entries network [] (entry ∷ entries) lawful one other is = cc
 same_entries network (found ∷ more) [] lawful one other is = cc
 same_entries network (found ∷ more) (entry ∷ entries) lawful one other is =
     let text : text_of network found ≡ text_of network entry = cc in
     let texts : map (text_of network) more ≡ map (text_of network) entries = cc in
-    let first : Some found ≡ Some entry = sym (one 0 found (omega arith)).asked ∙ ap (λ t. asked_by network (words t)) text ∙ asked_again network entry lawful (other 0 entry (omega arith)) in
+    let first : Some found ≡ Some entry =
+        sym (one 0 found (omega arith)).asked ∙ ap (λ t. asked_by network (words t)) text
+        ∙ asked_again network entry lawful (other 0 entry (omega arith)) in
     let same : found ≡ entry = cc in
     let later = same_entries network more entries lawful (λ k d below. one (suc k) d (omega arith)) (λ k d below. other (suc k) d (omega arith)) texts in
     cc
 
 -- a line that is the text of no entry isn't among those that were written
 pub none_bad : (network : Network) (done entries : List JournalEntry) (line : List ℕ) (next : List (List ℕ)) → All (IsEntry network) entries
-    → ((entry : JournalEntry) → IsEntry network entry → line ≡ text_of network entry → ⊥) → map (text_of network) entries ≡ map (text_of network) done ++ line ∷ next → ⊥
+    → ((entry : JournalEntry) → IsEntry network entry → line ≡ text_of network entry → ⊥) →
+        map (text_of network) entries ≡ map (text_of network) done ++ line ∷ next → ⊥
 none_bad network [] [] line next all bad is = cc
 none_bad network [] (entry ∷ entries) line next all bad is = bad entry (all 0 entry (omega arith)) (let same : text_of network entry ≡ line = cc in sym same)
 none_bad network (one ∷ done) [] line next all bad is = cc

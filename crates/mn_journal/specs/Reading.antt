@@ -1,5 +1,6 @@
 -- What a journal is read as.
-use Rattle.std.specs.Prelude.{◌≡◌, ◌+◌, ℕ, Bool, true, false, not, take_while, List, [], ◌∷◌, ◌++◌, All, length, map, Option, Some, None, Result, Ok, Err, Vec, ⊤}
+use Rattle.std.specs.Prelude.{◌≡◌, ◌+◌, ℕ, Bool, true, false, not, take_while, List, [], ◌∷◌, ◌++◌, All, length, map, Option, Some, None, Result, Ok, Err}
+use Rattle.std.specs.Prelude.{Vec, ⊤}
 use Rattle.std.specs.Str.Lines.{lines}
 use Rattle.std.specs.declared.alloc.Global.{Global}
 use Rattle.mn_topo.specs.Network.{Network}

@@ -1,5 +1,6 @@
 -- Each packet that is sent is accounted for; and what flies is a good packet.
-use Rattle.std.proofs.Common.{ℕ, zero, suc, ◌≡◌, ◌+◌, ◌-◌, ◌<◌, ◌≤◌, inl, inr, Bool, true, false, List, [], ◌∷◌, ◌++◌, length, take, refl, arith, sym, ◌∙◌, ap, subst, Option, Some, None}
+use Rattle.std.proofs.Common.{ℕ, zero, suc, ◌≡◌, ◌+◌, ◌-◌, ◌<◌, ◌≤◌, inl, inr, Bool, true, false, List, [], ◌∷◌, ◌++◌, length, take, refl, arith, sym, ◌∙◌}
+use Rattle.std.proofs.Common.{ap, subst, Option, Some, None}
 use Rattle.std.specs.Prelude.{◌==◌, ◌||◌, IsTrue, slice_get, slice_index, slice_index_or}
 use Rattle.std.proofs.lemmas.Bool.Decides.{eqb_tells}
 use Rattle.std.proofs.lemmas.List.{length-append, take-append-le, take_all}
@@ -27,7 +28,8 @@ use Rattle.mn_ledger.proofs.Members.{In, in_contained}
 use Rattle.mn_ledger.proofs.OnePlace.{in_one_place}
 use Rattle.mn_ledger.proofs.Peers.{same_test}
 use Rattle.mn_laws.specs.Deliveries.{deliveries_of}
-use Rattle.mn_laws.specs.Accounts.{world_at, packets_at, Sending, IsSent, routes_at, path_of, IsItsPath, is_flying, IsLastStep, IsFate, IsAccountedFor, IsOneCopy, Accounts}
+use Rattle.mn_laws.specs.Accounts.{world_at, packets_at, Sending, IsSent, routes_at, path_of, IsItsPath, is_flying, IsLastStep, IsFate, IsAccountedFor}
+use Rattle.mn_laws.specs.Accounts.{IsOneCopy, Accounts}
 use Rattle.mn_laws.specs.Named.{AreBytes, IsGoodFrame, FramesAreGood}
 use Rattle.mn_laws.proofs.At.{world_step, world_whole, packets_whole, packets_longer}
 use Rattle.mn_laws.proofs.Announced.{attaches_grow}

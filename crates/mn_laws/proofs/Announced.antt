@@ -1,5 +1,6 @@
 -- What was told, and what is held, names VRFs, sites and attachments that exist.
-use Rattle.std.proofs.Common.{ℕ, zero, suc, ◌≡◌, ◌+◌, ◌<◌, ◌≤◌, inl, inr, Bool, true, false, cond, List, [], ◌∷◌, ◌++◌, map, filter, length, take, refl, arith, sym, ◌∙◌, ap, subst, Option, Some, None}
+use Rattle.std.proofs.Common.{ℕ, zero, suc, ◌≡◌, ◌+◌, ◌<◌, ◌≤◌, inl, inr, Bool, true, false, cond, List, [], ◌∷◌, ◌++◌, map, filter, length, take, refl}
+use Rattle.std.proofs.Common.{arith, sym, ◌∙◌, ap, subst, Option, Some, None}
 use Rattle.std.specs.Prelude.{◌==◌, not, nat_le, nat_lt, fold, slice_get, slice_index_or, unwrap_or, is_some}
 use Rattle.std.specs.List.{flat_map, list_any, range_with_len, AllByRecursion}
 use Rattle.std.proofs.lemmas.Bool.{and_parts, ltb-true}
@@ -23,7 +24,8 @@ use Rattle.mn_ledger.specs.declared.refused.Refused.TheVariants as why
 use Rattle.mn_ledger.specs.Tables.{put, put_pair}
 use Rattle.mn_ledger.specs.Places.{vrf_at, vrf_of, edge_of, vrfs_at, edges}
 use Rattle.mn_ledger.specs.World.{SiteRoute, Config, Export, Telling, Open, Alive, Announce, Unreach, Peerings, World}
-use Rattle.mn_ledger.specs.Vpn.{Told, exports_with, exports_of, is_between, tellings_of, told_to, reply, replies, is_for, same_export, withdrawn, announced, changed, steady_peers, news, told_in, counted, peerings_after}
+use Rattle.mn_ledger.specs.Vpn.{Told, exports_with, exports_of, is_between, tellings_of, told_to, reply, replies, is_for, same_export, withdrawn, announced}
+use Rattle.mn_ledger.specs.Vpn.{changed, steady_peers, news, told_in, counted, peerings_after}
 use Rattle.mn_ledger.specs.Packets.{Packets}
 use Rattle.mn_ledger.specs.Ledger.{with_target, statics_from, is_static, config_after, after, start}
 use Rattle.mn_ledger.specs.Refusal.{is_unchanged, is_empty, static_refusal, is_targets_full, is_spent, is_full, where_holds, first_cause, limits, refusal_at}

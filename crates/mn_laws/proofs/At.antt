@@ -25,7 +25,7 @@ next_is : (ps : List (List ℕ)) → next_of ps ≡ bytes_of ps 0
 next_is [] = refl
 next_is (p ∷ ps) = refl
 
-but_next_is : (ps : List (List ℕ)) (j : ℕ) → bytes_of (but_next ps) j ≡ bytes_of ps (1 + j)
+pub but_next_is : (ps : List (List ℕ)) (j : ℕ) → bytes_of (but_next ps) j ≡ bytes_of ps (1 + j)
 but_next_is [] j = refl
 but_next_is (p ∷ ps) j = ap (bytes_of (p ∷ ps)) (one j)
   where

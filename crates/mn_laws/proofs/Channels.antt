@@ -1,5 +1,6 @@
 -- After every lawful journal what is in flight is on channels of the network, each with loads of its kind.
-use Rattle.std.proofs.Common.{ℕ, suc, ◌≡◌, ◌≢◌, ◌+◌, ◌<◌, inl, inr, Bool, true, false, cond, List, [], ◌∷◌, ◌++◌, map, filter, length, refl, arith, sym, ◌∙◌, ap, subst, Option, None, Some}
+use Rattle.std.proofs.Common.{ℕ, suc, ◌≡◌, ◌≢◌, ◌+◌, ◌<◌, inl, inr, Bool, true, false, cond, List, [], ◌∷◌, ◌++◌, map, filter, length, refl, arith, sym}
+use Rattle.std.proofs.Common.{◌∙◌, ap, subst, Option, None, Some}
 use Rattle.std.specs.Prelude.{◌==◌, ◌&&◌, not, nat_lt, slice_get, if◌then◌else◌}
 use Rattle.std.specs.List.{flat_map, Contains}
 use Rattle.std.proofs.lemmas.Bool.{and_parts}
@@ -17,7 +18,8 @@ use Rattle.mn_ledger.specs.declared.verdict.Verdict.{Verdict}
 use Rattle.mn_ledger.specs.declared.verdict.Verdict.TheVariants.{Delivered, Dropped, Flying}
 use Rattle.mn_ledger.specs.Tables.{put_pair}
 use Rattle.mn_ledger.specs.Places.{edges}
-use Rattle.mn_node.specs.Ldp.{Message, Initialization, Said, Knowledge, is_operational, said_on, mention, mentioned_on, mentioned_from, offered, by_neighbour, news}
+use Rattle.mn_node.specs.Ldp.{Message, Initialization, Said, Knowledge, is_operational, said_on, mention, mentioned_on, mentioned_from, offered}
+use Rattle.mn_node.specs.Ldp.{by_neighbour, news}
 use Rattle.mn_ledger.specs.World.{World, Config, Views, Sessions, Peerings, Telling, Open}
 use Rattle.mn_ledger.specs.Transport.{lives, opening, replies, knowledge_of, speakers, said_in, counted, is_transport}
 use Rattle.mn_ledger.specs.Vpn as vpn
@@ -25,7 +27,9 @@ use Rattle.mn_ledger.specs.Vpn.{peerings_after, Told, told_to, peers_live, is_es
 use Rattle.mn_ledger.specs.Packets.{Token, Packets, flying_on, packets_after}
 use Rattle.mn_ledger.specs.Ledger.{config_after, after, start, no_packets, next_of, left_by, world_from, world_of}
 use Rattle.mn_ledger.specs.Lawful.{IsLawfulFrom, IsLawfulJournal}
-use Rattle.mn_ledger.specs.Items.{Channel, Notices, Messages, Frames, Load, Notice, Says, Carries, Item, Flight, notices_in, message_of, messages_in, route_of, routes_in, frame_by, frame_after, frames_in, last_of, made_in, numbered, left_in_flight, with_made, flight_from, flight_of}
+use Rattle.mn_ledger.specs.Items.{Channel, Notices, Messages, Frames, Load, Notice, Says, Carries, Item, Flight, notices_in, message_of, messages_in}
+use Rattle.mn_ledger.specs.Items.{route_of, routes_in, frame_by, frame_after, frames_in, last_of, made_in, numbered, left_in_flight, with_made, flight_from}
+use Rattle.mn_ledger.specs.Items.{flight_of}
 use Rattle.mn_ledger.proofs.Members.{In, in_append, in_map, in_filter, in_flat_map, in_range, in_contained}
 use Rattle.mn_ledger.proofs.Turning.{opener, dir_ends}
 use Rattle.mn_ledger.proofs.GoingBy.{pair_here, pair_off}
@@ -79,7 +83,7 @@ from-said t before now n ks at fec (was ∷ weres) (is ∷ ares) =
     (on-link t m.0 n (mention (is_operational before m.0 && was) is fec) (at m.0 m.1).0 (at m.0 m.1).1) x m.2)
     (from-said t before now n ks at (fec + 1) weres ares)
 
-neighbour-links : (w : Wiring) (n l : ℕ) → In (by_neighbour w n) l → (l < length w.ends) × (is_end w l n ≡ true)
+pub neighbour-links : (w : Wiring) (n l : ℕ) → In (by_neighbour w n) l → (l < length w.ends) × (is_end w l n ≡ true)
 neighbour-links w n l i =
     let m = in_flat_map (joining w n) (nodes_of w) l i in
     let f = in_filter (λ k. across w k n == m.0) (links_at w n) l m.2 in

@@ -17,7 +17,8 @@ use Rattle.mn_ledger.specs.Ledger.{world_of, packets_of}
 use Rattle.mn_ledger.specs.Lawful.{IsLawfulJournal}
 use Rattle.mn_ledger.specs.InFlight.{IsInFlight}
 use Rattle.mn_ledger.specs.Refusal.{notices_unlearned, unheard_over, unheard_by, in_flight, bytes_flying}
-use Rattle.mn_ledger.specs.Items.{Channel, Notices, Messages, Routes, Frames, Load, Notice, Says, Tells, Carries, Item, same_channel, items_on, loads_on, made_by, flight_of}
+use Rattle.mn_ledger.specs.Items.{Channel, Notices, Messages, Routes, Frames, Load, Notice, Says, Tells, Carries, Item, same_channel, items_on, loads_on}
+use Rattle.mn_ledger.specs.Items.{made_by, flight_of}
 use Rattle.mn_ledger.proofs.Channels.{same_chan}
 use Rattle.mn_ledger.proofs.Flows as flows
 use Rattle.mn_ledger.proofs.Members.{In, in_range, contained_in}
@@ -27,7 +28,8 @@ use Rattle.mn_laws.proofs.Channels.{channels_are, none_to_itself}
 use Rattle.mn_laws.proofs.Opening.{some_item, delivered_open, lost_open}
 use Rattle.mn_laws.proofs.Ordered.{numbers_ascend, flies_in_order}
 use Rattle.mn_laws.proofs.Sums.{total, sum-append, sum-map, sum-flat, total-same}
-use Rattle.mn_laws.proofs.Tallies.{weigh, by_notices, by_messages, by_routes, AllOn, others_weighed, frames_weighed, as_many_on, loads_weigh, filter_counts, lengths_of_frames}
+use Rattle.mn_laws.proofs.Tallies.{weigh, by_notices, by_messages, by_routes, AllOn, others_weighed, frames_weighed, as_many_on, loads_weigh, filter_counts}
+use Rattle.mn_laws.proofs.Tallies.{lengths_of_frames}
 
 module _ (t : Network) (lawful : IsLawful t) (es : List JournalEntry) (ps : List (List ℕ)) (journal : IsLawfulJournal t es ps) where
   abbrev items : List Item

@@ -1,5 +1,6 @@
 -- After every step of a lawful journal what a VRF holds, and what an end of a link has said, names what exists.
-use Rattle.std.proofs.Common.{ℕ, zero, suc, ◌≡◌, ◌≢◌, ◌+◌, ◌<◌, ◌≤◌, inl, inr, Bool, true, false, cond, List, [], ◌∷◌, ◌++◌, map, filter, length, refl, arith, sym, ◌∙◌, ap, subst, Some}
+use Rattle.std.proofs.Common.{ℕ, zero, suc, ◌≡◌, ◌≢◌, ◌+◌, ◌<◌, ◌≤◌, inl, inr, Bool, true, false, cond, List, [], ◌∷◌, ◌++◌, map, filter, length, refl}
+use Rattle.std.proofs.Common.{arith, sym, ◌∙◌, ap, subst, Some}
 use Rattle.std.specs.Prelude.{◌==◌, ◌&&◌, not, if◌then◌else◌, slice_index_or}
 use Rattle.std.specs.List.{flat_map, range_with_len}
 use Rattle.mn_base.specs.declared.states.LdpState.{LdpState}
@@ -12,7 +13,8 @@ use Rattle.mn_topo.specs.Network.{Network, wiring_of}
 use Rattle.mn_topo.specs.declared.steps.Step.{Step}
 use Rattle.mn_topo.specs.declared.steps.Step.TheVariants.{LinkUp, LinkDown, Learn, LdpAdmin, HearLdp}
 use Rattle.mn_topo.specs.declared.steps.JournalEntry.{JournalEntry}
-use Rattle.mn_node.specs.Ldp.{Message, Initialization, KeepAlive, Address, Mapping, Withdraw, Release, Said, is_by, messages_of, said_on, state_by, answer, Knowledge, is_operational, offers, offered, mention, by_neighbour, mentioned_on, mentioned_from, news}
+use Rattle.mn_node.specs.Ldp.{Message, Initialization, KeepAlive, Address, Mapping, Withdraw, Release, Said, is_by, messages_of, said_on, state_by, answer}
+use Rattle.mn_node.specs.Ldp.{Knowledge, is_operational, offers, offered, mention, by_neighbour, mentioned_on, mentioned_from, news}
 use Rattle.mn_ledger.specs.Tables.{put}
 use Rattle.mn_ledger.specs.Places.{loopback, vrf_at, vrf_of, edge_of, home_of, edges}
 use Rattle.mn_ledger.specs.World.{Config, Views, Sessions, Export, Announce, Peerings, World}

@@ -19,7 +19,8 @@ use Rattle.mn_ledger.specs.Entry.{first_rule}
 use Rattle.mn_ledger.specs.Tables.{put}
 use Rattle.mn_ledger.specs.Places.{home_of, vrf_of}
 use Rattle.mn_ledger.specs.World.{World}
-use Rattle.mn_ledger.specs.Packets.{Token, Packets, channel, flying_on, away_from, judged, drop_at, visited, deliver, hop_over, bound, entry_rules, enter_by, one_more, taken, carry, lose, cut_each, cut, before_step, packets_after}
+use Rattle.mn_ledger.specs.Packets.{Token, Packets, channel, flying_on, away_from, judged, drop_at, visited, deliver, hop_over, bound, entry_rules}
+use Rattle.mn_ledger.specs.Packets.{enter_by, one_more, taken, carry, lose, cut_each, cut, before_step, packets_after}
 use Rattle.mn_ledger.specs.Ledger.{no_packets}
 use Rattle.mn_ledger.specs.Verdicts.{verdict_on}
 use Rattle.mn_laws.proofs.Elsewhere.{set_verdict}

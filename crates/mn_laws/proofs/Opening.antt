@@ -24,7 +24,8 @@ use Rattle.mn_ledger.specs.Vpn.{peers_live}
 use Rattle.mn_ledger.specs.Turns.{IsInTurn}
 use Rattle.mn_ledger.specs.InFlight.{IsInFlight}
 use Rattle.mn_ledger.specs.Refusal.{refusal_at, first_cause, where_holds, is_empty, takes_out}
-use Rattle.mn_ledger.specs.Items.{Channel, Notices, Messages, Routes, Frames, Load, Notice, Says, Tells, Carries, Item, same_channel, items_on, loads_on, made_by, flight_of}
+use Rattle.mn_ledger.specs.Items.{Channel, Notices, Messages, Routes, Frames, Load, Notice, Says, Tells, Carries, Item, same_channel, items_on, loads_on}
+use Rattle.mn_ledger.specs.Items.{made_by, flight_of}
 use Rattle.mn_ledger.proofs.Channels.{same_chan}
 use Rattle.mn_ledger.proofs.Flows.{in_flight}
 use Rattle.mn_ledger.proofs.InTurn.{in_turn}

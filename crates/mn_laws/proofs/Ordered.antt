@@ -10,7 +10,8 @@ use Rattle.mn_ledger.specs.World.{World}
 use Rattle.mn_ledger.specs.Packets.{Packets, packets_after}
 use Rattle.mn_ledger.specs.Ledger.{after, start, no_packets, next_of, left_by}
 use Rattle.mn_ledger.specs.Lawful.{IsLawfulFrom, IsLawfulJournal}
-use Rattle.mn_ledger.specs.Items.{Channel, Notices, Messages, Routes, Frames, Load, Item, Flight, same_channel, delay_on, numbered, without, is_session_of, is_between, left_in_flight, made_in, with_made, flight_from, flight_of}
+use Rattle.mn_ledger.specs.Items.{Channel, Notices, Messages, Routes, Frames, Load, Item, Flight, same_channel, delay_on, numbered, without, is_session_of}
+use Rattle.mn_ledger.specs.Items.{is_between, left_in_flight, made_in, with_made, flight_from, flight_of}
 use Rattle.mn_ledger.proofs.Ascending.{Ascend, flight_ascends}
 use Rattle.mn_laws.specs.Flight.{AreAscending, AreMadeInOrder}
 

@@ -1,5 +1,6 @@
 -- The ids of LDP messages are their places among what was said in a life.
-use Rattle.std.proofs.Common.{ℕ, zero, suc, ◌≡◌, ◌+◌, ◌<◌, ◌⊎◌, inl, inr, Bool, true, false, List, [], ◌∷◌, ◌++◌, map, length, refl, sym, ◌∙◌, ap, append-nil, append_assoc}
+use Rattle.std.proofs.Common.{ℕ, zero, suc, ◌≡◌, ◌+◌, ◌<◌, ◌⊎◌, inl, inr, Bool, true, false, List, [], ◌∷◌, ◌++◌, map, length, refl, sym, ◌∙◌, ap}
+use Rattle.std.proofs.Common.{append-nil, append_assoc}
 use Rattle.std.specs.Prelude.{slice_get, Option, Some, None}
 use Rattle.std.specs.List.{range_with_len}
 use Rattle.std.proofs.lemmas.Bool.Decides.{eqb_tells}
@@ -20,7 +21,8 @@ use Rattle.mn_ledger.specs.Vpn as vpn
 use Rattle.mn_ledger.specs.Ledger.{after, start, no_packets, next_of, left_by, world_from, world_of}
 use Rattle.mn_ledger.specs.Lawful.{IsLawfulJournal}
 use Rattle.mn_ledger.specs.Turns.{AreLabelMessages, IsTalk}
-use Rattle.mn_ledger.specs.Items.{Channel, Messages, Load, Says, loads_on, notices_in, messages_in, route_of, routes_in, frame_after, frames_in, made_in, numbered, made_from}
+use Rattle.mn_ledger.specs.Items.{Channel, Messages, Load, Says, loads_on, notices_in, messages_in, route_of, routes_in, frame_after, frames_in, made_in}
+use Rattle.mn_ledger.specs.Items.{numbered, made_from}
 use Rattle.mn_ledger.proofs.Channels.{loads_in, loads_append, loads_in_append, on_numbered, none_of, no_frames, in_messages}
 use Rattle.mn_ledger.proofs.GoingBy.{put_here, put_off}
 use Rattle.mn_ledger.proofs.InTurn.{in_turn}

@@ -1,5 +1,6 @@
 -- A packet that is sent; and what is known of each packet after every step.
-use Rattle.std.proofs.Common.{ℕ, zero, suc, ◌≡◌, ◌≢◌, ◌+◌, ◌-◌, ◌<◌, ◌≤◌, ◌⊎◌, inl, inr, true, false, List, [], ◌∷◌, ◌++◌, length, take, refl, arith, sym, ◌∙◌, ap, subst, Option, Some, None}
+use Rattle.std.proofs.Common.{ℕ, zero, suc, ◌≡◌, ◌≢◌, ◌+◌, ◌-◌, ◌<◌, ◌≤◌, ◌⊎◌, inl, inr, true, false, List, [], ◌∷◌, ◌++◌, length, take, refl, arith, sym}
+use Rattle.std.proofs.Common.{◌∙◌, ap, subst, Option, Some, None}
 use Rattle.std.specs.Prelude.{◌==◌, nat_le, nat_lt, slice_get, slice_index_or}
 use Rattle.std.proofs.lemmas.Bool.{and_parts, ltb-true}
 use Rattle.std.proofs.lemmas.Bool.Decides.{eqb_tells}
@@ -209,7 +210,7 @@ where_flying (Flying l d) = inr (l, d, refl)
 where_flying (Delivered site ttl copy) = inl refl
 where_flying (Dropped cause node) = inl refl
 
-none_at : (k : Token) → None ≡ Some k → ⊥
+pub none_at : (k : Token) → None ≡ Some k → ⊥
 none_at k h = cc
 
 frame_at : (o : Option Token) → (o ≡ None) ⊎ ((k : Token) × (o ≡ Some k))

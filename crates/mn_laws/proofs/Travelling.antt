@@ -1,5 +1,6 @@
 -- Each step keeps what is known of each packet: a packet that is sent, one that is carried, one that is lost, and a link that is cut.
-use Rattle.std.proofs.Common.{ℕ, suc, ◌≡◌, ◌≢◌, ◌+◌, ◌-◌, ◌<◌, ◌≤◌, ◌⊎◌, inl, inr, Bool, true, false, List, [], ◌∷◌, ◌++◌, length, take, refl, arith, sym, ◌∙◌, ap, subst, Option, Some, None}
+use Rattle.std.proofs.Common.{ℕ, suc, ◌≡◌, ◌≢◌, ◌+◌, ◌-◌, ◌<◌, ◌≤◌, ◌⊎◌, inl, inr, Bool, true, false, List, [], ◌∷◌, ◌++◌, length, take, refl, arith, sym}
+use Rattle.std.proofs.Common.{◌∙◌, ap, subst, Option, Some, None}
 use Rattle.std.specs.Prelude.{◌==◌, ◌&&◌, ◌||◌, not, nat_le, is_none, slice_get, slice_index_or, IsTrue}
 use Rattle.std.proofs.lemmas.Bool.Decides.{eqb_tells, leb_tells}
 use Rattle.std.proofs.lemmas.List.{length-append}
@@ -23,12 +24,14 @@ use Rattle.mn_ledger.specs.Places.{home_of}
 use Rattle.mn_ledger.specs.World.{World}
 use Rattle.mn_ledger.specs.Transport.{usable}
 use Rattle.mn_ledger.specs.Vpn.{HeldRoute}
-use Rattle.mn_ledger.specs.Packets.{Token, Packets, channel, flying_on, away_from, drop_at, visited, deliver, hop_over, taken, is_attachment, arrive, carry, lose, cut, before_step}
+use Rattle.mn_ledger.specs.Packets.{Token, Packets, channel, flying_on, away_from, drop_at, visited, deliver, hop_over, taken, is_attachment, arrive, carry}
+use Rattle.mn_ledger.specs.Packets.{lose, cut, before_step}
 use Rattle.mn_ledger.specs.Verdicts.{injections, verdict_on}
 use Rattle.mn_ledger.proofs.Members.{In}
 use Rattle.mn_ledger.proofs.OnePlace.{loosen}
 use Rattle.mn_ledger.proofs.Peers.{same_numbers}
-use Rattle.mn_laws.specs.Accounts.{world_at, packets_at, Sending, IsSent, routes_at, AreJoined, GoesOver, path_of, IsItsPath, node_of, is_flying, ttl_left, IsPassedOn, FallsTo, arrival_rules, applies_at_arrival, EndsInFlight}
+use Rattle.mn_laws.specs.Accounts.{world_at, packets_at, Sending, IsSent, routes_at, AreJoined, GoesOver, path_of, IsItsPath, node_of, is_flying, ttl_left}
+use Rattle.mn_laws.specs.Accounts.{IsPassedOn, FallsTo, arrival_rules, applies_at_arrival, EndsInFlight}
 use Rattle.mn_laws.specs.Named.{NamesItsSite}
 use Rattle.mn_laws.proofs.At.{bytes_of, packets_step}
 use Rattle.mn_laws.proofs.Elsewhere.{judged_here, visited_here, cut_here, cut_others, cut_paths, cut_counts, cut_off, in_pushed}
@@ -160,9 +163,6 @@ falls_now t es ps s n e l d cause node k first how = record {
   ends = record { when = n; entry = e; there = k.there; sent = omega (arith, k.below); past = omega arith; flown = k.flies.flown; first = first };
   how = inr (record { route = k.flies.route; bound = k.flies.bound; link = l; dir = d; flew = k.is; by_step = how });
 }
-
-none_at : (k : Token) → None ≡ Some k → ⊥
-none_at k h = cc
 
 length_more : (p : List ℕ) (y : ℕ) → length (p ++ y ∷ []) ≡ length p + 1
 length_more p y = length-append p (y ∷ [])

@@ -1,7 +1,8 @@
 -- What is owed to each packet that is sent into the network, in the words of a customer. It reaches only the site of the best
 -- route that its VRF held as it was sent, unchanged but for TTL and checksum; or it falls to the first rule that applies in the
 -- step that ends it; or it is still on its way. RFC 4364, section 5; RFC 3031, section 3.23, and RFC 3443, section 3.1, for the TTL.
-use Rattle.std.specs.Prelude.{◌≡◌, ◌≢◌, ◌≤◌, ◌<◌, ◌⊎◌, ℕ, ◌+◌, ◌-◌, ◌==◌, ◌&&◌, Bool, true, false, not, nat_lt, nat_le, IsTrue, List, [], ◌∷◌, ◌++◌, length, take, slice_index, slice_index_or, slice_get, Option, Some, None, is_some, is_none}
+use Rattle.std.specs.Prelude.{◌≡◌, ◌≢◌, ◌≤◌, ◌<◌, ◌⊎◌, ℕ, ◌+◌, ◌-◌, ◌==◌, ◌&&◌, Bool, true, false, not, nat_lt, nat_le, IsTrue, List, [], ◌∷◌, ◌++◌, length}
+use Rattle.std.specs.Prelude.{take, slice_index, slice_index_or, slice_get, Option, Some, None, is_some, is_none}
 use Rattle.std.specs.List.{list_any}
 use Rattle.mn_base.specs.declared.drops.Rule.{Rule}
 use Rattle.mn_base.specs.declared.drops.Rule.TheVariants as rule

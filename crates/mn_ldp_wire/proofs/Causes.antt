@@ -1,7 +1,9 @@
 -- The laws of reading.
-use Rattle.std.proofs.Common.{◌≡◌, ◌≢◌, ◌==◌, ◌↔◌, ◌≤◌, ◌<◌, ◌-◌, ◌⊎◌, ℕ, zero, suc, Bool, true, false, cond, not, List, [], ◌∷◌, ◌++◌, length, take, drop, Option, Result, Ok, Err, refl, ap, sym, ◌∙◌, subst, arith, inl, inr, append_assoc, length-append}
+use Rattle.std.proofs.Common.{◌≡◌, ◌≢◌, ◌==◌, ◌↔◌, ◌≤◌, ◌<◌, ◌-◌, ◌⊎◌, ℕ, zero, suc, Bool, true, false, cond, not, List, [], ◌∷◌, ◌++◌, length, take, drop}
+use Rattle.std.proofs.Common.{Option, Result, Ok, Err, refl, ap, sym, ◌∙◌, subst, arith, inl, inr, append_assoc, length-append}
 use Rattle.std.specs.Prelude.{nat_lt, option_to_list, ◌||◌}
-use Rattle.std.proofs.lemmas.Bool.{ltb-true, ltb-false, lt-ltb, le-ltb, eqb-true, eqb-false, eq-eqb, ne_eqb, not-true, not-false, or_parts, or_cases, or_left, or_right}
+use Rattle.std.proofs.lemmas.Bool.{ltb-true, ltb-false, lt-ltb, le-ltb, eqb-true, eqb-false, eq-eqb, ne_eqb, not-true, not-false, or_parts, or_cases}
+use Rattle.std.proofs.lemmas.Bool.{or_left, or_right}
 use Rattle.std.proofs.lemmas.List.{take_at, drop_at}
 use Rattle.byteorder.specs.Endian.{big_number}
 use Rattle.mn_ldp_wire.specs.declared.message.LdpId.{LdpId}
@@ -18,7 +20,8 @@ use Rattle.mn_ldp_wire.proofs.Messages.{IsInFront, in_front, front_again}
 use Rattle.mn_ldp_wire.proofs.Faults.{message_bad, message_again}
 use Rattle.mn_ldp_wire.proofs.Pdus.{pdu_is, pdu_again, cut_refused}
 
-pub read_is_pdu : (bytes : List ℕ) (from : LdpId) (messages : List LdpMessage) → IsBytes bytes → (pdu_of bytes ≡ Ok (record { from = from; messages = messages })) ↔ IsPdu bytes from messages
+pub read_is_pdu : (bytes : List ℕ) (from : LdpId) (messages : List LdpMessage) → IsBytes bytes →
+    (pdu_of bytes ≡ Ok (record { from = from; messages = messages })) ↔ IsPdu bytes from messages
 read_is_pdu bytes from messages h = (λ e. pdu_is bytes (record { from = from; messages = messages }) h e, λ p. pdu_again bytes from messages p)
 
 -- ---- no PDU begins another
@@ -38,7 +41,8 @@ none_begins_another bytes more pdu other e f = none_by_length more bytes pdu oth
 
 -- ---- the message that is refused
 
-one_before : (bytes rest : List ℕ) (first : Option LdpMessage) (bad : WireBad) → IsInFront bytes first rest → IsMessageRefused rest bad → IsMessageRefused bytes bad
+one_before : (bytes rest : List ℕ) (first : Option LdpMessage) (bad : WireBad) → IsInFront bytes first rest → IsMessageRefused rest bad →
+    IsMessageRefused bytes bad
 one_before bytes rest first bad f m = record {
   before = f.front ++ m.before;
   rest = m.rest;
@@ -53,24 +57,30 @@ bad_behind : (front : List LdpMessage) (r : Result (List LdpMessage) WireBad) (b
 bad_behind front (Ok others) bad e = absurd cc
 bad_behind front (Err other) bad e = cc
 
-refused_by_first : (n : ℕ) (bytes : List ℕ) (bad : WireBad) (r : Result (Option LdpMessage × List ℕ) WireBad) → message_at bytes ≡ r → IsBytes bytes → 0 < length bytes → length bytes ≤ suc n → messages_of bytes ≡ Err bad
+refused_by_first : (n : ℕ) (bytes : List ℕ) (bad : WireBad) (r : Result (Option LdpMessage × List ℕ) WireBad) → message_at bytes ≡ r → IsBytes bytes →
+    0 < length bytes → length bytes ≤ suc n → messages_of bytes ≡ Err bad
     → ((rest : List ℕ) → IsBytes rest → length rest ≤ n → messages_of rest ≡ Err bad → IsMessageRefused rest bad) → IsMessageRefused bytes bad
 refused_by_first n bytes bad (Err other) is h some most e again =
     let all : messages_of bytes ≡ Err other = messages_bad bytes other some is in
     let both : messages_of bytes ≡ Err bad = e in
     let same : other ≡ bad = cc in
-    record { before = []; rest = bytes; said = []; whole = refl; are_said = refl; some = some; refused = message_bad bytes bad h (is ∙ ap (λ (x : WireBad). Err x) same) }
+    record { before = []; rest = bytes; said = []; whole = refl; are_said = refl; some = some; refused =
+        message_bad bytes bad h (is ∙ ap (λ (x : WireBad). Err x) same) }
 refused_by_first n bytes bad (Ok first) is h some most e again =
     let f = in_front bytes first.1 first.0 h is in
     let s = message_shorter bytes first.1 first.0 is in
-    one_before bytes first.1 first.0 bad f (again first.1 f.rest_bytes (omega arith) (bad_behind (option_to_list first.0) (messages_of first.1) bad (sym (messages_more bytes first.1 first.0 is) ∙ e)))
+    one_before bytes first.1 first.0 bad f
+        (again first.1 f.rest_bytes (omega arith)
+        (bad_behind (option_to_list first.0) (messages_of first.1) bad (sym (messages_more bytes first.1 first.0 is) ∙ e)))
 
 refused_within : (n : ℕ) (bytes : List ℕ) (bad : WireBad) → IsBytes bytes → length bytes ≤ n → messages_of bytes ≡ Err bad → IsMessageRefused bytes bad
 refused_within n [] bad h most e = absurd (let none = messages_nil [] refl in cc)
 refused_within zero (b ∷ bs) bad h most e = absurd (omega arith)
-refused_within (suc n) (b ∷ bs) bad h most e = refused_by_first n (b ∷ bs) bad (message_at (b ∷ bs)) refl h (omega arith) most e (λ rest. refused_within n rest bad)
+refused_within (suc n) (b ∷ bs) bad h most e =
+    refused_by_first n (b ∷ bs) bad (message_at (b ∷ bs)) refl h (omega arith) most e (λ rest. refused_within n rest bad)
 
-refused_behind : (said : List (Option LdpMessage)) (before rest : List ℕ) (bad : WireBad) → AreSaid said before → 0 < length rest → message_at rest ≡ Err bad → messages_of (before ++ rest) ≡ Err bad
+refused_behind : (said : List (Option LdpMessage)) (before rest : List ℕ) (bad : WireBad) → AreSaid said before → 0 < length rest →
+    message_at rest ≡ Err bad → messages_of (before ++ rest) ≡ Err bad
 refused_behind [] before rest bad a some e = ap (λ (xs : List ℕ). messages_of (xs ++ rest)) a ∙ messages_bad rest bad some e
 refused_behind (first ∷ said) before rest bad (front, others, whole, is_said, are_said) some e =
     ap (λ (xs : List ℕ). messages_of (xs ++ rest)) whole ∙ ap messages_of (append_assoc front others rest)
@@ -100,8 +110,12 @@ inside bytes bad (Err other) e = cc
 bad_is : (x y : WireBad) → failed x ≡ failed y → y ≡ x
 bad_is x y e = cc
 
-refused_by_tests : (bytes : List ℕ) (bad : WireBad) (a b c : Bool) → IsBytes bytes → nat_lt (length bytes) 10 ≡ a → not (big_number 2 bytes == 1) ≡ b → (not (size_at bytes == length bytes - 4) || (length bytes == 10)) ≡ c
-    → cond {A = Result PduContents WireBad} a (Err Short) (cond {A = Result PduContents WireBad} b (Err BadVersion) (cond {A = Result PduContents WireBad} c (Err BadPduLength) (packed bytes (messages_of (drop 10 bytes))))) ≡ failed bad
+refused_by_tests : (bytes : List ℕ) (bad : WireBad) (a b c : Bool) → IsBytes bytes → nat_lt (length bytes) 10 ≡ a → not (big_number 2 bytes == 1) ≡ b →
+    (not (size_at bytes == length bytes - 4) || (length bytes == 10)) ≡ c
+    → cond {A =
+        Result PduContents WireBad} a (Err Short) (cond {A =
+        Result PduContents WireBad} b (Err BadVersion) (cond {A =
+        Result PduContents WireBad} c (Err BadPduLength) (packed bytes (messages_of (drop 10 bytes))))) ≡ failed bad
     → IsRefused bytes bad
 refused_by_tests bytes bad true b c h ta tb tc e = inl (ltb-true _ _ ta, bad_is Short bad e)
 refused_by_tests bytes bad false true c h ta tb tc e = inr (inl (ltb-false _ _ ta, eqb-false _ _ (not-true _ tb), bad_is BadVersion bad e))
@@ -109,7 +123,8 @@ refused_by_tests bytes bad false false true h ta tb tc e =
     inr (inr (inl (
       ltb-false _ _ ta,
       eqb-true _ _ (not-false _ tb),
-      elim (or_cases (not (size_at bytes == length bytes - 4)) (length bytes == 10) tc) [ inl size ↦ inl (eqb-false _ _ (not-true _ size)) | inr none ↦ inr (eqb-true _ _ none) ],
+      elim (or_cases (not (size_at bytes == length bytes - 4)) (length bytes == 10) tc) [ inl size ↦ inl (eqb-false _ _ (not-true _ size)) | inr none ↦ inr
+          (eqb-true _ _ none) ],
       bad_is BadPduLength bad e,
     )))
 refused_by_tests bytes bad false false false h ta tb tc e =
@@ -122,9 +137,11 @@ refused_by_tests bytes bad false false false h ta tb tc e =
 refused_is : (bytes : List ℕ) (bad : WireBad) → IsBytes bytes → pdu_of bytes ≡ Err bad → IsRefused bytes bad
 unfolding pdu_of
 refused_is bytes bad h e =
-    refused_by_tests bytes bad (nat_lt (length bytes) 10) (not (big_number 2 bytes == 1)) (not (size_at bytes == length bytes - 4) || (length bytes == 10)) h refl refl refl e
+    refused_by_tests bytes bad (nat_lt (length bytes) 10) (not (big_number 2 bytes == 1))
+        (not (size_at bytes == length bytes - 4) || (length bytes == 10)) h refl refl refl e
 
-length_wrong : (bytes : List ℕ) → (size_at bytes ≢ length bytes - 4) ⊎ (length bytes ≡ 10) → (not (size_at bytes == length bytes - 4) || (length bytes == 10)) ≡ true
+length_wrong : (bytes : List ℕ) → (size_at bytes ≢ length bytes - 4) ⊎ (length bytes ≡ 10) →
+    (not (size_at bytes == length bytes - 4) || (length bytes == 10)) ≡ true
 length_wrong bytes (inl size) = or_left _ _ (ap not (ne_eqb _ _ size))
 length_wrong bytes (inr none) = or_right _ _ (eq-eqb _ _ none)
 
@@ -135,7 +152,8 @@ refused_again bytes bad h (inr (inl version)) = rw (le-ltb _ _ version.0, ne_eqb
 refused_again bytes bad h (inr (inr (inl size))) = rw (le-ltb _ _ size.0, eq-eqb _ _ size.1, length_wrong bytes size.2) (ap failed (sym size.3))
 refused_again bytes bad h (inr (inr (inr behind))) =
     let right = behind.0 in
-    rw (le-ltb _ _ right.long, eq-eqb _ _ right.version, eq-eqb _ _ right.size, ne_eqb _ _ right.some) (ap (packed bytes) (message_refused (drop 10 bytes) bad (IsBytes-drop 10 bytes h) behind.1))
+    rw (le-ltb _ _ right.long, eq-eqb _ _ right.version, eq-eqb _ _ right.size, ne_eqb _ _ right.some)
+        (ap (packed bytes) (message_refused (drop 10 bytes) bad (IsBytes-drop 10 bytes h) behind.1))
 
 pub refused_where : (bytes : List ℕ) (bad : WireBad) → IsBytes bytes → (pdu_of bytes ≡ Err bad) ↔ IsRefused bytes bad
 refused_where bytes bad h = (λ e. refused_is bytes bad h e, λ r. refused_again bytes bad h r)

@@ -1,5 +1,6 @@
 -- A message or a TLV at the front: what is read is spelled so, and what is spelled so is read.
-use Rattle.std.proofs.Common.{◌≡◌, ◌==◌, ◌≤◌, ◌<◌, ◌-◌, ℕ, zero, suc, Bool, true, false, cond, List, [], ◌∷◌, ◌++◌, length, take, drop, Option, Some, None, Result, Ok, Err, refl, ap, sym, ◌∙◌, subst, arith, length-append, length-drop, take-append-drop, if◌then◌else◌}
+use Rattle.std.proofs.Common.{◌≡◌, ◌==◌, ◌≤◌, ◌<◌, ◌-◌, ℕ, zero, suc, Bool, true, false, cond, List, [], ◌∷◌, ◌++◌, length, take, drop, Option, Some, None}
+use Rattle.std.proofs.Common.{Result, Ok, Err, refl, ap, sym, ◌∙◌, subst, arith, length-append, length-drop, take-append-drop, if◌then◌else◌}
 use Rattle.std.specs.Prelude.{nat_le}
 use Rattle.std.proofs.lemmas.Bool.{leb-true, eq-eqb, eqb-true}
 use Rattle.std.proofs.lemmas.List.{take_at, drop_at, length-take-le}
@@ -49,7 +50,8 @@ framed_is bytes front h e =
     let f = front_is bytes front e in
     subst (λ (x : Front). IsFramed bytes x) (sym f.is) (framed_there bytes h f.header f.whole)
 
-pub framed_again : (kind : ℕ) (value rest : List ℕ) → FitsFrame kind value → front_of (framed kind value ++ rest) ≡ Some (record { kind = kind; value = value; rest = rest })
+pub framed_again : (kind : ℕ) (value rest : List ℕ) → FitsFrame kind value →
+    front_of (framed kind value ++ rest) ≡ Some (record { kind = kind; value = value; rest = rest })
 unfolding framed
 framed_again kind value rest fits =
     let bytes = framed kind value ++ rest in
@@ -74,10 +76,13 @@ due_by_test : (kind : ℕ) (bytes value rest : List ℕ) (front : Front) (same :
 due_by_test kind bytes value rest front false test f e = absurd cc
 due_by_test kind bytes value rest front true test f e =
     let pair : (front.value, front.rest) ≡ (value, rest) = cc in
-    let one : IsDue kind bytes front.value front.rest = subst (λ (k : ℕ). IsDue k bytes front.value front.rest) (eqb-true _ _ test) (record { fits = f.fits; value_bytes = f.value_bytes; rest_bytes = f.rest_bytes; whole = f.whole }) in
+    let one : IsDue kind bytes front.value front.rest =
+        subst (λ (k : ℕ). IsDue k bytes front.value front.rest) (eqb-true _ _ test) (record { fits = f.fits; value_bytes = f.value_bytes; rest_bytes =
+        f.rest_bytes; whole = f.whole }) in
     subst (λ (p : List ℕ × List ℕ). IsDue kind bytes p.0 p.1) pair one
 
-due_by_front : (kind : ℕ) (bytes value rest : List ℕ) (o : Option Front) → IsBytes bytes → front_of bytes ≡ o → due kind o ≡ Ok (value, rest) → IsDue kind bytes value rest
+due_by_front : (kind : ℕ) (bytes value rest : List ℕ) (o : Option Front) → IsBytes bytes → front_of bytes ≡ o → due kind o ≡ Ok (value, rest) →
+    IsDue kind bytes value rest
 due_by_front kind bytes value rest None h is e = absurd cc
 due_by_front kind bytes value rest (Some front) h is e = due_by_test kind bytes value rest front (front.kind == kind) refl (framed_is bytes front h is) e
 
@@ -96,7 +101,8 @@ some_bytes kind value rest = omega arith
 
 pub mandatory_again : (kind : ℕ) (value rest : List ℕ) → FitsFrame kind value → mandatory_at kind (framed kind value ++ rest) ≡ Ok (value, rest)
 unfolding mandatory_at
-mandatory_again kind value rest fits = rw (not_empty (framed kind value ++ rest) (some_bytes kind value rest), framed_again kind value rest fits, eq-eqb kind kind refl) refl
+mandatory_again kind value rest fits =
+    rw (not_empty (framed kind value ++ rest) (some_bytes kind value rest), framed_again kind value rest fits, eq-eqb kind kind refl) refl
 
 -- ---- TLVs that are passed over
 
@@ -110,12 +116,15 @@ over_again bytes (tlv ∷ tlvs) (rest, whole, fits, u, others) =
 abbrev pub Passed : List ℕ → Type 0
 Passed bytes = (tlvs : List (ℕ × List ℕ)) × ArePassedOver bytes tlvs
 
-over_by_test : (bytes : List ℕ) (front : Front) (u : Bool) → IsFramed bytes front → (nat_le u_bit front.kind) ≡ u → (if u then are_passed_over front.rest else false) ≡ true
+over_by_test : (bytes : List ℕ) (front : Front) (u : Bool) → IsFramed bytes front → (nat_le u_bit front.kind) ≡ u →
+    (if u then are_passed_over front.rest else false) ≡ true
     → (are_passed_over front.rest ≡ true → Passed front.rest) → Passed bytes
 over_by_test bytes front false f test e again = absurd cc
-over_by_test bytes front true f test e again = (let more = again e in ((front.kind, front.value) ∷ more.0, (front.rest, f.whole, f.fits, leb-true _ _ test, more.1)))
+over_by_test bytes front true f test e again =
+    (let more = again e in ((front.kind, front.value) ∷ more.0, (front.rest, f.whole, f.fits, leb-true _ _ test, more.1)))
 
-over_by_front : (n : ℕ) (bytes : List ℕ) (o : Option Front) → IsBytes bytes → 0 < length bytes → length bytes ≤ suc n → front_of bytes ≡ o → are_passed_over bytes ≡ true
+over_by_front : (n : ℕ) (bytes : List ℕ) (o : Option Front) → IsBytes bytes → 0 < length bytes → length bytes ≤ suc n → front_of bytes ≡ o →
+    are_passed_over bytes ≡ true
     → ((rest : List ℕ) → IsBytes rest → length rest ≤ n → are_passed_over rest ≡ true → Passed rest) → Passed bytes
 over_by_front n bytes None h some most is e again = absurd (let cut = over_cut bytes some is in cc)
 over_by_front n bytes (Some front) h some most is e again =

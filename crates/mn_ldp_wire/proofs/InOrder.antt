@@ -1,5 +1,6 @@
 -- The messages of a PDU, one after another.
-use Rattle.std.proofs.Common.{◌≡◌, ◌≢◌, ◌≤◌, ◌<◌, ℕ, zero, suc, Bool, true, false, cond, List, [], ◌∷◌, ◌++◌, length, Option, Some, None, Result, Ok, Err, refl, ap, sym, ◌∙◌, arith, append_assoc, is_ok}
+use Rattle.std.proofs.Common.{◌≡◌, ◌≢◌, ◌≤◌, ◌<◌, ℕ, zero, suc, Bool, true, false, cond, List, [], ◌∷◌, ◌++◌, length, Option, Some, None, Result, Ok, Err}
+use Rattle.std.proofs.Common.{refl, ap, sym, ◌∙◌, arith, append_assoc, is_ok}
 use Rattle.std.specs.Prelude.{nat_lt, option_to_list, OnOk}
 use Rattle.std.proofs.lemmas.List.{append-nil}
 use Rattle.std.proofs.lemmas.Bool.{ltb-false}
@@ -23,8 +24,11 @@ pub record IsAt (bytes : List ℕ) (said : Option LdpMessage) (rest : List ℕ) 
   pub says : said_of front.kind front.value ≡ Ok said
   pub rest_is : front.rest ≡ rest
 
-of_front : (bytes rest : List ℕ) (said : Option LdpMessage) (front : Front) (short : Bool) → (nat_lt (length front.value) 4) ≡ short → front_of bytes ≡ Some front
-    → cond {A = Result (Option LdpMessage × List ℕ) WireBad} short (Err BadMessageLength) (said_of front.kind front.value >>= λ said. Ok (said, front.rest)) ≡ Ok (said, rest) → IsAt bytes said rest
+of_front : (bytes rest : List ℕ) (said : Option LdpMessage) (front : Front) (short : Bool) →
+    (nat_lt (length front.value) 4) ≡ short → front_of bytes ≡ Some front
+    → cond {A =
+        Result (Option LdpMessage × List ℕ) WireBad} short (Err BadMessageLength) (said_of front.kind front.value >>= λ said. Ok (said, front.rest)) ≡ Ok
+        (said, rest) → IsAt bytes said rest
 of_front bytes rest said front true short e is = absurd cc
 of_front bytes rest said front false short e is =
     let b = bind_ok (said_of front.kind front.value) (λ said. Ok (said, front.rest)) (said, rest) is in
@@ -57,7 +61,8 @@ message_shorter bytes rest said e =
 abbrev pub with_front : List LdpMessage → Result (List LdpMessage) WireBad → Result (List LdpMessage) WireBad
 with_front front reading = reading >>= λ others. Ok (front ++ others)
 
-from_some : (n : ℕ) (bytes rest : List ℕ) (said : Option LdpMessage) → 0 < length bytes → message_at bytes ≡ Ok (said, rest) → messages_from (suc n) bytes ≡ with_front (option_to_list said) (messages_from n rest)
+from_some : (n : ℕ) (bytes rest : List ℕ) (said : Option LdpMessage) → 0 < length bytes → message_at bytes ≡ Ok (said, rest) →
+    messages_from (suc n) bytes ≡ with_front (option_to_list said) (messages_from n rest)
 unfolding messages_from
 from_some n bytes rest said some e = rw (not_empty bytes some, e) refl
 
@@ -70,8 +75,10 @@ unfolding messages_from
 from_nil zero = refl
 from_nil (suc n) = refl
 
-from_same : (n m : ℕ) (bytes : List ℕ) (r : Result (Option LdpMessage × List ℕ) WireBad) → 0 < length bytes → message_at bytes ≡ r → length bytes ≤ suc n → length bytes ≤ suc m
-    → ((rest : List ℕ) → length rest ≤ n → length rest ≤ m → messages_from n rest ≡ messages_from m rest) → messages_from (suc n) bytes ≡ messages_from (suc m) bytes
+from_same : (n m : ℕ) (bytes : List ℕ) (r : Result (Option LdpMessage × List ℕ) WireBad) → 0 < length bytes → message_at bytes ≡ r → length bytes ≤ suc n →
+    length bytes ≤ suc m
+    → ((rest : List ℕ) → length rest ≤ n → length rest ≤ m → messages_from n rest ≡ messages_from m rest) →
+        messages_from (suc n) bytes ≡ messages_from (suc m) bytes
 from_same n m bytes (Err bad) some e hn hm again = from_bad n bytes bad some e ∙ sym (from_bad m bytes bad some e)
 from_same n m bytes (Ok x) some e hn hm again =
     let s = message_shorter bytes x.1 x.0 e in
@@ -90,7 +97,8 @@ unfolding messages_of
 messages_nil [] h = from_nil 0
 messages_nil (b ∷ bs) h = absurd (omega arith)
 
-pub messages_more : (bytes rest : List ℕ) (said : Option LdpMessage) → message_at bytes ≡ Ok (said, rest) → messages_of bytes ≡ with_front (option_to_list said) (messages_of rest)
+pub messages_more : (bytes rest : List ℕ) (said : Option LdpMessage) → message_at bytes ≡ Ok (said, rest) →
+    messages_of bytes ≡ with_front (option_to_list said) (messages_of rest)
 unfolding messages_of
 messages_more [] rest said e = (let s = message_shorter [] rest said e in absurd (omega arith))
 messages_more (b ∷ bs) rest said e =
@@ -110,18 +118,22 @@ front_joined a b (Ok others) = ap (λ (xs : List LdpMessage). Ok xs) (sym (appen
 front_joined a b (Err bad) = refl
 
 pub front_more : (done new : List LdpMessage) (bytes rest : List ℕ) (said : Option LdpMessage) (all : Result (List LdpMessage) WireBad)
-    → message_at bytes ≡ Ok (said, rest) → new ≡ done ++ option_to_list said → with_front done (messages_of bytes) ≡ all → with_front new (messages_of rest) ≡ all
+    → message_at bytes ≡ Ok (said, rest) → new ≡ done ++ option_to_list said → with_front done (messages_of bytes) ≡ all →
+        with_front new (messages_of rest) ≡ all
 front_more done new bytes rest said all e pushed so_far =
     ap (λ (xs : List LdpMessage). with_front xs (messages_of rest)) pushed ∙ sym (front_joined done (option_to_list said) (messages_of rest))
     ∙ ap (λ (r : Result (List LdpMessage) WireBad). with_front done r) (sym (messages_more bytes rest said e)) ∙ so_far
 
 pub front_bad : (done : List LdpMessage) (bytes : List ℕ) (bad : WireBad) (all : Result (List LdpMessage) WireBad)
     → 0 < length bytes → (bad ≢ NoMemory → message_at bytes ≡ Err bad) → with_front done (messages_of bytes) ≡ all → bad ≢ NoMemory → all ≡ Err bad
-front_bad done bytes bad all some e so_far other = sym so_far ∙ ap (λ (r : Result (List LdpMessage) WireBad). with_front done r) (messages_bad bytes bad some (e other))
+front_bad done bytes bad all some e so_far other =
+    sym so_far ∙ ap (λ (r : Result (List LdpMessage) WireBad). with_front done r) (messages_bad bytes bad some (e other))
 
-pub front_done : (done : List LdpMessage) (bytes : List ℕ) (all : Result (List LdpMessage) WireBad) → length bytes ≡ 0 → with_front done (messages_of bytes) ≡ all → all ≡ Ok done
+pub front_done : (done : List LdpMessage) (bytes : List ℕ) (all : Result (List LdpMessage) WireBad) → length bytes ≡ 0 →
+    with_front done (messages_of bytes) ≡ all → all ≡ Ok done
 front_done done bytes all none so_far =
-    sym so_far ∙ ap (λ (r : Result (List LdpMessage) WireBad). with_front done r) (messages_nil bytes none) ∙ ap (λ (xs : List LdpMessage). Ok xs) (append-nil done)
+    sym so_far ∙ ap (λ (r : Result (List LdpMessage) WireBad). with_front done r) (messages_nil bytes none)
+        ∙ ap (λ (xs : List LdpMessage). Ok xs) (append-nil done)
 
 pub held_ok : {T E P : Type 0} (r : Result T E) → is_ok r ≡ true → OnOk r P → P
 held_ok (Ok x) is h = h

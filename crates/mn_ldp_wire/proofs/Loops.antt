@@ -1,5 +1,6 @@
 -- What is read one after another, step by step, as the loops do.
-use Rattle.std.proofs.Common.{◌≡◌, ◌==◌, ◌≤◌, ◌<◌, ◌+◌, ◌-◌, ℕ, zero, suc, Bool, true, false, cond, List, [], ◌∷◌, ◌++◌, length, take, drop, Option, Some, None, refl, ap, sym, ◌∙◌, arith, if◌then◌else◌}
+use Rattle.std.proofs.Common.{◌≡◌, ◌==◌, ◌≤◌, ◌<◌, ◌+◌, ◌-◌, ℕ, zero, suc, Bool, true, false, cond, List, [], ◌∷◌, ◌++◌, length, take, drop, Option, Some}
+use Rattle.std.proofs.Common.{None, refl, ap, sym, ◌∙◌, arith, if◌then◌else◌}
 use Rattle.std.specs.Prelude.{nat_lt, nat_le}
 use Rattle.std.proofs.lemmas.List.{length-drop, append-nil, append_assoc}
 use Rattle.std.proofs.lemmas.Bool.{le-ltb, le-leb, lt-leb, ne_eqb, ltb-false}
@@ -23,7 +24,8 @@ by_tests bytes made front false false e = (refl, refl, cc)
 pub front_is : (bytes : List ℕ) (front : Front) → front_of bytes ≡ Some front → IsFront bytes front
 unfolding front_of
 front_is bytes front e =
-    let t = by_tests bytes (record { kind = big_number 2 bytes; value = take (size_at bytes) (drop 4 bytes); rest = drop (size_at bytes) (drop 4 bytes) }) front (nat_lt (length bytes) 4) (nat_lt (length bytes - 4) (size_at bytes)) e in
+    let t = by_tests bytes (record { kind = big_number 2 bytes; value = take (size_at bytes) (drop 4 bytes); rest =
+        drop (size_at bytes) (drop 4 bytes) }) front (nat_lt (length bytes) 4) (nat_lt (length bytes - 4) (size_at bytes)) e in
     record { header = ltb-false _ _ t.0; whole = ltb-false _ _ t.1; is = t.2 }
 
 pub front_from : (bytes : List ℕ) → 4 ≤ length bytes → size_at bytes ≤ length bytes - 4
@@ -43,7 +45,8 @@ front_shorter bytes front e =
 pub not_empty : (bytes : List ℕ) → 0 < length bytes → (length bytes == 0) ≡ false
 not_empty bytes h = ne_eqb _ _ (omega arith)
 
-over_some : (n : ℕ) (bytes : List ℕ) (front : Front) → 0 < length bytes → front_of bytes ≡ Some front → passed_over_from (suc n) bytes ≡ (if nat_le u_bit front.kind then passed_over_from n front.rest else false)
+over_some : (n : ℕ) (bytes : List ℕ) (front : Front) → 0 < length bytes → front_of bytes ≡ Some front →
+    passed_over_from (suc n) bytes ≡ (if nat_le u_bit front.kind then passed_over_from n front.rest else false)
 unfolding passed_over_from
 over_some n bytes front h e = rw (not_empty bytes h, e) refl
 
@@ -57,7 +60,8 @@ over_nil zero = refl
 over_nil (suc n) = refl
 
 over_same : (n m : ℕ) (bytes : List ℕ) (o : Option Front) → 0 < length bytes → front_of bytes ≡ o → length bytes ≤ suc n → length bytes ≤ suc m
-    → ((rest : List ℕ) → length rest ≤ n → length rest ≤ m → passed_over_from n rest ≡ passed_over_from m rest) → passed_over_from (suc n) bytes ≡ passed_over_from (suc m) bytes
+    → ((rest : List ℕ) → length rest ≤ n → length rest ≤ m → passed_over_from n rest ≡ passed_over_from m rest) →
+        passed_over_from (suc n) bytes ≡ passed_over_from (suc m) bytes
 over_same n m bytes None some e hn hm again = over_none n bytes some e ∙ sym (over_none m bytes some e)
 over_same n m bytes (Some front) some e hn hm again =
     let s = front_shorter bytes front e in
@@ -71,7 +75,8 @@ over_enough zero m (b ∷ bs) hn hm = absurd (omega arith)
 over_enough (suc n) zero (b ∷ bs) hn hm = absurd (omega arith)
 over_enough (suc n) (suc m) (b ∷ bs) hn hm = over_same n m (b ∷ bs) (front_of (b ∷ bs)) (omega arith) refl hn hm (λ rest. over_enough n m rest)
 
-pub over_step : (bytes : List ℕ) (front : Front) → front_of bytes ≡ Some front → are_passed_over bytes ≡ (if nat_le u_bit front.kind then are_passed_over front.rest else false)
+pub over_step : (bytes : List ℕ) (front : Front) → front_of bytes ≡ Some front →
+    are_passed_over bytes ≡ (if nat_le u_bit front.kind then are_passed_over front.rest else false)
 unfolding are_passed_over
 over_step [] front e = let s = front_shorter [] front e in absurd (omega arith)
 over_step (b ∷ bs) front e =
@@ -79,10 +84,12 @@ over_step (b ∷ bs) front e =
     over_some (length bs) (b ∷ bs) front (omega arith) e
     ∙ ap (λ (x : Bool). if nat_le u_bit front.kind then x else false) (over_enough (length bs) (length front.rest) front.rest (omega arith) (omega arith))
 
-pub over_one_more : (bytes rest value : List ℕ) (kind : ℕ) → front_of bytes ≡ Some (record { kind = kind; value = value; rest = rest }) → u_bit ≤ kind → are_passed_over bytes ≡ are_passed_over rest
+pub over_one_more : (bytes rest value : List ℕ) (kind : ℕ) → front_of bytes ≡ Some (record { kind = kind; value = value; rest = rest }) → u_bit ≤ kind →
+    are_passed_over bytes ≡ are_passed_over rest
 over_one_more bytes rest value kind e u = over_step bytes (record { kind = kind; value = value; rest = rest }) e ∙ rw (le-leb u_bit kind u) refl
 
-pub over_known : (bytes rest value : List ℕ) (kind : ℕ) → front_of bytes ≡ Some (record { kind = kind; value = value; rest = rest }) → kind < u_bit → are_passed_over bytes ≡ false
+pub over_known : (bytes rest value : List ℕ) (kind : ℕ) → front_of bytes ≡ Some (record { kind = kind; value = value; rest = rest }) → kind < u_bit →
+    are_passed_over bytes ≡ false
 over_known bytes rest value kind e u = over_step bytes (record { kind = kind; value = value; rest = rest }) e ∙ rw (lt-leb u_bit kind u) refl
 
 pub over_cut : (bytes : List ℕ) → 0 < length bytes → front_of bytes ≡ None → are_passed_over bytes ≡ false
@@ -119,11 +126,13 @@ pub on_ok : {X : Type 0} (b : Bool) (new old x : X) → b ≡ true → new ≡ (
 on_ok true new old x is e = e
 on_ok false new old x is e = cc
 
-pub four_go_on : (all rest done octets behind new : List ℕ) (n : ℕ) → octets ≡ take 4 rest → behind ≡ drop 4 rest → length behind + 4 ≡ length rest → n ≡ big_number 4 octets
+pub four_go_on : (all rest done octets behind new : List ℕ) (n : ℕ) → octets ≡ take 4 rest → behind ≡ drop 4 rest → length behind + 4 ≡ length rest →
+    n ≡ big_number 4 octets
     → new ≡ done ++ n ∷ [] → done ++ addresses_of rest ≡ all → new ++ addresses_of behind ≡ all
 four_go_on all rest done octets behind new n front back long is pushed so_far =
     let one : addresses_of rest ≡ n ∷ addresses_of behind = four_more rest (omega arith) ∙ rw (is, front, back) refl in
-    ap (λ (xs : List ℕ). xs ++ addresses_of behind) pushed ∙ append_assoc done (n ∷ []) (addresses_of behind) ∙ ap (λ (xs : List ℕ). done ++ xs) (sym one) ∙ so_far
+    ap (λ (xs : List ℕ). xs ++ addresses_of behind) pushed ∙ append_assoc done (n ∷ []) (addresses_of behind) ∙ ap (λ (xs : List ℕ). done ++ xs) (sym one)
+        ∙ so_far
 
 pub four_end : (all rest done : List ℕ) → length rest < 4 → done ++ addresses_of rest ≡ all → all ≡ done
 four_end all rest done short so_far = sym so_far ∙ ap (λ (xs : List ℕ). done ++ xs) (no_more rest short) ∙ append-nil done

@@ -1,5 +1,6 @@
 -- Messages: what is read is spelled so, and what is spelled so is read.
-use Rattle.std.proofs.Common.{◌≡◌, ◌≤◌, ◌<◌, ◌+◌, ◌%◌, ◌^◌, ◌⊎◌, ℕ, zero, suc, Bool, true, false, cond, not, List, [], ◌∷◌, ◌++◌, length, drop, Option, Some, None, Result, Ok, Err, refl, ap, sym, ◌∙◌, subst, arith, inl, inr, length-append, if◌then◌else◌}
+use Rattle.std.proofs.Common.{◌≡◌, ◌≤◌, ◌<◌, ◌+◌, ◌%◌, ◌^◌, ◌⊎◌, ℕ, zero, suc, Bool, true, false, cond, not, List, [], ◌∷◌, ◌++◌, length, drop, Option}
+use Rattle.std.proofs.Common.{Some, None, Result, Ok, Err, refl, ap, sym, ◌∙◌, subst, arith, inl, inr, length-append, if◌then◌else◌}
 use Rattle.std.specs.Prelude.{nat_le, ◌&&◌, option_to_list}
 use Rattle.std.specs.List.{filter_map}
 use Rattle.std.proofs.lemmas.Bool.{cases_lt, and_parts, and_right, le-leb, leb-true, le-ltb, not-true}
@@ -26,10 +27,12 @@ top_of kind type fits is = elim (cases_lt kind u_bit) [
   | inr high ↦ (u_bit, inr refl, omega (arith, is))
 ]
 
-contents_are : (contents rest : List ℕ) (body : LdpBody) → IsBytes contents → 4 ≤ length contents → drop 4 contents ≡ mandatory_tlvs body ++ rest → contents ≡ big_bytes 4 (big_number 4 contents) ++ mandatory_tlvs body ++ rest
+contents_are : (contents rest : List ℕ) (body : LdpBody) → IsBytes contents → 4 ≤ length contents → drop 4 contents ≡ mandatory_tlvs body ++ rest →
+    contents ≡ big_bytes 4 (big_number 4 contents) ++ mandatory_tlvs body ++ rest
 contents_are contents rest body h long is = four_again contents h long ∙ ap (λ (xs : List ℕ). big_bytes 4 (big_number 4 contents) ++ xs) is
 
-message_is : (kind : ℕ) (contents rest : List ℕ) (body : LdpBody) → IsBytes contents → FitsFrame kind contents → 4 ≤ length contents → IsRead (kind % u_bit) (drop 4 contents) body rest → are_passed_over rest ≡ true
+message_is : (kind : ℕ) (contents rest : List ℕ) (body : LdpBody) → IsBytes contents → FitsFrame kind contents → 4 ≤ length contents →
+    IsRead (kind % u_bit) (drop 4 contents) body rest → are_passed_over rest ≡ true
     → IsMessage (record { id = big_number 4 contents; body = body }) (framed kind contents)
 message_is kind contents rest body h fits long read over =
     let top = top_of kind (type_of body) fits.kind_fits read.kind_is in
@@ -43,7 +46,8 @@ message_is kind contents rest body h fits long read over =
       id_fits = four_fits contents h;
       lawful = read.says.lawful;
       passed_over = passed.1;
-      fits = subst (λ (k : ℕ). FitsFrame k (big_bytes 4 (big_number 4 contents) ++ mandatory_tlvs body ++ rest)) top.2 (subst (λ (xs : List ℕ). FitsFrame kind xs) whole fits);
+      fits = subst (λ (k : ℕ). FitsFrame k (big_bytes 4 (big_number 4 contents) ++ mandatory_tlvs body ++ rest)) top.2
+          (subst (λ (xs : List ℕ). FitsFrame kind xs) whole fits);
       whole = ap (λ (k : ℕ). framed k contents) top.2 ∙ ap (λ (xs : List ℕ). framed (top.0 + type_of body) xs) whole;
     }
 
@@ -53,13 +57,17 @@ done x = Ok x
 ok_is : (x y : Option LdpMessage) → done x ≡ done y → x ≡ y
 ok_is x y e = cc
 
-said_by_over : (kind : ℕ) (contents rest : List ℕ) (body : LdpBody) (said : Option LdpMessage) (over : Bool) → are_passed_over rest ≡ over → IsBytes contents → FitsFrame kind contents → 4 ≤ length contents → IsRead (kind % u_bit) (drop 4 contents) body rest
-    → cond {A = Result (Option LdpMessage) WireBad} over (Ok (Some (record { id = big_number 4 contents; body = body }))) (Err BadTlv) ≡ Ok said → IsSaid said (framed kind contents)
+said_by_over : (kind : ℕ) (contents rest : List ℕ) (body : LdpBody) (said : Option LdpMessage) (over : Bool) → are_passed_over rest ≡ over →
+    IsBytes contents → FitsFrame kind contents → 4 ≤ length contents → IsRead (kind % u_bit) (drop 4 contents) body rest
+    → cond {A = Result (Option LdpMessage) WireBad} over (Ok (Some (record { id = big_number 4 contents; body = body }))) (Err BadTlv) ≡ Ok said →
+        IsSaid said (framed kind contents)
 said_by_over kind contents rest body said false over h fits long read e = absurd cc
 said_by_over kind contents rest body said true over h fits long read e =
-    subst (λ (s : Option LdpMessage). IsSaid s (framed kind contents)) (ok_is (Some (record { id = big_number 4 contents; body = body })) said e) (message_is kind contents rest body h fits long read over)
+    subst (λ (s : Option LdpMessage). IsSaid s (framed kind contents)) (ok_is (Some (record { id = big_number 4 contents; body = body })) said e)
+        (message_is kind contents rest body h fits long read over)
 
-unknown_is : (kind : ℕ) (contents : List ℕ) → FitsFrame kind contents → 4 ≤ length contents → (nat_le u_bit kind && not (is_known (kind % u_bit))) ≡ true → IsUnknown (framed kind contents)
+unknown_is : (kind : ℕ) (contents : List ℕ) → FitsFrame kind contents → 4 ≤ length contents →
+    (nat_le u_bit kind && not (is_known (kind % u_bit))) ≡ true → IsUnknown (framed kind contents)
 unknown_is kind contents fits long passed =
     let p = and_parts _ _ passed in
     let high : u_bit ≤ kind = leb-true _ _ p.0 in
@@ -74,16 +82,23 @@ unknown_is kind contents fits long passed =
       whole = ap (λ (k : ℕ). framed k contents) same;
     }
 
-said_by_test : (kind : ℕ) (contents : List ℕ) (said : Option LdpMessage) (passed : Bool) → (nat_le u_bit kind && not (is_known (kind % u_bit))) ≡ passed → IsBytes contents → FitsFrame kind contents → 4 ≤ length contents
-    → cond {A = Result (Option LdpMessage) WireBad} passed (Ok None) (body_of (kind % u_bit) (drop 4 contents) >>= λ body. if are_passed_over body.1 then Ok (Some (record { id = big_number 4 contents; body = body.0 })) else Err BadTlv) ≡ Ok said
+said_by_test : (kind : ℕ) (contents : List ℕ) (said : Option LdpMessage) (passed : Bool) →
+    (nat_le u_bit kind && not (is_known (kind % u_bit))) ≡ passed → IsBytes contents → FitsFrame kind contents → 4 ≤ length contents
+    → cond {A =
+        Result (Option LdpMessage) WireBad} passed (Ok None)
+        (body_of (kind % u_bit) (drop 4 contents) >>= λ body. if are_passed_over body.1 then Ok
+        (Some (record { id = big_number 4 contents; body = body.0 })) else Err BadTlv) ≡ Ok said
     → IsSaid said (framed kind contents)
 said_by_test kind contents said true test h fits long e =
     subst (λ (s : Option LdpMessage). IsSaid s (framed kind contents)) (ok_is None said e) (unknown_is kind contents fits long test)
 said_by_test kind contents said false test h fits long e =
-    let b = bind_ok (body_of (kind % u_bit) (drop 4 contents)) (λ body. if are_passed_over body.1 then Ok (Some (record { id = big_number 4 contents; body = body.0 })) else Err BadTlv) said e in
-    said_by_over kind contents b.0.1 b.0.0 said (are_passed_over b.0.1) refl h fits long (body_is (kind % u_bit) (drop 4 contents) b.0.1 b.0.0 (IsBytes-drop 4 contents h) b.1) b.2
+    let b = bind_ok (body_of (kind % u_bit) (drop 4 contents))
+        (λ body. if are_passed_over body.1 then Ok (Some (record { id = big_number 4 contents; body = body.0 })) else Err BadTlv) said e in
+    said_by_over kind contents b.0.1 b.0.0 said (are_passed_over b.0.1) refl h fits long
+        (body_is (kind % u_bit) (drop 4 contents) b.0.1 b.0.0 (IsBytes-drop 4 contents h) b.1) b.2
 
-said_is : (kind : ℕ) (contents : List ℕ) (said : Option LdpMessage) → IsBytes contents → FitsFrame kind contents → 4 ≤ length contents → said_of kind contents ≡ Ok said → IsSaid said (framed kind contents)
+said_is : (kind : ℕ) (contents : List ℕ) (said : Option LdpMessage) → IsBytes contents → FitsFrame kind contents → 4 ≤ length contents →
+    said_of kind contents ≡ Ok said → IsSaid said (framed kind contents)
 unfolding said_of
 said_is kind contents said h fits long e = said_by_test kind contents said (nat_le u_bit kind && not (is_known (kind % u_bit))) refl h fits long e
 
@@ -125,9 +140,11 @@ message_again message bytes m =
     let tlvs : List ℕ = mandatory_tlvs message.body ++ m.further in
     let contents : List ℕ = big_bytes 4 message.id ++ tlvs in
     let low : kind % u_bit ≡ type_of message.body = low_bits m.u (type_of message.body) m.u_is (type_small message.body) in
-    let known : (nat_le u_bit kind && not (is_known (kind % u_bit))) ≡ false = and_right _ _ (ap (λ (k : ℕ). not (is_known k)) low ∙ ap not (type_known message.body)) in
+    let known : (nat_le u_bit kind && not (is_known (kind % u_bit))) ≡ false =
+        and_right _ _ (ap (λ (k : ℕ). not (is_known k)) low ∙ ap not (type_known message.body)) in
     let size : length (mandatory_tlvs message.body) < 2 ^ 16 = omega (arith, m.fits.size_fits, length-append (mandatory_tlvs message.body) m.further) in
-    let body : body_of (kind % u_bit) tlvs ≡ Ok (message.body, m.further) = ap (λ (k : ℕ). body_of k tlvs) low ∙ body_again message.body m.further m.lawful size in
+    let body : body_of (kind % u_bit) tlvs ≡ Ok (message.body, m.further) =
+        ap (λ (k : ℕ). body_of k tlvs) low ∙ body_again message.body m.further m.lawful size in
     let id : big_number 4 contents ≡ message.id = four_back message.id tlvs m.id_fits in
     record {
       kind = kind;
@@ -181,7 +198,8 @@ pub front_again : (front rest : List ℕ) (said : Option LdpMessage) → IsSaid 
 unfolding message_at
 front_again front rest said m =
     let s = spelled said front m in
-    let there : front_of (front ++ rest) ≡ Some (record { kind = s.kind; value = s.contents; rest = rest }) = ap (λ (xs : List ℕ). front_of (xs ++ rest)) s.whole ∙ framed_again s.kind s.contents rest s.fits in
+    let there : front_of (front ++ rest) ≡ Some (record { kind = s.kind; value = s.contents; rest = rest }) =
+        ap (λ (xs : List ℕ). front_of (xs ++ rest)) s.whole ∙ framed_again s.kind s.contents rest s.fits in
     rw (there, le-ltb (length s.contents) 4 s.long, s.reads) refl
 
 pub front_some : (front rest : List ℕ) (said : Option LdpMessage) → IsSaid said front → 0 < length (front ++ rest)
@@ -191,7 +209,8 @@ front_some front rest said m =
 
 -- ---- one after another
 
-kept : (first : Option LdpMessage) (others : List LdpMessage) (said : List (Option LdpMessage)) → others ≡ filter_map (λ known. known) said → option_to_list first ++ others ≡ filter_map (λ known. known) (first ∷ said)
+kept : (first : Option LdpMessage) (others : List LdpMessage) (said : List (Option LdpMessage)) → others ≡ filter_map (λ known. known) said →
+    option_to_list first ++ others ≡ filter_map (λ known. known) (first ∷ said)
 kept None others said e = e
 kept (Some message) others said e = ap (λ (xs : List LdpMessage). message ∷ xs) e
 
@@ -200,7 +219,8 @@ pub record AreRead (bytes : List ℕ) (messages : List LdpMessage) : Type 0 wher
   pub are_said : AreSaid said bytes
   pub messages_are : messages ≡ filter_map (λ known. known) said
 
-more_read : (bytes rest : List ℕ) (first : Option LdpMessage) (messages others : List LdpMessage) → IsInFront bytes first rest → AreRead rest others → option_to_list first ++ others ≡ messages → AreRead bytes messages
+more_read : (bytes rest : List ℕ) (first : Option LdpMessage) (messages others : List LdpMessage) → IsInFront bytes first rest → AreRead rest others →
+    option_to_list first ++ others ≡ messages → AreRead bytes messages
 more_read bytes rest first messages others f r e = record {
   said = first ∷ r.said;
   are_said = (f.front, rest, f.whole, f.is_said, r.are_said);
@@ -213,8 +233,10 @@ read_as x = Ok x
 list_is : (x y : List LdpMessage) → read_as x ≡ read_as y → x ≡ y
 list_is x y e = cc
 
-read_by_first : (n : ℕ) (bytes : List ℕ) (messages : List LdpMessage) (r : Result (Option LdpMessage × List ℕ) WireBad) → message_at bytes ≡ r → IsBytes bytes → 0 < length bytes → length bytes ≤ suc n → messages_of bytes ≡ Ok messages
-    → ((rest : List ℕ) (others : List LdpMessage) → IsBytes rest → length rest ≤ n → messages_of rest ≡ Ok others → AreRead rest others) → AreRead bytes messages
+read_by_first : (n : ℕ) (bytes : List ℕ) (messages : List LdpMessage) (r : Result (Option LdpMessage × List ℕ) WireBad) → message_at bytes ≡ r →
+    IsBytes bytes → 0 < length bytes → length bytes ≤ suc n → messages_of bytes ≡ Ok messages
+    → ((rest : List ℕ) (others : List LdpMessage) → IsBytes rest → length rest ≤ n → messages_of rest ≡ Ok others → AreRead rest others) →
+        AreRead bytes messages
 read_by_first n bytes messages (Err bad) is h some most e again = absurd (let refused = messages_bad bytes bad some is in cc)
 read_by_first n bytes messages (Ok first) is h some most e again =
     let f = in_front bytes first.1 first.0 h is in
@@ -222,10 +244,12 @@ read_by_first n bytes messages (Ok first) is h some most e again =
     let b = bind_ok (messages_of first.1) (λ others. Ok (option_to_list first.0 ++ others)) messages (sym (messages_more bytes first.1 first.0 is) ∙ e) in
     more_read bytes first.1 first.0 messages b.0 f (again first.1 b.0 f.rest_bytes (omega arith) b.1) (list_is (option_to_list first.0 ++ b.0) messages b.2)
 
-read_within : (n : ℕ) (bytes : List ℕ) (messages : List LdpMessage) → IsBytes bytes → length bytes ≤ n → messages_of bytes ≡ Ok messages → AreRead bytes messages
+read_within : (n : ℕ) (bytes : List ℕ) (messages : List LdpMessage) → IsBytes bytes → length bytes ≤ n → messages_of bytes ≡ Ok messages →
+    AreRead bytes messages
 read_within n [] messages h most e = record { said = []; are_said = refl; messages_are = list_is messages [] (sym e ∙ messages_nil [] refl) }
 read_within zero (b ∷ bs) messages h most e = absurd (omega arith)
-read_within (suc n) (b ∷ bs) messages h most e = read_by_first n (b ∷ bs) messages (message_at (b ∷ bs)) refl h (omega arith) most e (λ rest others. read_within n rest others)
+read_within (suc n) (b ∷ bs) messages h most e =
+    read_by_first n (b ∷ bs) messages (message_at (b ∷ bs)) refl h (omega arith) most e (λ rest others. read_within n rest others)
 
 pub messages_are_read : (bytes : List ℕ) (messages : List LdpMessage) → IsBytes bytes → messages_of bytes ≡ Ok messages → AreRead bytes messages
 messages_are_read bytes messages h e = read_within (length bytes) bytes messages h (omega arith) e

@@ -1,5 +1,6 @@
 -- PDUs: what is read is spelled so, and what is spelled so is read.
-use Rattle.std.proofs.Common.{◌≡◌, ◌==◌, ◌≤◌, ◌<◌, ◌+◌, ◌-◌, ◌^◌, ℕ, Bool, true, false, cond, not, List, [], ◌∷◌, ◌++◌, length, take, drop, Option, Some, None, Result, Ok, Err, refl, ap, sym, ◌∙◌, subst, arith, inl, length-drop, length-take, if◌then◌else◌}
+use Rattle.std.proofs.Common.{◌≡◌, ◌==◌, ◌≤◌, ◌<◌, ◌+◌, ◌-◌, ◌^◌, ℕ, Bool, true, false, cond, not, List, [], ◌∷◌, ◌++◌, length, take, drop, Option, Some}
+use Rattle.std.proofs.Common.{None, Result, Ok, Err, refl, ap, sym, ◌∙◌, subst, arith, inl, length-drop, length-take, if◌then◌else◌}
 use Rattle.std.specs.Prelude.{nat_lt, ◌||◌, IfOk, All}
 use Rattle.std.specs.List.{filter_map, AllByRecursion}
 use Rattle.std.proofs.lemmas.List.Elements.{All-from_recursion}
@@ -30,7 +31,9 @@ record Passes (bytes : List ℕ) (pdu : PduContents) : Type 0 where
   pub read : (messages_of (drop 10 bytes) >>= λ messages. Ok (record { from = id_at (drop 4 bytes); messages = messages })) ≡ Ok pdu
 
 by_tests : (bytes : List ℕ) (pdu : PduContents) (r : Result PduContents WireBad) (a b c : Bool)
-    → cond {A = Result PduContents WireBad} a (Err Short) (cond {A = Result PduContents WireBad} b (Err BadVersion) (cond {A = Result PduContents WireBad} c (Err BadPduLength) r)) ≡ Ok pdu
+    → cond {A =
+        Result PduContents WireBad} a (Err Short) (cond {A =
+        Result PduContents WireBad} b (Err BadVersion) (cond {A = Result PduContents WireBad} c (Err BadPduLength) r)) ≡ Ok pdu
     → (a ≡ false) × (b ≡ false) × (c ≡ false) × (r ≡ Ok pdu)
 by_tests bytes pdu r true b c e = absurd cc
 by_tests bytes pdu r false true c e = absurd cc
@@ -56,7 +59,8 @@ header_whole : (bytes : List ℕ) → IsBytes bytes → 10 ≤ length bytes → 
     → bytes ≡ big_bytes 2 1 ++ (big_bytes 2 (6 + length (drop 10 bytes)) ++ (ldp_id (id_at (drop 4 bytes)) ++ drop 10 bytes))
 header_whole bytes h long version size =
     let id = id_is (drop 4 bytes) (IsBytes-drop 4 bytes h) (omega (arith, length-drop 4 bytes)) in
-    let e4 : drop 2 (drop 2 bytes) ≡ ldp_id (id_at (drop 4 bytes)) ++ drop 10 bytes = drop-drop 2 2 bytes ∙ id.0 ∙ ap (λ (xs : List ℕ). ldp_id (id_at (drop 4 bytes)) ++ xs) (drop-drop 6 4 bytes) in
+    let e4 : drop 2 (drop 2 bytes) ≡ ldp_id (id_at (drop 4 bytes)) ++ drop 10 bytes =
+        drop-drop 2 2 bytes ∙ id.0 ∙ ap (λ (xs : List ℕ). ldp_id (id_at (drop 4 bytes)) ++ xs) (drop-drop 6 4 bytes) in
     let e2 : drop 2 bytes ≡ big_bytes 2 (size_at bytes) ++ (ldp_id (id_at (drop 4 bytes)) ++ drop 10 bytes) =
     two_again (drop 2 bytes) (IsBytes-drop 2 bytes h) (omega (arith, length-drop 2 bytes)) ∙ ap (λ (xs : List ℕ). big_bytes 2 (size_at bytes) ++ xs) e4 in
     two_again bytes h (omega arith)
@@ -94,7 +98,8 @@ more_body [] body a h = absurd (omega arith)
 more_body (first ∷ said) body (front, rest, whole, is_said, others) h = (let s = front_some front rest first is_said in let l = ap length whole in omega arith)
 
 pub header_again : (body : List ℕ) (from : LdpId) → FitsId from → 6 + length body < 2 ^ 16 → 0 < length body
-    → pdu_of (big_bytes 2 1 ++ (big_bytes 2 (6 + length body) ++ (ldp_id from ++ body))) ≡ (messages_of body >>= λ messages. Ok (record { from = from; messages = messages }))
+    → pdu_of (big_bytes 2 1 ++ (big_bytes 2 (6 + length body) ++ (ldp_id from ++ body))) ≡
+        (messages_of body >>= λ messages. Ok (record { from = from; messages = messages }))
 unfolding pdu_of
 header_again body from fits size more =
     let bytes : List ℕ = big_bytes 2 1 ++ (big_bytes 2 (6 + length body) ++ (ldp_id from ++ body)) in
@@ -105,10 +110,12 @@ header_again body from fits size more =
     let id : id_at (drop 4 bytes) ≡ from = id_again from body fits in
     rw (a, b, c, id) refl
 
-pub pdu_again : (bytes : List ℕ) (from : LdpId) (messages : List LdpMessage) → IsPdu bytes from messages → pdu_of bytes ≡ Ok (record { from = from; messages = messages })
+pub pdu_again : (bytes : List ℕ) (from : LdpId) (messages : List LdpMessage) → IsPdu bytes from messages →
+    pdu_of bytes ≡ Ok (record { from = from; messages = messages })
 pdu_again bytes from messages p =
     ap pdu_of p.whole ∙ header_again p.body from p.id_fits p.size_fits (more_body p.said p.body p.are_said p.some)
-    ∙ ap (λ (r : Result (List LdpMessage) WireBad). r >>= λ messages. Ok (record { from = from; messages = messages })) (messages_again p.said p.body p.are_said)
+    ∙ ap (λ (r : Result (List LdpMessage) WireBad). r >>= λ messages. Ok (record { from = from; messages = messages }))
+        (messages_again p.said p.body p.are_said)
     ∙ ap (λ (xs : List LdpMessage). Ok (record { from = from; messages = xs })) (sym p.messages_are)
 
 -- ---- a PDU that is cut
@@ -132,7 +139,8 @@ cut_long : (bytes : List ℕ) → 10 ≤ length bytes → big_number 2 bytes ≡
 unfolding pdu_of
 cut_long bytes long version size = rw (le-ltb _ _ long, eq-eqb _ _ version, ne_eqb _ _ size) refl
 
-cut_by_length : (bytes : List ℕ) (pdu : PduContents) (k : ℕ) (short : Bool) → Passes bytes pdu → k < length bytes → nat_lt k 10 ≡ short → pdu_of (take k bytes) ≡ Err (if short then Short else BadPduLength)
+cut_by_length : (bytes : List ℕ) (pdu : PduContents) (k : ℕ) (short : Bool) → Passes bytes pdu → k < length bytes → nat_lt k 10 ≡ short →
+    pdu_of (take k bytes) ≡ Err (if short then Short else BadPduLength)
 cut_by_length bytes pdu k true p h test = cut_short (take k bytes) (omega (arith, length-take k bytes, ltb-true k 10 test))
 cut_by_length bytes pdu k false p h test =
     let long : 10 ≤ k = ltb-false k 10 test in
@@ -146,7 +154,8 @@ cut_refused bytes pdu k e h = cut_by_length bytes pdu k (nat_lt k 10) (passes by
 
 -- ---- the written spelling
 
-written_message_is : (message : LdpMessage) → message.id < 2 ^ 32 → IsLawful message.body → length (mandatory_tlvs message.body) ≤ 4006 → IsMessage message (written_message message)
+written_message_is : (message : LdpMessage) → message.id < 2 ^ 32 → IsLawful message.body → length (mandatory_tlvs message.body) ≤ 4006 →
+    IsMessage message (written_message message)
 unfolding written_message
 written_message_is message id lawful small =
     let none : mandatory_tlvs message.body ++ [] ≡ mandatory_tlvs message.body = append-nil (mandatory_tlvs message.body) in
@@ -161,10 +170,12 @@ written_message_is message id lawful small =
       lawful = lawful;
       passed_over = refl;
       fits = record { kind_fits = omega arith; size_fits = omega (arith, ap length none) };
-      whole = ap (λ (xs : List ℕ). framed (type_of message.body) (big_bytes 4 message.id ++ xs)) (sym none) ∙ ap (λ (k : ℕ). framed k (big_bytes 4 message.id ++ (mandatory_tlvs message.body ++ []))) (sym kind);
+      whole = ap (λ (xs : List ℕ). framed (type_of message.body) (big_bytes 4 message.id ++ xs)) (sym none)
+          ∙ ap (λ (k : ℕ). framed k (big_bytes 4 message.id ++ (mandatory_tlvs message.body ++ []))) (sym kind);
     }
 
-pub written_is : (from : LdpId) (message : LdpMessage) → FitsId from → message.id < 2 ^ 32 → IsLawful message.body → length (mandatory_tlvs message.body) ≤ 4006 → IsPdu (written from message) from (message ∷ [])
+pub written_is : (from : LdpId) (message : LdpMessage) → FitsId from → message.id < 2 ^ 32 → IsLawful message.body →
+    length (mandatory_tlvs message.body) ≤ 4006 → IsPdu (written from message) from (message ∷ [])
 unfolding written written_message
 written_is from message fits id lawful small = record {
   body = written_message message;
@@ -179,25 +190,31 @@ written_is from message fits id lawful small = record {
 
 -- ---- as the calls answer
 
-pub accepted : (bytes : List ℕ) (answer : Result PduContents WireBad) → IsBytes bytes → Answers (λ pdu. pdu) answer (pdu_of bytes) → IfOk answer (λ pdu. IsPdu bytes pdu.from pdu.messages)
+pub accepted : (bytes : List ℕ) (answer : Result PduContents WireBad) → IsBytes bytes → Answers (λ pdu. pdu) answer (pdu_of bytes) →
+    IfOk answer (λ pdu. IsPdu bytes pdu.from pdu.messages)
 accepted bytes (Ok pdu) h a = pdu_is bytes pdu h a
 accepted bytes (Err bad) h a = tt
 
-pub answered : (bytes : List ℕ) (answer : Result PduContents WireBad) (from : LdpId) (messages : List LdpMessage) → Answers (λ pdu. pdu) answer (pdu_of bytes) → IsPdu bytes from messages
+pub answered : (bytes : List ℕ) (answer : Result PduContents WireBad) (from : LdpId) (messages : List LdpMessage) →
+    Answers (λ pdu. pdu) answer (pdu_of bytes) → IsPdu bytes from messages
     → Answers (λ pdu. pdu) answer (Ok (record { from = from; messages = messages }))
 answered bytes answer from messages a p = subst (λ (r : Result PduContents WireBad). Answers (λ pdu. pdu) answer r) (pdu_again bytes from messages p) a
 
 -- each message that is read is lawful
-all_lawful : (said : List (Option LdpMessage)) (body : List ℕ) → AreSaid said body → AllByRecursion (λ (message : LdpMessage). IsLawful message.body) (filter_map (λ known. known) said)
+all_lawful : (said : List (Option LdpMessage)) (body : List ℕ) → AreSaid said body →
+    AllByRecursion (λ (message : LdpMessage). IsLawful message.body) (filter_map (λ known. known) said)
 all_lawful [] body a = tt
 all_lawful (None ∷ said) body (front, rest, whole, is_said, others) = all_lawful said rest others
 all_lawful (Some message ∷ said) body (front, rest, whole, is_said, others) = (is_said.lawful, all_lawful said rest others)
 
-lawful_in : (bytes : List ℕ) (from : LdpId) (messages : List LdpMessage) → IsPdu bytes from messages → All (λ (message : LdpMessage). IsLawful message.body) messages
+lawful_in : (bytes : List ℕ) (from : LdpId) (messages : List LdpMessage) → IsPdu bytes from messages →
+    All (λ (message : LdpMessage). IsLawful message.body) messages
 lawful_in bytes from messages p =
     All-from_recursion (λ (message : LdpMessage). IsLawful message.body) messages
-    (subst (λ (ms : List LdpMessage). AllByRecursion (λ (message : LdpMessage). IsLawful message.body) ms) (sym p.messages_are) (all_lawful p.said p.body p.are_said))
+    (subst (λ (ms : List LdpMessage). AllByRecursion (λ (message : LdpMessage). IsLawful message.body) ms) (sym p.messages_are)
+        (all_lawful p.said p.body p.are_said))
 
-pub accepted_lawful : (bytes : List ℕ) (answer : Result PduContents WireBad) → IsBytes bytes → Answers (λ pdu. pdu) answer (pdu_of bytes) → IfOk answer (λ pdu. All (λ (message : LdpMessage). IsLawful message.body) pdu.messages)
+pub accepted_lawful : (bytes : List ℕ) (answer : Result PduContents WireBad) → IsBytes bytes → Answers (λ pdu. pdu) answer (pdu_of bytes) →
+    IfOk answer (λ pdu. All (λ (message : LdpMessage). IsLawful message.body) pdu.messages)
 accepted_lawful bytes (Ok pdu) h a = lawful_in bytes pdu.from pdu.messages (pdu_is bytes pdu h a)
 accepted_lawful bytes (Err bad) h a = tt

@@ -1,5 +1,6 @@
 -- A FEC's one element, by its tests.
-use Rattle.std.proofs.Common.{◌+◌, ◌*◌, zero, suc, [], ◌∷◌, ◌≡◌, ◌≤◌, ◌<◌, ◌-◌, ◌%◌, ◌^◌, ℕ, Bool, true, false, List, length, drop, take, Some, None, refl, ap, sym, ◌∙◌, subst, arith, if◌then◌else◌}
+use Rattle.std.proofs.Common.{◌+◌, ◌*◌, zero, suc, [], ◌∷◌, ◌≡◌, ◌≤◌, ◌<◌, ◌-◌, ◌%◌, ◌^◌, ℕ, Bool, true, false, List, length, drop, take, Some, None, refl}
+use Rattle.std.proofs.Common.{ap, sym, ◌∙◌, subst, arith, if◌then◌else◌}
 use Rattle.std.specs.Prelude.{slice_index}
 use Rattle.std.proofs.lemmas.List.{length-drop, take_all, length-take-le}
 use Rattle.std.proofs.lemmas.Nat.{mod-pow-add}
@@ -76,7 +77,8 @@ pub octets_all : (value : List ℕ) → take (length value - 4) (drop 4 value) �
 octets_all value = take_all (length value - 4) (drop 4 value) (omega (arith, length-drop 4 value))
 
 -- no prefix has these numbers
-pub not_an_element : (value first_bytes : List ℕ) (address bits : ℕ) → first_bytes ≡ octets_of value → address ≡ address_of first_bytes → bits ≡ bits_of value → address < 2 ^ 32 → (IsPrefix address bits → ⊥) → prefix_of value ≡ None
+pub not_an_element : (value first_bytes : List ℕ) (address bits : ℕ) → first_bytes ≡ octets_of value → address ≡ address_of first_bytes →
+    bits ≡ bits_of value → address < 2 ^ 32 → (IsPrefix address bits → ⊥) → prefix_of value ≡ None
 not_an_element value first_bytes address bits same is bits_is fits none =
     let a : address_of (octets_of value) ≡ address = sym (is ∙ ap address_of same) in
     prefix_none value (λ e. none (record {
@@ -86,11 +88,14 @@ not_an_element value first_bytes address bits same is bits_is fits none =
     }))
 
 -- these are a prefix's
-pub an_element : (value first_bytes : List ℕ) (address bits : ℕ) (p : AddressBlock) → 4 ≤ length value → slice_index value 0 ≡ 2 → big_number 2 (drop 1 value) ≡ 1 → first_bytes ≡ octets_of value → address ≡ address_of first_bytes → bits ≡ bits_of value
+pub an_element : (value first_bytes : List ℕ) (address bits : ℕ) (p : AddressBlock) → 4 ≤ length value → slice_index value 0 ≡ 2 →
+    big_number 2 (drop 1 value) ≡ 1 → first_bytes ≡ octets_of value → address ≡ address_of first_bytes → bits ≡ bits_of value
     → p ≡ record { address = address; length = bits } → IsPrefix p.address p.length → length first_bytes ≡ octets p.length → prefix_of value ≡ Some p
 an_element value first_bytes address bits p header element family same is bits_is p_is form size =
     let a : address ≡ address_of (octets_of value) = is ∙ ap address_of same in
-    let p_in : p ≡ prefix_in value = p_is ∙ ap (λ (x : ℕ). record { address = x; length = bits }) a ∙ ap (λ (n : ℕ). record { address = address_of (octets_of value); length = n }) bits_is in
+    let p_in : p ≡ prefix_in value =
+        p_is ∙ ap (λ (x : ℕ). record { address = x; length = bits }) a
+        ∙ ap (λ (n : ℕ). record { address = address_of (octets_of value); length = n }) bits_is in
     let f : IsPrefix (prefix_in value).address (prefix_in value).length = subst (λ (q : AddressBlock). IsPrefix q.address q.length) p_in form in
     let e : IsElement value = record {
       header = header;
@@ -117,14 +122,16 @@ four_cells : (a b c d x y v w : ℕ) → a ≡ b → c ≡ d → x ≡ y → v �
 four_cells a b c d x y v w e f g h = cc
 
 -- the first_bytes are the first bytes of their address
-pub octets_again : (first_bytes : List ℕ) → IsBytes first_bytes → length first_bytes ≤ 4 → (first_bytes ≡ take (length first_bytes) (big_bytes 4 (address_of first_bytes))) × (address_of first_bytes < 2 ^ 32)
+pub octets_again : (first_bytes : List ℕ) → IsBytes first_bytes → length first_bytes ≤ 4 →
+    (first_bytes ≡ take (length first_bytes) (big_bytes 4 (address_of first_bytes))) × (address_of first_bytes < 2 ^ 32)
 octets_again [] h short = (refl, omega arith)
 octets_again (a ∷ []) h short = (let x = h.below 0 in (one_cell _ _ (omega arith), omega arith))
 octets_again (a ∷ b ∷ []) h short = (let x = h.below 0 in let y = h.below 1 in (two_cells _ _ _ _ (omega arith) (omega arith), omega arith))
 octets_again (a ∷ b ∷ c ∷ []) h short =
     (let x = h.below 0 in let y = h.below 1 in let z = h.below 2 in (three_cells _ _ _ _ _ _ (omega arith) (omega arith) (omega arith), omega arith))
 octets_again (a ∷ b ∷ c ∷ d ∷ []) h short =
-    (let x = h.below 0 in let y = h.below 1 in let z = h.below 2 in let w = h.below 3 in (four_cells _ _ _ _ _ _ _ _ (omega arith) (omega arith) (omega arith) (omega arith), omega arith))
+    (let x = h.below 0 in let y = h.below 1 in let z = h.below 2 in let w = h.below 3 in
+        (four_cells _ _ _ _ _ _ _ _ (omega arith) (omega arith) (omega arith) (omega arith), omega arith))
 octets_again (a ∷ b ∷ c ∷ d ∷ e ∷ first_bytes) h short = absurd (omega arith)
 
 -- an address is that of its first n bytes, where the others are zero
@@ -148,7 +155,8 @@ bytes_clear bits address short clear =
 five_cells : (a b c d x y v w : ℕ) (xs ys : List ℕ) → a ≡ b → c ≡ d → x ≡ y → v ≡ w → xs ≡ ys → a ∷ c ∷ x ∷ v ∷ xs ≡ b ∷ d ∷ y ∷ w ∷ ys
 five_cells a b c d x y v w xs ys e f g h i = cc
 
-element_whole : (value : List ℕ) → IsBytes value → IsElement value → (value ≡ prefix_element (prefix_in value)) × IsPrefix (prefix_in value).address (prefix_in value).length
+element_whole : (value : List ℕ) → IsBytes value → IsElement value →
+    (value ≡ prefix_element (prefix_in value)) × IsPrefix (prefix_in value).address (prefix_in value).length
 unfolding prefix_element
 element_whole [] h e = (let long = e.header in absurd (omega arith))
 element_whole (a ∷ []) h e = (let long = e.header in absurd (omega arith))
@@ -159,7 +167,8 @@ element_whole (a ∷ b ∷ c ∷ d ∷ first_bytes) h e =
     let bits = e.bits in
     let size : length first_bytes ≡ octets d = e.first_bytes in
     let o = octets_again first_bytes (IsBytes-drop 4 (a ∷ b ∷ c ∷ d ∷ first_bytes) h) (omega arith) in
-    let same : first_bytes ≡ take (octets d) (big_bytes 4 (address_of first_bytes)) = o.0 ∙ ap (λ (n : ℕ). take n (big_bytes 4 (address_of first_bytes))) size in (
+    let same : first_bytes ≡ take (octets d) (big_bytes 4 (address_of first_bytes)) =
+        o.0 ∙ ap (λ (n : ℕ). take n (big_bytes 4 (address_of first_bytes))) size in (
       five_cells _ _ _ _ _ _ d d first_bytes _ e.element (omega arith) (omega arith) refl same,
       record { fits = o.1; short = e.bits; clear = e.clear },
     )

@@ -1,5 +1,6 @@
 -- A PDU as it is read: its value, or the first refusal from the front.
-use Rattle.std.specs.Prelude.{◌≡◌, ◌≢◌, ◌-◌, ◌%◌, ◌^◌, ◌==◌, ◌||◌, ◌&&◌, ℕ, zero, suc, Bool, true, false, not, nat_lt, nat_le, List, [], ◌∷◌, ◌++◌, length, take, drop, replicate, slice_index, Option, Some, None, Result, Ok, Err, MatchResult, ok_or, option_to_list, if◌then◌else◌}
+use Rattle.std.specs.Prelude.{◌≡◌, ◌≢◌, ◌-◌, ◌%◌, ◌^◌, ◌==◌, ◌||◌, ◌&&◌, ℕ, zero, suc, Bool, true, false, not, nat_lt, nat_le, List, [], ◌∷◌, ◌++◌, length}
+use Rattle.std.specs.Prelude.{take, drop, replicate, slice_index, Option, Some, None, Result, Ok, Err, MatchResult, ok_or, option_to_list, if◌then◌else◌}
 use Rattle.byteorder.specs.Endian.{big_number}
 use Rattle.mn_prefix.specs.Prefix.{AddressBlock}
 use Rattle.mn_ldp_wire.specs.declared.message.LdpId.{LdpId}
@@ -7,7 +8,8 @@ use Rattle.mn_ldp_wire.specs.declared.message.LdpMessage.{LdpMessage}
 use Rattle.mn_ldp_wire.specs.declared.message.LdpBody.{LdpBody}
 use Rattle.mn_ldp_wire.specs.declared.message.LdpBody.TheVariants.{Notification, Initialization, KeepAlive, Address, Mapping, Withdraw, Release}
 use Rattle.mn_ldp_wire.specs.declared.refusal.WireBad.{WireBad}
-use Rattle.mn_ldp_wire.specs.declared.refusal.WireBad.TheVariants.{Short, BadVersion, BadPduLength, BadMessageLength, UnknownMessage, MissingTlv, BadTlv, BadFec, NoMemory}
+use Rattle.mn_ldp_wire.specs.declared.refusal.WireBad.TheVariants.{Short, BadVersion, BadPduLength, BadMessageLength, UnknownMessage, MissingTlv, BadTlv}
+use Rattle.mn_ldp_wire.specs.declared.refusal.WireBad.TheVariants.{BadFec, NoMemory}
 use Rattle.mn_ldp_wire.specs.Message.{PduContents}
 use Rattle.mn_ldp_wire.specs.Grammar.{u_bit, is_known}
 use Rattle.mn_prefix.specs.Octets.{octets, address_of}
@@ -106,7 +108,9 @@ abbrev pub id_at : List ℕ → LdpId
 id_at bytes = record { lsr = big_number 4 bytes; space = big_number 2 (drop 4 bytes) }
 
 abbrev pub asked : List ℕ → LdpBody
-asked value = Initialization (big_number 2 value) (big_number 2 (drop 2 value)) (slice_index value 4) (slice_index value 5) (big_number 2 (drop 6 value)) (id_at (drop 8 value))
+asked value =
+    Initialization (big_number 2 value) (big_number 2 (drop 2 value)) (slice_index value 4) (slice_index value 5) (big_number 2 (drop 6 value))
+    (id_at (drop 8 value))
 
 unfoldable pub initialization_of : List ℕ → Result (LdpBody × List ℕ) WireBad
 initialization_of tlvs = do

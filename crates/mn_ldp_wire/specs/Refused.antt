@@ -6,8 +6,10 @@ use Rattle.mn_ldp_wire.specs.declared.message.LdpId.{LdpId}
 use Rattle.mn_ldp_wire.specs.declared.message.LdpMessage.{LdpMessage}
 use Rattle.mn_ldp_wire.specs.declared.message.LdpBody.{LdpBody}
 use Rattle.mn_ldp_wire.specs.declared.refusal.WireBad.{WireBad}
-use Rattle.mn_ldp_wire.specs.declared.refusal.WireBad.TheVariants.{Short, BadVersion, BadPduLength, BadMessageLength, UnknownMessage, MissingTlv, BadTlv, BadFec}
-use Rattle.mn_ldp_wire.specs.Grammar.{framed, FitsFrame, u_bit, is_known, type_of, mandatory_tlvs, status_value, session_parameters, address_list, prefix_element, IsStatus, IsAsked, AreAddresses, IsLabel, IsLawful, ArePassedOver, AreSaid}
+use Rattle.mn_ldp_wire.specs.declared.refusal.WireBad.TheVariants.{Short, BadVersion, BadPduLength, BadMessageLength, UnknownMessage, MissingTlv, BadTlv}
+use Rattle.mn_ldp_wire.specs.declared.refusal.WireBad.TheVariants.{BadFec}
+use Rattle.mn_ldp_wire.specs.Grammar.{framed, FitsFrame, u_bit, is_known, type_of, mandatory_tlvs, status_value, session_parameters, address_list}
+use Rattle.mn_ldp_wire.specs.Grammar.{prefix_element, IsStatus, IsAsked, AreAddresses, IsLabel, IsLawful, ArePassedOver, AreSaid}
 use Rattle.mn_ldp_wire.specs.Reading.{size_at}
 
 -- The values that a mandatory TLV may have.
@@ -81,7 +83,8 @@ pub record IsFurtherRefused (kind : ℕ) (tlvs : List ℕ) (bad : WireBad) : Typ
 
 -- no whole message stands there, with an id at least
 abbrev pub IsNoMessage : List ℕ → WireBad → Type 0
-IsNoMessage bytes bad = ((kind : ℕ) (contents rest : List ℕ) → FitsFrame kind contents → 4 ≤ length contents → bytes ≢ framed kind contents ++ rest) × (bad ≡ BadMessageLength)
+IsNoMessage bytes bad =
+    ((kind : ℕ) (contents rest : List ℕ) → FitsFrame kind contents → 4 ≤ length contents → bytes ≢ framed kind contents ++ rest) × (bad ≡ BadMessageLength)
 
 -- one stands there
 pub record HasMessage (bytes : List ℕ) (kind : ℕ) (contents : List ℕ) : Type 0 where

@@ -1,5 +1,6 @@
 -- What is on one channel of all that flies, when a step makes items and takes some out.
-use Rattle.std.proofs.Common.{ℕ, zero, suc, ◌≡◌, ◌≢◌, ◌+◌, ◌<◌, ◌≤◌, inl, inr, Bool, true, false, cond, List, [], ◌∷◌, ◌++◌, map, filter, length, drop, take, refl, arith, sym, ◌∙◌, ap, append-nil}
+use Rattle.std.proofs.Common.{ℕ, zero, suc, ◌≡◌, ◌≢◌, ◌+◌, ◌<◌, ◌≤◌, inl, inr, Bool, true, false, cond, List, [], ◌∷◌, ◌++◌, map, filter, length, drop}
+use Rattle.std.proofs.Common.{take, refl, arith, sym, ◌∙◌, ap, append-nil}
 use Rattle.std.specs.Prelude.{◌==◌, ◌&&◌, not}
 use Rattle.std.specs.List.{range_with_len}
 use Rattle.std.proofs.lemmas.Bool.Decides.{eqb_tells}
@@ -13,7 +14,8 @@ use Rattle.mn_ledger.specs.declared.verdict.Verdict.TheVariants.{Flying}
 use Rattle.mn_ledger.specs.Packets.{Packets, flying_on}
 use Rattle.mn_ledger.specs.Transport.{Said, is_by, messages_of}
 use Rattle.mn_ledger.specs.Vpn.{Told, is_between, tellings_of}
-use Rattle.mn_ledger.specs.Items.{Channel, Notices, Messages, Routes, Frames, Load, Notice, Says, Tells, Item, same_channel, items_on, loads_on, message_of, route_of, last_of, frame_by, numbered, without}
+use Rattle.mn_ledger.specs.Items.{Channel, Notices, Messages, Routes, Frames, Load, Notice, Says, Tells, Item, same_channel, items_on, loads_on, message_of}
+use Rattle.mn_ledger.specs.Items.{route_of, last_of, frame_by, numbered, without}
 use Rattle.mn_ledger.specs.InFlight.{is_in_order, AreLastOf}
 use Rattle.mn_ledger.proofs.Peers.{two_ways, and_left, and_right, same_numbers, same_test, other_test, and_off}
 
@@ -34,7 +36,8 @@ no_frame (Frames k e) l d i = absurd (no i)
 
 -- 2. What a step takes out of flight
 
-kept_cons : (on : Channel) (x : Item) (f whole : List Item) (b : Bool) → items_on on f ≡ items_on on whole → (same_channel on x.on ≡ true → b ≡ true) → items_on on (cond b (x ∷ f) f) ≡ items_on on (x ∷ whole)
+kept_cons : (on : Channel) (x : Item) (f whole : List Item) (b : Bool) → items_on on f ≡ items_on on whole →
+    (same_channel on x.on ≡ true → b ≡ true) → items_on on (cond b (x ∷ f) f) ≡ items_on on (x ∷ whole)
 kept_cons on x f whole true e h = ap (λ ys. cond (same_channel on x.on) (x ∷ ys) ys) e
 kept_cons on x f whole false e h = elim (two_ways (same_channel on x.on)) [
   | inl q ↦ absurd (no (h q))
@@ -42,11 +45,13 @@ kept_cons on x f whole false e h = elim (two_ways (same_channel on x.on)) [
 ]
 
 -- what isn't on the channel is filtered
-pub kept : (on : Channel) (p : Channel → Bool) → ((c : Channel) → same_channel on c ≡ true → p c ≡ false) → (xs : List Item) → items_on on (filter (λ item. not (p item.on)) xs) ≡ items_on on xs
+pub kept : (on : Channel) (p : Channel → Bool) → ((c : Channel) → same_channel on c ≡ true → p c ≡ false) →
+    (xs : List Item) → items_on on (filter (λ item. not (p item.on)) xs) ≡ items_on on xs
 kept on p h [] = refl
 kept on p h (x ∷ xs) = kept_cons on x (filter (λ item. not (p item.on)) xs) xs (not (p x.on)) (kept on p h xs) (λ q. ap not (h x.on q))
 
-gone_cons : (on : Channel) (x : Item) (f : List Item) (b : Bool) → items_on on f ≡ [] → (same_channel on x.on ≡ true → b ≡ false) → items_on on (cond b (x ∷ f) f) ≡ []
+gone_cons : (on : Channel) (x : Item) (f : List Item) (b : Bool) → items_on on f ≡ [] →
+    (same_channel on x.on ≡ true → b ≡ false) → items_on on (cond b (x ∷ f) f) ≡ []
 gone_cons on x f true e h = elim (two_ways (same_channel on x.on)) [
   | inl q ↦ absurd (no (sym (h q)))
   | inr q ↦ ap (λ b. cond b (x ∷ items_on on f) (items_on on f)) q ∙ e
@@ -54,7 +59,8 @@ gone_cons on x f true e h = elim (two_ways (same_channel on x.on)) [
 gone_cons on x f false e h = e
 
 -- all that is on the channel is filtered
-pub gone : (on : Channel) (p : Channel → Bool) → ((c : Channel) → same_channel on c ≡ true → p c ≡ true) → (xs : List Item) → items_on on (filter (λ item. not (p item.on)) xs) ≡ []
+pub gone : (on : Channel) (p : Channel → Bool) → ((c : Channel) → same_channel on c ≡ true → p c ≡ true) →
+    (xs : List Item) → items_on on (filter (λ item. not (p item.on)) xs) ≡ []
 gone on p h [] = refl
 gone on p h (x ∷ xs) = gone_cons on x (filter (λ item. not (p item.on)) xs) (not (p x.on)) (gone on p h xs) (λ q. ap not (h x.on q))
 
@@ -68,20 +74,25 @@ pub taken : (on : Channel) (xs : List Item) → items_on on (without on 0 xs) �
 taken on [] = refl
 taken on (x ∷ xs) = here_cons on x xs (same_channel on x.on) refl (taken on xs)
 
-off_cons : (on : Channel) (x : Item) (xs f : List Item) (b : Bool) → (b ≡ true → same_channel on x.on ≡ false) → items_on on f ≡ items_on on xs → items_on on (cond b xs (x ∷ f)) ≡ items_on on (x ∷ xs)
+off_cons : (on : Channel) (x : Item) (xs f : List Item) (b : Bool) →
+    (b ≡ true → same_channel on x.on ≡ false) → items_on on f ≡ items_on on xs → items_on on (cond b xs (x ∷ f)) ≡ items_on on (x ∷ xs)
 off_cons on x xs f true h e = sym (ap (λ b. cond b (x ∷ items_on on xs) (items_on on xs)) (h refl))
 off_cons on x xs f false h e = ap (λ ys. cond (same_channel on x.on) (x ∷ ys) ys) e
 
-either : (on : Channel) (f g xs : List Item) (b : Bool) → items_on on f ≡ items_on on xs → items_on on g ≡ items_on on xs → items_on on (cond b f g) ≡ items_on on xs
+either : (on : Channel) (f g xs : List Item) (b : Bool) → items_on on f ≡ items_on on xs → items_on on g ≡ items_on on xs →
+    items_on on (cond b f g) ≡ items_on on xs
 either on f g xs true e d = e
 either on f g xs false e d = d
 
 -- one of another channel is taken out
-pub off : (on other : Channel) → ((c : Channel) → same_channel other c ≡ true → same_channel on c ≡ false) → (place : ℕ) (xs : List Item) → items_on on (without other place xs) ≡ items_on on xs
+pub off : (on other : Channel) → ((c : Channel) → same_channel other c ≡ true → same_channel on c ≡ false) →
+    (place : ℕ) (xs : List Item) → items_on on (without other place xs) ≡ items_on on xs
 off on other h place [] = refl
 off on other h zero (x ∷ xs) = off_cons on x xs (without other zero xs) (same_channel other x.on) (h x.on) (off on other h zero xs)
 off on other h (suc place) (x ∷ xs) =
-    ap (λ ys. cond (same_channel on x.on) (x ∷ ys) ys) (either on (without other place xs) (without other (suc place) xs) xs (same_channel other x.on) (off on other h place xs) (off on other h (suc place) xs))
+    ap (λ ys. cond (same_channel on x.on) (x ∷ ys) ys)
+        (either on (without other place xs) (without other (suc place) xs) xs (same_channel other x.on) (off on other h place xs)
+        (off on other h (suc place) xs))
 
 -- 3. What a step makes
 
@@ -89,14 +100,18 @@ abbrev pub loads_in : Channel → List (Channel × Load) → List Load
 loads_in on made = map (λ (one : Channel × Load). one.1) (filter (λ (one : Channel × Load). same_channel on one.0) made)
 
 pub loads_append : (on : Channel) (xs ys : List Item) → loads_on on (xs ++ ys) ≡ loads_on on xs ++ loads_on on ys
-loads_append on xs ys = ap (map (λ (item : Item). item.load)) (filter-append (λ (item : Item). same_channel on item.on) xs ys) ∙ map-append (λ (item : Item). item.load) (items_on on xs) (items_on on ys)
+loads_append on xs ys =
+    ap (map (λ (item : Item). item.load)) (filter-append (λ (item : Item). same_channel on item.on) xs ys)
+    ∙ map-append (λ (item : Item). item.load) (items_on on xs) (items_on on ys)
 
 pub loads_in_append : (on : Channel) (xs ys : List (Channel × Load)) → loads_in on (xs ++ ys) ≡ loads_in on xs ++ loads_in on ys
 loads_in_append on xs ys =
     ap (map (λ (one : Channel × Load). one.1)) (filter-append (λ (one : Channel × Load). same_channel on one.0) xs ys)
-    ∙ map-append (λ (one : Channel × Load). one.1) (filter (λ (one : Channel × Load). same_channel on one.0) xs) (filter (λ (one : Channel × Load). same_channel on one.0) ys)
+    ∙ map-append (λ (one : Channel × Load). one.1) (filter (λ (one : Channel × Load). same_channel on one.0) xs)
+        (filter (λ (one : Channel × Load). same_channel on one.0) ys)
 
-number_cons : (b : Bool) (i : Item) (m : Channel × Load) (f : List Item) (g : List (Channel × Load)) → i.load ≡ m.1 → map (λ (item : Item). item.load) f ≡ map (λ (one : Channel × Load). one.1) g
+number_cons : (b : Bool) (i : Item) (m : Channel × Load) (f : List Item) (g : List (Channel × Load)) → i.load ≡ m.1 →
+    map (λ (item : Item). item.load) f ≡ map (λ (one : Channel × Load). one.1) g
     → map (λ (item : Item). item.load) (cond b (i ∷ f) f) ≡ map (λ (one : Channel × Load). one.1) (cond b (m ∷ g) g)
 number_cons true i m f g s e = ap (λ x. x ∷ map (λ (item : Item). item.load) f) s ∙ ap (λ ys. m.1 ∷ ys) e
 number_cons false i m f g s e = e
@@ -104,34 +119,45 @@ number_cons false i m f g s e = e
 pub on_numbered : (t : Network) (on : Channel) (tick n : ℕ) (xs : List (Channel × Load)) → loads_on on (numbered t tick n xs) ≡ loads_in on xs
 on_numbered t on tick n [] = refl
 on_numbered t on tick n (x ∷ xs) =
-    number_cons (same_channel on x.0) _ x (items_on on (numbered t tick (n + 1) xs)) (filter (λ (one : Channel × Load). same_channel on one.0) xs) refl (on_numbered t on tick (n + 1) xs)
+    number_cons (same_channel on x.0) _ x (items_on on (numbered t tick (n + 1) xs)) (filter (λ (one : Channel × Load). same_channel on one.0) xs) refl
+        (on_numbered t on tick (n + 1) xs)
 
 pub none_of : {A : Type 0} (on : Channel) (f : A → Channel × Load) → ((a : A) → same_channel on (f a).0 ≡ false) → (xs : List A) → loads_in on (map f xs) ≡ []
 none_of on f h [] = refl
 none_of on f h (x ∷ xs) =
-    ap (λ b. map (λ (one : Channel × Load). one.1) (cond b (f x ∷ filter (λ (one : Channel × Load). same_channel on one.0) (map f xs)) (filter (λ (one : Channel × Load). same_channel on one.0) (map f xs)))) (h x) ∙ none_of on f h xs
+    ap (λ b. map (λ (one : Channel × Load). one.1)
+        (cond b (f x ∷ filter (λ (one : Channel × Load). same_channel on one.0) (map f xs))
+        (filter (λ (one : Channel × Load). same_channel on one.0) (map f xs)))) (h x) ∙ none_of on f h xs
 
 pub no_frames : (on : Channel) → is_in_order on ≡ true → (p : Packets) (v : Verdict) → loads_in on (frame_by p v) ≡ []
 no_frames on i p (Flying l dir) = none_of on _ (λ token. no_frame on l.0 dir i) (last_of (flying_on p l.0 dir))
 no_frames on i p _ = refl
 
-message_cons : (b : Bool) (x : Said) (f : List (Channel × Load)) (g : List Said) → map (λ (one : Channel × Load). one.1) f ≡ map (λ message. Says message) (map (λ (said : Said). said.message) g)
-    → map (λ (one : Channel × Load). one.1) (cond b (message_of x ∷ f) f) ≡ map (λ message. Says message) (map (λ (said : Said). said.message) (cond b (x ∷ g) g))
+message_cons : (b : Bool) (x : Said) (f : List (Channel × Load)) (g : List Said) →
+    map (λ (one : Channel × Load). one.1) f ≡ map (λ message. Says message) (map (λ (said : Said). said.message) g)
+    → map (λ (one : Channel × Load). one.1) (cond b (message_of x ∷ f) f) ≡ map (λ message. Says message)
+        (map (λ (said : Said). said.message) (cond b (x ∷ g) g))
 message_cons true x f g e = ap (λ ys. Says x.message ∷ ys) e
 message_cons false x f g e = e
 
 pub in_messages : (l n : ℕ) (xs : List Said) → loads_in (Messages l n) (map message_of xs) ≡ map (λ message. Says message) (messages_of l n xs)
 in_messages l n [] = refl
-in_messages l n (x ∷ xs) = message_cons (is_by l n x) x (filter (λ (one : Channel × Load). same_channel (Messages l n) one.0) (map message_of xs)) (filter (is_by l n) xs) (in_messages l n xs)
+in_messages l n (x ∷ xs) =
+    message_cons (is_by l n x) x (filter (λ (one : Channel × Load). same_channel (Messages l n) one.0) (map message_of xs)) (filter (is_by l n) xs)
+    (in_messages l n xs)
 
-route_cons : (b : Bool) (x : Told) (f : List (Channel × Load)) (g : List Told) → map (λ (one : Channel × Load). one.1) f ≡ map (λ telling. Tells telling) (map (λ (told : Told). told.telling) g)
-    → map (λ (one : Channel × Load). one.1) (cond b (route_of x ∷ f) f) ≡ map (λ telling. Tells telling) (map (λ (told : Told). told.telling) (cond b (x ∷ g) g))
+route_cons : (b : Bool) (x : Told) (f : List (Channel × Load)) (g : List Told) →
+    map (λ (one : Channel × Load). one.1) f ≡ map (λ telling. Tells telling) (map (λ (told : Told). told.telling) g)
+    → map (λ (one : Channel × Load). one.1) (cond b (route_of x ∷ f) f) ≡ map (λ telling. Tells telling)
+        (map (λ (told : Told). told.telling) (cond b (x ∷ g) g))
 route_cons true x f g e = ap (λ ys. Tells x.telling ∷ ys) e
 route_cons false x f g e = e
 
 pub in_routes : (a b : ℕ) (xs : List Told) → loads_in (Routes a b) (map route_of xs) ≡ map (λ telling. Tells telling) (tellings_of a b xs)
 in_routes a b [] = refl
-in_routes a b (x ∷ xs) = route_cons (is_between a b x) x (filter (λ (one : Channel × Load). same_channel (Routes a b) one.0) (map route_of xs)) (filter (is_between a b) xs) (in_routes a b xs)
+in_routes a b (x ∷ xs) =
+    route_cons (is_between a b x) x (filter (λ (one : Channel × Load). same_channel (Routes a b) one.0) (map route_of xs)) (filter (is_between a b) xs)
+    (in_routes a b xs)
 
 -- 4. Notices to each node
 
@@ -145,19 +171,26 @@ is_for : (at node a : ℕ) → a ≡ node → same_channel (Notices at node) (no
 is_for at node a d = ap (λ b. b && (a == node)) (same_test at) ∙ ap (λ x. x == node) d ∙ same_test node
 
 add_notice : ℕ → ℕ → ℕ → List ℕ → Bool → List Load
-add_notice at node a ns b = map (λ (one : Channel × Load). one.1) (cond b (notice at a ∷ filter (λ (one : Channel × Load). same_channel (Notices at node) one.0) (map (notice at) ns)) (filter (λ (one : Channel × Load). same_channel (Notices at node) one.0) (map (notice at) ns)))
+add_notice at node a ns b =
+    map (λ (one : Channel × Load). one.1)
+    (cond b (notice at a ∷ filter (λ (one : Channel × Load). same_channel (Notices at node) one.0) (map (notice at) ns))
+    (filter (λ (one : Channel × Load). same_channel (Notices at node) one.0) (map (notice at) ns)))
 
 none_past : (at node a k : ℕ) → node < a → length (loads_in (Notices at node) (map (notice at) (range_with_len a k))) ≡ 0
 unfolding add_notice
 none_past at node a zero h = refl
-none_past at node a (suc k) h = ap (λ b. length (add_notice at node a (range_with_len (a + 1) k) b)) (not_for at node a (λ e. omega (arith, h, e))) ∙ none_past at node (a + 1) k (omega (arith, h))
+none_past at node a (suc k) h =
+    ap (λ b. length (add_notice at node a (range_with_len (a + 1) k) b)) (not_for at node a (λ e. omega (arith, h, e)))
+    ∙ none_past at node (a + 1) k (omega (arith, h))
 
 one_of : (at node a k : ℕ) → a ≤ node → node < a + k → length (loads_in (Notices at node) (map (notice at) (range_with_len a k))) ≡ 1
 unfolding add_notice
 one_of at node a zero h g = absurd (omega (arith, h, g))
 one_of at node a (suc k) h g = elim (eqb_tells a node) [
-  | inl p ↦ ap (λ b. length (add_notice at node a (range_with_len (a + 1) k) b)) (is_for at node a p.1) ∙ ap suc (none_past at node (a + 1) k (omega (arith, p.1)))
-  | inr p ↦ ap (λ b. length (add_notice at node a (range_with_len (a + 1) k) b)) (not_for at node a p.1) ∙ one_of at node (a + 1) k (more p.1) (omega (arith, g))
+  | inl p ↦ ap (λ b. length (add_notice at node a (range_with_len (a + 1) k) b)) (is_for at node a p.1)
+      ∙ ap suc (none_past at node (a + 1) k (omega (arith, p.1)))
+  | inr p ↦ ap (λ b. length (add_notice at node a (range_with_len (a + 1) k) b)) (not_for at node a p.1)
+      ∙ one_of at node (a + 1) k (more p.1) (omega (arith, g))
 ]
   where
     more : a ≢ node → a + 1 ≤ node

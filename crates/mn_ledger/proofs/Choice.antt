@@ -3,7 +3,7 @@ use Rattle.std.proofs.Common.{ℕ, suc, ◌≡◌, ◌+◌, ◌<◌, ◌⊎◌, 
 use Rattle.std.specs.Prelude.{◌==◌, ◌&&◌, ◌||◌, not, nat_lt}
 use Rattle.std.specs.List.{list_any}
 use Rattle.std.proofs.lemmas.Bool.Decides.{eqb_tells, leb_tells, nat_tests}
-use Rattle.mn_base.proofs.Bools.{less_is, less_tells, no, not_true}
+use Rattle.mn_base.proofs.Bools.{less_is, less_tells, no, not_true, less_itself}
 use Rattle.mn_prefix.specs.Prefix.{IsPrefix, contains}
 use Rattle.mn_topo.specs.Network.{Network}
 use Rattle.mn_topo.specs.Lawful.{IsLawful}
@@ -63,9 +63,6 @@ lex_neither m n later sooner h g = elim (leb_tells (suc m) n) [
     | inr q ↦ let e : m ≡ n = omega (arith, p.1, q.1) in (e, sym (lex_same m n later e) ∙ h, sym (lex_same n m sooner (sym e)) ∙ g)
   ]
 ]
-
-less_itself : (n : ℕ) → nat_lt n n ≡ false
-less_itself n = grind (arith, nat_tests)
 
 -- 2. The order of sources is strict, and total
 
@@ -133,12 +130,17 @@ unfolding lex
 better_itself x = lex_same x.prefix.length x.prefix.length (is_preferred x.source x.source) refl ∙ pref_itself x.source
 
 -- as the longer prefix first
-better_is : (x y : HeldRoute) → is_better x y ≡ true → (y.prefix.length < x.prefix.length) ⊎ ((x.prefix.length ≡ y.prefix.length) × (is_preferred x.source y.source ≡ true))
+better_is : (x y : HeldRoute) → is_better x y ≡ true →
+    (y.prefix.length < x.prefix.length) ⊎ ((x.prefix.length ≡ y.prefix.length) × (is_preferred x.source y.source ≡ true))
 better_is x y h = elim (leb_tells (suc y.prefix.length) x.prefix.length) [
   | inl p ↦ inl p.1
   | inr p ↦ elim (eqb_tells x.prefix.length y.prefix.length) [
-    | inl q ↦ inr (q.1, sym (ap (λ b. b || ((x.prefix.length == y.prefix.length) && is_preferred x.source y.source)) p.0 ∙ ap (λ b. b && is_preferred x.source y.source) q.0) ∙ h)
-    | inr q ↦ absurd (no (sym (ap (λ b. b || ((x.prefix.length == y.prefix.length) && is_preferred x.source y.source)) p.0 ∙ ap (λ b. b && is_preferred x.source y.source) q.0) ∙ h))
+    | inl q ↦ inr
+        (q.1, sym (ap (λ b. b || ((x.prefix.length == y.prefix.length) && is_preferred x.source y.source)) p.0
+        ∙ ap (λ b. b && is_preferred x.source y.source) q.0) ∙ h)
+    | inr q ↦ absurd
+        (no (sym (ap (λ b. b || ((x.prefix.length == y.prefix.length) && is_preferred x.source y.source)) p.0
+        ∙ ap (λ b. b && is_preferred x.source y.source) q.0) ∙ h))
   ]
 ]
 
@@ -146,7 +148,9 @@ longer_is : (x y : HeldRoute) → y.prefix.length < x.prefix.length → is_bette
 longer_is x y h = ap (λ b. b || ((x.prefix.length == y.prefix.length) && is_preferred x.source y.source)) (less_is y.prefix.length x.prefix.length h)
 
 as_long : (x y : HeldRoute) → x.prefix.length ≡ y.prefix.length → is_better x y ≡ is_preferred x.source y.source
-as_long x y e = ap (λ b. b || ((x.prefix.length == y.prefix.length) && is_preferred x.source y.source)) (not_less e) ∙ ap (λ b. b && is_preferred x.source y.source) (same e)
+as_long x y e =
+    ap (λ b. b || ((x.prefix.length == y.prefix.length) && is_preferred x.source y.source)) (not_less e)
+    ∙ ap (λ b. b && is_preferred x.source y.source) (same e)
   where
     not_less : x.prefix.length ≡ y.prefix.length → nat_lt y.prefix.length x.prefix.length ≡ false
     not_less h = grind (arith, nat_tests, h)
@@ -208,7 +212,8 @@ some_unbeaten c (d ∷ xs) =
       )
     ]
   where
-    either : (x : HeldRoute) → ((y : HeldRoute) → In (c ∷ xs) y → is_better y x ≡ false) → (y : HeldRoute) → In (c ∷ d ∷ xs) y → (d ≡ y → ⊥) → is_better y x ≡ false
+    either : (x : HeldRoute) → ((y : HeldRoute) → In (c ∷ xs) y → is_better y x ≡ false) → (y : HeldRoute) → In (c ∷ d ∷ xs) y →
+        (d ≡ y → ⊥) → is_better y x ≡ false
     either x h y i other = elim i [
       | inl e ↦ h y (inl e)
       | inr j ↦ elim j [ inl e ↦ absurd (other e) | inr k ↦ h y (inr k) ]
@@ -236,9 +241,11 @@ from_unbeaten routes address x i =
           (filter_in (λ (route : HeldRoute). contains route.prefix address) routes other (in_contained routes other there) covers);
     }
 
-to_unbeaten : (routes : List HeldRoute) (address : ℕ) (x : HeldRoute) → In (matching address routes) x → ((y : HeldRoute) → In (matching address routes) y → is_better y x ≡ false) → In (unbeaten (matching address routes)) x
+to_unbeaten : (routes : List HeldRoute) (address : ℕ) (x : HeldRoute) → In (matching address routes) x →
+    ((y : HeldRoute) → In (matching address routes) y → is_better y x ≡ false) → In (unbeaten (matching address routes)) x
 to_unbeaten routes address x i h =
-    filter_in (λ route. not (list_any (λ other. is_better other route) (matching address routes))) (matching address routes) x i (ap not (passes_none (λ other. is_better other x) (matching address routes) h))
+    filter_in (λ route. not (list_any (λ other. is_better other route) (matching address routes))) (matching address routes) x i
+        (ap not (passes_none (λ other. is_better other x) (matching address routes) h))
 
 best_unbeaten : (routes : List HeldRoute) (address : ℕ) (x : HeldRoute) → IsBest routes address x → In (unbeaten (matching address routes)) x
 best_unbeaten routes address x b =
@@ -259,7 +266,8 @@ none_matches routes address h x i =
     clash y e = cc
 
 -- a list in which a source has one route of each prefix, and prefixes are of their form
-pub names_one : (routes : List HeldRoute) (address : ℕ) → ((a : HeldRoute) → In routes a → IsPrefix a.prefix.address a.prefix.length) → ((a b : HeldRoute) → In routes a → In routes b → a.source ≡ b.source → a.prefix ≡ b.prefix → a ≡ b)
+pub names_one : (routes : List HeldRoute) (address : ℕ) → ((a : HeldRoute) → In routes a → IsPrefix a.prefix.address a.prefix.length) →
+    ((a b : HeldRoute) → In routes a → In routes b → a.source ≡ b.source → a.prefix ≡ b.prefix → a ≡ b)
     → NamesTheBest routes address
 names_one routes address formed apart = record {
   named = λ x h. from_unbeaten routes address x (in_first (unbeaten (matching address routes)) x h);
@@ -268,7 +276,8 @@ names_one routes address formed apart = record {
       first.2 ∙ ap (λ y. Some y) (same first.0 x (from_unbeaten routes address first.0 first.1) b);
   none = λ h x there. elim (two_ways (contains x.prefix address)) [
     | inr q ↦ q
-    | inl q ↦ absurd (none_matches routes address h x (filter_in (λ (route : HeldRoute). contains route.prefix address) routes x (in_contained routes x there) q))
+    | inl q ↦ absurd
+        (none_matches routes address h x (filter_in (λ (route : HeldRoute). contains route.prefix address) routes x (in_contained routes x there) q))
   ];
 }
   where
@@ -286,18 +295,24 @@ pub record Keeps (t : Network) (w : World) : Type 0 where
   pub forms : HasForms w.config.statics
   pub told : AllGood t w.peerings
 
-keeps_on : (t : Network) (es : List JournalEntry) (tick : ℕ) (w : World) (k : Packets) (i : ℕ) (ps : List (List ℕ)) → IsLawfulFrom t tick w k i es ps → Keeps t w → Keeps t (world_from t w es)
+keeps_on : (t : Network) (es : List JournalEntry) (tick : ℕ) (w : World) (k : Packets) (i : ℕ) (ps : List (List ℕ)) → IsLawfulFrom t tick w k i es ps →
+    Keeps t w → Keeps t (world_from t w es)
 keeps_on t [] tick w k i ps lawful h = h
 keeps_on t (e ∷ es) tick w k i ps lawful h =
     let forms = forms_go t w e.step lawful.0 h.forms in
-    keeps_on t es e.tick (after t w e.step) (packets_after t (after t w e.step) k e.step (next_of ps)) (i + 1) (left_by e.step ps) lawful.3 (record { statics = statics_go t w k i e.step (next_of ps) lawful.2 h.statics; forms = forms; told = tellings_go t w e.step forms h.told })
+    keeps_on t es e.tick (after t w e.step) (packets_after t (after t w e.step) k e.step (next_of ps)) (i + 1) (left_by e.step ps) lawful.3
+        (record { statics = statics_go t w k i e.step (next_of ps) lawful.2 h.statics; forms = forms; told = tellings_go t w e.step forms h.told })
 
 pub keeps : (t : Network) (es : List JournalEntry) (ps : List (List ℕ)) → IsLawful t → IsLawfulJournal t es ps → Keeps t (world_of t es)
-keeps t es ps lawful journal = keeps_on t es 0 (start t) no_packets 0 ps journal (record { statics = first_statics t lawful; forms = first_forms t lawful; told = λ edge peer m i. absurd i })
+keeps t es ps lawful journal =
+    keeps_on t es 0 (start t) no_packets 0 ps journal (record { statics = first_statics t lawful; forms = first_forms t lawful; told =
+    λ edge peer m i. absurd i })
 
 pub names_best : (t : Network) (es : List JournalEntry) (ps : List (List ℕ)) → IsLawful t → IsLawfulJournal t es ps → (edge v address : ℕ)
     → NamesTheBest (held t (world_of t es).config (world_of t es).peerings edge v) address
 names_best t es ps lawful journal edge v address =
     let k : Keeps t (world_of t es) = keeps t es ps lawful journal in
-    names_one (held t (world_of t es).config (world_of t es).peerings edge v) address (λ a i. held_formed t (world_of t es).config (world_of t es).peerings edge v a k.forms k.told i)
-    (λ a b i j source prefix. one_held t (world_of t es).config (world_of t es).peerings edge v a b lawful (loopbacks_apart t lawful) k.statics k.told i j source prefix)
+    names_one (held t (world_of t es).config (world_of t es).peerings edge v) address
+        (λ a i. held_formed t (world_of t es).config (world_of t es).peerings edge v a k.forms k.told i)
+    (λ a b i j source prefix. one_held t (world_of t es).config (world_of t es).peerings edge v a b lawful
+        (loopbacks_apart t lawful) k.statics k.told i j source prefix)

@@ -1,5 +1,6 @@
 -- Each step of a lawful journal keeps what flies in order.
-use Rattle.std.proofs.Common.{ℕ, zero, suc, ◌≡◌, ◌≢◌, ◌+◌, ◌<◌, ◌≤◌, ◌⊎◌, inl, inr, Bool, true, false, cond, List, [], ◌∷◌, ◌++◌, map, filter, length, drop, refl, arith, sym, ◌∙◌, ap, subst, append-nil, Option, None, Some}
+use Rattle.std.proofs.Common.{ℕ, zero, suc, ◌≡◌, ◌≢◌, ◌+◌, ◌<◌, ◌≤◌, ◌⊎◌, inl, inr, Bool, true, false, cond, List, [], ◌∷◌, ◌++◌, map, filter, length, drop}
+use Rattle.std.proofs.Common.{refl, arith, sym, ◌∙◌, ap, subst, append-nil, Option, None, Some}
 use Rattle.std.specs.Prelude.{◌==◌, ◌&&◌, ◌||◌, not, if◌then◌else◌, slice_get}
 use Rattle.std.specs.List.{Contains, range_with_len}
 use Rattle.std.proofs.lemmas.Bool.Decides.{eqb_tells}
@@ -12,7 +13,8 @@ use Rattle.mn_topo.specs.Network.{Network, wiring_of}
 use Rattle.mn_topo.specs.Lawful.{IsLawful}
 use Rattle.mn_topo.specs.Steps.{fits}
 use Rattle.mn_topo.specs.declared.steps.Step.{Step}
-use Rattle.mn_topo.specs.declared.steps.Step.TheVariants.{LinkUp, LinkDown, Learn, LdpAdmin, HearLdp, BgpUp, BgpDown, HearBgp, AddRoute, DelRoute, Import, Export, Attach, Detach, Inject, Carry, Lose}
+use Rattle.mn_topo.specs.declared.steps.Step.TheVariants.{LinkUp, LinkDown, Learn, LdpAdmin, HearLdp, BgpUp, BgpDown, HearBgp, AddRoute, DelRoute, Import}
+use Rattle.mn_topo.specs.declared.steps.Step.TheVariants.{Export, Attach, Detach, Inject, Carry, Lose}
 use Rattle.mn_topo.specs.declared.steps.JournalEntry.{JournalEntry}
 use Rattle.mn_ledger.specs.Tables.{put, put_pair}
 use Rattle.mn_ledger.specs.World.{World, Message, Telling, Sessions, Peerings, Views}
@@ -23,7 +25,9 @@ use Rattle.mn_ledger.specs.Packets.{Token, Packets, packets_after}
 use Rattle.mn_ledger.specs.Ledger.{after, start, no_packets, next_of, left_by, injects, world_from, world_of, packets_from, packets_of}
 use Rattle.mn_ledger.specs.Refusal.{is_empty}
 use Rattle.mn_ledger.specs.Lawful.{IsLawfulFrom, IsLawfulJournal}
-use Rattle.mn_ledger.specs.Items.{Channel, Notices, Messages, Routes, Frames, Load, Notice, Says, Tells, Item, Flight, same_channel, items_on, loads_on, notices_in, messages_in, routes_in, message_of, route_of, frame_after, frames_in, made_in, numbered, without, is_session_of, is_over, is_between, left_in_flight, with_made, flight_from, flight_of, made_from, made_by}
+use Rattle.mn_ledger.specs.Items.{Channel, Notices, Messages, Routes, Frames, Load, Notice, Says, Tells, Item, Flight, same_channel, items_on, loads_on}
+use Rattle.mn_ledger.specs.Items.{notices_in, messages_in, routes_in, message_of, route_of, frame_after, frames_in, made_in, numbered, without}
+use Rattle.mn_ledger.specs.Items.{is_session_of, is_over, is_between, left_in_flight, with_made, flight_from, flight_of, made_from, made_by}
 use Rattle.mn_ledger.specs.InFlight.{is_in_order, AreLastOf, AreNumbered, IsInFlight}
 use Rattle.mn_ledger.specs.Turns.{IsInTurn}
 use Rattle.mn_ledger.proofs.Peers.{two_ways, same_test, other_test, Which, which, AreInOrder}
@@ -34,7 +38,8 @@ use Rattle.mn_ledger.specs.Verdicts.{one_if, AreInOnePlace}
 use Rattle.mn_ledger.proofs.Members.{In, in_append, in_front, in_rest, in_filter, in_contained, contained_in}
 use Rattle.mn_ledger.proofs.OnePlace.{stepped}
 use Rattle.mn_ledger.proofs.Frames.{frames_go}
-use Rattle.mn_ledger.proofs.Channels.{same_chan, no_frame, kept, gone, taken, off, loads_in, loads_append, loads_in_append, on_numbered, none_of, no_frames, in_messages, in_routes, noticed, not_noticed, kept_last, gone_last, taken_last}
+use Rattle.mn_ledger.proofs.Channels.{same_chan, no_frame, kept, gone, taken, off, loads_in, loads_append, loads_in_append, on_numbered, none_of, no_frames}
+use Rattle.mn_ledger.proofs.Channels.{in_messages, in_routes, noticed, not_noticed, kept_last, gone_last, taken_last}
 use Rattle.mn_ledger.proofs.Ended.{other_than}
 
 -- 1. Which channels a step takes from
@@ -62,15 +67,18 @@ frames_apart on l d i (Notices k m) g = absurd (no g)
 frames_apart on l d i (Messages k m) g = absurd (no g)
 frames_apart on l d i (Routes k m) g = absurd (no g)
 
-untouched : (t : Network) (s : Step) (on : Channel) → is_in_order on ≡ true → touches t s on ≡ false → (items : List Item) → items_on on (left_in_flight t s items) ≡ items_on on items
+untouched : (t : Network) (s : Step) (on : Channel) → is_in_order on ≡ true → touches t s on ≡ false →
+    (items : List Item) → items_on on (left_in_flight t s items) ≡ items_on on items
 unfolding touches
 untouched t (Learn node l) on i h items = off on (Notices l.0 node.0) (apart on (Notices l.0 node.0) i h) 0 items
-untouched t (HearLdp l dir) on i h items = off on (Messages l.0 (sender (wiring_of t) l.0 dir)) (apart on (Messages l.0 (sender (wiring_of t) l.0 dir)) i h) 0 items
+untouched t (HearLdp l dir) on i h items =
+    off on (Messages l.0 (sender (wiring_of t) l.0 dir)) (apart on (Messages l.0 (sender (wiring_of t) l.0 dir)) i h) 0 items
 untouched t (HearBgp a b) on i h items = off on (Routes a.0 b.0) (apart on (Routes a.0 b.0) i h) 0 items
 untouched t (Carry l dir place) on i h items = off on (Frames l.0 dir) (frames_apart on l.0 dir i) place items
 untouched t (Lose l dir place) on i h items = off on (Frames l.0 dir) (frames_apart on l.0 dir i) place items
 untouched t (LinkUp l) on i h items = kept on (is_session_of l.0) (λ c q. ap (is_session_of l.0) (same_chan on c i q) ∙ h) items
-untouched t (LinkDown l) on i h items = kept on (λ c. is_session_of l.0 c || is_over l.0 c) (λ c q. ap (λ c. is_session_of l.0 c || is_over l.0 c) (same_chan on c i q) ∙ h) items
+untouched t (LinkDown l) on i h items =
+    kept on (λ c. is_session_of l.0 c || is_over l.0 c) (λ c q. ap (λ c. is_session_of l.0 c || is_over l.0 c) (same_chan on c i q) ∙ h) items
 untouched t (LdpAdmin l s) on i h items = kept on (is_session_of l.0) (λ c q. ap (is_session_of l.0) (same_chan on c i q) ∙ h) items
 untouched t (BgpUp a b) on i h items = kept on (is_between a.0 b.0) (λ c q. ap (is_between a.0 b.0) (same_chan on c i q) ∙ h) items
 untouched t (BgpDown a b) on i h items = kept on (is_between a.0 b.0) (λ c q. ap (is_between a.0 b.0) (same_chan on c i q) ∙ h) items
@@ -78,22 +86,27 @@ untouched t _ on i h items = refl
 
 -- 2. What is left on a channel is the last that was on it
 
-first_taken : (on other : Channel) → is_in_order other ≡ true → same_channel other on ≡ true → (items : List Item) → items_on on (without other 0 items) ≡ drop 1 (items_on on items)
+first_taken : (on other : Channel) → is_in_order other ≡ true → same_channel other on ≡ true →
+    (items : List Item) → items_on on (without other 0 items) ≡ drop 1 (items_on on items)
 first_taken on other i q items = subst (λ c. items_on on (without c 0 items) ≡ drop 1 (items_on on items)) (same_chan other on i q) (taken on items)
 
-touched_last : (t : Network) (s : Step) (on : Channel) → is_in_order on ≡ true → touches t s on ≡ true → (items : List Item) → AreLastOf (items_on on (left_in_flight t s items)) (items_on on items)
+touched_last : (t : Network) (s : Step) (on : Channel) → is_in_order on ≡ true → touches t s on ≡ true →
+    (items : List Item) → AreLastOf (items_on on (left_in_flight t s items)) (items_on on items)
 unfolding touches
 touched_last t (Learn node l) on i q items = taken_last _ _ (first_taken on (Notices l.0 node.0) refl q items)
 touched_last t (HearLdp l dir) on i q items = taken_last _ _ (first_taken on (Messages l.0 (sender (wiring_of t) l.0 dir)) refl q items)
 touched_last t (HearBgp a b) on i q items = taken_last _ _ (first_taken on (Routes a.0 b.0) refl q items)
 touched_last t (LinkUp l) on i q items = gone_last _ _ (gone on (is_session_of l.0) (λ c g. ap (is_session_of l.0) (same_chan on c i g) ∙ q) items)
-touched_last t (LinkDown l) on i q items = gone_last _ _ (gone on (λ c. is_session_of l.0 c || is_over l.0 c) (λ c g. ap (λ c. is_session_of l.0 c || is_over l.0 c) (same_chan on c i g) ∙ q) items)
+touched_last t (LinkDown l) on i q items =
+    gone_last _ _
+    (gone on (λ c. is_session_of l.0 c || is_over l.0 c) (λ c g. ap (λ c. is_session_of l.0 c || is_over l.0 c) (same_chan on c i g) ∙ q) items)
 touched_last t (LdpAdmin l s) on i q items = gone_last _ _ (gone on (is_session_of l.0) (λ c g. ap (is_session_of l.0) (same_chan on c i g) ∙ q) items)
 touched_last t (BgpUp a b) on i q items = gone_last _ _ (gone on (is_between a.0 b.0) (λ c g. ap (is_between a.0 b.0) (same_chan on c i g) ∙ q) items)
 touched_last t (BgpDown a b) on i q items = gone_last _ _ (gone on (is_between a.0 b.0) (λ c g. ap (is_between a.0 b.0) (same_chan on c i g) ∙ q) items)
 touched_last t _ on i q items = absurd (no q)
 
-left_last : (t : Network) (s : Step) (on : Channel) → is_in_order on ≡ true → (items : List Item) → AreLastOf (items_on on (left_in_flight t s items)) (items_on on items)
+left_last : (t : Network) (s : Step) (on : Channel) → is_in_order on ≡ true →
+    (items : List Item) → AreLastOf (items_on on (left_in_flight t s items)) (items_on on items)
 left_last t s on i items = elim (two_ways (touches t s on)) [
   | inl q ↦ touched_last t s on i q items
   | inr q ↦ kept_last _ _ (untouched t s on i q items)
@@ -101,7 +114,8 @@ left_last t s on i items = elim (two_ways (touches t s on)) [
 
 -- 3. What a step makes for a channel
 
-parts : (on : Channel) (a b c d : List (Channel × Load)) → loads_in on (a ++ (b ++ (c ++ d))) ≡ loads_in on a ++ (loads_in on b ++ (loads_in on c ++ loads_in on d))
+parts : (on : Channel) (a b c d : List (Channel × Load)) →
+    loads_in on (a ++ (b ++ (c ++ d))) ≡ loads_in on a ++ (loads_in on b ++ (loads_in on c ++ loads_in on d))
 parts on a b c d =
     loads_in_append on a (b ++ (c ++ d)) ∙ ap (λ r. loads_in on a ++ r) (loads_in_append on b (c ++ d) ∙ ap (λ r. loads_in on b ++ r) (loads_in_append on c d))
 
@@ -118,21 +132,27 @@ pub if_none : (on : Channel) (b : Bool) (xs : List (Channel × Load)) → loads_
 if_none on true xs h = h
 if_none on false xs h = refl
 
-no_messages : (on : Channel) → ((x : Said) → same_channel on (message_of x).0 ≡ false) → (t : Network) (w v : World) (s : Step) → loads_in on (messages_in t w v s) ≡ []
+no_messages : (on : Channel) → ((x : Said) → same_channel on (message_of x).0 ≡ false) →
+    (t : Network) (w v : World) (s : Step) → loads_in on (messages_in t w v s) ≡ []
 no_messages on h t w v s =
     let said : List Said = said_in t w.config w.views w.sessions v.config v.views (counted t w.sessions s) s in
     if_none on (is_transport s) (map message_of said) (none_of on message_of h said)
 
-no_routes : (on : Channel) → ((x : Told) → same_channel on (route_of x).0 ≡ false) → (t : Network) (w v : World) (s : Step) → loads_in on (routes_in t w v s) ≡ []
+no_routes : (on : Channel) → ((x : Told) → same_channel on (route_of x).0 ≡ false) →
+    (t : Network) (w v : World) (s : Step) → loads_in on (routes_in t w v s) ≡ []
 no_routes on h t w v s =
     let told : List Told = vpn.told_in t w.config w.peerings v.config (vpn.counted w.peerings s) s in
     if_none on (vpn.is_routing s) (map route_of told) (none_of on route_of h told)
 
-made_notices : (t : Network) (w v : World) (p q : Packets) (s : Step) (l node : ℕ) → loads_in (Notices l node) (made_in t w v p q s) ≡ loads_in (Notices l node) (notices_in t s)
+made_notices : (t : Network) (w v : World) (p q : Packets) (s : Step) (l node : ℕ) →
+    loads_in (Notices l node) (made_in t w v p q s) ≡ loads_in (Notices l node) (notices_in t s)
 made_notices t w v p q s l node =
     parts (Notices l node) (notices_in t s) (messages_in t w v s) (routes_in t w v s) (frames_in p q s)
-    ∙ ap (λ r. loads_in (Notices l node) (notices_in t s) ++ (r ++ (loads_in (Notices l node) (routes_in t w v s) ++ loads_in (Notices l node) (frames_in p q s)))) (no_messages (Notices l node) (λ x. refl) t w v s)
-    ∙ ap (λ r. loads_in (Notices l node) (notices_in t s) ++ (r ++ loads_in (Notices l node) (frames_in p q s))) (no_routes (Notices l node) (λ x. refl) t w v s)
+    ∙ ap (λ r. loads_in (Notices l node) (notices_in t s) ++
+        (r ++ (loads_in (Notices l node) (routes_in t w v s) ++ loads_in (Notices l node) (frames_in p q s))))
+        (no_messages (Notices l node) (λ x. refl) t w v s)
+    ∙ ap (λ r. loads_in (Notices l node) (notices_in t s) ++ (r ++ loads_in (Notices l node) (frames_in p q s)))
+        (no_routes (Notices l node) (λ x. refl) t w v s)
     ∙ ap (λ r. loads_in (Notices l node) (notices_in t s) ++ r) (frames_none (Notices l node) refl p q s)
     ∙ append-nil (loads_in (Notices l node) (notices_in t s))
 
@@ -141,11 +161,15 @@ no_notices t (LinkUp at) l node = none_of (Messages l node) (λ n. (Notices at.0
 no_notices t (LinkDown at) l node = none_of (Messages l node) (λ n. (Notices at.0 n, Notice)) (λ n. refl) (nodes_of (wiring_of t))
 no_notices t _ l node = refl
 
-made_messages : (t : Network) (w v : World) (p q : Packets) (s : Step) (l node : ℕ) → loads_in (Messages l node) (made_in t w v p q s) ≡ loads_in (Messages l node) (messages_in t w v s)
+made_messages : (t : Network) (w v : World) (p q : Packets) (s : Step) (l node : ℕ) →
+    loads_in (Messages l node) (made_in t w v p q s) ≡ loads_in (Messages l node) (messages_in t w v s)
 made_messages t w v p q s l node =
     parts (Messages l node) (notices_in t s) (messages_in t w v s) (routes_in t w v s) (frames_in p q s)
-    ∙ ap (λ r. r ++ (loads_in (Messages l node) (messages_in t w v s) ++ (loads_in (Messages l node) (routes_in t w v s) ++ loads_in (Messages l node) (frames_in p q s)))) (no_notices t s l node)
-    ∙ ap (λ r. loads_in (Messages l node) (messages_in t w v s) ++ (r ++ loads_in (Messages l node) (frames_in p q s))) (no_routes (Messages l node) (λ x. refl) t w v s)
+    ∙ ap (λ r. r ++
+        (loads_in (Messages l node) (messages_in t w v s) ++
+        (loads_in (Messages l node) (routes_in t w v s) ++ loads_in (Messages l node) (frames_in p q s)))) (no_notices t s l node)
+    ∙ ap (λ r. loads_in (Messages l node) (messages_in t w v s) ++ (r ++ loads_in (Messages l node) (frames_in p q s)))
+        (no_routes (Messages l node) (λ x. refl) t w v s)
     ∙ ap (λ r. loads_in (Messages l node) (messages_in t w v s) ++ r) (frames_none (Messages l node) refl p q s)
     ∙ append-nil (loads_in (Messages l node) (messages_in t w v s))
 
@@ -154,11 +178,15 @@ no_route_notices t (LinkUp at) edge peer = none_of (Routes edge peer) (λ n. (No
 no_route_notices t (LinkDown at) edge peer = none_of (Routes edge peer) (λ n. (Notices at.0 n, Notice)) (λ n. refl) (nodes_of (wiring_of t))
 no_route_notices t _ edge peer = refl
 
-made_routes : (t : Network) (w v : World) (p q : Packets) (s : Step) (edge peer : ℕ) → loads_in (Routes edge peer) (made_in t w v p q s) ≡ loads_in (Routes edge peer) (routes_in t w v s)
+made_routes : (t : Network) (w v : World) (p q : Packets) (s : Step) (edge peer : ℕ) →
+    loads_in (Routes edge peer) (made_in t w v p q s) ≡ loads_in (Routes edge peer) (routes_in t w v s)
 made_routes t w v p q s edge peer =
     parts (Routes edge peer) (notices_in t s) (messages_in t w v s) (routes_in t w v s) (frames_in p q s)
-    ∙ ap (λ r. r ++ (loads_in (Routes edge peer) (messages_in t w v s) ++ (loads_in (Routes edge peer) (routes_in t w v s) ++ loads_in (Routes edge peer) (frames_in p q s)))) (no_route_notices t s edge peer)
-    ∙ ap (λ r. r ++ (loads_in (Routes edge peer) (routes_in t w v s) ++ loads_in (Routes edge peer) (frames_in p q s))) (no_messages (Routes edge peer) (λ x. refl) t w v s)
+    ∙ ap (λ r. r ++
+        (loads_in (Routes edge peer) (messages_in t w v s) ++
+        (loads_in (Routes edge peer) (routes_in t w v s) ++ loads_in (Routes edge peer) (frames_in p q s)))) (no_route_notices t s edge peer)
+    ∙ ap (λ r. r ++ (loads_in (Routes edge peer) (routes_in t w v s) ++ loads_in (Routes edge peer) (frames_in p q s)))
+        (no_messages (Routes edge peer) (λ x. refl) t w v s)
     ∙ ap (λ r. loads_in (Routes edge peer) (routes_in t w v s) ++ r) (frames_none (Routes edge peer) refl p q s)
     ∙ append-nil (loads_in (Routes edge peer) (routes_in t w v s))
 
@@ -168,21 +196,26 @@ later_items t w p q s tick n items = left_in_flight t s items ++ numbered t tick
 later_loads : (t : Network) (w : World) (p q : Packets) (s : Step) (tick n : ℕ) (items : List Item) (on : Channel)
     → loads_on on (later_items t w p q s tick n items) ≡ loads_on on (left_in_flight t s items) ++ loads_in on (made_in t w (after t w s) p q s)
 later_loads t w p q s tick n items on =
-    loads_append on (left_in_flight t s items) (numbered t tick n (made_in t w (after t w s) p q s)) ∙ ap (λ r. loads_on on (left_in_flight t s items) ++ r) (on_numbered t on tick n (made_in t w (after t w s) p q s))
+    loads_append on (left_in_flight t s items) (numbered t tick n (made_in t w (after t w s) p q s))
+        ∙ ap (λ r. loads_on on (left_in_flight t s items) ++ r) (on_numbered t on tick n (made_in t w (after t w s) p q s))
 
-loads_kept : (t : Network) (s : Step) (on : Channel) → is_in_order on ≡ true → touches t s on ≡ false → (items : List Item) → loads_on on (left_in_flight t s items) ≡ loads_on on items
+loads_kept : (t : Network) (s : Step) (on : Channel) → is_in_order on ≡ true → touches t s on ≡ false →
+    (items : List Item) → loads_on on (left_in_flight t s items) ≡ loads_on on items
 loads_kept t s on i h items = ap (map (λ (item : Item). item.load)) (untouched t s on i h items)
 
 -- 4. Notices
 
 count_later : (t : Network) (w : World) (p q : Packets) (s : Step) (tick n : ℕ) (items : List Item) (l node : ℕ)
-    → length (loads_on (Notices l node) (later_items t w p q s tick n items)) ≡ length (loads_on (Notices l node) (left_in_flight t s items)) + length (loads_in (Notices l node) (notices_in t s))
+    → length (loads_on (Notices l node) (later_items t w p q s tick n items)) ≡ length (loads_on (Notices l node) (left_in_flight t s items)) + length
+        (loads_in (Notices l node) (notices_in t s))
 count_later t w p q s tick n items l node =
-    ap length (later_loads t w p q s tick n items (Notices l node) ∙ ap (λ r. loads_on (Notices l node) (left_in_flight t s items) ++ r) (made_notices t w (after t w s) p q s l node))
+    ap length (later_loads t w p q s tick n items (Notices l node)
+        ∙ ap (λ r. loads_on (Notices l node) (left_in_flight t s items) ++ r) (made_notices t w (after t w s) p q s l node))
     ∙ length-append (loads_on (Notices l node) (left_in_flight t s items)) (loads_in (Notices l node) (notices_in t s))
 
 -- the link comes up or goes down
-turned : (changes : ℕ → ℕ) (at l node k : ℕ) (had many : ℕ) → node < k → had + many ≡ changes l → had + (many + length (loads_in (Notices l node) (map (λ n. (Notices at n, Notice)) (range_with_len 0 k)))) ≡ put changes at (changes at + 1) l
+turned : (changes : ℕ → ℕ) (at l node k : ℕ) (had many : ℕ) → node < k → had + many ≡ changes l →
+    had + (many + length (loads_in (Notices l node) (map (λ n. (Notices at n, Notice)) (range_with_len 0 k)))) ≡ put changes at (changes at + 1) l
 turned changes at l node k had many below h = elim (eqb_tells l at) [
   | inl p ↦ omega (arith, h, ap changes p.1, here p.1, one p.1)
   | inr p ↦ omega (arith, h, put_off changes at (changes at + 1) l p.1, ap length (not_noticed at l node (λ e. p.1 (sym e)) (range_with_len 0 k)))
@@ -202,17 +235,23 @@ both true b d = elim d [ inl p ↦ absurd (clash p) | inr q ↦ q ]
 both false b d = refl
 
 -- the node learns of the link's next change
-learns : (v : Views) (who at : ℕ) (items : List Item) → v.learned who at < v.changes at → v.learned who at + length (loads_on (Notices at who) items) ≡ v.changes at
+learns : (v : Views) (who at : ℕ) (items : List Item) → v.learned who at < v.changes at →
+    v.learned who at + length (loads_on (Notices at who) items) ≡ v.changes at
     → put_pair v.learned who at (v.learned who at + 1) who at + length (loads_on (Notices at who) (without (Notices at who) 0 items)) ≡ v.changes at
 learns v who at items less h =
-    omega (arith, h, less, pair_here v.learned who at (v.learned who at + 1), ap length (first_loads (Notices at who) items), length-drop 1 (loads_on (Notices at who) items))
+    omega (arith, h, less, pair_here v.learned who at (v.learned who at + 1), ap length (first_loads (Notices at who) items), length-drop 1
+        (loads_on (Notices at who) items))
 
-learns_all : (t : Network) (v : Views) (who at : ℕ) (items left : List Item) (l node : ℕ) → left ≡ without (Notices at who) 0 items → v.learned who at < v.changes at
+learns_all : (t : Network) (v : Views) (who at : ℕ) (items left : List Item) (l node : ℕ) → left ≡ without (Notices at who) 0 items →
+    v.learned who at < v.changes at
     → (same_channel (Notices at who) (Notices l node) ≡ false → loads_on (Notices l node) left ≡ loads_on (Notices l node) items)
-    → v.learned node l + length (loads_on (Notices l node) items) ≡ v.changes l → put_pair v.learned who at (v.learned who at + 1) node l + length (loads_on (Notices l node) left) ≡ v.changes l
+    → v.learned node l + length (loads_on (Notices l node) items) ≡ v.changes l →
+        put_pair v.learned who at (v.learned who at + 1) node l + length (loads_on (Notices l node) left) ≡ v.changes l
 learns_all t v who at items left l node is less off h =
-    let other : ((node ≢ who) ⊎ (l ≢ at)) → put_pair v.learned who at (v.learned who at + 1) node l + length (loads_on (Notices l node) left) ≡ v.changes l = λ d.
-    omega (arith, h, pair_off v.learned who at (v.learned who at + 1) node l d, ap length (off (both (l == at) (node == who) (elim d [ inl p ↦ inr (other_test node who p) | inr p ↦ inl (other_test l at p) ])))) in
+    let other : ((node ≢ who) ⊎ (l ≢ at)) →
+        put_pair v.learned who at (v.learned who at + 1) node l + length (loads_on (Notices l node) left) ≡ v.changes l = λ d.
+    omega (arith, h, pair_off v.learned who at (v.learned who at + 1) node l d, ap length
+        (off (both (l == at) (node == who) (elim d [ inl p ↦ inr (other_test node who p) | inr p ↦ inl (other_test l at p) ])))) in
     elim (eqb_tells node who) [
       | inr p ↦ other (inl p.1)
       | inl p ↦ elim (eqb_tells l at) [
@@ -221,12 +260,15 @@ learns_all t v who at items left l node is less off h =
             subst (λ j. put_pair v.learned who at (v.learned who at + 1) j l + length (loads_on (Notices l j) left) ≡ v.changes l) (sym p.1)
             (subst (λ j. put_pair v.learned who at (v.learned who at + 1) who j + length (loads_on (Notices j who) left) ≡ v.changes j) (sym q.1)
             (subst (λ r. put_pair v.learned who at (v.learned who at + 1) who at + length (loads_on (Notices at who) r) ≡ v.changes at) (sym is)
-            (learns v who at items less (subst (λ j. v.learned who j + length (loads_on (Notices j who) items) ≡ v.changes j) q.1 (subst (λ j. v.learned j l + length (loads_on (Notices l j) items) ≡ v.changes l) p.1 h)))))
+            (learns v who at items less
+                (subst (λ j. v.learned who j + length (loads_on (Notices j who) items) ≡ v.changes j) q.1
+                (subst (λ j. v.learned j l + length (loads_on (Notices l j) items) ≡ v.changes l) p.1 h)))))
       ]
     ]
 
 abbrev NoticesGo : Network → World → Packets → Packets → Step → ℕ → ℕ → List Item → ℕ → ℕ → Type 0
-NoticesGo t w p q s tick n items l node = (after t w s).views.learned node l + length (loads_on (Notices l node) (later_items t w p q s tick n items)) ≡ (after t w s).views.changes l
+NoticesGo t w p q s tick n items l node =
+    (after t w s).views.learned node l + length (loads_on (Notices l node) (later_items t w p q s tick n items)) ≡ (after t w s).views.changes l
 
 -- where no notice is made
 none_made : (had many more : ℕ) (total : ℕ) → many ≡ more + 0 → had + more ≡ total → had + many ≡ total
@@ -235,18 +277,24 @@ none_made had many more total e h = omega (arith, e, h)
 some_made : (had many more new : ℕ) (total : ℕ) → many ≡ more + new → had + (more + new) ≡ total → had + many ≡ total
 some_made had many more new total e h = omega (arith, e, h)
 
-notices_go : (t : Network) (w : World) (p q : Packets) (s : Step) (tick n : ℕ) (items : List Item) (l node : ℕ) → node < length t.loopbacks → is_empty t w p s ≡ false
+notices_go : (t : Network) (w : World) (p q : Packets) (s : Step) (tick n : ℕ) (items : List Item) (l node : ℕ) → node < length t.loopbacks →
+    is_empty t w p s ≡ false
     → w.views.learned node l + length (loads_on (Notices l node) items) ≡ w.views.changes l → NoticesGo t w p q s tick n items l node
 unfolding touches
 notices_go t w p q (LinkUp at) tick n items l node below full h =
-    some_made _ _ _ _ _ (count_later t w p q (LinkUp at) tick n items l node ∙ ap (λ m. m + length (loads_in (Notices l node) (notices_in t (LinkUp at)))) (ap length (loads_kept t (LinkUp at) (Notices l node) refl refl items)))
+    some_made _ _ _ _ _ (count_later t w p q (LinkUp at) tick n items l node
+        ∙ ap (λ m. m + length (loads_in (Notices l node) (notices_in t (LinkUp at))))
+        (ap length (loads_kept t (LinkUp at) (Notices l node) refl refl items)))
     (turned w.views.changes at.0 l node (length t.loopbacks) (w.views.learned node l) (length (loads_on (Notices l node) items)) below h)
 notices_go t w p q (LinkDown at) tick n items l node below full h =
-    some_made _ _ _ _ _ (count_later t w p q (LinkDown at) tick n items l node ∙ ap (λ m. m + length (loads_in (Notices l node) (notices_in t (LinkDown at)))) (ap length (loads_kept t (LinkDown at) (Notices l node) refl refl items)))
+    some_made _ _ _ _ _ (count_later t w p q (LinkDown at) tick n items l node
+        ∙ ap (λ m. m + length (loads_in (Notices l node) (notices_in t (LinkDown at))))
+        (ap length (loads_kept t (LinkDown at) (Notices l node) refl refl items)))
     (turned w.views.changes at.0 l node (length t.loopbacks) (w.views.learned node l) (length (loads_on (Notices l node) items)) below h)
 notices_go t w p q (Learn who at) tick n items l node below full h =
     none_made _ _ _ _ (count_later t w p q (Learn who at) tick n items l node)
-    (learns_all t w.views who.0 at.0 items (left_in_flight t (Learn who at) items) l node refl (above _ _ full) (λ e. loads_kept t (Learn who at) (Notices l node) refl e items) h)
+    (learns_all t w.views who.0 at.0 items (left_in_flight t (Learn who at) items) l node refl (above _ _ full)
+        (λ e. loads_kept t (Learn who at) (Notices l node) refl e items) h)
 notices_go t w p q s tick n items l node below full h =
     none_made _ _ _ _ (count_later t w p q s tick n items l node ∙ ap (λ m. m + 0) (ap length (loads_kept t s (Notices l node) refl refl items))) h
 
@@ -254,7 +302,8 @@ notices_go t w p q s tick n items l node below full h =
 
 abbrev MessagesGo : Network → World → Packets → Packets → Step → ℕ → ℕ → List Item → ℕ → ℕ → Type 0
 MessagesGo t w p q s tick n items l node =
-    loads_on (Messages l node) (later_items t w p q s tick n items) ≡ map (λ message. Says message) (drop ((after t w s).sessions.heard l (across (wiring_of t) l node)) ((after t w s).sessions.said l node))
+    loads_on (Messages l node) (later_items t w p q s tick n items) ≡ map (λ message. Says message)
+        (drop ((after t w s).sessions.heard l (across (wiring_of t) l node)) ((after t w s).sessions.said l node))
 
 -- what is said comes after what isn't heard yet
 speaks : (t : Network) (w : World) (p q : Packets) (s : Step) (tick n : ℕ) (items : List Item) (l node : ℕ) (h : ℕ) (old : List Message) (xs : List Said)
@@ -269,38 +318,51 @@ speaks t w p q s tick n items l node h old xs left few new =
     ∙ ap (map (λ message. Says message)) (sym (drop-append-le h old (messages_of l node xs) few))
 
 -- the life of a link's session ends or begins
-renewed : (s : Sessions) (at l node other : ℕ) (left items : List Item) → (l ≡ at → loads_on (Messages l node) left ≡ []) → (l ≢ at → loads_on (Messages l node) left ≡ loads_on (Messages l node) items)
+renewed : (s : Sessions) (at l node other : ℕ) (left items : List Item) → (l ≡ at → loads_on (Messages l node) left ≡ []) →
+    (l ≢ at → loads_on (Messages l node) left ≡ loads_on (Messages l node) items)
     → s.heard l other ≤ length (s.said l node) → loads_on (Messages l node) items ≡ map (λ message. Says message) (drop (s.heard l other) (s.said l node))
-    → (loads_on (Messages l node) left ≡ map (λ message. Says message) (drop ((anew s at).heard l other) ((anew s at).said l node))) × ((anew s at).heard l other ≤ length ((anew s at).said l node))
+    → (loads_on (Messages l node) left ≡ map (λ message. Says message) (drop ((anew s at).heard l other) ((anew s at).said l node)))
+        × ((anew s at).heard l other ≤ length ((anew s at).said l node))
 renewed s at l node other left items here off few h = elim (eqb_tells l at) [
   | inl p ↦
       let said : (anew s at).said l node ≡ [] = ap (λ j. (anew s at).said j node) p.1 ∙ ap (λ f. f node) (put_here s.said at (λ _. [])) in
       let heard : (anew s at).heard l other ≡ 0 = ap (λ j. (anew s at).heard j other) p.1 ∙ ap (λ f. f other) (put_here s.heard at (λ _. 0)) in
-      (here p.1 ∙ sym (ap (λ m. map (λ message. Says message) (drop m ((anew s at).said l node))) heard ∙ ap (map (λ message. Says message)) said), subst (λ m. m ≤ length ((anew s at).said l node)) (sym heard) (omega arith))
+      (here p.1 ∙ sym (ap (λ m. map (λ message. Says message) (drop m ((anew s at).said l node))) heard ∙ ap (map (λ message. Says message)) said), subst
+          (λ m. m ≤ length ((anew s at).said l node)) (sym heard) (omega arith))
   | inr p ↦
       let said : (anew s at).said l node ≡ s.said l node = ap (λ f. f node) (put_off s.said at (λ _. []) l p.1) in
       let heard : (anew s at).heard l other ≡ s.heard l other = ap (λ f. f other) (put_off s.heard at (λ _. 0) l p.1) in (
-        off p.1 ∙ h ∙ sym (ap (λ m. map (λ message. Says message) (drop m ((anew s at).said l node))) heard ∙ ap (λ m. map (λ message. Says message) (drop (s.heard l other) m)) said),
+        off p.1 ∙ h
+            ∙ sym (ap (λ m. map (λ message. Says message) (drop m ((anew s at).said l node))) heard
+            ∙ ap (λ m. map (λ message. Says message) (drop (s.heard l other) m)) said),
         omega (arith, few, heard, ap length said),
       )
 ]
 
-emptied : (on : Channel) (f : Channel → Bool) → is_in_order on ≡ true → f on ≡ true → (items : List Item) → loads_on on (filter (λ item. not (f item.on)) items) ≡ []
+emptied : (on : Channel) (f : Channel → Bool) → is_in_order on ≡ true → f on ≡ true →
+    (items : List Item) → loads_on on (filter (λ item. not (f item.on)) items) ≡ []
 emptied on f i h items = ap (map (λ (item : Item). item.load)) (gone on f (λ c g. ap f (same_chan on c i g) ∙ h) items)
 
 same_is : (a b : ℕ) → a ≡ b → (b == a) ≡ true
 same_is a b e = ap (λ x. b == x) e ∙ same_test b
 
 -- an end hears the other's next message
-hears : (s : Sessions) (wiring : Wiring) (at who far : ℕ) (l node : ℕ) (left items : List Item) → (link wiring l).a.0 ≢ (link wiring l).b.0 → is_end wiring l node ≡ true → across wiring at who ≡ far → across wiring at far ≡ who
+hears : (s : Sessions) (wiring : Wiring) (at who far : ℕ) (l node : ℕ) (left items : List Item) →
+    (link wiring l).a.0 ≢ (link wiring l).b.0 → is_end wiring l node ≡ true → across wiring at who ≡ far → across wiring at far ≡ who
     → s.heard at who < length (s.said at far) → left ≡ without (Messages at far) 0 items
     → (same_channel (Messages at far) (Messages l node) ≡ false → loads_on (Messages l node) left ≡ loads_on (Messages l node) items)
-    → s.heard l (across wiring l node) ≤ length (s.said l node) → loads_on (Messages l node) items ≡ map (λ message. Says message) (drop (s.heard l (across wiring l node)) (s.said l node))
-    → (loads_on (Messages l node) left ≡ map (λ message. Says message) (drop (put_pair s.heard at who (s.heard at who + 1) l (across wiring l node)) (s.said l node))) × (put_pair s.heard at who (s.heard at who + 1) l (across wiring l node) ≤ length (s.said l node))
+    → s.heard l (across wiring l node) ≤ length (s.said l node) →
+        loads_on (Messages l node) items ≡ map (λ message. Says message) (drop (s.heard l (across wiring l node)) (s.said l node))
+    → (loads_on (Messages l node) left ≡ map (λ message. Says message)
+        (drop (put_pair s.heard at who (s.heard at who + 1) l (across wiring l node)) (s.said l node)))
+        × (put_pair s.heard at who (s.heard at who + 1) l (across wiring l node) ≤ length (s.said l node))
 hears s wiring at who far l node left items differ at_end here there less is off few h =
     let next : ℕ → ℕ → ℕ = put_pair s.heard at who (s.heard at who + 1) in
-    let other : ((l ≢ at) ⊎ (node ≢ far)) → (loads_on (Messages l node) left ≡ map (λ message. Says message) (drop (next l (across wiring l node)) (s.said l node))) × (next l (across wiring l node) ≤ length (s.said l node)) = λ d.
-    let same : next l (across wiring l node) ≡ s.heard l (across wiring l node) = pair_off s.heard at who (s.heard at who + 1) l (across wiring l node) (far_off d) in
+    let other : ((l ≢ at) ⊎ (node ≢ far)) →
+        (loads_on (Messages l node) left ≡ map (λ message. Says message) (drop (next l (across wiring l node)) (s.said l node)))
+        × (next l (across wiring l node) ≤ length (s.said l node)) = λ d.
+    let same : next l (across wiring l node) ≡ s.heard l (across wiring l node) =
+        pair_off s.heard at who (s.heard at who + 1) l (across wiring l node) (far_off d) in
     (off (apart_pair d) ∙ h ∙ ap (λ m. map (λ message. Says message) (drop m (s.said l node))) (sym same), omega (arith, same, few)) in
     elim (eqb_tells l at) [
       | inr p ↦ other (inl p.1)
@@ -323,25 +385,36 @@ hears s wiring at who far l node left items differ at_end here there less is off
     ]
 
     both_here : l ≡ at → node ≡ far
-        → (loads_on (Messages l node) left ≡ map (λ message. Says message) (drop (put_pair s.heard at who (s.heard at who + 1) l (across wiring l node)) (s.said l node))) × (put_pair s.heard at who (s.heard at who + 1) l (across wiring l node) ≤ length (s.said l node))
+        → (loads_on (Messages l node) left ≡ map (λ message. Says message)
+            (drop (put_pair s.heard at who (s.heard at who + 1) l (across wiring l node)) (s.said l node)))
+            × (put_pair s.heard at who (s.heard at who + 1) l (across wiring l node) ≤ length (s.said l node))
     both_here e d =
         let who_is : across wiring l node ≡ who = ap (λ j. across wiring j node) e ∙ ap (across wiring at) d ∙ there in
         let now : put_pair s.heard at who (s.heard at who + 1) l (across wiring l node) ≡ s.heard l (across wiring l node) + 1 =
-        ap (λ m. put_pair s.heard at who (s.heard at who + 1) l m) who_is ∙ ap (λ j. put_pair s.heard at who (s.heard at who + 1) j who) e ∙ pair_here s.heard at who (s.heard at who + 1)
+        ap (λ m. put_pair s.heard at who (s.heard at who + 1) l m) who_is ∙ ap (λ j. put_pair s.heard at who (s.heard at who + 1) j who) e
+            ∙ pair_here s.heard at who (s.heard at who + 1)
         ∙ ap (λ j. s.heard j who + 1) (sym e) ∙ ap (λ m. s.heard l m + 1) (sym who_is) in
         let chan : Messages at far ≡ Messages l node = ap (λ j. Messages j far) (sym e) ∙ ap (Messages l) (sym d) in (
-          ap (loads_on (Messages l node)) (is ∙ ap (λ c. without c 0 items) chan) ∙ first_loads (Messages l node) items ∙ ap (drop 1) h ∙ drop-map (λ message. Says message) 1 (drop (s.heard l (across wiring l node)) (s.said l node))
-              ∙ ap (map (λ message. Says message)) (drop-drop 1 (s.heard l (across wiring l node)) (s.said l node)) ∙ ap (λ m. map (λ message. Says message) (drop m (s.said l node))) (sym now),
-          omega (arith, now, ap (λ m. s.heard l m) who_is, ap (λ j. s.heard j who) e, ap (λ j. length (s.said j node)) e, ap (λ j. length (s.said at j)) d, less),
+          ap (loads_on (Messages l node)) (is ∙ ap (λ c. without c 0 items) chan) ∙ first_loads (Messages l node) items ∙ ap (drop 1) h
+              ∙ drop-map (λ message. Says message) 1 (drop (s.heard l (across wiring l node)) (s.said l node))
+              ∙ ap (map (λ message. Says message)) (drop-drop 1 (s.heard l (across wiring l node)) (s.said l node))
+                  ∙ ap (λ m. map (λ message. Says message) (drop m (s.said l node))) (sym now),
+          omega (arith, now, ap (λ m. s.heard l m) who_is, ap (λ j. s.heard j who) e, ap (λ j. length (s.said j node)) e, ap
+              (λ j. length (s.said at j)) d, less),
         )
 
-quiet : (t : Network) (w : World) (p q : Packets) (s : Step) (tick n : ℕ) (items : List Item) (on : Channel) → is_in_order on ≡ true → touches t s on ≡ false → loads_in on (made_in t w (after t w s) p q s) ≡ []
+quiet : (t : Network) (w : World) (p q : Packets) (s : Step) (tick n : ℕ) (items : List Item) (on : Channel) → is_in_order on ≡ true →
+    touches t s on ≡ false → loads_in on (made_in t w (after t w s) p q s) ≡ []
     → loads_on on (later_items t w p q s tick n items) ≡ loads_on on items
-quiet t w p q s tick n items on i h none = later_loads t w p q s tick n items on ∙ ap (λ r. loads_on on (left_in_flight t s items) ++ r) none ∙ append-nil (loads_on on (left_in_flight t s items)) ∙ loads_kept t s on i h items
+quiet t w p q s tick n items on i h none =
+    later_loads t w p q s tick n items on ∙ ap (λ r. loads_on on (left_in_flight t s items) ++ r) none ∙ append-nil (loads_on on (left_in_flight t s items))
+    ∙ loads_kept t s on i h items
 
-messages_go : (t : Network) (w : World) (p q : Packets) (s : Step) (tick n : ℕ) (items : List Item) (l node : ℕ) → EndsDiffer (wiring_of t) → LinkIsThere t s → l < length t.links → is_end (wiring_of t) l node ≡ true → is_empty t w p s ≡ false
+messages_go : (t : Network) (w : World) (p q : Packets) (s : Step) (tick n : ℕ) (items : List Item) (l node : ℕ) → EndsDiffer (wiring_of t) →
+    LinkIsThere t s → l < length t.links → is_end (wiring_of t) l node ≡ true → is_empty t w p s ≡ false
     → w.sessions.heard l (across (wiring_of t) l node) ≤ length (w.sessions.said l node)
-    → loads_on (Messages l node) items ≡ map (λ message. Says message) (drop (w.sessions.heard l (across (wiring_of t) l node)) (w.sessions.said l node)) → MessagesGo t w p q s tick n items l node
+    → loads_on (Messages l node) items ≡ map (λ message. Says message) (drop (w.sessions.heard l (across (wiring_of t) l node)) (w.sessions.said l node)) →
+        MessagesGo t w p q s tick n items l node
 unfolding touches sessions_after
 messages_go t w p q (LinkUp at) tick n items l node differ inside below at_end full few h =
     let new = renewed w.sessions at.0 l node (across (wiring_of t) l node) (left_in_flight t (LinkUp at) items) items
@@ -363,16 +436,20 @@ messages_go t w p q (Learn who at) tick n items l node differ inside below at_en
 messages_go t w p q (HearLdp at dir) tick n items l node differ inside below at_end full few h =
     let ends = dir_ends (wiring_of t) at.0 dir (differ at.0 inside) in
     let back = ap (across (wiring_of t) at.0) (sym ends.1) ∙ (across-end (wiring_of t) at.0 (receiver (wiring_of t) at.0 dir) (differ at.0 inside) ends.0).1 in
-    let new = hears w.sessions (wiring_of t) at.0 (receiver (wiring_of t) at.0 dir) (sender (wiring_of t) at.0 dir) l node (left_in_flight t (HearLdp at dir) items) items (differ l below) at_end ends.1 back
+    let new =
+        hears w.sessions (wiring_of t) at.0 (receiver (wiring_of t) at.0 dir) (sender (wiring_of t) at.0 dir) l node
+        (left_in_flight t (HearLdp at dir) items) items (differ l below) at_end ends.1 back
     (above _ _ (or_both _ _ full).1) refl (λ e. loads_kept t (HearLdp at dir) (Messages l node) refl e items) few h in
     speaks t w p q (HearLdp at dir) tick n items l node _ _ _ new.0 new.1 (in_messages l node _)
-messages_go t w p q s tick n items l node differ inside below at_end full few h = quiet t w p q s tick n items (Messages l node) refl refl (made_messages t w (after t w s) p q s l node) ∙ h
+messages_go t w p q s tick n items l node differ inside below at_end full few h =
+    quiet t w p q s tick n items (Messages l node) refl refl (made_messages t w (after t w s) p q s l node) ∙ h
 
 -- 6. Messages of BGP
 
 abbrev RoutesGo : Network → World → Packets → Packets → Step → ℕ → ℕ → List Item → ℕ → ℕ → Type 0
 RoutesGo t w p q s tick n items edge peer =
-    loads_on (Routes edge peer) (later_items t w p q s tick n items) ≡ map (λ telling. Tells telling) (drop ((after t w s).peerings.heard peer edge) ((after t w s).peerings.told edge peer))
+    loads_on (Routes edge peer) (later_items t w p q s tick n items) ≡ map (λ telling. Tells telling)
+        (drop ((after t w s).peerings.heard peer edge) ((after t w s).peerings.told edge peer))
 
 tells : (t : Network) (w : World) (p q : Packets) (s : Step) (tick n : ℕ) (items : List Item) (edge peer : ℕ) (h : ℕ) (old : List Telling) (xs : List Told)
     → loads_on (Routes edge peer) (left_in_flight t s items) ≡ map (λ telling. Tells telling) (drop h old) → h ≤ length old
@@ -386,36 +463,48 @@ tells t w p q s tick n items edge peer h old xs left few new =
     ∙ ap (map (λ telling. Tells telling)) (sym (drop-append-le h old (tellings_of edge peer xs) few))
 
 abbrev Unheard : Peerings → ℕ → ℕ → List Item → Type 0
-Unheard k edge peer items = (loads_on (Routes edge peer) items ≡ map (λ telling. Tells telling) (drop (k.heard peer edge) (k.told edge peer))) × (k.heard peer edge ≤ length (k.told edge peer))
+Unheard k edge peer items =
+    (loads_on (Routes edge peer) items ≡ map (λ telling. Tells telling) (drop (k.heard peer edge) (k.told edge peer)))
+    × (k.heard peer edge ≤ length (k.told edge peer))
 
-none_left : (k : Peerings) (edge peer : ℕ) (left : List Item) → loads_on (Routes edge peer) left ≡ [] → k.told edge peer ≡ [] → k.heard peer edge ≡ 0 → Unheard k edge peer left
+none_left : (k : Peerings) (edge peer : ℕ) (left : List Item) → loads_on (Routes edge peer) left ≡ [] → k.told edge peer ≡ [] → k.heard peer edge ≡ 0 →
+    Unheard k edge peer left
 none_left k edge peer left none told heard = (
   none ∙ sym (ap (λ m. map (λ telling. Tells telling) (drop m (k.told edge peer))) heard ∙ ap (map (λ telling. Tells telling)) told),
   subst (λ m. m ≤ length (k.told edge peer)) (sym heard) (omega arith),
 )
 
-all_left : (k new : Peerings) (edge peer : ℕ) (left items : List Item) → loads_on (Routes edge peer) left ≡ loads_on (Routes edge peer) items → new.told edge peer ≡ k.told edge peer → new.heard peer edge ≡ k.heard peer edge
+all_left : (k new : Peerings) (edge peer : ℕ) (left items : List Item) → loads_on (Routes edge peer) left ≡ loads_on (Routes edge peer) items →
+    new.told edge peer ≡ k.told edge peer → new.heard peer edge ≡ k.heard peer edge
     → Unheard k edge peer items → Unheard new edge peer left
 all_left k new edge peer left items same told heard u = (
-  same ∙ u.0 ∙ sym (ap (λ m. map (λ telling. Tells telling) (drop m (new.told edge peer))) heard ∙ ap (λ m. map (λ telling. Tells telling) (drop (k.heard peer edge) m)) told),
+  same ∙ u.0
+      ∙ sym (ap (λ m. map (λ telling. Tells telling) (drop m (new.told edge peer))) heard
+      ∙ ap (λ m. map (λ telling. Tells telling) (drop (k.heard peer edge) m)) told),
   omega (arith, u.1, heard, ap length told),
 )
 
 -- a session begins or ends
 begun : (k : Peerings) (a b edge peer : ℕ) (left items : List Item) → a ≢ b → (is_between a b (Routes edge peer) ≡ true → loads_on (Routes edge peer) left ≡ [])
-    → (is_between a b (Routes edge peer) ≡ false → loads_on (Routes edge peer) left ≡ loads_on (Routes edge peer) items) → Unheard k edge peer items → Unheard (vpn.anew k a b) edge peer left
+    → (is_between a b (Routes edge peer) ≡ false → loads_on (Routes edge peer) left ≡ loads_on (Routes edge peer) items) → Unheard k edge peer items →
+        Unheard (vpn.anew k a b) edge peer left
 unfolding Which
 begun k a b edge peer left items differ here off u = elim (which a b edge peer) [
   | inl p ↦
-      none_left (vpn.anew k a b) edge peer left (here (ap (λ x. (x && (b == peer)) || ((b == edge) && (a == peer))) (same_is edge a p.0) ∙ ap (λ x. x || ((b == edge) && (a == peer))) (same_is peer b p.1)))
-      (ap (λ j. (vpn.anew k a b).told j peer) p.0 ∙ ap (λ j. (vpn.anew k a b).told a j) p.1 ∙ pair_off (put_pair k.told a b []) b a [] a b (inl differ) ∙ pair_here k.told a b [])
+      none_left (vpn.anew k a b) edge peer left
+          (here (ap (λ x. (x && (b == peer)) || ((b == edge) && (a == peer))) (same_is edge a p.0)
+          ∙ ap (λ x. x || ((b == edge) && (a == peer))) (same_is peer b p.1)))
+      (ap (λ j. (vpn.anew k a b).told j peer) p.0 ∙ ap (λ j. (vpn.anew k a b).told a j) p.1 ∙ pair_off (put_pair k.told a b []) b a [] a b (inl differ)
+          ∙ pair_here k.told a b [])
       (ap (λ j. (vpn.anew k a b).heard peer j) p.0 ∙ ap (λ j. (vpn.anew k a b).heard j a) p.1 ∙ pair_here (put_pair k.heard a b 0) b a 0)
   | inr d ↦ elim d [
     | inl p ↦
         none_left (vpn.anew k a b) edge peer left
-        (here (ap (λ x. ((a == edge) && (b == peer)) || (x && (a == peer))) (same_is edge b p.0) ∙ ap (λ x. ((a == edge) && (b == peer)) || x) (same_is peer a p.1) ∙ or_true ((a == edge) && (b == peer))))
+        (here (ap (λ x. ((a == edge) && (b == peer)) || (x && (a == peer))) (same_is edge b p.0)
+            ∙ ap (λ x. ((a == edge) && (b == peer)) || x) (same_is peer a p.1) ∙ or_true ((a == edge) && (b == peer))))
         (ap (λ j. (vpn.anew k a b).told j peer) p.0 ∙ ap (λ j. (vpn.anew k a b).told b j) p.1 ∙ pair_here (put_pair k.told a b []) b a [])
-        (ap (λ j. (vpn.anew k a b).heard peer j) p.0 ∙ ap (λ j. (vpn.anew k a b).heard j b) p.1 ∙ pair_off (put_pair k.heard a b 0) b a 0 a b (inl differ) ∙ pair_here k.heard a b 0)
+        (ap (λ j. (vpn.anew k a b).heard peer j) p.0 ∙ ap (λ j. (vpn.anew k a b).heard j b) p.1 ∙ pair_off (put_pair k.heard a b 0) b a 0 a b (inl differ)
+            ∙ pair_here k.heard a b 0)
     | inr p ↦
         all_left k (vpn.anew k a b) edge peer left items
         (off (ap (λ x. x || ((b == edge) && (a == peer))) (both (a == edge) (b == peer) (tests a b p.0)) ∙ both (b == edge) (a == peer) (tests b a p.1)))
@@ -434,7 +523,9 @@ heeds : (k : Peerings) (a b edge peer : ℕ) (left items : List Item) → k.hear
 heeds k a b edge peer left items less is off u =
     let new : Peerings = record k { heard = put_pair k.heard b a (k.heard b a + 1) } in
     let other : ((edge ≢ a) ⊎ (peer ≢ b)) → Unheard new edge peer left = λ d.
-    all_left k new edge peer left items (off (both (edge == a) (peer == b) (elim d [ inl p ↦ inl (other_test edge a p) | inr p ↦ inr (other_test peer b p) ]))) refl (pair_off k.heard b a (k.heard b a + 1) peer edge (swap d)) u in
+    all_left k new edge peer left items
+        (off (both (edge == a) (peer == b) (elim d [ inl p ↦ inl (other_test edge a p) | inr p ↦ inr (other_test peer b p) ]))) refl
+        (pair_off k.heard b a (k.heard b a + 1) peer edge (swap d)) u in
     elim (eqb_tells edge a) [
       | inr p ↦ other (inl p.1)
       | inl p ↦ elim (eqb_tells peer b) [
@@ -446,34 +537,57 @@ heeds k a b edge peer left items less is off u =
     here : edge ≡ a → peer ≡ b → Unheard (record k { heard = put_pair k.heard b a (k.heard b a + 1) }) edge peer left
     here e d =
         let now : put_pair k.heard b a (k.heard b a + 1) peer edge ≡ k.heard peer edge + 1 =
-        ap (λ j. put_pair k.heard b a (k.heard b a + 1) j edge) d ∙ ap (λ j. put_pair k.heard b a (k.heard b a + 1) b j) e ∙ pair_here k.heard b a (k.heard b a + 1) ∙ ap (λ j. k.heard j a + 1) (sym d) ∙ ap (λ j. k.heard peer j + 1) (sym e) in
+        ap (λ j. put_pair k.heard b a (k.heard b a + 1) j edge) d ∙ ap (λ j. put_pair k.heard b a (k.heard b a + 1) b j) e
+            ∙ pair_here k.heard b a (k.heard b a + 1) ∙ ap (λ j. k.heard j a + 1) (sym d) ∙ ap (λ j. k.heard peer j + 1) (sym e) in
         let chan : Routes a b ≡ Routes edge peer = ap (λ j. Routes j b) (sym e) ∙ ap (Routes edge) (sym d) in (
-          ap (loads_on (Routes edge peer)) (is ∙ ap (λ c. without c 0 items) chan) ∙ first_loads (Routes edge peer) items ∙ ap (drop 1) u.0 ∙ drop-map (λ telling. Tells telling) 1 (drop (k.heard peer edge) (k.told edge peer))
-              ∙ ap (map (λ telling. Tells telling)) (drop-drop 1 (k.heard peer edge) (k.told edge peer)) ∙ ap (λ m. map (λ telling. Tells telling) (drop m (k.told edge peer))) (sym now),
+          ap (loads_on (Routes edge peer)) (is ∙ ap (λ c. without c 0 items) chan) ∙ first_loads (Routes edge peer) items ∙ ap (drop 1) u.0
+              ∙ drop-map (λ telling. Tells telling) 1 (drop (k.heard peer edge) (k.told edge peer))
+              ∙ ap (map (λ telling. Tells telling)) (drop-drop 1 (k.heard peer edge) (k.told edge peer))
+                  ∙ ap (λ m. map (λ telling. Tells telling) (drop m (k.told edge peer))) (sym now),
           omega (arith, now, ap (λ j. k.heard j edge) d, ap (λ j. k.heard b j) e, ap (λ j. length (k.told j peer)) e, ap (λ j. length (k.told a j)) d, less),
         )
 
 abbrev told_by : Network → World → Step → List Told
 told_by t w s = vpn.told_in t w.config w.peerings (after t w s).config (vpn.counted w.peerings s) s
 
-routes_go : (t : Network) (w : World) (p q : Packets) (s : Step) (tick n : ℕ) (items : List Item) (edge peer : ℕ) → AreInOrder s → is_empty t w p s ≡ false → Unheard w.peerings edge peer items → RoutesGo t w p q s tick n items edge peer
+routes_go : (t : Network) (w : World) (p q : Packets) (s : Step) (tick n : ℕ) (items : List Item) (edge peer : ℕ) → AreInOrder s →
+    is_empty t w p s ≡ false → Unheard w.peerings edge peer items → RoutesGo t w p q s tick n items edge peer
 unfolding touches peerings_after
 routes_go t w p q (BgpUp a b) tick n items edge peer order full u =
-    let new = begun w.peerings a.0 b.0 edge peer (left_in_flight t (BgpUp a b) items) items (other_than a.0 b.0 order) (λ e. emptied (Routes edge peer) (is_between a.0 b.0) refl e items) (λ e. loads_kept t (BgpUp a b) (Routes edge peer) refl e items) u in
+    let new =
+        begun w.peerings a.0 b.0 edge peer (left_in_flight t (BgpUp a b) items) items (other_than a.0 b.0 order)
+        (λ e. emptied (Routes edge peer) (is_between a.0 b.0) refl e items) (λ e. loads_kept t (BgpUp a b) (Routes edge peer) refl e items) u in
     tells t w p q (BgpUp a b) tick n items edge peer _ _ (told_by t w (BgpUp a b)) new.0 new.1 (in_routes edge peer (told_by t w (BgpUp a b)))
 routes_go t w p q (BgpDown a b) tick n items edge peer order full u =
-    let new = begun w.peerings a.0 b.0 edge peer (left_in_flight t (BgpDown a b) items) items (other_than a.0 b.0 order) (λ e. emptied (Routes edge peer) (is_between a.0 b.0) refl e items) (λ e. loads_kept t (BgpDown a b) (Routes edge peer) refl e items) u in
+    let new =
+        begun w.peerings a.0 b.0 edge peer (left_in_flight t (BgpDown a b) items) items (other_than a.0 b.0 order)
+        (λ e. emptied (Routes edge peer) (is_between a.0 b.0) refl e items) (λ e. loads_kept t (BgpDown a b) (Routes edge peer) refl e items) u in
     tells t w p q (BgpDown a b) tick n items edge peer _ _ (told_by t w (BgpDown a b)) new.0 new.1 (in_routes edge peer (told_by t w (BgpDown a b)))
 routes_go t w p q (HearBgp a b) tick n items edge peer order full u =
-    let new = heeds w.peerings a.0 b.0 edge peer (left_in_flight t (HearBgp a b) items) items (above _ _ (or_both _ _ full).1) refl (λ e. loads_kept t (HearBgp a b) (Routes edge peer) refl e items) u in
+    let new =
+        heeds w.peerings a.0 b.0 edge peer (left_in_flight t (HearBgp a b) items) items (above _ _ (or_both _ _ full).1) refl
+        (λ e. loads_kept t (HearBgp a b) (Routes edge peer) refl e items) u in
     tells t w p q (HearBgp a b) tick n items edge peer _ _ (told_by t w (HearBgp a b)) new.0 new.1 (in_routes edge peer (told_by t w (HearBgp a b)))
-routes_go t w p q (AddRoute a b) tick n items edge peer order full u = tells t w p q (AddRoute a b) tick n items edge peer _ _ (told_by t w (AddRoute a b)) (loads_kept t (AddRoute a b) (Routes edge peer) refl refl items ∙ u.0) u.1 (in_routes edge peer (told_by t w (AddRoute a b)))
-routes_go t w p q (DelRoute a b) tick n items edge peer order full u = tells t w p q (DelRoute a b) tick n items edge peer _ _ (told_by t w (DelRoute a b)) (loads_kept t (DelRoute a b) (Routes edge peer) refl refl items ∙ u.0) u.1 (in_routes edge peer (told_by t w (DelRoute a b)))
-routes_go t w p q (Import v x on) tick n items edge peer order full u = tells t w p q (Import v x on) tick n items edge peer _ _ (told_by t w (Import v x on)) (loads_kept t (Import v x on) (Routes edge peer) refl refl items ∙ u.0) u.1 (in_routes edge peer (told_by t w (Import v x on)))
-routes_go t w p q (Export v x on) tick n items edge peer order full u = tells t w p q (Export v x on) tick n items edge peer _ _ (told_by t w (Export v x on)) (loads_kept t (Export v x on) (Routes edge peer) refl refl items ∙ u.0) u.1 (in_routes edge peer (told_by t w (Export v x on)))
-routes_go t w p q (Attach a) tick n items edge peer order full u = tells t w p q (Attach a) tick n items edge peer _ _ (told_by t w (Attach a)) (loads_kept t (Attach a) (Routes edge peer) refl refl items ∙ u.0) u.1 (in_routes edge peer (told_by t w (Attach a)))
-routes_go t w p q (Detach a) tick n items edge peer order full u = tells t w p q (Detach a) tick n items edge peer _ _ (told_by t w (Detach a)) (loads_kept t (Detach a) (Routes edge peer) refl refl items ∙ u.0) u.1 (in_routes edge peer (told_by t w (Detach a)))
-routes_go t w p q s tick n items edge peer order full u = quiet t w p q s tick n items (Routes edge peer) refl refl (made_routes t w (after t w s) p q s edge peer) ∙ u.0
+routes_go t w p q (AddRoute a b) tick n items edge peer order full u =
+    tells t w p q (AddRoute a b) tick n items edge peer _ _ (told_by t w (AddRoute a b)) (loads_kept t (AddRoute a b) (Routes edge peer) refl refl items
+    ∙ u.0) u.1 (in_routes edge peer (told_by t w (AddRoute a b)))
+routes_go t w p q (DelRoute a b) tick n items edge peer order full u =
+    tells t w p q (DelRoute a b) tick n items edge peer _ _ (told_by t w (DelRoute a b)) (loads_kept t (DelRoute a b) (Routes edge peer) refl refl items
+    ∙ u.0) u.1 (in_routes edge peer (told_by t w (DelRoute a b)))
+routes_go t w p q (Import v x on) tick n items edge peer order full u =
+    tells t w p q (Import v x on) tick n items edge peer _ _ (told_by t w (Import v x on)) (loads_kept t (Import v x on) (Routes edge peer) refl refl items
+    ∙ u.0) u.1 (in_routes edge peer (told_by t w (Import v x on)))
+routes_go t w p q (Export v x on) tick n items edge peer order full u =
+    tells t w p q (Export v x on) tick n items edge peer _ _ (told_by t w (Export v x on)) (loads_kept t (Export v x on) (Routes edge peer) refl refl items
+    ∙ u.0) u.1 (in_routes edge peer (told_by t w (Export v x on)))
+routes_go t w p q (Attach a) tick n items edge peer order full u =
+    tells t w p q (Attach a) tick n items edge peer _ _ (told_by t w (Attach a)) (loads_kept t (Attach a) (Routes edge peer) refl refl items ∙ u.0) u.1
+    (in_routes edge peer (told_by t w (Attach a)))
+routes_go t w p q (Detach a) tick n items edge peer order full u =
+    tells t w p q (Detach a) tick n items edge peer _ _ (told_by t w (Detach a)) (loads_kept t (Detach a) (Routes edge peer) refl refl items ∙ u.0) u.1
+    (in_routes edge peer (told_by t w (Detach a)))
+routes_go t w p q s tick n items edge peer order full u =
+    quiet t w p q s tick n items (Routes edge peer) refl refl (made_routes t w (after t w s) p q s edge peer) ∙ u.0
 
 -- 7. Numbers
 
@@ -484,7 +598,8 @@ from_join : (base : ℕ) (xs ys : List Item) → AreFrom base xs → AreFrom (ba
 unfolding AreFrom
 from_join base [] ys h g place item e = omega (arith, g place item e)
 from_join base (x ∷ xs) ys h g zero item e = h zero item e
-from_join base (x ∷ xs) ys h g (suc place) item e = omega (arith, from_join (base + 1) xs ys (λ k i f. omega (arith, h (suc k) i f)) (λ k i f. omega (arith, g k i f)) place item e)
+from_join base (x ∷ xs) ys h g (suc place) item e =
+    omega (arith, from_join (base + 1) xs ys (λ k i f. omega (arith, h (suc k) i f)) (λ k i f. omega (arith, g k i f)) place item e)
 
 some_same : (x y : Item) → Some x ≡ Some y → x ≡ y
 some_same x y e = ap (λ o. elim o as (λ _. Item) [ None ↦ x | Some z ↦ z ]) e
@@ -502,14 +617,17 @@ pub length_numbered : (t : Network) (tick n : ℕ) (xs : List (Channel × Load))
 length_numbered t tick n [] = refl
 length_numbered t tick n (x ∷ xs) = ap suc (length_numbered t tick (n + 1) xs)
 
-numbers_go : (t : Network) (tick : ℕ) (made : List Item) (n : ℕ) (new : List (Channel × Load)) → n ≡ length made → AreNumbered made → AreNumbered (made ++ numbered t tick n new)
+numbers_go : (t : Network) (tick : ℕ) (made : List Item) (n : ℕ) (new : List (Channel × Load)) → n ≡ length made → AreNumbered made →
+    AreNumbered (made ++ numbered t tick n new)
 unfolding AreFrom
 numbers_go t tick made n new is h place item e =
-    omega (arith, from_join 0 made (numbered t tick n new) (λ k i f. omega (arith, h k i f)) (λ k i f. omega (arith, is, from_numbered t tick n new k i f)) place item e)
+    omega (arith, from_join 0 made (numbered t tick n new) (λ k i f. omega (arith, h k i f))
+        (λ k i f. omega (arith, is, from_numbered t tick n new k i f)) place item e)
 
 -- 8. One step, and a journal
 
-order_go : (t : Network) (s : Step) (tick n : ℕ) (new : List (Channel × Load)) (items made : List Item) (on : Channel) → is_in_order on ≡ true → AreLastOf (items_on on items) (items_on on made)
+order_go : (t : Network) (s : Step) (tick n : ℕ) (new : List (Channel × Load)) (items made : List Item) (on : Channel) → is_in_order on ≡ true →
+    AreLastOf (items_on on items) (items_on on made)
     → AreLastOf (items_on on (left_in_flight t s items ++ numbered t tick n new)) (items_on on (made ++ numbered t tick n new))
 order_go t s tick n new items made on i h =
     let rest = left_last t s on i items in
@@ -528,9 +646,11 @@ in_without on zero (y ∷ ys) x i = one_out (same_channel on y.on) (in_without o
     one_out : (b : Bool) → (In (without on 0 ys) x → In ys x) → In (cond b ys (y ∷ without on 0 ys)) x → In (y ∷ ys) x
     one_out true more j = inr j
     one_out false more j = elim j [ inl e ↦ inl e | inr k ↦ inr (more k) ]
-in_without on (suc n) (y ∷ ys) x i = elim i [ inl e ↦ inl e | inr j ↦ inr (later_out (same_channel on y.on) (in_without on n ys x) (in_without on (suc n) ys x) j) ]
+in_without on (suc n) (y ∷ ys) x i =
+    elim i [ inl e ↦ inl e | inr j ↦ inr (later_out (same_channel on y.on) (in_without on n ys x) (in_without on (suc n) ys x) j) ]
   where
-    later_out : (b : Bool) → (In (without on n ys) x → In ys x) → (In (without on (suc n) ys) x → In ys x) → In (cond b (without on n ys) (without on (suc n) ys)) x → In ys x
+    later_out : (b : Bool) → (In (without on n ys) x → In ys x) →
+        (In (without on (suc n) ys) x → In ys x) → In (cond b (without on n ys) (without on (suc n) ys)) x → In ys x
     later_out true one more j = one j
     later_out false one more j = more j
 
@@ -547,16 +667,19 @@ in_left t (BgpUp a b) items x i = (in_filter (λ item. not (is_between a.0 b.0 i
 in_left t (BgpDown a b) items x i = (in_filter (λ item. not (is_between a.0 b.0 item.on)) items x i).0
 in_left t _ items x i = i
 
-among_go : (t : Network) (s : Step) (items made new : List Item) → ((x : Item) → Contains items x → Contains made x) → (x : Item) → Contains (left_in_flight t s items ++ new) x → Contains (made ++ new) x
+among_go : (t : Network) (s : Step) (items made new : List Item) → ((x : Item) → Contains items x → Contains made x) →
+    (x : Item) → Contains (left_in_flight t s items ++ new) x → Contains (made ++ new) x
 among_go t s items made new h x c = elim (in_append (left_in_flight t s items) new x (in_contained (left_in_flight t s items ++ new) x c)) [
   | inl i ↦ contained_in (made ++ new) x (in_front made new x (in_contained made x (h x (contained_in items x (in_left t s items x i)))))
   | inr i ↦ contained_in (made ++ new) x (in_rest made new x i)
 ]
 
-made_frames : (t : Network) (w v : World) (p q : Packets) (s : Step) (l : ℕ) (d : Dir) → loads_in (Frames l d) (made_in t w v p q s) ≡ loads_in (Frames l d) (frames_in p q s)
+made_frames : (t : Network) (w v : World) (p q : Packets) (s : Step) (l : ℕ) (d : Dir) →
+    loads_in (Frames l d) (made_in t w v p q s) ≡ loads_in (Frames l d) (frames_in p q s)
 made_frames t w v p q s l d =
     parts (Frames l d) (notices_in t s) (messages_in t w v s) (routes_in t w v s) (frames_in p q s)
-    ∙ ap (λ r. r ++ (loads_in (Frames l d) (messages_in t w v s) ++ (loads_in (Frames l d) (routes_in t w v s) ++ loads_in (Frames l d) (frames_in p q s)))) (no_frame_notices s)
+    ∙ ap (λ r. r ++ (loads_in (Frames l d) (messages_in t w v s) ++ (loads_in (Frames l d) (routes_in t w v s) ++ loads_in (Frames l d) (frames_in p q s))))
+        (no_frame_notices s)
     ∙ ap (λ r. r ++ (loads_in (Frames l d) (routes_in t w v s) ++ loads_in (Frames l d) (frames_in p q s))) (no_messages (Frames l d) (λ x. refl) t w v s)
     ∙ ap (λ r. r ++ loads_in (Frames l d) (frames_in p q s)) (no_routes (Frames l d) (λ x. refl) t w v s)
   where
@@ -565,7 +688,8 @@ made_frames t w v p q s l d =
     no_frame_notices (LinkDown at) = none_of (Frames l d) (λ n. (Notices at.0 n, Notice)) (λ n. refl) (nodes_of (wiring_of t))
     no_frame_notices _ = refl
 
-flows_step : (t : Network) → EndsDiffer (wiring_of t) → (w : World) (p : Packets) (s : Step) (b : List ℕ) (tick count : ℕ) → fits t s ≡ true → is_empty t w p s ≡ false → IsInTurn t w → AreInOnePlace p count → (made : List Item) (flight : Flight) → IsInFlight t w p made flight
+flows_step : (t : Network) → EndsDiffer (wiring_of t) → (w : World) (p : Packets) (s : Step) (b : List ℕ) (tick count : ℕ) → fits t s ≡ true →
+    is_empty t w p s ≡ false → IsInTurn t w → AreInOnePlace p count → (made : List Item) (flight : Flight) → IsInFlight t w p made flight
     → (let later : Packets = packets_after t (after t w s) p s b in
     let new : List (Channel × Load) = made_in t w (after t w s) p later s in
     IsInFlight t (after t w s) later (made ++ numbered t tick flight.made new) (with_made t tick new s flight))
@@ -581,25 +705,34 @@ flows_step t differ w p s b tick count fit full g one made flight f =
       messages = λ l node below at_end.
           let other = across-end (wiring_of t) l node (differ l below) at_end in
           messages_go t w p q s tick flight.made flight.items l node differ (link_there t s fit) below at_end full
-          (subst (λ n. w.sessions.heard l (across (wiring_of t) l node) ≤ length (w.sessions.said l n)) other.1 (g.ldp l (across (wiring_of t) l node) below other.0).heard) (f.messages l node below at_end);
-      routes = λ edge peer d. routes_go t w p q s tick flight.made flight.items edge peer (in_order t s fit) full (f.routes edge peer d, (g.bgp peer edge (λ e. d (sym e))).heard);
+          (subst (λ n. w.sessions.heard l (across (wiring_of t) l node) ≤ length (w.sessions.said l n)) other.1
+              (g.ldp l (across (wiring_of t) l node) below other.0).heard) (f.messages l node below at_end);
+      routes = λ edge peer d. routes_go t w p q s tick flight.made flight.items edge peer (in_order t s fit) full
+          (f.routes edge peer d, (g.bgp peer edge (λ e. d (sym e))).heard);
       frames = λ l dir.
-          later_loads t w p q s tick flight.made flight.items (Frames l dir) ∙ ap (λ r. loads_on (Frames l dir) (left_in_flight t s flight.items) ++ r) (made_frames t w (after t w s) p q s l dir)
+          later_loads t w p q s tick flight.made flight.items (Frames l dir)
+              ∙ ap (λ r. loads_on (Frames l dir) (left_in_flight t s flight.items) ++ r) (made_frames t w (after t w s) p q s l dir)
           ∙ frames_go t (after t w s) p s b flight.items count l dir one f.frames;
     }
 
-flows_on : (t : Network) → Apart t → JoinsNodes (wiring_of t) → EndsDiffer (wiring_of t) → (es : List JournalEntry) (tick : ℕ) (w : World) (k : Packets) (i count : ℕ) (ps : List (List ℕ)) → IsLawfulFrom t tick w k i es ps → IsInTurn t w → AreInOnePlace k count
-    → (made : List Item) (flight : Flight) → IsInFlight t w k made flight → IsInFlight t (world_from t w es) (packets_from t w k es ps) (made ++ made_from t w k flight.made es ps) (flight_from t w k flight es ps)
+flows_on : (t : Network) → Apart t → JoinsNodes (wiring_of t) → EndsDiffer (wiring_of t) →
+    (es : List JournalEntry) (tick : ℕ) (w : World) (k : Packets) (i count : ℕ) (ps : List (List ℕ)) → IsLawfulFrom t tick w k i es ps → IsInTurn t w →
+    AreInOnePlace k count
+    → (made : List Item) (flight : Flight) → IsInFlight t w k made flight →
+        IsInFlight t (world_from t w es) (packets_from t w k es ps) (made ++ made_from t w k flight.made es ps) (flight_from t w k flight es ps)
 flows_on t distinct joins differ [] tick w k i count ps lawful g one made flight f = subst (λ m. IsInFlight t w k m flight) (sym (append-nil made)) f
 flows_on t distinct joins differ (e ∷ es) tick w k i count ps lawful g one made flight f =
     let later : World = after t w e.step in
     let packets : Packets = packets_after t later k e.step (next_of ps) in
     let new : List (Channel × Load) = made_in t w later k packets e.step in
     let full : is_empty t w k e.step ≡ false = not_empty t w k i e.step (next_of ps) lawful.2 in
-    subst (λ m. IsInFlight t (world_from t later es) (packets_from t later packets es (left_by e.step ps)) m (flight_from t later packets (with_made t e.tick new e.step flight) es (left_by e.step ps)))
+    subst (λ m. IsInFlight t (world_from t later es) (packets_from t later packets es (left_by e.step ps)) m
+        (flight_from t later packets (with_made t e.tick new e.step flight) es (left_by e.step ps)))
     (append_assoc made (numbered t e.tick flight.made new) (made_from t later packets (flight.made + length new) es (left_by e.step ps)))
-    (flows_on t distinct joins differ es e.tick later packets (i + 1) (one_if (injects e.step) + count) (left_by e.step ps) lawful.3 (goes_step t distinct joins differ w k e.step lawful.0 full g) (stepped t later k e.step (next_of ps) count one)
-    (made ++ numbered t e.tick flight.made new) (with_made t e.tick new e.step flight) (flows_step t differ w k e.step (next_of ps) e.tick count lawful.0 full g one made flight f))
+    (flows_on t distinct joins differ es e.tick later packets (i + 1) (one_if (injects e.step) + count) (left_by e.step ps) lawful.3
+        (goes_step t distinct joins differ w k e.step lawful.0 full g) (stepped t later k e.step (next_of ps) count one)
+    (made ++ numbered t e.tick flight.made new) (with_made t e.tick new e.step flight)
+        (flows_step t differ w k e.step (next_of ps) e.tick count lawful.0 full g one made flight f))
 
 nothing_flies : (t : Network) → IsInFlight t (start t) no_packets [] (record { made = 0; items = [] })
 nothing_flies t = record {
@@ -616,6 +749,8 @@ nothing_flies t = record {
     clash : (item : Item) → None ≡ Some item → ⊥
     clash item e = cc
 
-pub in_flight : (t : Network) (es : List JournalEntry) (ps : List (List ℕ)) → IsLawful t → IsLawfulJournal t es ps → IsInFlight t (world_of t es) (packets_of t es ps) (made_by t es ps) (flight_of t es ps)
+pub in_flight : (t : Network) (es : List JournalEntry) (ps : List (List ℕ)) → IsLawful t → IsLawfulJournal t es ps →
+    IsInFlight t (world_of t es) (packets_of t es ps) (made_by t es ps) (flight_of t es ps)
 in_flight t es ps lawful journal =
-    flows_on t (loopbacks_apart t lawful) lawful.joins_nodes lawful.ends_differ es 0 (start t) no_packets 0 0 ps journal (begins t) (record { places = λ j c. refl; verdicts = refl; paths = refl }) [] (record { made = 0; items = [] }) (nothing_flies t)
+    flows_on t (loopbacks_apart t lawful) lawful.joins_nodes lawful.ends_differ es 0 (start t) no_packets 0 0 ps journal (begins t) (record { places =
+        λ j c. refl; verdicts = refl; paths = refl }) [] (record { made = 0; items = [] }) (nothing_flies t)

@@ -76,19 +76,23 @@ Learned v = (node l : ℕ) → v.learned node l ≤ v.changes l
 
 turn_kept : (v : Views) (at : ℕ) → Learned v → Learned (record v { changes = put v.changes at (v.changes at + 1) })
 turn_kept v at h node l = elim (eqb_tells l at) [
-  | inl p ↦ subst (λ x. v.learned node l ≤ x) (sym (ap (put v.changes at (v.changes at + 1)) p.1 ∙ put_here v.changes at (v.changes at + 1))) (more (subst (λ x. v.learned node l ≤ v.changes x) p.1 (h node l)))
+  | inl p ↦ subst (λ x. v.learned node l ≤ x) (sym (ap (put v.changes at (v.changes at + 1)) p.1 ∙ put_here v.changes at (v.changes at + 1)))
+      (more (subst (λ x. v.learned node l ≤ v.changes x) p.1 (h node l)))
   | inr p ↦ subst (λ x. v.learned node l ≤ x) (sym (put_off v.changes at (v.changes at + 1) l p.1)) (h node l)
 ]
   where
     more : v.learned node l ≤ v.changes at → v.learned node l ≤ v.changes at + 1
     more g = omega (arith, g)
 
-learn_kept : (v : Views) (who at : ℕ) → v.learned who at < v.changes at → Learned v → Learned (record v { learned = put_pair v.learned who at (v.learned who at + 1) })
+learn_kept : (v : Views) (who at : ℕ) → v.learned who at < v.changes at → Learned v →
+    Learned (record v { learned = put_pair v.learned who at (v.learned who at + 1) })
 learn_kept v who at less h node l = elim (eqb_tells node who) [
   | inr p ↦ subst (λ x. x ≤ v.changes l) (sym (pair_off v.learned who at (v.learned who at + 1) node l (inl p.1))) (h node l)
   | inl p ↦ elim (eqb_tells l at) [
     | inr q ↦ subst (λ x. x ≤ v.changes l) (sym (pair_off v.learned who at (v.learned who at + 1) node l (inr q.1))) (h node l)
-    | inl q ↦ subst (λ x. x ≤ v.changes l) (sym (ap (λ x. put_pair v.learned who at (v.learned who at + 1) x l) p.1 ∙ ap (put_pair v.learned who at (v.learned who at + 1) who) q.1 ∙ pair_here v.learned who at (v.learned who at + 1))) (subst (λ x. v.learned who at + 1 ≤ v.changes x) (sym q.1) (reach less))
+    | inl q ↦ subst (λ x. x ≤ v.changes l)
+        (sym (ap (λ x. put_pair v.learned who at (v.learned who at + 1) x l) p.1 ∙ ap (put_pair v.learned who at (v.learned who at + 1) who) q.1
+        ∙ pair_here v.learned who at (v.learned who at + 1))) (subst (λ x. v.learned who at + 1 ≤ v.changes x) (sym q.1) (reach less))
   ]
 ]
   where
@@ -103,14 +107,17 @@ learned_go t w k _ full h = h
 
 -- 3. Over a journal
 
-pub goes_step : (t : Network) → Apart t → JoinsNodes (wiring_of t) → EndsDiffer (wiring_of t) → (w : World) (k : Packets) (s : Step) → fits t s ≡ true → is_empty t w k s ≡ false → IsInTurn t w → IsInTurn t (after t w s)
+pub goes_step : (t : Network) → Apart t → JoinsNodes (wiring_of t) → EndsDiffer (wiring_of t) →
+    (w : World) (k : Packets) (s : Step) → fits t s ≡ true → is_empty t w k s ≡ false → IsInTurn t w → IsInTurn t (after t w s)
 goes_step t apart joins differ w k s fit full g = record {
   ldp = sessions_go t w k s apart joins differ (link_there t s fit) full g.ldp;
   bgp = peers_go t w k s (in_order t s fit) full g.bgp;
   learned = learned_go t w k s full g.learned;
 }
 
-goes_on : (t : Network) → Apart t → JoinsNodes (wiring_of t) → EndsDiffer (wiring_of t) → (es : List JournalEntry) (tick : ℕ) (w : World) (k : Packets) (i : ℕ) (ps : List (List ℕ)) → IsLawfulFrom t tick w k i es ps → IsInTurn t w → IsInTurn t (world_from t w es)
+goes_on : (t : Network) → Apart t → JoinsNodes (wiring_of t) → EndsDiffer (wiring_of t) →
+    (es : List JournalEntry) (tick : ℕ) (w : World) (k : Packets) (i : ℕ) (ps : List (List ℕ)) → IsLawfulFrom t tick w k i es ps → IsInTurn t w →
+    IsInTurn t (world_from t w es)
 goes_on t apart joins differ [] tick w k i ps lawful g = g
 goes_on t apart joins differ (e ∷ es) tick w k i ps lawful g =
     goes_on t apart joins differ es e.tick (after t w e.step) (packets_after t (after t w e.step) k e.step (next_of ps)) (i + 1) (left_by e.step ps) lawful.3
@@ -124,7 +131,9 @@ begins t = record {
 }
   where
     never : (edge peer : ℕ) → peers_live (start t).config edge peer ≡ true → ⊥
-    never edge peer on = elim (leb_tells (suc edge) peer) [ inl p ↦ no (sym (ap (λ b. cond b false false) p.0) ∙ on) | inr p ↦ no (sym (ap (λ b. cond b false false) p.0) ∙ on) ]
+    never edge peer on =
+        elim (leb_tells (suc edge) peer) [ inl p ↦ no (sym (ap (λ b. cond b false false) p.0) ∙ on) | inr p ↦ no
+        (sym (ap (λ b. cond b false false) p.0) ∙ on) ]
 
 pub in_turn : (t : Network) (es : List JournalEntry) (ps : List (List ℕ)) → IsLawful t → IsLawfulJournal t es ps → IsInTurn t (world_of t es)
 in_turn t es ps lawful journal = goes_on t (loopbacks_apart t lawful) lawful.joins_nodes lawful.ends_differ es 0 (start t) no_packets 0 ps journal (begins t)
@@ -133,10 +142,16 @@ pub rows : (t : Network) (w : World) → IsLawful t → IsInTurn t w → HasRows
 rows t w lawful turn = record {
   ldp = λ l node below at_end alive more.
       let other = across-end (wiring_of t) l node (lawful.ends_differ l below) at_end in
-      nth-row (is_active t l node) (w.sessions.heard l node) _ (talk-nth (is_active t l (across (wiring_of t) l node)) (w.sessions.heard l (across (wiring_of t) l node)) (w.sessions.said l (across (wiring_of t) l node)) (w.sessions.heard l node) ((turn.ldp l (across (wiring_of t) l node) below other.0).talk alive) more);
+      nth-row (is_active t l node) (w.sessions.heard l node) _
+          (talk-nth (is_active t l (across (wiring_of t) l node)) (w.sessions.heard l (across (wiring_of t) l node))
+          (w.sessions.said l (across (wiring_of t) l node)) (w.sessions.heard l node)
+          ((turn.ldp l (across (wiring_of t) l node) below other.0).talk alive) more);
   bgp = λ edge peer d alive more.
-      subst (λ st. has_bgp_row st (slice_index_or (w.peerings.told peer edge) (w.peerings.heard edge peer) Open) ≡ true) (sym (state_alive w.config w.peerings edge peer alive))
-      (peer-row (w.peerings.heard edge peer) _ (peer-nth (w.peerings.heard peer edge) (w.peerings.told peer edge) (w.peerings.heard edge peer) ((turn.bgp peer edge (λ e. d (sym e))).talk (live_back edge peer d alive)) more));
+      subst (λ st. has_bgp_row st (slice_index_or (w.peerings.told peer edge) (w.peerings.heard edge peer) Open) ≡ true)
+          (sym (state_alive w.config w.peerings edge peer alive))
+      (peer-row (w.peerings.heard edge peer) _
+          (peer-nth (w.peerings.heard peer edge) (w.peerings.told peer edge) (w.peerings.heard edge peer)
+          ((turn.bgp peer edge (λ e. d (sym e))).talk (live_back edge peer d alive)) more));
 }
   where
     live_back : (edge peer : ℕ) → edge ≢ peer → peers_live w.config edge peer ≡ true → peers_live w.config peer edge ≡ true

@@ -1,5 +1,3 @@
-pub mod Longest
-pub mod Accounted
 pub mod TwoLinks
 pub mod MoreRuns
 pub mod OnePlace
@@ -13,6 +11,7 @@ pub mod InTurn
 pub mod Quiet
 pub mod Nearer
 pub mod Channels
+pub mod Directions
 pub mod Flows
 pub mod Members
 pub mod Statics

@@ -23,7 +23,8 @@ positive (x ∷ xs) (suc l) d all h = positive xs l d (and_right _ _ all) (omega
 one_least : (w : Wiring) (view : View) (from to a b : ℕ) → IsLeast w view from to a → IsLeast w view from to b → a ≤ b
 one_least w view from to a b x y = subst (λ n. a ≤ n) y.walk.2 (x.least y.walk.0 y.walk.1)
 
-nearer_by : (w : Wiring) (view : View) (from to d : ℕ) (hop : ℕ × ℕ) → ((l : ℕ) → l < length w.ends → 1 ≤ (link w l).cost) → IsNext w view from to (Some hop) → IsLeast w view from to d → IsNearer w view hop.0 to d
+nearer_by : (w : Wiring) (view : View) (from to d : ℕ) (hop : ℕ × ℕ) →
+    ((l : ℕ) → l < length w.ends → 1 ≤ (link w l).cost) → IsNext w view from to (Some hop) → IsLeast w view from to d → IsNearer w view hop.0 to d
 nearer_by w view from to d hop costs n least =
     let whole : (link w hop.1).cost + n.1.rest ≤ d = one_least w view from to ((link w hop.1).cost + n.1.rest) d n.1.whole least in
     record {
@@ -32,7 +33,8 @@ nearer_by w view from to d hop costs n least =
       is_less = omega (arith, whole, costs hop.1 n.1.there);
     }
 
-pub nearer : (t : Network) (view : View) (from to d : ℕ) (hop : ℕ × ℕ) → IsLawful t → from < length t.loopbacks → from ≢ to → next (wiring_of t) view from to ≡ Some hop → IsLeast (wiring_of t) view from to d → IsNearer (wiring_of t) view hop.0 to d
+pub nearer : (t : Network) (view : View) (from to d : ℕ) (hop : ℕ × ℕ) → IsLawful t → from < length t.loopbacks → from ≢ to →
+    next (wiring_of t) view from to ≡ Some hop → IsLeast (wiring_of t) view from to d → IsNearer (wiring_of t) view hop.0 to d
 nearer t view from to d hop lawful h apart is least =
     nearer_by (wiring_of t) view from to d hop (λ l g. positive t.links l _ lawful.links.figures g)
     (subst (IsNext (wiring_of t) view from to) is (next_is (wiring_of t) view to lawful.joins_nodes from h apart)) least

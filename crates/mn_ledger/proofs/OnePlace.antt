@@ -1,5 +1,6 @@
 -- Each step keeps each packet in one place.
-use Rattle.std.proofs.Common.{ℕ, zero, suc, ◌≡◌, ◌≢◌, ◌+◌, ◌-◌, ◌<◌, ◌≤◌, Bool, true, false, cond, List, [], ◌∷◌, ◌++◌, length, get_or, refl, arith, sym, ◌∙◌, ap, inl, inr, subst}
+use Rattle.std.proofs.Common.{ℕ, zero, suc, ◌≡◌, ◌≢◌, ◌+◌, ◌-◌, ◌<◌, ◌≤◌, Bool, true, false, cond, List, [], ◌∷◌, ◌++◌, length, get_or, refl, arith, sym}
+use Rattle.std.proofs.Common.{◌∙◌, ap, inl, inr, subst}
 use Rattle.std.specs.Prelude.{◌==◌, Option, Some, None, slice_get, nat_le}
 use Rattle.std.proofs.lemmas.List.{length-set, length_push}
 use Rattle.std.proofs.lemmas.Grind.{common_steps}
@@ -20,7 +21,9 @@ use Rattle.mn_ledger.specs.Places.{home_of}
 use Rattle.mn_ledger.specs.World.{World}
 use Rattle.mn_ledger.specs.Transport.{usable}
 use Rattle.mn_ledger.specs.Vpn.{HeldRoute, best, held}
-use Rattle.mn_ledger.specs.Packets.{Token, Packets, channel, flying_on, away_from, judged, drop_at, visited, deliver, hop_over, entry_rules, bound, route_by, enter_by, one_more, without_place, taken, is_attachment, leave, arrive, carry, lose, cut_each, before_step, moved, packets_after}
+use Rattle.mn_ledger.specs.Packets.{Token, Packets, channel, flying_on, away_from, judged, drop_at, visited, deliver, hop_over, entry_rules, bound}
+use Rattle.mn_ledger.specs.Packets.{route_by, enter_by, one_more, without_place, taken, is_attachment, leave, arrive, carry, lose, cut_each, before_step}
+use Rattle.mn_ledger.specs.Packets.{moved, packets_after}
 use Rattle.mn_ledger.specs.Verdicts.{one_if, injections, times_in, times_by, verdict_on, AreInOnePlace}
 use Rattle.mn_ledger.specs.Ledger.{packets_from, packets_of, after, start, no_packets, next_of, left_by, injects}
 
@@ -33,12 +36,13 @@ times-append : (j : ℕ) (ks : List Token) (k : Token) → times_in j (ks ++ k �
 times-append j [] k = omega arith
 times-append j (x ∷ xs) k = omega (arith, times-append j xs k)
 
-times-without : (j : ℕ) (ks : List Token) (n : ℕ) (k : Token) → slice_get ks n ≡ Some k → times_in j ks ≡ times_in j (without_place n ks) + one_if (k.packet == j)
+times-without : (j : ℕ) (ks : List Token) (n : ℕ) (k : Token) → slice_get ks n ≡ Some k →
+    times_in j ks ≡ times_in j (without_place n ks) + one_if (k.packet == j)
 times-without j [] n k h = cc
 times-without j (x ∷ xs) zero k h = let e : x ≡ k = cc in rw e (omega arith)
 times-without j (x ∷ xs) (suc n) k h = omega (arith, times-without j xs n k h)
 
-one_same : (n : ℕ) → one_if (n == n) ≡ 1
+pub one_same : (n : ℕ) → one_if (n == n) ≡ 1
 one_same n = grind (arith, common_steps)
 
 one_other : (m n : ℕ) → m ≢ n → one_if (m == n) ≡ 0
@@ -73,7 +77,8 @@ judged_on w p v j h = grind (arith, common_steps, h)
 judged_count : (w : Packets) (p : ℕ) (v : Verdict) → length (judged w p v).verdicts ≡ length w.verdicts
 judged_count w p v = length-set w.verdicts p v
 
-settled_places : (w : Packets) (p count : ℕ) (v : Verdict) → Loose w p count → ((c : ℕ) → times_by v c ≡ 0) → (j c : ℕ) → times_in j (w.flying c) ≡ times_by (verdict_on (judged w p v) j) c
+settled_places : (w : Packets) (p count : ℕ) (v : Verdict) → Loose w p count → ((c : ℕ) → times_by v c ≡ 0) →
+    (j c : ℕ) → times_in j (w.flying c) ≡ times_by (verdict_on (judged w p v) j) c
 settled_places w p count v k z j c =
     rw (judged_on w p v j k.within)
     (elim (eqb_tells j p) [
@@ -84,14 +89,17 @@ settled_places w p count v k z j c =
 settle : (w : Packets) (p count : ℕ) (v : Verdict) → Loose w p count → ((c : ℕ) → times_by v c ≡ 0) → AreInOnePlace (judged w p v) count
 settle w p count v k z = record { places = settled_places w p count v k z; verdicts = judged_count w p v ∙ k.verdicts; paths = k.paths }
 
-times-put : (f : ℕ → List Token) (c : ℕ) (ks : List Token) (j b x : ℕ) → (b ≡ c → times_in j ks ≡ x) → (b ≢ c → times_in j (f b) ≡ x) → times_in j (put f c ks b) ≡ x
+times-put : (f : ℕ → List Token) (c : ℕ) (ks : List Token) (j b x : ℕ) → (b ≡ c → times_in j ks ≡ x) →
+    (b ≢ c → times_in j (f b) ≡ x) → times_in j (put f c ks b) ≡ x
 times-put f c ks j b x g h = elim (eqb_tells b c) [ inl q ↦ rw q.0 (g q.1) | inr q ↦ rw q.0 (h q.1) ]
 
 past : (w : Packets) (j : ℕ) → length w.verdicts ≤ j → verdict_on w j ≡ Delivered (record { 0 = 0 }) 0 0
 past w j h = grind (arith, common_steps, h)
 
 flown_places : (w : Packets) (p count : ℕ) (tok : Token) (l : ℕ) (d : Dir) → Loose w p count → tok.packet ≡ p →
-    (j c : ℕ) → times_in j (put w.flying (channel l d) (w.flying (channel l d) ++ tok ∷ []) c) ≡ times_by (verdict_on (judged w p (Flying (record { 0 = l }) d)) j) c
+    (j c : ℕ) →
+        times_in j (put w.flying (channel l d) (w.flying (channel l d) ++ tok ∷ []) c) ≡ times_by
+        (verdict_on (judged w p (Flying (record { 0 = l }) d)) j) c
 flown_places w p count tok l d k e j c =
     rw (judged_on w p (Flying (record { 0 = l }) d) j k.within)
     (elim (eqb_tells j p) [
@@ -103,12 +111,16 @@ flown_places w p count tok l d k e j c =
           (λ r. k.others j c q.1))
     ])
 
-fly : (w : Packets) (p count : ℕ) (tok : Token) (l : ℕ) (d : Dir) → Loose w p count → tok.packet ≡ p → AreInOnePlace (record (judged w p (Flying (record { 0 = l }) d)) { flying = put w.flying (channel l d) (w.flying (channel l d) ++ tok ∷ []) }) count
-fly w p count tok l d k e = record { places = flown_places w p count tok l d k e; verdicts = judged_count w p (Flying (record { 0 = l }) d) ∙ k.verdicts; paths = k.paths }
+fly : (w : Packets) (p count : ℕ) (tok : Token) (l : ℕ) (d : Dir) → Loose w p count → tok.packet ≡ p →
+    AreInOnePlace (record (judged w p (Flying (record { 0 = l }) d)) { flying = put w.flying (channel l d) (w.flying (channel l d) ++ tok ∷ []) }) count
+fly w p count tok l d k e =
+    record { places = flown_places w p count tok l d k e; verdicts = judged_count w p (Flying (record { 0 = l }) d) ∙ k.verdicts; paths = k.paths }
 
-pub loosen : (w : Packets) (c n count : ℕ) (k : Token) → AreInOnePlace w count → slice_get (w.flying c) n ≡ Some k → Loose (record w { flying = put w.flying c (without_place n (w.flying c)) }) k.packet count
+pub loosen : (w : Packets) (c n count : ℕ) (k : Token) → AreInOnePlace w count → slice_get (w.flying c) n ≡ Some k →
+    Loose (record w { flying = put w.flying c (without_place n (w.flying c)) }) k.packet count
 loosen w c n count k h e =
-    let gone : times_in k.packet (w.flying c) ≡ times_in k.packet (without_place n (w.flying c)) + 1 = times-without k.packet (w.flying c) n k e ∙ ap (λ x. times_in k.packet (without_place n (w.flying c)) + x) (one_same k.packet) in
+    let gone : times_in k.packet (w.flying c) ≡ times_in k.packet (without_place n (w.flying c)) + 1 =
+        times-without k.packet (w.flying c) n k e ∙ ap (λ x. times_in k.packet (without_place n (w.flying c)) + x) (one_same k.packet) in
     let there : 1 ≤ times_by (verdict_on w k.packet) c = omega (arith, gone, h.places k.packet c) in
     record {
       others = λ j b q. times-put w.flying c _ j b _
@@ -146,21 +158,27 @@ delivered w p count s ttl b k =
     let h = settle w p count (Delivered (record { 0 = s }) ttl (w.copies + 1)) k (λ c. refl) in
     record { places = h.places; verdicts = h.verdicts; paths = h.paths }
 
-hopped : (t : Network) (w : Packets) (k : Token) (count x : ℕ) (r : Rule) (o : Option (ℕ × ℕ)) → Loose w k.packet count → AreInOnePlace (hop_over t w k x r o) count
+hopped : (t : Network) (w : Packets) (k : Token) (count x : ℕ) (r : Rule) (o : Option (ℕ × ℕ)) → Loose w k.packet count →
+    AreInOnePlace (hop_over t w k x r o) count
 hopped t w k count x r None l = dropped w k.packet count r x l
 hopped t w k count x r (Some h) l = fly w k.packet count k h.1 (away_from t h.1 x) l refl
 
-routed : (t : Network) (v : World) (w : Packets) (j count : ℕ) (b : List ℕ) (e : ℕ) (o : Option HeldRoute) → Loose w j count → AreInOnePlace (route_by t v w j b e o) count
+routed : (t : Network) (v : World) (w : Packets) (j count : ℕ) (b : List ℕ) (e : ℕ) (o : Option HeldRoute) → Loose w j count →
+    AreInOnePlace (route_by t v w j b e o) count
 routed t v w j count b e None l = dropped w j count rule.NoRoute e l
 routed t v w j count b e (Some route) l =
-    arms (λ x. AreInOnePlace x count) (route.edge == e) _ _ (delivered w j count route.site _ b l) (hopped t w (bound j route b) count e rule.NoLsp (usable t v.config v.views v.sessions e route.edge) l)
+    arms (λ x. AreInOnePlace x count) (route.edge == e) _ _ (delivered w j count route.site _ b l)
+        (hopped t w (bound j route b) count e rule.NoLsp (usable t v.config v.views v.sessions e route.edge) l)
 
-entered : (t : Network) (v : World) (w : Packets) (j count : ℕ) (b : List ℕ) (e vrf : ℕ) (o : Option Rule) → Loose w j count → AreInOnePlace (enter_by t v w j b e vrf o) count
+entered : (t : Network) (v : World) (w : Packets) (j count : ℕ) (b : List ℕ) (e vrf : ℕ) (o : Option Rule) → Loose w j count →
+    AreInOnePlace (enter_by t v w j b e vrf o) count
 entered t v w j count b e vrf (Some cause) l = dropped w j count cause e l
 entered t v w j count b e vrf None l = routed t v w j count b e (best (held t v.config v.peerings e vrf) (destination_of b)) l
 
 left : (v : World) (w : Packets) (k : Token) (count y : ℕ) → Loose w k.packet count → AreInOnePlace (leave v w k y) count
-left v w k count y l = arms (λ x. AreInOnePlace x count) (is_attachment (v.config.attached k.site) k.attachment) _ _ (delivered w k.packet count k.site _ k.bytes l) (dropped w k.packet count rule.SiteGone y l)
+left v w k count y l =
+    arms (λ x. AreInOnePlace x count) (is_attachment (v.config.attached k.site) k.attachment) _ _ (delivered w k.packet count k.site _ k.bytes l)
+    (dropped w k.packet count rule.SiteGone y l)
 
 arrived : (t : Network) (v : World) (w : Packets) (k : Token) (count y : ℕ) → Loose w k.packet count → AreInOnePlace (arrive t v w k y) count
 arrived t v w k count y l =
@@ -186,11 +204,13 @@ untaken w l d n count h e = record {
   paths = h.paths;
 }
 
-carried : (t : Network) (v : World) (w : Packets) (l : ℕ) (d : Dir) (n count y : ℕ) (o : Option Token) → slice_get (flying_on w l d) n ≡ o → AreInOnePlace w count → AreInOnePlace (carry t v (taken w l d n) y o) count
+carried : (t : Network) (v : World) (w : Packets) (l : ℕ) (d : Dir) (n count y : ℕ) (o : Option Token) → slice_get (flying_on w l d) n ≡ o →
+    AreInOnePlace w count → AreInOnePlace (carry t v (taken w l d n) y o) count
 carried t v w l d n count y None e h = untaken w l d n count h e
 carried t v w l d n count y (Some k) e h = arrived t v _ k count y (visit _ k.packet k.packet y count (loosen w (channel l d) n count k h e))
 
-lost : (w : Packets) (l : ℕ) (d : Dir) (n count y : ℕ) (o : Option Token) → slice_get (flying_on w l d) n ≡ o → AreInOnePlace w count → AreInOnePlace (lose (taken w l d n) y o) count
+lost : (w : Packets) (l : ℕ) (d : Dir) (n count y : ℕ) (o : Option Token) → slice_get (flying_on w l d) n ≡ o → AreInOnePlace w count →
+    AreInOnePlace (lose (taken w l d n) y o) count
 lost w l d n count y None e h = untaken w l d n count h e
 lost w l d n count y (Some k) e h = dropped _ k.packet count rule.Lost y (loosen w (channel l d) n count k h e)
 
@@ -202,7 +222,8 @@ cut_kept [] w c n count e h = h
 cut_kept (k ∷ ks) w c n count e h =
     let there : slice_get (w.flying c) 0 ≡ Some k = rw e refl in
     let l : Loose (record w { flying = put w.flying c ks }) k.packet count = rw e at (loosen w c 0 count k h there) in
-    cut_kept ks (drop_at (record w { flying = put w.flying c ks }) k.packet rule.LinkCut n) c n count (put_here w.flying c ks) (dropped (record w { flying = put w.flying c ks }) k.packet count rule.LinkCut n l)
+    cut_kept ks (drop_at (record w { flying = put w.flying c ks }) k.packet rule.LinkCut n) c n count (put_here w.flying c ks)
+        (dropped (record w { flying = put w.flying c ks }) k.packet count rule.LinkCut n l)
 
 pub unmarked : (w : Packets) (count : ℕ) → AreInOnePlace w count → AreInOnePlace (before_step w) count
 unmarked w count h = record { places = h.places; verdicts = h.verdicts; paths = h.paths }
@@ -211,21 +232,29 @@ unmarked w count h = record { places = h.places; verdicts = h.verdicts; paths = 
 none_more : (w : Packets) (count : ℕ) → AreInOnePlace w count → AreInOnePlace w (0 + count)
 none_more w count h = subst (AreInOnePlace w) (omega arith) h
 
-moved_kept : (t : Network) (v : World) (w : Packets) (s : Step) (b : List ℕ) (count : ℕ) → AreInOnePlace w count → AreInOnePlace (moved t v w s b) (one_if (injects s) + count)
-moved_kept t v w (Inject r n) b count h = entered t v _ (length w.verdicts) _ b _ _ (first_rule (entry_rules (v.config.attached r.0) b)) (fresh w count (home_of t r.0) h)
+moved_kept : (t : Network) (v : World) (w : Packets) (s : Step) (b : List ℕ) (count : ℕ) → AreInOnePlace w count →
+    AreInOnePlace (moved t v w s b) (one_if (injects s) + count)
+moved_kept t v w (Inject r n) b count h =
+    entered t v _ (length w.verdicts) _ b _ _ (first_rule (entry_rules (v.config.attached r.0) b)) (fresh w count (home_of t r.0) h)
 moved_kept t v w (Carry l d n) b count h = none_more _ _ (carried t v w l.0 d n count _ _ refl h)
 moved_kept t v w (Lose l d n) b count h = none_more _ _ (lost w l.0 d n count _ _ refl h)
 moved_kept t v w (LinkDown l) b count h = none_more _ _ (cut_kept _ _ _ _ count refl (cut_kept _ _ _ _ count refl h))
 moved_kept t v w _ b count h = none_more _ _ h
 
-pub stepped : (t : Network) (v : World) (w : Packets) (s : Step) (b : List ℕ) (count : ℕ) → AreInOnePlace w count → AreInOnePlace (packets_after t v w s b) (one_if (injects s) + count)
+pub stepped : (t : Network) (v : World) (w : Packets) (s : Step) (b : List ℕ) (count : ℕ) → AreInOnePlace w count →
+    AreInOnePlace (packets_after t v w s b) (one_if (injects s) + count)
 unfolding packets_after
 stepped t v w s b count h = moved_kept t v (before_step w) s b count (unmarked w count h)
 
-run_kept : (t : Network) (v : World) (w : Packets) (es : List JournalEntry) (ps : List (List ℕ)) (count : ℕ) → AreInOnePlace w count → AreInOnePlace (packets_from t v w es ps) (injections es + count)
+run_kept : (t : Network) (v : World) (w : Packets) (es : List JournalEntry) (ps : List (List ℕ)) (count : ℕ) → AreInOnePlace w count →
+    AreInOnePlace (packets_from t v w es ps) (injections es + count)
 run_kept t v w [] ps count h = none_more _ _ h
 run_kept t v w (e ∷ es) ps count h =
-    subst (AreInOnePlace (packets_from t v w (e ∷ es) ps)) (omega arith) (run_kept t (after t v e.step) _ es (left_by e.step ps) (one_if (injects e.step) + count) (stepped t (after t v e.step) w e.step (next_of ps) count h))
+    subst (AreInOnePlace (packets_from t v w (e ∷ es) ps)) (omega arith)
+        (run_kept t (after t v e.step) _ es (left_by e.step ps) (one_if (injects e.step) + count)
+        (stepped t (after t v e.step) w e.step (next_of ps) count h))
 
 pub in_one_place : (t : Network) (es : List JournalEntry) (ps : List (List ℕ)) → AreInOnePlace (packets_of t es ps) (injections es)
-in_one_place t es ps = subst (AreInOnePlace (packets_of t es ps)) (omega arith) (run_kept t (start t) no_packets es ps 0 (record { places = λ j c. refl; verdicts = refl; paths = refl }))
+in_one_place t es ps =
+    subst (AreInOnePlace (packets_of t es ps)) (omega arith)
+    (run_kept t (start t) no_packets es ps 0 (record { places = λ j c. refl; verdicts = refl; paths = refl }))

@@ -1,11 +1,13 @@
 -- A step leaves the parts that it isn't of, and the last step that names a thing decides it.
-use Rattle.std.proofs.Common.{◌≡◌, ◌≢◌, ◌⊎◌, ℕ, ◌+◌, ◌==◌, ◌++◌, filter, Bool, true, false, cond, List, [], ◌∷◌, Option, Some, None, refl, sym, ◌∙◌, ap, arith, inl, inr}
+use Rattle.std.proofs.Common.{◌≡◌, ◌≢◌, ◌⊎◌, ℕ, ◌+◌, ◌==◌, ◌++◌, filter, Bool, true, false, cond, List, [], ◌∷◌, Option, Some, None, refl, sym, ◌∙◌, ap}
+use Rattle.std.proofs.Common.{arith, inl, inr}
 use Rattle.std.specs.Prelude.{unwrap_or, if◌then◌else◌, is_some, not, ◌&&◌, ◌||◌, nat_lt}
 use Rattle.std.proofs.lemmas.Bool.Decides.{eqb_tells}
 use Rattle.mn_base.proofs.Bools.{clash, and_left, and_right, other_test, same_numbers, same_test, two_ways}
 use Rattle.mn_topo.specs.Network.{Network, wiring_of}
 use Rattle.mn_topo.specs.declared.steps.Step.{Step}
-use Rattle.mn_topo.specs.declared.steps.Step.TheVariants.{LinkUp, LinkDown, Learn, LdpAdmin, HearLdp, BgpUp, BgpDown, HearBgp, AddRoute, DelRoute, Import, Export, Attach, Detach, Inject, Carry, Lose}
+use Rattle.mn_topo.specs.declared.steps.Step.TheVariants.{LinkUp, LinkDown, Learn, LdpAdmin, HearLdp, BgpUp, BgpDown, HearBgp, AddRoute, DelRoute, Import}
+use Rattle.mn_topo.specs.declared.steps.Step.TheVariants.{Export, Attach, Detach, Inject, Carry, Lose}
 use Rattle.mn_topo.specs.declared.steps.JournalEntry.{JournalEntry}
 use Rattle.mn_ledger.specs.World.{World}
 use Rattle.mn_ledger.specs.Packets.{Packets, packets_after, before_step}
@@ -16,7 +18,8 @@ use Rattle.mn_prefix.specs.Prefix.{AddressBlock}
 use Rattle.mn_ledger.specs.Vpn.{has_target}
 use Rattle.mn_ledger.specs.World.{SiteRoute}
 use Rattle.std.specs.List.{list_any}
-use Rattle.mn_ledger.specs.Parts.{is_configuring, is_viewing, is_moving, KeepsOtherParts, later, last_said, makes_up, switches, starts, times, turns, teaches, attaches_site, makes_attached, imports_target, exports_target, routes_prefix, IsByLastSteps}
+use Rattle.mn_ledger.specs.Parts.{is_configuring, is_viewing, is_moving, KeepsOtherParts, later, last_said, makes_up, switches, starts, times, turns}
+use Rattle.mn_ledger.specs.Parts.{teaches, attaches_site, makes_attached, imports_target, exports_target, routes_prefix, IsByLastSteps}
 
 config_kept : (t : Network) (w : World) (s : Step) → is_configuring s ≡ false → (after t w s).config ≡ w.config
 config_kept t w (Learn n l) h = refl
@@ -74,7 +77,9 @@ packets_kept t v k (Lose l d n) b h = cc
 packets_kept t v k _ b h = refl
 
 -- what a node knows, what an edge exports, and what a VRF holds
-pub knowledge_kept : (t : Network) (w : World) (s : Step) (node : ℕ) → is_transport s ≡ false → knowledge_of (wiring_of t) (after t w s).config (after t w s).views (after t w s).sessions node ≡ knowledge_of (wiring_of t) w.config w.views w.sessions node
+pub knowledge_kept : (t : Network) (w : World) (s : Step) (node : ℕ) → is_transport s ≡ false →
+    knowledge_of (wiring_of t) (after t w s).config (after t w s).views (after t w s).sessions node ≡ knowledge_of
+    (wiring_of t) w.config w.views w.sessions node
 unfolding knowledge_of sessions_after
 knowledge_kept t w (LinkUp l) node h = cc
 knowledge_kept t w (LinkDown l) node h = cc
@@ -83,7 +88,8 @@ knowledge_kept t w (LdpAdmin l on) node h = cc
 knowledge_kept t w (HearLdp l d) node h = cc
 knowledge_kept t w _ node h = refl
 
-pub held_kept : (t : Network) (w : World) (s : Step) (edge v : ℕ) → is_routing s ≡ false → held t (after t w s).config (after t w s).peerings edge v ≡ held t w.config w.peerings edge v
+pub held_kept : (t : Network) (w : World) (s : Step) (edge v : ℕ) → is_routing s ≡ false →
+    held t (after t w s).config (after t w s).peerings edge v ≡ held t w.config w.peerings edge v
 unfolding held peerings_after
 held_kept t w (BgpUp a b) edge v h = cc
 held_kept t w (BgpDown a b) edge v h = cc
@@ -129,10 +135,12 @@ later_or : {A : Type 0} (x y : Option A) (d : A) → unwrap_or (later x y) d ≡
 later_or (Some v) y d = refl
 later_or None y d = refl
 
-last_decides : {A : Type 0} (t : Network) (of : World → A) (says : Step → Option A) → IsSet t of says → (w : World) (es : List JournalEntry) → of (world_from t w es) ≡ unwrap_or (last_said says es) (of w)
+last_decides : {A : Type 0} (t : Network) (of : World → A) (says : Step → Option A) → IsSet t of says →
+    (w : World) (es : List JournalEntry) → of (world_from t w es) ≡ unwrap_or (last_said says es) (of w)
 last_decides t of says set w [] = refl
 last_decides t of says set w (e ∷ es) =
-    last_decides t of says set (after t w e.step) es ∙ ap (unwrap_or (last_said says es)) (set w e.step) ∙ sym (later_or (last_said says es) (says e.step) (of w))
+    last_decides t of says set (after t w e.step) es ∙ ap (unwrap_or (last_said says es)) (set w e.step)
+        ∙ sym (later_or (last_said says es) (says e.step) (of w))
 
 put_says : {A : Type 0} (f : ℕ → A) (k : ℕ) (v : A) (l : ℕ) → cond (l == k) v (f l) ≡ unwrap_or (cond (l == k) (Some v) None) (f l)
 put_says f k v l = elim (eqb_tells l k) [ inl q ↦ rw q.0 refl | inr q ↦ rw q.0 refl ]
@@ -146,7 +154,8 @@ switch_set : (t : Network) (l : ℕ) → IsSet t (λ w. w.config.ldp_on l) (swit
 switch_set t l w (LdpAdmin k on) = put_says w.config.ldp_on k.0 on l
 switch_set t l w _ = refl
 
-pair_says : {A : Type 0} (f : ℕ → ℕ → A) (j k : ℕ) (v : A) (a b : ℕ) → (cond (a == j) (λ x. cond (x == k) v (f j x)) (f a)) b ≡ unwrap_or (cond (a == j) (cond (b == k) (Some v) None) None) (f a b)
+pair_says : {A : Type 0} (f : ℕ → ℕ → A) (j k : ℕ) (v : A) (a b : ℕ) →
+    (cond (a == j) (λ x. cond (x == k) v (f j x)) (f a)) b ≡ unwrap_or (cond (a == j) (cond (b == k) (Some v) None) None) (f a b)
 pair_says f j k v a b =
     elim (eqb_tells a j) [
       | inl q ↦ elim (eqb_tells b k) [ inl r ↦ rw (q.0, r.0) refl | inr r ↦ rw (q.0, r.0, q.1) refl ]
@@ -162,7 +171,8 @@ session_set t a b w _ = refl
 abbrev IsCounted : Network → (World → ℕ) → (Step → Bool) → Type 0
 IsCounted t of does = (w : World) (s : Step) → of (after t w s) ≡ (if does s then 1 else 0) + of w
 
-counts : (t : Network) (of : World → ℕ) (does : Step → Bool) → IsCounted t of does → (w : World) (es : List JournalEntry) → of (world_from t w es) ≡ times does es + of w
+counts : (t : Network) (of : World → ℕ) (does : Step → Bool) → IsCounted t of does →
+    (w : World) (es : List JournalEntry) → of (world_from t w es) ≡ times does es + of w
 counts t of does one w [] = omega arith
 counts t of does one w (e ∷ es) =
     let rest : of (world_from t (after t w e.step) es) ≡ times does es + of (after t w e.step) = counts t of does one (after t w e.step) es in
@@ -180,7 +190,8 @@ turn_counts t l w (LinkUp k) = put_counts w.views.changes k.0 l
 turn_counts t l w (LinkDown k) = put_counts w.views.changes k.0 l
 turn_counts t l w _ = none _
 
-pair_counts : (f : ℕ → ℕ → ℕ) (j k a b : ℕ) → (cond (a == j) (λ x. cond (x == k) (f j k + 1) (f j x)) (f a)) b ≡ (if (if a == j then b == k else false) then 1 else 0) + f a b
+pair_counts : (f : ℕ → ℕ → ℕ) (j k a b : ℕ) →
+    (cond (a == j) (λ x. cond (x == k) (f j k + 1) (f j x)) (f a)) b ≡ (if (if a == j then b == k else false) then 1 else 0) + f a b
 pair_counts f j k a b =
     elim (eqb_tells a j) [
       | inl q ↦ elim (eqb_tells b k) [ inl r ↦ rw (q.0, r.0, q.1, r.1) (omega arith) | inr r ↦ rw (q.0, r.0, q.1) (omega arith) ]
@@ -200,7 +211,8 @@ set_says : (set : List ℕ) (y : ℕ) (on : Bool) (x : ℕ) → has_target (with
 set_says [] y true x = elim (eqb_tells x y) [ inl p ↦ rw (p.0, p.1, same_test y) refl | inr p ↦ rw (p.0, other_test y x (λ e. p.1 (sym e))) refl ]
 set_says (z ∷ zs) y true x = put_in (nat_lt y z) refl (set_says zs y true x)
   where
-    put_in : (less : Bool) → nat_lt y z ≡ less → has_target (with_target y true zs) x ≡ unwrap_or (cond (x == y) (Some true) None) (has_target zs x) → has_target (cond less (y ∷ z ∷ zs) (z ∷ with_target y true zs)) x ≡ unwrap_or (cond (x == y) (Some true) None) (has_target (z ∷ zs) x)
+    put_in : (less : Bool) → nat_lt y z ≡ less → has_target (with_target y true zs) x ≡ unwrap_or (cond (x == y) (Some true) None) (has_target zs x) →
+        has_target (cond less (y ∷ z ∷ zs) (z ∷ with_target y true zs)) x ≡ unwrap_or (cond (x == y) (Some true) None) (has_target (z ∷ zs) x)
     put_in true h rest = elim (eqb_tells x y) [ inl p ↦ rw (p.0, p.1, same_test y) refl | inr p ↦ rw (p.0, other_test y x (λ e. p.1 (sym e))) refl ]
     put_in false h rest = ap (λ b. (z == x) || b) rest ∙ beyond (z == x) (x == y) (has_target zs x)
       where
@@ -211,17 +223,22 @@ set_says (z ∷ zs) y true x = put_in (nat_lt y z) refl (set_says zs y true x)
         beyond false false c = refl
 set_says [] y false x = elim (eqb_tells x y) [ inl p ↦ rw p.0 refl | inr p ↦ rw p.0 refl ]
 set_says (z ∷ zs) y false x = elim (eqb_tells y z) [
-  | inl p ↦ ap (λ b. has_target (cond (not b) (z ∷ filter (λ other. not (y == other)) zs) (filter (λ other. not (y == other)) zs)) x) p.0 ∙ set_says zs y false x ∙ gone p.1
-  | inr p ↦ ap (λ b. has_target (cond (not b) (z ∷ filter (λ other. not (y == other)) zs) (filter (λ other. not (y == other)) zs)) x) p.0 ∙ ap (λ b. (z == x) || b) (set_says zs y false x) ∙ kept p.1
+  | inl p ↦ ap (λ b. has_target (cond (not b) (z ∷ filter (λ other. not (y == other)) zs) (filter (λ other. not (y == other)) zs)) x) p.0
+      ∙ set_says zs y false x ∙ gone p.1
+  | inr p ↦ ap (λ b. has_target (cond (not b) (z ∷ filter (λ other. not (y == other)) zs) (filter (λ other. not (y == other)) zs)) x) p.0
+      ∙ ap (λ b. (z == x) || b) (set_says zs y false x) ∙ kept p.1
 ]
   where
     gone : y ≡ z → unwrap_or (cond (x == y) (Some false) None) (has_target zs x) ≡ unwrap_or (cond (x == y) (Some false) None) ((z == x) || has_target zs x)
     gone e = elim (eqb_tells x y) [ inl q ↦ rw q.0 refl | inr q ↦ rw (q.0, other_test z x (λ r. q.1 (sym r ∙ sym e))) refl ]
 
-    kept : y ≢ z → ((z == x) || unwrap_or (cond (x == y) (Some false) None) (has_target zs x)) ≡ unwrap_or (cond (x == y) (Some false) None) ((z == x) || has_target zs x)
+    kept : y ≢ z →
+        ((z == x) || unwrap_or (cond (x == y) (Some false) None) (has_target zs x)) ≡ unwrap_or (cond (x == y) (Some false) None)
+        ((z == x) || has_target zs x)
     kept d = elim (eqb_tells x y) [ inl q ↦ rw (q.0, other_test z x (λ r. d (sym q.1 ∙ sym r))) refl | inr q ↦ rw q.0 refl ]
 
-targets_say : (f : ℕ → List ℕ) (k y : ℕ) (on : Bool) (v x : ℕ) → has_target (cond (v == k) (with_target y on (f k)) (f v)) x ≡ unwrap_or (cond (v == k) (cond (x == y) (Some on) None) None) (has_target (f v) x)
+targets_say : (f : ℕ → List ℕ) (k y : ℕ) (on : Bool) (v x : ℕ) →
+    has_target (cond (v == k) (with_target y on (f k)) (f v)) x ≡ unwrap_or (cond (v == k) (cond (x == y) (Some on) None) None) (has_target (f v) x)
 targets_say f k y on v x = elim (eqb_tells v k) [ inl p ↦ rw (p.0, p.1) (set_says (f k) y on x) | inr p ↦ rw p.0 refl ]
 
 import_set : (t : Network) (v x : ℕ) → IsSet t (λ w. has_target (w.config.imports v) x) (imports_target v x)
@@ -233,7 +250,8 @@ export_set t v x w (Export k y on) = targets_say w.config.exports k.0 y.0 on v x
 export_set t v x w _ = refl
 
 -- a site's attachment
-attached_says : (f : ℕ → Option ℕ) (k : ℕ) (o : Option ℕ) (s : ℕ) → is_some (cond (s == k) o (f s)) ≡ unwrap_or (cond (s == k) (Some (is_some o)) None) (is_some (f s))
+attached_says : (f : ℕ → Option ℕ) (k : ℕ) (o : Option ℕ) (s : ℕ) →
+    is_some (cond (s == k) o (f s)) ≡ unwrap_or (cond (s == k) (Some (is_some o)) None) (is_some (f s))
 attached_says f k o s = elim (eqb_tells s k) [ inl p ↦ rw p.0 refl | inr p ↦ rw p.0 refl ]
 
 attached_set : (t : Network) (s : ℕ) → IsSet t (λ w. is_some (w.config.attached s)) (makes_attached s)
@@ -270,7 +288,8 @@ first_number : (t : Network) → IsNumbered (start t)
 first_number t s n e = let same : 1 ≡ n = cc in omega (arith, same)
 
 -- statics
-same_as : (s : ℕ) (prefix : AddressBlock) (x : SiteRoute) → is_static s prefix x ≡ true → (x.site ≡ s) × (x.prefix.address ≡ prefix.address) × (x.prefix.length ≡ prefix.length)
+same_as : (s : ℕ) (prefix : AddressBlock) (x : SiteRoute) → is_static s prefix x ≡ true →
+    (x.site ≡ s) × (x.prefix.address ≡ prefix.address) × (x.prefix.length ≡ prefix.length)
 same_as s prefix x h = (
   same_numbers x.site s (and_left _ _ h),
   same_numbers x.prefix.address prefix.address (and_left _ _ (and_right _ _ h)),
@@ -278,20 +297,23 @@ same_as s prefix x h = (
 )
 
 -- two that are each the same as a third
-both_static : (s : ℕ) (prefix : AddressBlock) (r : ℕ) (other : AddressBlock) (x : SiteRoute) → is_static r other x ≡ true → is_static s prefix x ≡ is_static s prefix (record { site = r; prefix = other })
+both_static : (s : ℕ) (prefix : AddressBlock) (r : ℕ) (other : AddressBlock) (x : SiteRoute) → is_static r other x ≡ true →
+    is_static s prefix x ≡ is_static s prefix (record { site = r; prefix = other })
 both_static s prefix r other x h =
     let e = same_as r other x h in
     ap (λ n. (n == s) && ((x.prefix.address == prefix.address) && (x.prefix.length == prefix.length))) e.0
     ∙ ap (λ n. (r == s) && ((n == prefix.address) && (x.prefix.length == prefix.length))) e.1
     ∙ ap (λ n. (r == s) && ((other.address == prefix.address) && (n == prefix.length))) e.2
 
-added_says : (s : ℕ) (prefix : AddressBlock) (xs : List SiteRoute) (x : SiteRoute) → list_any (is_static s prefix) (xs ++ x ∷ []) ≡ unwrap_or (cond (is_static s prefix x) (Some true) None) (list_any (is_static s prefix) xs)
+added_says : (s : ℕ) (prefix : AddressBlock) (xs : List SiteRoute) (x : SiteRoute) →
+    list_any (is_static s prefix) (xs ++ x ∷ []) ≡ unwrap_or (cond (is_static s prefix x) (Some true) None) (list_any (is_static s prefix) xs)
 added_says s prefix [] x = one (is_static s prefix x)
   where
     one : (b : Bool) → (b || false) ≡ unwrap_or (cond b (Some true) None) false
     one true = refl
     one false = refl
-added_says s prefix (y ∷ ys) x = ap (λ b. is_static s prefix y || b) (added_says s prefix ys x) ∙ beyond (is_static s prefix y) (is_static s prefix x) (list_any (is_static s prefix) ys)
+added_says s prefix (y ∷ ys) x =
+    ap (λ b. is_static s prefix y || b) (added_says s prefix ys x) ∙ beyond (is_static s prefix y) (is_static s prefix x) (list_any (is_static s prefix) ys)
   where
     beyond : (a b c : Bool) → (a || unwrap_or (cond b (Some true) None) c) ≡ unwrap_or (cond b (Some true) None) (a || c)
     beyond true true c = refl
@@ -300,7 +322,8 @@ added_says s prefix (y ∷ ys) x = ap (λ b. is_static s prefix y || b) (added_s
     beyond false false c = refl
 
 removed_says : (s : ℕ) (prefix : AddressBlock) (r : ℕ) (other : AddressBlock) (xs : List SiteRoute)
-    → list_any (is_static s prefix) (filter (λ static. not (is_static r other static)) xs) ≡ unwrap_or (cond (is_static s prefix (record { site = r; prefix = other })) (Some false) None) (list_any (is_static s prefix) xs)
+    → list_any (is_static s prefix) (filter (λ static. not (is_static r other static)) xs) ≡ unwrap_or
+        (cond (is_static s prefix (record { site = r; prefix = other })) (Some false) None) (list_any (is_static s prefix) xs)
 removed_says s prefix r other [] = nothing (is_static s prefix (record { site = r; prefix = other }))
   where
     nothing : (b : Bool) → false ≡ unwrap_or (cond b (Some false) None) false
@@ -308,10 +331,15 @@ removed_says s prefix r other [] = nothing (is_static s prefix (record { site = 
     nothing false = refl
 removed_says s prefix r other (x ∷ xs) = elim (two_ways (is_static r other x)) [
   | inl p ↦
-      ap (λ b. list_any (is_static s prefix) (cond (not b) (x ∷ filter (λ static. not (is_static r other static)) xs) (filter (λ static. not (is_static r other static)) xs))) p
-      ∙ removed_says s prefix r other xs ∙ sym (ap (λ b. unwrap_or (cond (is_static s prefix (record { site = r; prefix = other })) (Some false) None) (b || list_any (is_static s prefix) xs)) (both_static s prefix r other x p) ∙ gone (is_static s prefix (record { site = r; prefix = other })) (list_any (is_static s prefix) xs))
+      ap (λ b. list_any (is_static s prefix)
+          (cond (not b) (x ∷ filter (λ static. not (is_static r other static)) xs) (filter (λ static. not (is_static r other static)) xs))) p
+      ∙ removed_says s prefix r other xs
+          ∙ sym (ap (λ b. unwrap_or (cond (is_static s prefix (record { site = r; prefix = other })) (Some false) None)
+          (b || list_any (is_static s prefix) xs)) (both_static s prefix r other x p)
+          ∙ gone (is_static s prefix (record { site = r; prefix = other })) (list_any (is_static s prefix) xs))
   | inr p ↦
-      ap (λ b. list_any (is_static s prefix) (cond (not b) (x ∷ filter (λ static. not (is_static r other static)) xs) (filter (λ static. not (is_static r other static)) xs))) p
+      ap (λ b. list_any (is_static s prefix)
+          (cond (not b) (x ∷ filter (λ static. not (is_static r other static)) xs) (filter (λ static. not (is_static r other static)) xs))) p
       ∙ ap (λ b. is_static s prefix x || b) (removed_says s prefix r other xs) ∙ stays (two_ways (is_static s prefix (record { site = r; prefix = other }))) p
 ]
   where
@@ -338,8 +366,11 @@ removed_says s prefix r other (x ∷ xs) = elim (two_ways (is_static r other x))
             all_three : {a b c : Bool} → a ≡ true → b ≡ true → c ≡ true → (a && (b && c)) ≡ true
             all_three {a} {b} {c} x y z = ap (λ q. q && (b && c)) x ∙ ap (λ q. q && c) y ∙ z
 
-    stays : ((is_static s prefix (record { site = r; prefix = other }) ≡ true) ⊎ (is_static s prefix (record { site = r; prefix = other }) ≡ false)) → is_static r other x ≡ false
-        → (is_static s prefix x || unwrap_or (cond (is_static s prefix (record { site = r; prefix = other })) (Some false) None) (list_any (is_static s prefix) xs)) ≡ unwrap_or (cond (is_static s prefix (record { site = r; prefix = other })) (Some false) None) (is_static s prefix x || list_any (is_static s prefix) xs)
+    stays : ((is_static s prefix (record { site = r; prefix = other }) ≡ true) ⊎ (is_static s prefix (record { site = r; prefix = other }) ≡ false)) →
+        is_static r other x ≡ false
+        → (is_static s prefix x || unwrap_or (cond (is_static s prefix (record { site = r; prefix = other })) (Some false) None)
+            (list_any (is_static s prefix) xs)) ≡ unwrap_or (cond (is_static s prefix (record { site = r; prefix = other })) (Some false) None)
+            (is_static s prefix x || list_any (is_static s prefix) xs)
     stays d p = elim d [
       | inl q ↦ rw (q, other_one q p) refl
       | inr q ↦ rw q refl
@@ -362,7 +393,9 @@ last_steps_decide t es = record {
   exports = λ v x. last_decides t (λ w. has_target (w.config.exports v) x) (exports_target v x) (export_set t v x) (start t) es;
   statics = λ s prefix. last_decides t (λ w. list_any (is_static s prefix) w.config.statics) (routes_prefix s prefix) (static_set t s prefix) (start t) es;
   attached = λ s. last_decides t (λ w. is_some (w.config.attached s)) (makes_attached s) (attached_set t s) (start t) es;
-  attachment = λ s n e. numbers_kept t (start t) es (first_number t) s n e ∙ ap (λ k. 1 + k) (from_none _ _ (counts t (λ w. w.config.attaches s) (attaches_site s) (attach_counts t s) (start t) es));
+  attachment =
+      λ s n e. numbers_kept t (start t) es (first_number t) s n e
+      ∙ ap (λ k. 1 + k) (from_none _ _ (counts t (λ w. w.config.attaches s) (attaches_site s) (attach_counts t s) (start t) es));
   attaches = λ s. from_none _ _ (counts t (λ w. w.config.attaches s) (attaches_site s) (attach_counts t s) (start t) es);
   changes = λ l. from_none _ _ (counts t (λ w. w.views.changes l) (turns l) (turn_counts t l) (start t) es);
   learned = λ n l. from_none _ _ (counts t (λ w. w.views.learned n l) (teaches n l) (learn_counts t n l) (start t) es);

@@ -28,11 +28,13 @@ pub the_step_fits : fits two_links far_link_down ≡ true
 the_step_fits = refl
 
 pub the_link_is_not_down_yet : is_unchanged settled_world.config far_link_down ≡ false
-unfolding next knowledge_of news sessions_after peerings_after held packets_after is_not_ipv4 is_malformed is_truncated has_bad_checksum good checksum_for with_ttl aged in_flight bytes_flying
+unfolding next knowledge_of news sessions_after peerings_after held packets_after is_not_ipv4 is_malformed is_truncated has_bad_checksum good checksum_for
+    with_ttl aged in_flight bytes_flying
 the_link_is_not_down_yet = refl
 
 pub the_near_edge_learns_nothing : known two_links settled_world 0 ≡ known_after two_links settled_world far_link_down 0
-unfolding next knowledge_of news sessions_after peerings_after held packets_after is_not_ipv4 is_malformed is_truncated has_bad_checksum good checksum_for with_ttl aged in_flight bytes_flying
+unfolding next knowledge_of news sessions_after peerings_after held packets_after is_not_ipv4 is_malformed is_truncated has_bad_checksum good checksum_for
+    with_ttl aged in_flight bytes_flying
 the_near_edge_learns_nothing = refl
 
 -- 2. A next hop, and a least cost

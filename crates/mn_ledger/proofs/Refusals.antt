@@ -12,7 +12,8 @@ use Rattle.mn_ledger.specs.Places.{vrf_of}
 use Rattle.mn_ledger.specs.World.{World}
 use Rattle.mn_ledger.specs.Packets.{Packets, packets_after}
 use Rattle.mn_ledger.specs.Ledger.{after, start, no_packets, next_of, left_by}
-use Rattle.mn_ledger.specs.Refusal.{refusal_at, first_cause, where_holds, limits, static_refusal, prefix_refusal, taken_by, is_unchanged, is_empty, is_targets_full, is_spent, is_full}
+use Rattle.mn_ledger.specs.Refusal.{refusal_at, first_cause, where_holds, limits, static_refusal, prefix_refusal, taken_by, is_unchanged, is_empty}
+use Rattle.mn_ledger.specs.Refusal.{is_targets_full, is_spent, is_full}
 use Rattle.mn_ledger.specs.Lawful.{IsLawfulFrom, IsLawfulJournal}
 
 -- 1. What holds where nothing refuses a step
@@ -42,10 +43,14 @@ free t w k n s b h =
     let one = none_first (where_holds (is_unchanged w.config s) why.Unchanged) (where_holds (is_empty t w k s) why.Empty ∷ limits t w k n s b) h in
     let two = none_first (where_holds (is_empty t w k s) why.Empty) (limits t w k n s b) one.1 in
     let three = none_first (static_refusal t w.config s)
-    (where_holds (is_targets_full w.config s) why.TargetsFull ∷ where_holds (is_spent t w.config s) why.LabelsSpent ∷ where_holds (is_full t w k s b) why.NetFull ∷ where_holds (nat_le 4000000 n) why.TooManySteps ∷ []) two.1 in
+    (where_holds (is_targets_full w.config s) why.TargetsFull ∷ where_holds (is_spent t w.config s) why.LabelsSpent
+        ∷ where_holds (is_full t w k s b) why.NetFull ∷ where_holds (nat_le 4000000 n) why.TooManySteps ∷ []) two.1 in
     let four = none_first (where_holds (is_targets_full w.config s) why.TargetsFull)
-    (where_holds (is_spent t w.config s) why.LabelsSpent ∷ where_holds (is_full t w k s b) why.NetFull ∷ where_holds (nat_le 4000000 n) why.TooManySteps ∷ []) three.1 in
-    let five = none_first (where_holds (is_spent t w.config s) why.LabelsSpent) (where_holds (is_full t w k s b) why.NetFull ∷ where_holds (nat_le 4000000 n) why.TooManySteps ∷ []) four.1 in
+    (where_holds (is_spent t w.config s) why.LabelsSpent ∷ where_holds (is_full t w k s b) why.NetFull ∷ where_holds (nat_le 4000000 n) why.TooManySteps
+        ∷ []) three.1 in
+    let five =
+        none_first (where_holds (is_spent t w.config s) why.LabelsSpent) (where_holds (is_full t w k s b) why.NetFull
+        ∷ where_holds (nat_le 4000000 n) why.TooManySteps ∷ []) four.1 in
     let six = none_first (where_holds (is_full t w k s b) why.NetFull) (where_holds (nat_le 4000000 n) why.TooManySteps ∷ []) five.1 in
     let seven = none_first (where_holds (nat_le 4000000 n) why.TooManySteps) [] six.1 in
     record {
@@ -58,12 +63,14 @@ free t w k n s b h =
       steps = below n (off (nat_le 4000000 n) why.TooManySteps seven.0);
     }
 
-few_from : (t : Network) (es : List JournalEntry) (tick : ℕ) (w : World) (k : Packets) (n : ℕ) (ps : List (List ℕ)) → IsLawfulFrom t tick w k n es ps → n ≤ 4000000 → n + length es ≤ 4000000
+few_from : (t : Network) (es : List JournalEntry) (tick : ℕ) (w : World) (k : Packets) (n : ℕ) (ps : List (List ℕ)) → IsLawfulFrom t tick w k n es ps →
+    n ≤ 4000000 → n + length es ≤ 4000000
 few_from t [] tick w k n ps l h = omega (arith, h)
 few_from t (e ∷ es) tick w k n ps l h =
     let b : List ℕ = next_of ps in
     let here : n < 4000000 = (free t w k n e.step b l.2).steps in
-    let rest : n + 1 + length es ≤ 4000000 = few_from t es e.tick (after t w e.step) (packets_after t (after t w e.step) k e.step b) (n + 1) (left_by e.step ps) l.3 (omega (arith, here)) in
+    let rest : n + 1 + length es ≤ 4000000 =
+        few_from t es e.tick (after t w e.step) (packets_after t (after t w e.step) k e.step b) (n + 1) (left_by e.step ps) l.3 (omega (arith, here)) in
     omega (arith, rest)
 
 pub few_entries : (t : Network) (es : List JournalEntry) (ps : List (List ℕ)) → IsLawfulJournal t es ps → length es ≤ 4000000
@@ -74,11 +81,13 @@ few_entries t es ps l = let all : 0 + length es ≤ 4000000 = few_from t es 0 (s
 not_so : (c : Refused) → c ≡ why.Unchanged → Some c ≡ Some why.NoMemory → ⊥
 not_so c e f = cc
 
-passes : (b : Bool) (c : Refused) (rest : List (Option Refused)) → (Some c ≡ Some why.NoMemory → ⊥) → (first_cause rest ≡ Some why.NoMemory → ⊥) → first_cause (where_holds b c ∷ rest) ≡ Some why.NoMemory → ⊥
+passes : (b : Bool) (c : Refused) (rest : List (Option Refused)) → (Some c ≡ Some why.NoMemory → ⊥) →
+    (first_cause rest ≡ Some why.NoMemory → ⊥) → first_cause (where_holds b c ∷ rest) ≡ Some why.NoMemory → ⊥
 passes true c rest h g e = h e
 passes false c rest h g e = g e
 
-passes_static : (r : Option Refused) (rest : List (Option Refused)) → (r ≡ Some why.NoMemory → ⊥) → (first_cause rest ≡ Some why.NoMemory → ⊥) → first_cause (r ∷ rest) ≡ Some why.NoMemory → ⊥
+passes_static : (r : Option Refused) (rest : List (Option Refused)) → (r ≡ Some why.NoMemory → ⊥) →
+    (first_cause rest ≡ Some why.NoMemory → ⊥) → first_cause (r ∷ rest) ≡ Some why.NoMemory → ⊥
 passes_static None rest h g e = g e
 passes_static (Some c) rest h g e = h e
 

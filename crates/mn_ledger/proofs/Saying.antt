@@ -1,5 +1,6 @@
 -- In one step an end of a link says there at most one message of each node, and two more.
-use Rattle.std.proofs.Common.{ℕ, zero, suc, ◌≡◌, ◌≢◌, ◌+◌, ◌*◌, ◌<◌, ◌≤◌, inl, inr, Bool, true, false, cond, List, [], ◌∷◌, ◌++◌, map, filter, length, refl, arith, sym, ◌∙◌, ap, subst, length-append}
+use Rattle.std.proofs.Common.{ℕ, zero, suc, ◌≡◌, ◌≢◌, ◌+◌, ◌*◌, ◌<◌, ◌≤◌, inl, inr, Bool, true, false, cond, List, [], ◌∷◌, ◌++◌, map, filter, length, refl}
+use Rattle.std.proofs.Common.{arith, sym, ◌∙◌, ap, subst, length-append}
 use Rattle.std.specs.Prelude.{◌==◌, ◌&&◌, not, slice_index_or, if◌then◌else◌, ⊤}
 use Rattle.std.specs.List.{flat_map, range_with_len}
 use Rattle.std.proofs.Math.Nat.{mul-suc}
@@ -18,7 +19,9 @@ use Rattle.mn_topo.specs.declared.steps.Step.TheVariants as step
 use Rattle.mn_topo.specs.declared.steps.JournalEntry.{JournalEntry}
 use Rattle.mn_ledger.specs.Tables.{put}
 use Rattle.mn_ledger.specs.World.{World, Config, Views, Sessions, Message, Initialization, KeepAlive, Address, Mapping, Withdraw, Release}
-use Rattle.mn_ledger.specs.Transport.{Said, Knowledge, knowledge_of, lives, state_of, spoken, is_by, messages_of, said_on, answer, mention, mentioned_on, mentioned_from, offers, offered, by_neighbour, is_operational, news, opening, replies, ends_first, speakers, counted, anew, sessions_after}
+use Rattle.mn_ledger.specs.Transport.{Said, Knowledge, knowledge_of, lives, state_of, spoken, is_by, messages_of, said_on, answer, mention, mentioned_on}
+use Rattle.mn_ledger.specs.Transport.{mentioned_from, offers, offered, by_neighbour, is_operational, news, opening, replies, ends_first, speakers, counted}
+use Rattle.mn_ledger.specs.Transport.{anew, sessions_after}
 use Rattle.mn_ledger.specs.Packets.{Packets, packets_after}
 use Rattle.mn_ledger.specs.Ledger.{after, start, no_packets, next_of, left_by, world_from, world_of}
 use Rattle.mn_ledger.specs.Lawful.{IsLawfulFrom, IsLawfulJournal}
@@ -63,7 +66,8 @@ once-append x (y ∷ ys) zs h g apart = (
 pub once-neighbours : (w : Wiring) (n l a k : ℕ) → IsOnce l (flat_map (joining w n) (range_with_len a k))
 once-neighbours w n l a zero = tt
 once-neighbours w n l a (suc k) =
-    once-append l (joining w n a) (flat_map (joining w n) (range_with_len (a + 1) k)) (once-filter _ l _ (once-filter _ l _ (once-range l 0 (length w.ends)))) (once-neighbours w n l (a + 1) k)
+    once-append l (joining w n a) (flat_map (joining w n) (range_with_len (a + 1) k))
+        (once-filter _ l _ (once-filter _ l _ (once-range l 0 (length w.ends)))) (once-neighbours w n l (a + 1) k)
     (λ i j. beyond (leads i) (later j))
   where
     leads : {b : ℕ} → In (joining w n b) l → across w l n ≡ b
@@ -85,7 +89,8 @@ some-said : (l n : ℕ) (xs : List Said) → length (messages_of l n xs) ≤ len
 some-said l n [] = omega arith
 some-said l n (x ∷ xs) = either (is_by l n x) (some-said l n xs)
   where
-    either : (b : Bool) → length (messages_of l n xs) ≤ length xs → length (map (λ (said : Said). said.message) (cond b (x ∷ filter (is_by l n) xs) (filter (is_by l n) xs))) ≤ suc (length xs)
+    either : (b : Bool) → length (messages_of l n xs) ≤ length xs →
+        length (map (λ (said : Said). said.message) (cond b (x ∷ filter (is_by l n) xs) (filter (is_by l n) xs))) ≤ suc (length xs)
     either true h = omega (arith, h)
     either false h = omega (arith, h)
 
@@ -127,11 +132,15 @@ module _ (before after : Knowledge) (l n : ℕ) where
   over-links : (q : ℕ) (was is : Bool) (ks : List ℕ) → IsOnce l ks → length (messages_of l n (flat_map (mentioned_on before after n q was is) ks)) ≤ 1
   over-links q was is [] once = omega arith
   over-links q was is (j ∷ ks) once = elim (eqb_tells j l) [
-    | inl e ↦ omega (arith, length-said l n (mentioned_on before after n q was is j) (flat_map (mentioned_on before after n q was is) ks), on-link q was is j, ap length (no-link q was is ks (once.0 e.1)))
-    | inr e ↦ omega (arith, length-said l n (mentioned_on before after n q was is j) (flat_map (mentioned_on before after n q was is) ks), ap length (other-link q was is j e.1), over-links q was is ks once.1)
+    | inl e ↦ omega
+        (arith, length-said l n (mentioned_on before after n q was is j) (flat_map (mentioned_on before after n q was is) ks), on-link q was is j, ap length
+        (no-link q was is ks (once.0 e.1)))
+    | inr e ↦ omega (arith, length-said l n (mentioned_on before after n q was is j) (flat_map (mentioned_on before after n q was is) ks), ap length
+        (other-link q was is j e.1), over-links q was is ks once.1)
   ]
 
-  of-all : (ks : List ℕ) (q : ℕ) (weres ares : List Bool) → IsOnce l ks → length (messages_of l n (mentioned_from before after n ks q weres ares)) ≤ length weres
+  of-all : (ks : List ℕ) (q : ℕ) (weres ares : List Bool) → IsOnce l ks →
+      length (messages_of l n (mentioned_from before after n ks q weres ares)) ≤ length weres
   of-all ks q [] ares once = omega arith
   of-all ks q (was ∷ weres) [] once = omega arith
   of-all ks q (was ∷ weres) (is ∷ ares) once = omega (
@@ -202,7 +211,8 @@ module _ (w : Wiring) (before after : ℕ → Knowledge) (l n : ℕ) where
 once-first : (w : Wiring) (l n : ℕ) → (link w l).a.0 ≢ (link w l).b.0 → IsOnce n (ends_first w l)
 once-first w l n d = (
   λ e i. elim i [ inl f ↦ d (e ∙ sym f) | inr j ↦ clash (sym (ends e) ∙ no_end (in_filter (λ node. not (is_end w l node)) (nodes_of w) n j).1) ],
-  (λ f j. clash (sym (ends_too f) ∙ no_end (in_filter (λ node. not (is_end w l node)) (nodes_of w) n j).1), once-filter (λ node. not (is_end w l node)) n (nodes_of w) (once-range n 0 (length w.loopbacks))),
+  (λ f j. clash (sym (ends_too f) ∙ no_end (in_filter (λ node. not (is_end w l node)) (nodes_of w) n j).1), once-filter (λ node. not (is_end w l node)) n
+      (nodes_of w) (once-range n 0 (length w.loopbacks))),
 )
   where
     no_end : not (is_end w l n) ≡ true → is_end w l n ≡ false
@@ -263,15 +273,19 @@ few-replies : (t : Network) (c : Config) (s : Sessions) (done : Step) (l n : ℕ
 few-replies t c s (step.LinkUp k) l n = few-opening t c k.0 l n
 few-replies t c s (step.LdpAdmin k on) l n = few-opening t c k.0 l n
 few-replies t c s (step.HearLdp k dir) l n =
-    let answers : List Message = answer (state_of t s k.0 (receiver (wiring_of t) k.0 dir)) (slice_index_or (s.said k.0 (sender (wiring_of t) k.0 dir)) (s.heard k.0 (receiver (wiring_of t) k.0 dir)) Address) in
-    omega (arith, few-said l n k.0 (receiver (wiring_of t) k.0 dir) answers, few-answers (state_of t s k.0 (receiver (wiring_of t) k.0 dir)) (slice_index_or (s.said k.0 (sender (wiring_of t) k.0 dir)) (s.heard k.0 (receiver (wiring_of t) k.0 dir)) Address))
+    let answers : List Message =
+        answer (state_of t s k.0 (receiver (wiring_of t) k.0 dir))
+        (slice_index_or (s.said k.0 (sender (wiring_of t) k.0 dir)) (s.heard k.0 (receiver (wiring_of t) k.0 dir)) Address) in
+    omega (arith, few-said l n k.0 (receiver (wiring_of t) k.0 dir) answers, few-answers (state_of t s k.0 (receiver (wiring_of t) k.0 dir))
+        (slice_index_or (s.said k.0 (sender (wiring_of t) k.0 dir)) (s.heard k.0 (receiver (wiring_of t) k.0 dir)) Address))
 few-replies t c s _ l n = omega arith
 
 -- 5. A step
 
 cleared : (s : Sessions) (at l n : ℕ) → length ((anew s at).said l n) ≤ length (s.said l n)
 cleared s at l n = elim (eqb_tells l at) [
-  | inl p ↦ subst (λ (f : ℕ → List Message). length (f n) ≤ length (s.said l n)) (sym (ap (put s.said at (λ m. [])) p.1 ∙ put_here s.said at (λ m. []))) (omega arith)
+  | inl p ↦ subst (λ (f : ℕ → List Message). length (f n) ≤ length (s.said l n)) (sym (ap (put s.said at (λ m. [])) p.1 ∙ put_here s.said at (λ m. [])))
+      (omega arith)
   | inr p ↦ subst (λ (f : ℕ → List Message). length (f n) ≤ length (s.said l n)) (sym (put_off s.said at (λ m. []) l p.1)) (omega arith)
 ]
 
@@ -282,7 +296,8 @@ not-more t s (step.LinkDown k) l n = cleared s k.0 l n
 not-more t s (step.LdpAdmin k on) l n = cleared s k.0 l n
 not-more t s _ l n = omega arith
 
-said-more : (t : Network) (c : Config) (v : Views) (new : Config) (nv : Views) (s : Sessions) (done : Step) (l n : ℕ) → EndsDiffer (wiring_of t) → fits t done ≡ true
+said-more : (t : Network) (c : Config) (v : Views) (new : Config) (nv : Views) (s : Sessions) (done : Step) (l n : ℕ) → EndsDiffer (wiring_of t) →
+    fits t done ≡ true
     → length ((spoken t c v new nv s done).said l n) ≤ length (s.said l n) + (length t.loopbacks + 2)
 said-more t c v new nv s done l n differ fit =
     let k : Sessions = counted t s done in
@@ -297,18 +312,27 @@ said-more t c v new nv s done l n differ fit =
       speak-once w (λ m. knowledge_of w c v s m) (λ m. knowledge_of w new nv k m) l n (speakers w done) (once-speaker t done n differ fit),
     )
 
-one-step : (t : Network) (w : World) (s : Step) (l n : ℕ) → EndsDiffer (wiring_of t) → fits t s ≡ true → length ((after t w s).sessions.said l n) ≤ length (w.sessions.said l n) + (length t.loopbacks + 2)
+one-step : (t : Network) (w : World) (s : Step) (l n : ℕ) → EndsDiffer (wiring_of t) → fits t s ≡ true →
+    length ((after t w s).sessions.said l n) ≤ length (w.sessions.said l n) + (length t.loopbacks + 2)
 unfolding sessions_after
-one-step t w (step.LinkUp k) l n differ fit = said-more t w.config w.views (after t w (step.LinkUp k)).config (after t w (step.LinkUp k)).views w.sessions (step.LinkUp k) l n differ fit
-one-step t w (step.LinkDown k) l n differ fit = said-more t w.config w.views (after t w (step.LinkDown k)).config (after t w (step.LinkDown k)).views w.sessions (step.LinkDown k) l n differ fit
-one-step t w (step.LdpAdmin k on) l n differ fit = said-more t w.config w.views (after t w (step.LdpAdmin k on)).config (after t w (step.LdpAdmin k on)).views w.sessions (step.LdpAdmin k on) l n differ fit
-one-step t w (step.Learn m k) l n differ fit = said-more t w.config w.views (after t w (step.Learn m k)).config (after t w (step.Learn m k)).views w.sessions (step.Learn m k) l n differ fit
-one-step t w (step.HearLdp k dir) l n differ fit = said-more t w.config w.views (after t w (step.HearLdp k dir)).config (after t w (step.HearLdp k dir)).views w.sessions (step.HearLdp k dir) l n differ fit
+one-step t w (step.LinkUp k) l n differ fit =
+    said-more t w.config w.views (after t w (step.LinkUp k)).config (after t w (step.LinkUp k)).views w.sessions (step.LinkUp k) l n differ fit
+one-step t w (step.LinkDown k) l n differ fit =
+    said-more t w.config w.views (after t w (step.LinkDown k)).config (after t w (step.LinkDown k)).views w.sessions (step.LinkDown k) l n differ fit
+one-step t w (step.LdpAdmin k on) l n differ fit =
+    said-more t w.config w.views (after t w (step.LdpAdmin k on)).config (after t w (step.LdpAdmin k on)).views w.sessions
+    (step.LdpAdmin k on) l n differ fit
+one-step t w (step.Learn m k) l n differ fit =
+    said-more t w.config w.views (after t w (step.Learn m k)).config (after t w (step.Learn m k)).views w.sessions (step.Learn m k) l n differ fit
+one-step t w (step.HearLdp k dir) l n differ fit =
+    said-more t w.config w.views (after t w (step.HearLdp k dir)).config (after t w (step.HearLdp k dir)).views w.sessions
+    (step.HearLdp k dir) l n differ fit
 one-step t w _ l n differ fit = omega arith
 
 -- 6. A journal
 
-said-from : (t : Network) (es : List JournalEntry) (tick : ℕ) (w : World) (k : Packets) (i : ℕ) (ps : List (List ℕ)) (l n : ℕ) → EndsDiffer (wiring_of t) → IsLawfulFrom t tick w k i es ps
+said-from : (t : Network) (es : List JournalEntry) (tick : ℕ) (w : World) (k : Packets) (i : ℕ) (ps : List (List ℕ)) (l n : ℕ) → EndsDiffer (wiring_of t) →
+    IsLawfulFrom t tick w k i es ps
     → length ((world_from t w es).sessions.said l n) ≤ length (w.sessions.said l n) + (length t.loopbacks + 2) * length es
 said-from t [] tick w k i ps l n differ lawful = omega arith
 said-from t (e ∷ es) tick w k i ps l n differ lawful = omega (
@@ -329,8 +353,10 @@ not-so-often does (e ∷ es) = either (does e.step) (not-so-often does es)
 pub bounded : (t : Network) (es : List JournalEntry) (ps : List (List ℕ)) → IsLawful t → IsLawfulJournal t es ps → IsBounded t es
 bounded t es ps lawful journal =
     let steps : length es ≤ 4000000 = few_entries t es ps journal in
-    let all : (l n : ℕ) → length ((world_of t es).sessions.said l n) ≤ (length t.loopbacks + 2) * length es = λ l n. none_before _ _ (said-from t es 0 (start t) no_packets 0 ps l n lawful.ends_differ journal) in
-    let most : (length t.loopbacks + 2) * length es ≤ 258 * 4000000 = mul-le (length t.loopbacks + 2) (length es) 258 4000000 (more (length t.loopbacks) lawful.few_nodes) steps in
+    let all : (l n : ℕ) → length ((world_of t es).sessions.said l n) ≤ (length t.loopbacks + 2) * length es =
+        λ l n. none_before _ _ (said-from t es 0 (start t) no_packets 0 ps l n lawful.ends_differ journal) in
+    let most : (length t.loopbacks + 2) * length es ≤ 258 * 4000000 =
+        mul-le (length t.loopbacks + 2) (length es) 258 4000000 (more (length t.loopbacks) lawful.few_nodes) steps in
     record {
       steps = steps;
       changes = λ l. subst (λ n. n ≤ length es) (sym ((last_steps_decide t es).changes l)) (not-so-often (turns l) es);

@@ -1,5 +1,6 @@
 -- After every lawful journal no two statics of one VRF have one prefix, and each prefix is of its form.
-use Rattle.std.proofs.Common.{ℕ, zero, suc, ◌≡◌, ◌+◌, ◌<◌, inl, inr, Bool, true, false, cond, List, [], ◌∷◌, ◌++◌, map, length, refl, arith, sym, ◌∙◌, ap, subst, Option, Some, None}
+use Rattle.std.proofs.Common.{ℕ, zero, suc, ◌≡◌, ◌+◌, ◌<◌, inl, inr, Bool, true, false, cond, List, [], ◌∷◌, ◌++◌, map, length, refl, arith, sym, ◌∙◌, ap}
+use Rattle.std.proofs.Common.{subst, Option, Some, None}
 use Rattle.std.proofs.lemmas.List.{map-append}
 use Rattle.std.specs.Prelude.{◌==◌, ◌&&◌, not, slice_index_or}
 use Rattle.std.specs.List.{IsDistinct, AllByRecursion, list_all}
@@ -50,7 +51,8 @@ every_in P f (x ∷ xs) y h i = elim i [ inl e ↦ subst (λ z. P (f z)) e h.0 |
 alike_same : (t : Network) (x y : SiteRoute) → SameStatic t x y → same_static (keyed t x) (keyed t y) ≡ true
 unfolding keyed
 alike_same t x y a =
-    ap (λ v. (vrf_of t x.site == v) && same_prefix x.prefix y.prefix) (sym a.0) ∙ ap (λ p. (vrf_of t x.site == vrf_of t x.site) && same_prefix x.prefix p) (sym a.1)
+    ap (λ v. (vrf_of t x.site == v) && same_prefix x.prefix y.prefix) (sym a.0)
+        ∙ ap (λ p. (vrf_of t x.site == vrf_of t x.site) && same_prefix x.prefix p) (sym a.1)
     ∙ ap (λ b. b && same_prefix x.prefix x.prefix) (same_test (vrf_of t x.site)) ∙ same_to_itself x.prefix
 
 distinct_apart : (t : Network) (xs : List SiteRoute) → IsDistinct same_static (map (keyed t) xs) → AreApart (SameStatic t) xs
@@ -65,18 +67,22 @@ distinct_apart t (x ∷ xs) h = (
 AreFrom : Network → ℕ → List SiteDef → Type 0
 AreFrom t k sites = (i : ℕ) (d : SiteDef) → i < length sites → slice_index_or sites i d ≡ site_at t (k + i)
 
-of_site : (t : Network) (k : ℕ) (v : ℕ) (prefixes : List AddressBlock) → vrf_of t k ≡ v → map (keyed t) (map (λ prefix. record { site = k; prefix = prefix }) prefixes) ≡ in_vrf v prefixes
+of_site : (t : Network) (k : ℕ) (v : ℕ) (prefixes : List AddressBlock) → vrf_of t k ≡ v →
+    map (keyed t) (map (λ prefix. record { site = k; prefix = prefix }) prefixes) ≡ in_vrf v prefixes
 unfolding keyed
 of_site t k v [] e = refl
-of_site t k v (p ∷ prefixes) e = ap (λ w. (w, p) ∷ map (keyed t) (map (λ prefix. record { site = k; prefix = prefix }) prefixes)) e ∙ ap (λ xs. (v, p) ∷ xs) (of_site t k v prefixes e)
+of_site t k v (p ∷ prefixes) e =
+    ap (λ w. (w, p) ∷ map (keyed t) (map (λ prefix. record { site = k; prefix = prefix }) prefixes)) e ∙ ap (λ xs. (v, p) ∷ xs) (of_site t k v prefixes e)
 
 keyed_statics : (t : Network) (k : ℕ) (sites : List SiteDef) → AreFrom t k sites → map (keyed t) (statics_from k sites) ≡ statics_of sites
 unfolding AreFrom
 keyed_statics t k [] h = refl
 keyed_statics t k (site ∷ sites) h =
     map-append (keyed t) (map (λ prefix. record { site = k; prefix = prefix }) site.prefixes) (statics_from (k + 1) sites)
-    ∙ ap (λ xs. xs ++ map (keyed t) (statics_from (k + 1) sites)) (of_site t k site.vrf.0 site.prefixes (ap (λ (s : SiteDef). s.vrf.0) (ap (site_at t) plus ∙ sym (h 0 site (omega arith)))))
-    ∙ ap (λ xs. in_vrf site.vrf.0 site.prefixes ++ xs) (keyed_statics t (k + 1) sites (λ i d below. h (suc i) d (omega (arith, below)) ∙ ap (site_at t) (next i)))
+    ∙ ap (λ xs. xs ++ map (keyed t) (statics_from (k + 1) sites))
+        (of_site t k site.vrf.0 site.prefixes (ap (λ (s : SiteDef). s.vrf.0) (ap (site_at t) plus ∙ sym (h 0 site (omega arith)))))
+    ∙ ap (λ xs. in_vrf site.vrf.0 site.prefixes ++ xs)
+        (keyed_statics t (k + 1) sites (λ i d below. h (suc i) d (omega (arith, below)) ∙ ap (site_at t) (next i)))
   where
     plus : k ≡ k + 0
     plus = omega arith
@@ -102,7 +108,8 @@ all_keyed t = keyed_statics t 0 t.sites (λ i d below. get_same t.sites i d _ be
 pub first_statics : (t : Network) → IsLawful t → HasStatics t (start t).config.statics
 first_statics t lawful = record { apart = distinct_apart t (statics_from 0 t.sites) (subst (IsDistinct same_static) (sym (all_keyed t)) lawful.sites.distinct) }
 
-passes : (t : Network) (xs : List SiteRoute) → list_all (λ (static : Static). is_lawful_prefix static.1) (map (keyed t) xs) ≡ true → (x : SiteRoute) → In xs x → is_lawful_prefix x.prefix ≡ true
+passes : (t : Network) (xs : List SiteRoute) → list_all (λ (static : Static). is_lawful_prefix static.1) (map (keyed t) xs) ≡ true →
+    (x : SiteRoute) → In xs x → is_lawful_prefix x.prefix ≡ true
 unfolding keyed
 passes t [] h x i = absurd i
 passes t (y ∷ ys) h x i =
@@ -111,7 +118,9 @@ passes t (y ∷ ys) h x i =
 
 pub first_forms : (t : Network) → IsLawful t → HasForms (start t).config.statics
 first_forms t lawful = record {
-  formed = λ x i. prefix_is x.prefix (passes t (statics_from 0 t.sites) (subst (λ xs. list_all (λ (static : Static). is_lawful_prefix static.1) xs ≡ true) (sym (all_keyed t)) lawful.sites.formed) x i);
+  formed = λ x i. prefix_is x.prefix
+      (passes t (statics_from 0 t.sites)
+      (subst (λ xs. list_all (λ (static : Static). is_lawful_prefix static.1) xs ≡ true) (sym (all_keyed t)) lawful.sites.formed) x i);
 }
 
 -- 3. A step
@@ -120,25 +129,31 @@ not_taken : (o : Option ℕ) (count : ℕ) → prefix_refusal o count ≡ None �
 not_taken None count h = refl
 not_taken (Some s) count h = cc
 
-none_taken : (t : Network) (v : ℕ) (p : AddressBlock) (xs : List SiteRoute) → taken_by t v p xs ≡ None → (x : SiteRoute) → In xs x → vrf_of t x.site ≡ v → x.prefix ≡ p → ⊥
+none_taken : (t : Network) (v : ℕ) (p : AddressBlock) (xs : List SiteRoute) → taken_by t v p xs ≡ None →
+    (x : SiteRoute) → In xs x → vrf_of t x.site ≡ v → x.prefix ≡ p → ⊥
 none_taken t v p [] h x i e f = absurd i
 none_taken t v p (y ∷ ys) h x i e f = split ((vrf_of t y.site == v) && same_prefix y.prefix p) refl (λ g j. none_taken t v p ys g x j e f) h
   where
     some : Some y.site ≡ None → ⊥
     some q = cc
 
-    split : (b : Bool) → ((vrf_of t y.site == v) && same_prefix y.prefix p) ≡ b → (taken_by t v p ys ≡ None → In ys x → ⊥) → cond b (Some y.site) (taken_by t v p ys) ≡ None → ⊥
+    split : (b : Bool) → ((vrf_of t y.site == v) && same_prefix y.prefix p) ≡ b →
+        (taken_by t v p ys ≡ None → In ys x → ⊥) → cond b (Some y.site) (taken_by t v p ys) ≡ None → ⊥
     split true q more g = some g
     split false q more g = elim i [
       | inl r ↦
-          clash (sym (ap (λ w. (w == v) && same_prefix y.prefix p) (ap (λ (z : SiteRoute). vrf_of t z.site) r ∙ e) ∙ ap (λ z. (v == v) && same_prefix z p) (ap (λ (z : SiteRoute). z.prefix) r ∙ f) ∙ ap (λ c. c && same_prefix p p) (same_test v) ∙ same_to_itself p) ∙ q)
+          clash (sym (ap (λ w. (w == v) && same_prefix y.prefix p) (ap (λ (z : SiteRoute). vrf_of t z.site) r ∙ e)
+              ∙ ap (λ z. (v == v) && same_prefix z p) (ap (λ (z : SiteRoute). z.prefix) r ∙ f) ∙ ap (λ c. c && same_prefix p p) (same_test v)
+              ∙ same_to_itself p) ∙ q)
       | inr j ↦ more g j
     ]
 
-pub statics_go : (t : Network) (w : World) (k : Packets) (i : ℕ) (s : Step) (b : List ℕ) → refusal_at t w k i s b ≡ None → HasStatics t w.config.statics → HasStatics t (config_after w.config s).statics
+pub statics_go : (t : Network) (w : World) (k : Packets) (i : ℕ) (s : Step) (b : List ℕ) → refusal_at t w k i s b ≡ None → HasStatics t w.config.statics →
+    HasStatics t (config_after w.config s).statics
 statics_go t w k i (AddRoute s p) b none h = record {
   apart = apart_push (SameStatic t) w.config.statics (record { site = s.0; prefix = p }) h.apart
-      (λ x j a. none_taken t (vrf_of t s.0) p w.config.statics (not_taken (taken_by t (vrf_of t s.0) p w.config.statics) (length w.config.statics) (free t w k i (AddRoute s p) b none).statics) x j a.0 a.1);
+      (λ x j a. none_taken t (vrf_of t s.0) p w.config.statics
+          (not_taken (taken_by t (vrf_of t s.0) p w.config.statics) (length w.config.statics) (free t w k i (AddRoute s p) b none).statics) x j a.0 a.1);
 }
 statics_go t w k i (DelRoute s p) b none h = record {
   apart = apart_filter (SameStatic t) (λ static. not (is_static s.0 p static)) w.config.statics h.apart;
@@ -149,7 +164,8 @@ pub forms_go : (t : Network) (w : World) (s : Step) → fits t s ≡ true → Ha
 forms_go t w (AddRoute s p) fit h = record {
   formed = λ x j. elim (in_append w.config.statics (record { site = s.0; prefix = p } ∷ []) x j) [
     | inl l ↦ h.formed x l
-    | inr l ↦ elim l [ inl e ↦ subst (λ (z : SiteRoute). IsPrefix z.prefix.address z.prefix.length) e (prefix_is p (and_parts (has_site t s) (is_lawful_prefix p) fit).1) | inr n ↦ absurd n ]
+    | inr l ↦ elim l [ inl e ↦ subst (λ (z : SiteRoute). IsPrefix z.prefix.address z.prefix.length) e
+        (prefix_is p (and_parts (has_site t s) (is_lawful_prefix p) fit).1) | inr n ↦ absurd n ]
   ];
 }
 forms_go t w (DelRoute s p) fit h = record {

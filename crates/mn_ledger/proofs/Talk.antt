@@ -14,7 +14,8 @@ IsNth (suc zero) x = x ≡ KeepAlive
 IsNth (suc (suc zero)) x = x ≡ Address
 IsNth (suc (suc (suc n))) x = IsLabelMessage x
 
-full-nth : (rest : List Message) (k : ℕ) → AreLabelMessages rest → k < length (Initialization ∷ KeepAlive ∷ Address ∷ rest) → IsNth k (get_or (Initialization ∷ KeepAlive ∷ Address ∷ rest) k Address)
+full-nth : (rest : List Message) (k : ℕ) → AreLabelMessages rest → k < length (Initialization ∷ KeepAlive ∷ Address ∷ rest) →
+    IsNth k (get_or (Initialization ∷ KeepAlive ∷ Address ∷ rest) k Address)
 full-nth rest zero m h = refl
 full-nth rest (suc zero) m h = refl
 full-nth rest (suc (suc zero)) m h = refl
@@ -59,12 +60,14 @@ answer-mentions n (Withdraw p) e = (tt, tt)
 answer-mentions n (Release p) e = tt
 
 -- the end hears the next message, answers, and says these mentions
-pub talk-heard : (a : Bool) (k : ℕ) (xs : List Message) (x : Message) (ms : List Message) → IsTalk a k xs → IsNth k x → (k ≡ 0 → ms ≡ []) → AreLabelMessages ms → IsTalk a (suc k) (xs ++ (answer (state_by a k) x ++ ms))
+pub talk-heard : (a : Bool) (k : ℕ) (xs : List Message) (x : Message) (ms : List Message) → IsTalk a k xs → IsNth k x →
+    (k ≡ 0 → ms ≡ []) → AreLabelMessages ms → IsTalk a (suc k) (xs ++ (answer (state_by a k) x ++ ms))
 talk-heard true zero xs x ms t e q m = rw (t, e, q refl) refl
 talk-heard false zero xs x ms t e q m = rw (t, e, q refl) refl
 talk-heard a (suc zero) xs x ms t e q m = (ms, rw (t, e) refl, m)
 talk-heard a (suc (suc n)) xs x ms t e q m =
-    (t.0 ++ (answer Operational x ++ ms), ap (λ ys. ys ++ (answer Operational x ++ ms)) t.1, all_append IsLabelMessage t.0 (answer Operational x ++ ms) t.2 (all_append IsLabelMessage (answer Operational x) ms (answer-mentions n x e) m))
+    (t.0 ++ (answer Operational x ++ ms), ap (λ ys. ys ++ (answer Operational x ++ ms)) t.1, all_append IsLabelMessage t.0 (answer Operational x ++ ms) t.2
+        (all_append IsLabelMessage (answer Operational x) ms (answer-mentions n x e) m))
 
 -- an end that hears nothing says only mentions, and those only where it is OPERATIONAL
 pub talk-said : (a : Bool) (k : ℕ) (xs ms : List Message) → IsTalk a k xs → (k < 2 → ms ≡ []) → AreLabelMessages ms → IsTalk a k (xs ++ ms)

@@ -12,7 +12,9 @@ use Rattle.mn_topo.specs.Network.{Network}
 use Rattle.mn_ledger.specs.Tables.{put_pair}
 use Rattle.mn_ledger.specs.Places.{edge_of, vrfs_at, edges}
 use Rattle.mn_ledger.specs.World.{SiteRoute, Config, Export, Telling, Open, Alive, Announce, Unreach, Peerings, World}
-use Rattle.mn_ledger.specs.Vpn.{Told, comes_before, placed, in_order, is_present, export_of, present_with, exports_with, exports_of, is_between, tellings_of, told_to, reply, replies, is_for, same_export, withdrawn, announced, changed, steady_peers, news, told_in, counted, peerings_after}
+use Rattle.mn_ledger.specs.Vpn.{Told, comes_before, placed, in_order, is_present, export_of, present_with, exports_with, exports_of, is_between}
+use Rattle.mn_ledger.specs.Vpn.{tellings_of, told_to, reply, replies, is_for, same_export, withdrawn, announced, changed, steady_peers, news, told_in}
+use Rattle.mn_ledger.specs.Vpn.{counted, peerings_after}
 use Rattle.mn_ledger.specs.Ledger.{config_after, after}
 use Rattle.mn_ledger.proofs.GoingBy.{pair_here, pair_off}
 use Rattle.mn_ledger.proofs.Members.{In, in_append, in_map, in_filter, in_flat_map, in_range}
@@ -39,7 +41,8 @@ Behind t c v targets e = (x : SiteRoute) × In c.statics x × (is_present t c v 
 pub behind : (t : Network) (c : Config) (v : ℕ) (targets : List ℕ) (e : Export) → In (present_with t c v targets) e → Behind t c v targets e
 unfolding Behind
 behind t c v targets e i =
-    let m = in_map (export_of c v targets) (filter (is_present t c v) c.statics) e (in_in_order (map (export_of c v targets) (filter (is_present t c v) c.statics)) e i) in
+    let m = in_map (export_of c v targets) (filter (is_present t c v) c.statics) e
+        (in_in_order (map (export_of c v targets) (filter (is_present t c v) c.statics)) e i) in
     let f = in_filter (is_present t c v) c.statics m.0 m.1 in
     (m.0, f.0, f.1, m.2)
 
@@ -48,7 +51,8 @@ exported t c v [] e i = absurd i
 exported t c v (target ∷ targets) e i = behind t c v (target ∷ targets) e i
 
 -- the VRF of an export is one of the edge's, and a static is behind it
-pub exported_by : (t : Network) (c : Config) (edge : ℕ) (e : Export) → In (exports_of t c edge) e → (e.vrf < length t.vrfs) × Behind t c e.vrf (c.exports e.vrf) e
+pub exported_by : (t : Network) (c : Config) (edge : ℕ) (e : Export) → In (exports_of t c edge) e →
+    (e.vrf < length t.vrfs) × Behind t c e.vrf (c.exports e.vrf) e
 unfolding Behind
 exported_by t c edge e i =
     let m = in_flat_map (λ v. exports_with t c v (c.exports v)) (vrfs_at t edge) e i in
@@ -91,25 +95,33 @@ good_reply t OpenConfirm Alive es h = good_announced t es h
 good_reply t _ _ es h = λ x i. absurd i
 
 pub good_told_to : (t : Network) (a b : ℕ) (ms : List Telling) → AreGood t ms → AllTold t (told_to a b ms)
-good_told_to t a b ms h x i = let f = in_map (λ telling. record { teller = a; peer = b; telling = telling }) ms x i in subst (λ (y : Told). IsGood t y.telling) f.2 (h f.0 f.1)
+good_told_to t a b ms h x i = let f = in_map (λ telling. record { teller = a; peer = b; telling = telling }) ms x i in
+    subst (λ (y : Told). IsGood t y.telling) f.2 (h f.0 f.1)
 
 pub join_told : (t : Network) (xs ys : List Told) → AllTold t xs → AllTold t ys → AllTold t (xs ++ ys)
 join_told t xs ys h g x i = elim (in_append xs ys x i) [ inl j ↦ h x j | inr j ↦ g x j ]
 
 good_replies : (t : Network) (c : Config) (k : Peerings) (s : Step) → HasForms c.statics → AllTold t (replies t c k s)
-good_replies t c k (step.BgpUp a b) h = join_told t (told_to a.0 b.0 (Open ∷ [])) (told_to b.0 a.0 (Open ∷ [])) (good_told_to t a.0 b.0 (Open ∷ []) (one_good t Open tt)) (good_told_to t b.0 a.0 (Open ∷ []) (one_good t Open tt))
-good_replies t c k (step.HearBgp a b) h = good_told_to t b.0 a.0 (reply _ _ (exports_of t c b.0)) (good_reply t _ _ (exports_of t c b.0) (good_export t c b.0 h))
+good_replies t c k (step.BgpUp a b) h =
+    join_told t (told_to a.0 b.0 (Open ∷ [])) (told_to b.0 a.0 (Open ∷ [])) (good_told_to t a.0 b.0 (Open ∷ []) (one_good t Open tt))
+    (good_told_to t b.0 a.0 (Open ∷ []) (one_good t Open tt))
+good_replies t c k (step.HearBgp a b) h =
+    good_told_to t b.0 a.0 (reply _ _ (exports_of t c b.0)) (good_reply t _ _ (exports_of t c b.0) (good_export t c b.0 h))
 good_replies t c k _ h = λ x i. absurd i
 
 good_changed : (t : Network) (before now : List Export) → ((e : Export) → In now e → IsGoodExport t e) → AreGood t (changed before now)
 good_changed t before now h m i = elim (in_append (withdrawn before now) (announced before now) m i) [
-  | inl j ↦ let f = in_map (λ (export : Export). Unreach export.vrf export.prefix) (filter (λ export. not (list_any (is_for export.vrf export.prefix) now)) before) m j in subst (IsGood t) f.2 tt
-  | inr j ↦ good_announced t (filter (λ export. not (list_any (same_export export) before)) now) (λ e k. h e (in_filter (λ export. not (list_any (same_export export) before)) now e k).0) m j
+  | inl j ↦ let f =
+      in_map (λ (export : Export). Unreach export.vrf export.prefix) (filter (λ export. not (list_any (is_for export.vrf export.prefix) now)) before) m j in
+      subst (IsGood t) f.2 tt
+  | inr j ↦ good_announced t (filter (λ export. not (list_any (same_export export) before)) now)
+      (λ e k. h e (in_filter (λ export. not (list_any (same_export export) before)) now e k).0) m j
 ]
 
 good_news : (t : Network) (c : Config) (p : Peerings) (new : Config) (k : Peerings) (edge : ℕ) → HasForms new.statics → AllTold t (news t c p new k edge)
 good_news t c p new k edge h x i =
-    let f = in_flat_map (λ telling. map (λ peer. record { teller = edge; peer = peer; telling = telling }) (steady_peers t c p new k edge)) (changed (exports_of t c edge) (exports_of t new edge)) x i in
+    let f = in_flat_map (λ telling. map (λ peer. record { teller = edge; peer = peer; telling = telling }) (steady_peers t c p new k edge))
+        (changed (exports_of t c edge) (exports_of t new edge)) x i in
     let g = in_map (λ peer. record { teller = edge; peer = peer; telling = f.0 }) (steady_peers t c p new k edge) x f.2 in
     subst (λ (y : Told). IsGood t y.telling) g.2 (good_changed t (exports_of t c edge) (exports_of t new edge) (good_export t new edge h) f.0 f.1)
 
@@ -138,17 +150,21 @@ in_cleared f a b edge peer m i = elim (eqb_tells edge a) [
 ]
 
 pub still_good : (t : Network) (p : Peerings) (s : Step) → AllGood t p → AllGood t (counted p s)
-still_good t p (step.BgpUp a b) h = λ edge peer m i. h edge peer m (in_cleared p.told a.0 b.0 edge peer m (in_cleared (put_pair p.told a.0 b.0 []) b.0 a.0 edge peer m i))
-still_good t p (step.BgpDown a b) h = λ edge peer m i. h edge peer m (in_cleared p.told a.0 b.0 edge peer m (in_cleared (put_pair p.told a.0 b.0 []) b.0 a.0 edge peer m i))
+still_good t p (step.BgpUp a b) h =
+    λ edge peer m i. h edge peer m (in_cleared p.told a.0 b.0 edge peer m (in_cleared (put_pair p.told a.0 b.0 []) b.0 a.0 edge peer m i))
+still_good t p (step.BgpDown a b) h =
+    λ edge peer m i. h edge peer m (in_cleared p.told a.0 b.0 edge peer m (in_cleared (put_pair p.told a.0 b.0 []) b.0 a.0 edge peer m i))
 still_good t p _ h = h
 
-more_good : (t : Network) (k : Peerings) (xs : List Told) → AllGood t k → AllTold t xs → (edge peer : ℕ) (m : Telling) → In (k.told edge peer ++ tellings_of edge peer xs) m → IsGood t m
+more_good : (t : Network) (k : Peerings) (xs : List Told) → AllGood t k → AllTold t xs →
+    (edge peer : ℕ) (m : Telling) → In (k.told edge peer ++ tellings_of edge peer xs) m → IsGood t m
 more_good t k xs h g edge peer m i = elim (in_append (k.told edge peer) (tellings_of edge peer xs) m i) [
   | inl j ↦ h edge peer m j
   | inr j ↦ let f = in_tellings edge peer xs m j in subst (IsGood t) f.2 (g f.0 f.1)
 ]
 
-told_go_on : (t : Network) (c new : Config) (p : Peerings) (s : Step) → HasForms new.statics → AllGood t p → (edge peer : ℕ) (m : Telling) → In ((counted p s).told edge peer ++ tellings_of edge peer (told_in t c p new (counted p s) s)) m → IsGood t m
+told_go_on : (t : Network) (c new : Config) (p : Peerings) (s : Step) → HasForms new.statics → AllGood t p →
+    (edge peer : ℕ) (m : Telling) → In ((counted p s).told edge peer ++ tellings_of edge peer (told_in t c p new (counted p s) s)) m → IsGood t m
 told_go_on t c new p s h g = more_good t (counted p s) (told_in t c p new (counted p s) s) (still_good t p s g) (good_told t c p new (counted p s) s h)
 
 pub tellings_go : (t : Network) (w : World) (s : Step) → HasForms (config_after w.config s).statics → AllGood t w.peerings → AllGood t (after t w s).peerings

@@ -35,7 +35,8 @@ pub is_end-b : (w : Wiring) (l : ℕ) → is_end w l (link w l).b.0 ≡ true
 is_end-b w l = ap (λ b. ((link w l).a.0 == (link w l).b.0) || b) (same_test (link w l).b.0) ∙ or_true ((link w l).a.0 == (link w l).b.0)
 
 -- the other end is an end, and its other end is the first
-pub across-end : (w : Wiring) (l n : ℕ) → (link w l).a.0 ≢ (link w l).b.0 → is_end w l n ≡ true → (is_end w l (across w l n) ≡ true) × (across w l (across w l n) ≡ n) × (across w l n ≢ n)
+pub across-end : (w : Wiring) (l n : ℕ) → (link w l).a.0 ≢ (link w l).b.0 → is_end w l n ≡ true →
+    (is_end w l (across w l n) ≡ true) × (across w l (across w l n) ≡ n) × (across w l n ≢ n)
 across-end w l n d h = elim (end_is w l n h) [
   | inl p ↦
       let here : across w l n ≡ (link w l).b.0 = ap (across w l) (sym p) ∙ across-a w l in
@@ -46,7 +47,8 @@ across-end w l n d h = elim (end_is w l n h) [
 ]
 
 -- the ends of a direction
-pub dir_ends : (w : Wiring) (l : ℕ) (dir : Dir) → (link w l).a.0 ≢ (link w l).b.0 → (is_end w l (receiver w l dir) ≡ true) × (across w l (receiver w l dir) ≡ sender w l dir)
+pub dir_ends : (w : Wiring) (l : ℕ) (dir : Dir) → (link w l).a.0 ≢ (link w l).b.0 →
+    (is_end w l (receiver w l dir) ≡ true) × (across w l (receiver w l dir) ≡ sender w l dir)
 dir_ends w l Forth d = (is_end-b w l, across-b w l d)
 dir_ends w l Back d = (is_end-a w l, across-a w l)
 
@@ -58,8 +60,10 @@ Apart t = (m n : ℕ) → m < length t.loopbacks → n < length t.loopbacks → 
 pub loopbacks_apart : (t : Network) → IsLawful t → Apart t
 loopbacks_apart t lawful m n h g d same =
     elim (leb_tells n m) [
-      | inl p ↦ no (sym (apart_from_distinct (λ one other. one == other) t.loopbacks n m 0 lawful.nodes.distinct (less n m p.1 (λ e. d (sym e))) h) ∙ ap (λ x. x == loopback t m) (sym same) ∙ same_test (loopback t m))
-      | inr p ↦ no (sym (apart_from_distinct (λ one other. one == other) t.loopbacks m n 0 lawful.nodes.distinct p.1 g) ∙ ap (λ x. x == loopback t n) same ∙ same_test (loopback t n))
+      | inl p ↦ no (sym (apart_from_distinct (λ one other. one == other) t.loopbacks n m 0 lawful.nodes.distinct (less n m p.1 (λ e. d (sym e))) h)
+          ∙ ap (λ x. x == loopback t m) (sym same) ∙ same_test (loopback t m))
+      | inr p ↦ no (sym (apart_from_distinct (λ one other. one == other) t.loopbacks m n 0 lawful.nodes.distinct p.1 g) ∙ ap (λ x. x == loopback t n) same
+          ∙ same_test (loopback t n))
     ]
   where
     less : (a b : ℕ) → a ≤ b → a ≢ b → a < b
@@ -70,13 +74,17 @@ loopbacks_apart t lawful m n h g d same =
 pub said-own : (l node : ℕ) (ms : List Message) → messages_of l node (said_on l node ms) ≡ ms
 said-own l node [] = refl
 said-own l node (m ∷ ms) =
-    ap (λ b. map (λ (said : Said). said.message) (cond b ((record { link = l; end = node; message = m }) ∷ filter (is_by l node) (said_on l node ms)) (filter (is_by l node) (said_on l node ms)))) (ap (λ b. b && (node == node)) (same_test l) ∙ same_test node)
+    ap (λ b. map (λ (said : Said). said.message)
+        (cond b ((record { link = l; end = node; message = m }) ∷ filter (is_by l node) (said_on l node ms)) (filter (is_by l node) (said_on l node ms))))
+        (ap (λ b. b && (node == node)) (same_test l) ∙ same_test node)
     ∙ ap (λ rest. m ∷ rest) (said-own l node ms)
 
 pub said-other : (l node k other : ℕ) (ms : List Message) → (k ≢ l) ⊎ (other ≢ node) → messages_of l node (said_on k other ms) ≡ []
 said-other l node k other [] d = refl
 said-other l node k other (m ∷ ms) d =
-    ap (λ b. map (λ (said : Said). said.message) (cond b ((record { link = k; end = other; message = m }) ∷ filter (is_by l node) (said_on k other ms)) (filter (is_by l node) (said_on k other ms)))) (off d)
+    ap (λ b. map (λ (said : Said). said.message)
+        (cond b ((record { link = k; end = other; message = m }) ∷ filter (is_by l node) (said_on k other ms))
+        (filter (is_by l node) (said_on k other ms)))) (off d)
     ∙ said-other l node k other ms d
   where
     and_off : (b : Bool) → (b && false) ≡ false
@@ -87,7 +95,7 @@ said-other l node k other (m ∷ ms) d =
     off d = elim d [ inl p ↦ ap (λ b. b && (other == node)) (other_test k l p) | inr p ↦ ap (λ b. (k == l) && b) (other_test other node p) ∙ and_off (k == l) ]
 
 -- as a life begins, the active end has said Initialization and the other nothing
-lt_tells : (a b : ℕ) → ((nat_lt a b ≡ true) × (a < b)) ⊎ ((nat_lt a b ≡ false) × (b ≤ a))
+pub lt_tells : (a b : ℕ) → ((nat_lt a b ≡ true) × (a < b)) ⊎ ((nat_lt a b ≡ false) × (b ≤ a))
 lt_tells a b = elim (leb_tells (suc a) b) [ inl p ↦ inl (p.0, p.1) | inr p ↦ inr (p.0, at_most p.1) ]
   where
     at_most : b < suc a → b ≤ a
@@ -101,7 +109,8 @@ first_talk false xs f g = g refl
 abbrev pub opener : Network → ℕ → ℕ
 opener t l = let ends = link (wiring_of t) l in if is_active t l ends.a.0 then ends.a.0 else ends.b.0
 
-pub opening_talk : (t : Network) (l node : ℕ) → Apart t → JoinsNodes (wiring_of t) → EndsDiffer (wiring_of t) → l < length t.links → is_end (wiring_of t) l node ≡ true →
+pub opening_talk : (t : Network) (l node : ℕ) → Apart t → JoinsNodes (wiring_of t) → EndsDiffer (wiring_of t) → l < length t.links →
+    is_end (wiring_of t) l node ≡ true →
     IsTalk (is_active t l node) 0 (messages_of l node (said_on l (opener t l) (Initialization ∷ [])))
 opening_talk t l node apart joins differ h e =
     let w : Wiring = wiring_of t in

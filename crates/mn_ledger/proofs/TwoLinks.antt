@@ -16,9 +16,10 @@ use Rattle.mn_topo.specs.Network.{Network, wiring_of}
 use Rattle.mn_base.specs.Wiring.{JoinsNodes, EndsDiffer, JoinsOnce}
 use Rattle.mn_topo.specs.Lawful.{IsLawful}
 use Rattle.std.specs.List.{IsDistinct}
-use Rattle.mn_base.proofs.Bools.{other_test}
+use Rattle.mn_base.proofs.Bools.{other_test, no as no_end}
 use Rattle.mn_topo.specs.declared.steps.Step.{Step}
-use Rattle.mn_topo.specs.declared.steps.Step.TheVariants.{LinkUp, LinkDown, Learn, LdpAdmin, HearLdp, BgpUp, HearBgp, Import, Attach, Detach, Inject, Carry, Lose}
+use Rattle.mn_topo.specs.declared.steps.Step.TheVariants.{LinkUp, LinkDown, Learn, LdpAdmin, HearLdp, BgpUp, HearBgp, Import, Attach, Detach, Inject, Carry}
+use Rattle.mn_topo.specs.declared.steps.Step.TheVariants.{Lose}
 use Rattle.mn_topo.specs.declared.steps.JournalEntry.{JournalEntry}
 use Rattle.mn_ledger.specs.declared.verdict.Verdict.TheVariants.{Delivered, Dropped}
 use Rattle.mn_ledger.specs.declared.refused.Refused.TheVariants.{Unchanged, Empty}
@@ -58,11 +59,14 @@ two_links = record {
   bgp_delay = 3;
   node_names = (112 ∷ 101 ∷ 49 ∷ []) ∷ (112 ∷ []) ∷ (112 ∷ 101 ∷ 50 ∷ []) ∷ [];
   loopbacks = 3221225985 ∷ 3221225986 ∷ 3221225987 ∷ [];
-  links = record { a = node_no 0; b = node_no 1; cost = 10; delay = 2; loss = 0 } ∷ record { a = node_no 1; b = node_no 2; cost = 10; delay = 2; loss = 0 } ∷ [];
+  links = record { a = node_no 0; b = node_no 1; cost = 10; delay = 2; loss = 0 } ∷ record { a = node_no 1; b = node_no 2; cost = 10; delay = 2; loss =
+      0 } ∷ [];
   vrf_names = (114 ∷ 49 ∷ []) ∷ (114 ∷ 50 ∷ []) ∷ [];
-  vrfs = record { node = node_no 0; rd = record { 0 = 279172874240001 }; «import» = target ∷ []; export = target ∷ [] } ∷ record { node = node_no 2; rd = record { 0 = 279172874240002 }; «import» = target ∷ []; export = target ∷ [] } ∷ [];
+  vrfs = record { node = node_no 0; rd = record { 0 = 279172874240001 }; «import» = target ∷ []; export = target ∷ [] } ∷ record { node = node_no 2; rd =
+      record { 0 = 279172874240002 }; «import» = target ∷ []; export = target ∷ [] } ∷ [];
   site_names = (97 ∷ []) ∷ (98 ∷ []) ∷ [];
-  sites = record { vrf = vrf_no 0; prefixes = record { address = 167837696; length = 16 } ∷ [] } ∷ record { vrf = vrf_no 1; prefixes = record { address = 167903232; length = 16 } ∷ [] } ∷ [];
+  sites = record { vrf = vrf_no 0; prefixes = record { address = 167837696; length = 16 } ∷ [] } ∷ record { vrf = vrf_no 1; prefixes =
+      record { address = 167903232; length = 16 } ∷ [] } ∷ [];
 }
 
 abbrev pub at_start : Step → JournalEntry
@@ -131,41 +135,53 @@ across_both = settling ++ at_start (Inject (site_no 0) 1) ∷ at_start (Carry (l
 
 -- it reaches site b with TTL 61, as the first delivery
 pub arrives_at_the_other_site : (packets_of two_links across_both (packet ∷ [])).verdicts ≡ Delivered (site_no 1) 61 1 ∷ []
-unfolding next knowledge_of news sessions_after peerings_after held packets_after is_not_ipv4 is_malformed is_truncated has_bad_checksum good checksum_for with_ttl aged in_flight bytes_flying
+unfolding next knowledge_of news sessions_after peerings_after held packets_after is_not_ipv4 is_malformed is_truncated has_bad_checksum good checksum_for
+    with_ttl aged in_flight bytes_flying
 arrives_at_the_other_site = refl
 
 -- by pe1, p and pe2
 pub goes_by_the_middle : (packets_of two_links across_both (packet ∷ [])).paths ≡ (0 ∷ 1 ∷ 2 ∷ []) ∷ []
-unfolding next knowledge_of news sessions_after peerings_after held packets_after is_not_ipv4 is_malformed is_truncated has_bad_checksum good checksum_for with_ttl aged in_flight bytes_flying
+unfolding next knowledge_of news sessions_after peerings_after held packets_after is_not_ipv4 is_malformed is_truncated has_bad_checksum good checksum_for
+    with_ttl aged in_flight bytes_flying
 goes_by_the_middle = refl
 
 -- with TTL 3D and the checksum 69 CD
-pub arrives_with_a_new_checksum : (packets_of two_links across_both (packet ∷ [])).delivered ≡ Some (69 ∷ 0 ∷ 0 ∷ 28 ∷ 0 ∷ 0 ∷ 0 ∷ 0 ∷ 61 ∷ 17 ∷ 105 ∷ 205 ∷ 10 ∷ 1 ∷ 0 ∷ 1 ∷ 10 ∷ 2 ∷ 0 ∷ 1 ∷ 0 ∷ 53 ∷ 0 ∷ 53 ∷ 0 ∷ 8 ∷ 0 ∷ 0 ∷ [])
-unfolding next knowledge_of news sessions_after peerings_after held packets_after is_not_ipv4 is_malformed is_truncated has_bad_checksum good checksum_for with_ttl aged in_flight bytes_flying
+pub arrives_with_a_new_checksum : (packets_of two_links across_both (packet ∷ [])).delivered ≡ Some (69 ∷ 0 ∷ 0 ∷ 28 ∷ 0 ∷ 0 ∷ 0 ∷ 0 ∷ 61 ∷ 17 ∷ 105 ∷ 205
+    ∷ 10 ∷ 1 ∷ 0 ∷ 1 ∷ 10 ∷ 2 ∷ 0 ∷ 1 ∷ 0 ∷ 53 ∷ 0 ∷ 53 ∷ 0 ∷ 8 ∷ 0 ∷ 0 ∷ [])
+unfolding next knowledge_of news sessions_after peerings_after held packets_after is_not_ipv4 is_malformed is_truncated has_bad_checksum good checksum_for
+    with_ttl aged in_flight bytes_flying
 arrives_with_a_new_checksum = refl
 
 -- two links take four of the TTL, and leave one at least
 pub arrives_with_ttl_1 : (packets_of two_links across_both (packet_of_ttl_4 ∷ [])).verdicts ≡ Delivered (site_no 1) 1 1 ∷ []
-unfolding next knowledge_of news sessions_after peerings_after held packets_after is_not_ipv4 is_malformed is_truncated has_bad_checksum good checksum_for with_ttl aged in_flight bytes_flying
+unfolding next knowledge_of news sessions_after peerings_after held packets_after is_not_ipv4 is_malformed is_truncated has_bad_checksum good checksum_for
+    with_ttl aged in_flight bytes_flying
 arrives_with_ttl_1 = refl
 
 -- with one less it expires at the far edge
 pub expires_at_the_far_edge : (packets_of two_links across_both (packet_of_ttl_3 ∷ [])).verdicts ≡ Dropped rule.TtlExpired (node_no 2) ∷ []
-unfolding next knowledge_of news sessions_after peerings_after held packets_after is_not_ipv4 is_malformed is_truncated has_bad_checksum good checksum_for with_ttl aged in_flight bytes_flying
+unfolding next knowledge_of news sessions_after peerings_after held packets_after is_not_ipv4 is_malformed is_truncated has_bad_checksum good checksum_for
+    with_ttl aged in_flight bytes_flying
 expires_at_the_far_edge = refl
 
 -- a bad checksum is found at entry
-pub a_bad_checksum_ends_at_entry : (packets_of two_links (settling ++ at_start (Inject (site_no 0) 1) ∷ []) (packet_gone_bad ∷ [])).verdicts ≡ Dropped rule.BadChecksum (node_no 0) ∷ []
-unfolding next knowledge_of news sessions_after peerings_after held packets_after is_not_ipv4 is_malformed is_truncated has_bad_checksum good checksum_for with_ttl aged in_flight bytes_flying
+pub a_bad_checksum_ends_at_entry : (packets_of two_links (settling ++ at_start (Inject (site_no 0) 1) ∷ []) (packet_gone_bad ∷ [])).verdicts ≡ Dropped
+    rule.BadChecksum (node_no 0) ∷ []
+unfolding next knowledge_of news sessions_after peerings_after held packets_after is_not_ipv4 is_malformed is_truncated has_bad_checksum good checksum_for
+    with_ttl aged in_flight bytes_flying
 a_bad_checksum_ends_at_entry = refl
 
 -- the site is detached and attached anew while the packet flies
 abbrev pub site_comes_back : List JournalEntry
-site_comes_back = settling ++ at_start (Inject (site_no 0) 1) ∷ at_start (Detach (site_no 1)) ∷ at_start (Attach (site_no 1)) ∷ at_start (Carry (link_no 0) Forth 0) ∷ at_start (Carry (link_no 1) Forth 0) ∷ []
+site_comes_back =
+    settling ++ at_start (Inject (site_no 0) 1) ∷ at_start (Detach (site_no 1)) ∷ at_start (Attach (site_no 1)) ∷ at_start (Carry (link_no 0) Forth 0)
+    ∷ at_start (Carry (link_no 1) Forth 0) ∷ []
 
 -- the near VRF stops importing, and imports again
 abbrev pub import_comes_back : List JournalEntry
-import_comes_back = settling ++ at_start (Import (vrf_no 0) target false) ∷ at_start (Inject (site_no 0) 1) ∷ at_start (Import (vrf_no 0) target true) ∷ at_start (Inject (site_no 0) 1) ∷ at_start (Carry (link_no 0) Forth 0) ∷ at_start (Carry (link_no 1) Forth 0) ∷ []
+import_comes_back =
+    settling ++ at_start (Import (vrf_no 0) target false) ∷ at_start (Inject (site_no 0) 1) ∷ at_start (Import (vrf_no 0) target true)
+    ∷ at_start (Inject (site_no 0) 1) ∷ at_start (Carry (link_no 0) Forth 0) ∷ at_start (Carry (link_no 1) Forth 0) ∷ []
 
 -- LDP is switched off at the first link
 abbrev pub switched_off : List JournalEntry
@@ -173,60 +189,76 @@ switched_off = settling ++ at_start (LdpAdmin (link_no 0) false) ∷ at_start (I
 
 -- three packets are sent, and both links go down
 abbrev pub links_go_down : List JournalEntry
-links_go_down = settling ++ at_start (Inject (site_no 0) 1) ∷ at_start (Inject (site_no 0) 1) ∷ at_start (Inject (site_no 0) 1) ∷ at_start (LinkDown (link_no 1)) ∷ at_start (LinkDown (link_no 0)) ∷ []
+links_go_down =
+    settling ++ at_start (Inject (site_no 0) 1) ∷ at_start (Inject (site_no 0) 1) ∷ at_start (Inject (site_no 0) 1) ∷ at_start (LinkDown (link_no 1))
+    ∷ at_start (LinkDown (link_no 0)) ∷ []
 
 -- of two packets the first is lost on the first link
 abbrev pub one_is_lost : List JournalEntry
-one_is_lost = settling ++ at_start (Inject (site_no 0) 1) ∷ at_start (Inject (site_no 0) 1) ∷ at_start (Lose (link_no 0) Forth 0) ∷ at_start (Carry (link_no 0) Forth 0) ∷ at_start (Carry (link_no 1) Forth 0) ∷ []
+one_is_lost =
+    settling ++ at_start (Inject (site_no 0) 1) ∷ at_start (Inject (site_no 0) 1) ∷ at_start (Lose (link_no 0) Forth 0)
+    ∷ at_start (Carry (link_no 0) Forth 0) ∷ at_start (Carry (link_no 1) Forth 0) ∷ []
 
 -- the packet was bound to the attachment that ended
 pub the_new_attachment_is_another_one : (packets_of two_links site_comes_back (packet ∷ [])).verdicts ≡ Dropped rule.SiteGone (node_no 2) ∷ []
-unfolding next knowledge_of news sessions_after peerings_after held packets_after is_not_ipv4 is_malformed is_truncated has_bad_checksum good checksum_for with_ttl aged in_flight bytes_flying
+unfolding next knowledge_of news sessions_after peerings_after held packets_after is_not_ipv4 is_malformed is_truncated has_bad_checksum good checksum_for
+    with_ttl aged in_flight bytes_flying
 the_new_attachment_is_another_one = refl
 
 -- the import set is looked at as it is, and no message is needed
-pub import_is_looked_at_now : (packets_of two_links import_comes_back (packet ∷ packet ∷ [])).verdicts ≡ Dropped rule.NoRoute (node_no 0) ∷ Delivered (site_no 1) 61 1 ∷ []
-unfolding next knowledge_of news sessions_after peerings_after held packets_after is_not_ipv4 is_malformed is_truncated has_bad_checksum good checksum_for with_ttl aged in_flight bytes_flying
+pub import_is_looked_at_now : (packets_of two_links import_comes_back (packet ∷ packet ∷ [])).verdicts ≡ Dropped rule.NoRoute (node_no 0)
+    ∷ Delivered (site_no 1) 61 1 ∷ []
+unfolding next knowledge_of news sessions_after peerings_after held packets_after is_not_ipv4 is_malformed is_truncated has_bad_checksum good checksum_for
+    with_ttl aged in_flight bytes_flying
 import_is_looked_at_now = refl
 
 -- a route may be held that no label leads to
 pub no_path_without_ldp : (packets_of two_links switched_off (packet ∷ [])).verdicts ≡ Dropped rule.NoLsp (node_no 0) ∷ []
-unfolding next knowledge_of news sessions_after peerings_after held packets_after is_not_ipv4 is_malformed is_truncated has_bad_checksum good checksum_for with_ttl aged in_flight bytes_flying
+unfolding next knowledge_of news sessions_after peerings_after held packets_after is_not_ipv4 is_malformed is_truncated has_bad_checksum good checksum_for
+    with_ttl aged in_flight bytes_flying
 no_path_without_ldp = refl
 
 -- what flies on a link ends with it, where it was sent
-pub links_cut_what_they_carry : (packets_of two_links links_go_down (packet ∷ packet ∷ packet ∷ [])).verdicts ≡ Dropped rule.LinkCut (node_no 0) ∷ Dropped rule.LinkCut (node_no 0) ∷ Dropped rule.LinkCut (node_no 0) ∷ []
-unfolding next knowledge_of news sessions_after peerings_after held packets_after is_not_ipv4 is_malformed is_truncated has_bad_checksum good checksum_for with_ttl aged in_flight bytes_flying
+pub links_cut_what_they_carry : (packets_of two_links links_go_down (packet ∷ packet ∷ packet ∷ [])).verdicts ≡ Dropped rule.LinkCut (node_no 0)
+    ∷ Dropped rule.LinkCut (node_no 0) ∷ Dropped rule.LinkCut (node_no 0) ∷ []
+unfolding next knowledge_of news sessions_after peerings_after held packets_after is_not_ipv4 is_malformed is_truncated has_bad_checksum good checksum_for
+    with_ttl aged in_flight bytes_flying
 links_cut_what_they_carry = refl
 
 -- the other one is the first delivery
 pub the_other_one_arrives : (packets_of two_links one_is_lost (packet ∷ packet ∷ [])).verdicts ≡ Dropped rule.Lost (node_no 0) ∷ Delivered (site_no 1) 61 1 ∷ []
-unfolding next knowledge_of news sessions_after peerings_after held packets_after is_not_ipv4 is_malformed is_truncated has_bad_checksum good checksum_for with_ttl aged in_flight bytes_flying
+unfolding next knowledge_of news sessions_after peerings_after held packets_after is_not_ipv4 is_malformed is_truncated has_bad_checksum good checksum_for
+    with_ttl aged in_flight bytes_flying
 the_other_one_arrives = refl
 
 -- a link that is up can't come up
 pub a_link_comes_up_once : refusal two_links across_both (packet ∷ []) (LinkUp (link_no 0)) [] ≡ Some Unchanged
-unfolding next knowledge_of news sessions_after peerings_after held packets_after is_not_ipv4 is_malformed is_truncated has_bad_checksum good checksum_for with_ttl aged in_flight bytes_flying
+unfolding next knowledge_of news sessions_after peerings_after held packets_after is_not_ipv4 is_malformed is_truncated has_bad_checksum good checksum_for
+    with_ttl aged in_flight bytes_flying
 a_link_comes_up_once = refl
 
 -- a frame that arrived isn't there to be carried
 pub a_frame_is_carried_once : refusal two_links across_both (packet ∷ []) (Carry (link_no 0) Forth 0) [] ≡ Some Empty
-unfolding next knowledge_of news sessions_after peerings_after held packets_after is_not_ipv4 is_malformed is_truncated has_bad_checksum good checksum_for with_ttl aged in_flight bytes_flying
+unfolding next knowledge_of news sessions_after peerings_after held packets_after is_not_ipv4 is_malformed is_truncated has_bad_checksum good checksum_for
+    with_ttl aged in_flight bytes_flying
 a_frame_is_carried_once = refl
 
 -- nothing is heard over a link that is down
 pub nothing_is_heard_after_the_cut : refusal two_links links_go_down (packet ∷ packet ∷ packet ∷ []) (HearLdp (link_no 0) Back) [] ≡ Some Empty
-unfolding next knowledge_of news sessions_after peerings_after held packets_after is_not_ipv4 is_malformed is_truncated has_bad_checksum good checksum_for with_ttl aged in_flight bytes_flying
+unfolding next knowledge_of news sessions_after peerings_after held packets_after is_not_ipv4 is_malformed is_truncated has_bad_checksum good checksum_for
+    with_ttl aged in_flight bytes_flying
 nothing_is_heard_after_the_cut = refl
 
 -- another packet may enter
 pub another_packet_may_enter : refusal two_links across_both (packet ∷ []) (Inject (site_no 0) 1) packet ≡ None
-unfolding next knowledge_of news sessions_after peerings_after held packets_after is_not_ipv4 is_malformed is_truncated has_bad_checksum good checksum_for with_ttl aged in_flight bytes_flying
+unfolding next knowledge_of news sessions_after peerings_after held packets_after is_not_ipv4 is_malformed is_truncated has_bad_checksum good checksum_for
+    with_ttl aged in_flight bytes_flying
 another_packet_may_enter = refl
 
 -- once all is heard nothing is in flight, and 36 notices and messages were made: 6 notices, 24 of LDP and 6 of BGP
 pub all_is_heard : flight_of two_links settling [] ≡ record { made = 36; items = [] }
-unfolding next knowledge_of news sessions_after peerings_after held packets_after is_not_ipv4 is_malformed is_truncated has_bad_checksum good checksum_for with_ttl aged in_flight bytes_flying
+unfolding next knowledge_of news sessions_after peerings_after held packets_after is_not_ipv4 is_malformed is_truncated has_bad_checksum good checksum_for
+    with_ttl aged in_flight bytes_flying
 all_is_heard = refl
 
 -- on its way the packet's frame is the only item: it was made last, and is due after the link's delay
@@ -238,17 +270,20 @@ abbrev pub on_its_way : List JournalEntry
 on_its_way = settling ++ record { tick = 5; step = Inject (site_no 0) 1 } ∷ []
 
 pub one_frame_flies : numbers_and_ticks (flight_of two_links on_its_way (packet ∷ [])).items ≡ (36, 7) ∷ []
-unfolding next knowledge_of news sessions_after peerings_after held packets_after is_not_ipv4 is_malformed is_truncated has_bad_checksum good checksum_for with_ttl aged in_flight bytes_flying
+unfolding next knowledge_of news sessions_after peerings_after held packets_after is_not_ipv4 is_malformed is_truncated has_bad_checksum good checksum_for
+    with_ttl aged in_flight bytes_flying
 one_frame_flies = refl
 
 -- what flies over a link is gone with it
 pub nothing_flies_over_a_cut_link : (flight_of two_links links_go_down (packet ∷ packet ∷ packet ∷ [])).made ≡ 46
-unfolding next knowledge_of news sessions_after peerings_after held packets_after is_not_ipv4 is_malformed is_truncated has_bad_checksum good checksum_for with_ttl aged in_flight bytes_flying
+unfolding next knowledge_of news sessions_after peerings_after held packets_after is_not_ipv4 is_malformed is_truncated has_bad_checksum good checksum_for
+    with_ttl aged in_flight bytes_flying
 nothing_flies_over_a_cut_link = refl
 
 -- no step of the run is refused
 pub the_run_is_lawful : IsLawfulJournal two_links across_both (packet ∷ [])
-unfolding next knowledge_of news sessions_after peerings_after held packets_after is_not_ipv4 is_malformed is_truncated has_bad_checksum good checksum_for with_ttl aged in_flight bytes_flying
+unfolding next knowledge_of news sessions_after peerings_after held packets_after is_not_ipv4 is_malformed is_truncated has_bad_checksum good checksum_for
+    with_ttl aged in_flight bytes_flying
 the_run_is_lawful = search rules
 
 -- and its topology meets the rules of topologies
@@ -306,7 +341,8 @@ abbrev pub settled_world : World
 settled_world = world_of two_links settling
 
 all_learned : (node l : ℕ) → node < 3 → l < 2 → settled_world.views.learned node l ≡ settled_world.views.changes l
-unfolding next knowledge_of news sessions_after peerings_after held packets_after is_not_ipv4 is_malformed is_truncated has_bad_checksum good checksum_for with_ttl aged in_flight bytes_flying
+unfolding next knowledge_of news sessions_after peerings_after held packets_after is_not_ipv4 is_malformed is_truncated has_bad_checksum good checksum_for
+    with_ttl aged in_flight bytes_flying
 all_learned zero zero h g = refl
 all_learned zero (suc zero) h g = refl
 all_learned (suc zero) zero h g = refl
@@ -315,9 +351,6 @@ all_learned (suc (suc zero)) zero h g = refl
 all_learned (suc (suc zero)) (suc zero) h g = refl
 all_learned (suc (suc (suc node))) l h g = absurd (too_high node h)
 all_learned node (suc (suc l)) h g = absurd (too_far l g)
-
-no_end : false ≡ true → ⊥
-no_end e = cc
 
 neither : (a b : Bool) → a ≡ false → b ≡ false → (a || b) ≡ true → ⊥
 neither a b x y h = no_end (sym (ap (λ p. p || b) x ∙ y) ∙ h)
@@ -338,10 +371,14 @@ no_far_end_there : (n : ℕ) → ((1 == suc (suc (suc n))) || (2 == suc (suc (su
 no_far_end_there n h = neither _ _ (no_third n) (other_test 2 (suc (suc (suc n))) (λ e. above_two n 2 (omega arith) (sym e))) h
 
 no_far_edge : (n : ℕ) → ((suc (suc (suc n)) == 0) || ((suc (suc (suc n)) == 2) || false)) ≡ true → ⊥
-no_far_edge n h = neither _ _ (other_test (suc (suc (suc n))) 0 (above_two n 0 (omega arith))) (ap (λ b. b || false) (other_test (suc (suc (suc n))) 2 (above_two n 2 (omega arith)))) h
+no_far_edge n h =
+    neither _ _ (other_test (suc (suc (suc n))) 0 (above_two n 0 (omega arith)))
+    (ap (λ b. b || false) (other_test (suc (suc (suc n))) 2 (above_two n 2 (omega arith)))) h
 
-all_heard : (l node : ℕ) → l < 2 → is_end (wiring_of two_links) l node ≡ true → settled_world.sessions.heard l node ≡ length (settled_world.sessions.said l (across (wiring_of two_links) l node))
-unfolding next knowledge_of news sessions_after peerings_after held packets_after is_not_ipv4 is_malformed is_truncated has_bad_checksum good checksum_for with_ttl aged in_flight bytes_flying
+all_heard : (l node : ℕ) → l < 2 → is_end (wiring_of two_links) l node ≡ true →
+    settled_world.sessions.heard l node ≡ length (settled_world.sessions.said l (across (wiring_of two_links) l node))
+unfolding next knowledge_of news sessions_after peerings_after held packets_after is_not_ipv4 is_malformed is_truncated has_bad_checksum good checksum_for
+    with_ttl aged in_flight bytes_flying
 all_heard zero zero h e = refl
 all_heard zero (suc zero) h e = refl
 all_heard zero (suc (suc node)) h e = absurd (no_far_end node e)
@@ -352,7 +389,8 @@ all_heard (suc zero) (suc (suc (suc node))) h e = absurd (no_far_end_there node 
 all_heard (suc (suc l)) node h e = absurd (too_far l h)
 
 pub the_world_is_settled : IsSettled two_links settled_world
-unfolding next knowledge_of news sessions_after peerings_after held packets_after is_not_ipv4 is_malformed is_truncated has_bad_checksum good checksum_for with_ttl aged in_flight bytes_flying
+unfolding next knowledge_of news sessions_after peerings_after held packets_after is_not_ipv4 is_malformed is_truncated has_bad_checksum good checksum_for
+    with_ttl aged in_flight bytes_flying
 the_world_is_settled = record {
   learned = all_learned;
   switched = λ l h up. refl;
@@ -361,7 +399,8 @@ the_world_is_settled = record {
   told = edges_hear;
 }
   where
-    edges_peer : (one other : ℕ) → (one ≡ other → ⊥) → is_edge two_links.vrfs one ≡ true → is_edge two_links.vrfs other ≡ true → peers_live settled_world.config one other ≡ true
+    edges_peer : (one other : ℕ) → (one ≡ other → ⊥) → is_edge two_links.vrfs one ≡ true → is_edge two_links.vrfs other ≡ true →
+        peers_live settled_world.config one other ≡ true
     edges_peer zero zero d e f = absurd (d refl)
     edges_peer zero (suc zero) d e f = absurd (no_end f)
     edges_peer zero (suc (suc zero)) d e f = refl
@@ -373,7 +412,8 @@ the_world_is_settled = record {
     edges_peer (suc (suc zero)) (suc (suc (suc n))) d e f = absurd (no_far_edge n f)
     edges_peer (suc (suc (suc n))) other d e f = absurd (no_far_edge n e)
 
-    edges_hear : (one other : ℕ) → (one ≡ other → ⊥) → is_edge two_links.vrfs one ≡ true → is_edge two_links.vrfs other ≡ true → settled_world.peerings.heard one other ≡ length (settled_world.peerings.told other one)
+    edges_hear : (one other : ℕ) → (one ≡ other → ⊥) → is_edge two_links.vrfs one ≡ true → is_edge two_links.vrfs other ≡ true →
+        settled_world.peerings.heard one other ≡ length (settled_world.peerings.told other one)
     edges_hear zero zero d e f = absurd (d refl)
     edges_hear zero (suc zero) d e f = absurd (no_end f)
     edges_hear zero (suc (suc zero)) d e f = refl

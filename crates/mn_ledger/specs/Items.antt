@@ -1,6 +1,7 @@
 -- What is in flight: notices of links' changes, messages of sessions, and frames, each with its number and the tick at which
 -- it is due.
-use Rattle.std.specs.Prelude.{ℕ, zero, suc, ◌+◌, ◌==◌, ◌&&◌, ◌||◌, Bool, false, cond, not, if◌then◌else◌, List, [], ◌∷◌, ◌++◌, map, filter, length, slice_get, Option, Some, None}
+use Rattle.std.specs.Prelude.{ℕ, zero, suc, ◌+◌, ◌==◌, ◌&&◌, ◌||◌, Bool, false, cond, not, if◌then◌else◌, List, [], ◌∷◌, ◌++◌, map, filter, length}
+use Rattle.std.specs.Prelude.{slice_get, Option, Some, None}
 use Rattle.mn_base.specs.Wiring.{nodes_of, link, sender}
 use Rattle.mn_base.specs.declared.links.Dir.{Dir}
 use Rattle.mn_topo.specs.Network.{Network, wiring_of}
@@ -70,7 +71,8 @@ message_of said = (Messages said.link said.end, Says said.message)
 
 abbrev pub messages_in : Network → World → World → Step → List (Channel × Load)
 messages_in topology world later step =
-    if is_transport step then map message_of (said_in topology world.config world.views world.sessions later.config later.views (counted topology world.sessions step) step) else []
+    if is_transport step then map message_of
+        (said_in topology world.config world.views world.sessions later.config later.views (counted topology world.sessions step) step) else []
 
 abbrev pub route_of : Told → Channel × Load
 route_of told = (Routes told.teller told.peer, Tells told.telling)
@@ -114,7 +116,8 @@ delay_on topology (Frames l dir) = (link (wiring_of topology) l).delay
 -- items made at a tick, numbered from this number
 abbrev pub numbered : Network → ℕ → ℕ → List (Channel × Load) → List Item
 numbered topology tick number [] = []
-numbered topology tick number (made ∷ rest) = record { number = number; due = tick + delay_on topology made.0; on = made.0; load = made.1 } ∷ numbered topology tick (number + 1) rest
+numbered topology tick number (made ∷ rest) =
+    record { number = number; due = tick + delay_on topology made.0; on = made.0; load = made.1 } ∷ numbered topology tick (number + 1) rest
 
 -- 3. What a step takes out of flight
 
@@ -153,7 +156,8 @@ left_in_flight topology _ items = items
 -- 4. The flight after a step, and after a journal; and all that the journal made
 
 abbrev pub with_made : Network → ℕ → List (Channel × Load) → Step → Flight → Flight
-with_made topology tick new step flight = record { made = flight.made + length new; items = left_in_flight topology step flight.items ++ numbered topology tick flight.made new }
+with_made topology tick new step flight =
+    record { made = flight.made + length new; items = left_in_flight topology step flight.items ++ numbered topology tick flight.made new }
 
 abbrev pub flight_from : Network → World → Packets → Flight → List JournalEntry → List (List ℕ) → Flight
 flight_from topology world packets flight [] inputs = flight

@@ -5,7 +5,8 @@ use Rattle.mn_prefix.specs.Prefix.{AddressBlock, same_prefix}
 use Rattle.mn_topo.specs.declared.sites.SiteDef.{SiteDef}
 use Rattle.mn_topo.specs.Network.{Network}
 use Rattle.mn_topo.specs.declared.steps.Step.{Step}
-use Rattle.mn_topo.specs.declared.steps.Step.TheVariants.{LinkUp, LinkDown, LdpAdmin, BgpUp, BgpDown, AddRoute, DelRoute, Import, Export, Attach, Detach, Inject}
+use Rattle.mn_topo.specs.declared.steps.Step.TheVariants.{LinkUp, LinkDown, LdpAdmin, BgpUp, BgpDown, AddRoute, DelRoute, Import, Export, Attach, Detach}
+use Rattle.mn_topo.specs.declared.steps.Step.TheVariants.{Inject}
 use Rattle.mn_topo.specs.declared.steps.JournalEntry.{JournalEntry}
 use Rattle.mn_ledger.specs.Tables.{everywhere, put, put_pair}
 use Rattle.mn_ledger.specs.Places.{vrf_at}
@@ -68,7 +69,8 @@ config_after config (AddRoute s prefix) = record config { statics = config.stati
 config_after config (DelRoute s prefix) = record config { statics = filter (λ static. not (is_static s.0 prefix static)) config.statics }
 config_after config (Import v target on) = record config { imports = put config.imports v.0 (with_target target.0 on (config.imports v.0)) }
 config_after config (Export v target on) = record config { exports = put config.exports v.0 (with_target target.0 on (config.exports v.0)) }
-config_after config (Attach s) = record config { attached = put config.attached s.0 (Some (config.attaches s.0 + 2)); attaches = put config.attaches s.0 (config.attaches s.0 + 1) }
+config_after config (Attach s) =
+    record config { attached = put config.attached s.0 (Some (config.attaches s.0 + 2)); attaches = put config.attaches s.0 (config.attaches s.0 + 1) }
 config_after config (Detach s) = record config { attached = put config.attached s.0 None }
 config_after config _ = config
 

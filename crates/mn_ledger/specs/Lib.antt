@@ -1,7 +1,4 @@
-pub mod Routes
 pub mod Entry
-pub mod Deliveries
-pub mod Accounts
 pub mod Tables
 pub mod World
 pub mod Places

@@ -7,4 +7,5 @@ use Rattle.mn_ledger.specs.Vpn.{exports_of, withdrawn, announced}
 -- none of the edge's exports went, or none is new or another: so what is told stands in the order of VRF and prefix
 abbrev pub TellsOneKind : Network → Config → Config → ℕ → Type 0
 TellsOneKind topology before after edge =
-    (withdrawn (exports_of topology before edge) (exports_of topology after edge) ≡ []) ⊎ (announced (exports_of topology before edge) (exports_of topology after edge) ≡ [])
+    (withdrawn (exports_of topology before edge) (exports_of topology after edge) ≡ []) ⊎
+        (announced (exports_of topology before edge) (exports_of topology after edge) ≡ [])

@@ -2,7 +2,8 @@
 -- edge it goes over a label switched path (RFC 3031, sections 3.13 and 3.15 to 3.17), of which the ledger knows the nodes alone: an
 -- edge that has no label to begin with drops it, NoLsp (3.22), and a node on the way that can't send on, NoEntry (3.18); its TTL goes
 -- down by one at each node (3.23; RFC 3032, section 2.4, and RFC 3443, section 3.1).
-use Rattle.std.specs.Prelude.{ℕ, zero, suc, ◌+◌, ◌-◌, ◌*◌, ◌==◌, Bool, true, false, not, nat_lt, nat_le, if◌then◌else◌, List, [], ◌∷◌, ◌++◌, length, slice_index_or, slice_get, slice_set, Option, Some, None, is_none}
+use Rattle.std.specs.Prelude.{ℕ, zero, suc, ◌+◌, ◌-◌, ◌*◌, ◌==◌, Bool, true, false, not, nat_lt, nat_le, if◌then◌else◌, List, [], ◌∷◌, ◌++◌, length}
+use Rattle.std.specs.Prelude.{slice_index_or, slice_get, slice_set, Option, Some, None, is_none}
 use Rattle.mn_base.specs.declared.drops.Rule.{Rule}
 use Rattle.mn_base.specs.declared.drops.Rule.TheVariants as rule
 use Rattle.mn_base.specs.declared.links.Dir.{Dir}
@@ -77,10 +78,12 @@ abbrev pub hop_over : Network → Packets → Token → ℕ → Rule → Option 
 hop_over topology packets token node cause None = drop_at packets token.packet cause node
 hop_over topology packets token node cause (Some hop) =
     let dir = away_from topology hop.1 node in
-    record (judged packets token.packet (Flying (record { 0 = hop.1 }) dir)) { flying = put packets.flying (channel hop.1 dir) (flying_on packets hop.1 dir ++ token ∷ []) }
+    record (judged packets token.packet (Flying (record { 0 = hop.1 }) dir)) { flying =
+        put packets.flying (channel hop.1 dir) (flying_on packets hop.1 dir ++ token ∷ []) }
 
 abbrev pub hop : Network → World → Packets → Token → ℕ → Rule → Packets
-hop topology world packets token node cause = hop_over topology packets token node cause (usable topology world.config world.views world.sessions node token.edge)
+hop topology world packets token node cause =
+    hop_over topology packets token node cause (usable topology world.config world.views world.sessions node token.edge)
 
 -- 3. Entry
 
@@ -98,7 +101,8 @@ entry_rules attachment bytes =
 
 -- the token that is bound to the route's edge and attachment
 abbrev pub bound : ℕ → HeldRoute → List ℕ → Token
-bound packet route bytes = record { packet = packet; edge = route.edge; site = route.site; attachment = route.attachment; pushed = ttl_of bytes - 1; ttl = ttl_of bytes - 1; bytes = aged bytes 1 }
+bound packet route bytes = record { packet = packet; edge = route.edge; site = route.site; attachment = route.attachment; pushed = ttl_of bytes - 1; ttl =
+    ttl_of bytes - 1; bytes = aged bytes 1 }
 
 -- no route, a site of the same edge, or another edge
 abbrev pub route_by : Network → World → Packets → ℕ → List ℕ → ℕ → Option HeldRoute → Packets
@@ -111,15 +115,18 @@ route_by topology world packets packet bytes edge (Some route) =
 
 abbrev pub enter_by : Network → World → Packets → ℕ → List ℕ → ℕ → ℕ → Option Rule → Packets
 enter_by topology world packets packet bytes edge v (Some cause) = drop_at packets packet cause edge
-enter_by topology world packets packet bytes edge v None = route_by topology world packets packet bytes edge (best (held topology world.config world.peerings edge v) (destination_of bytes))
+enter_by topology world packets packet bytes edge v None =
+    route_by topology world packets packet bytes edge (best (held topology world.config world.peerings edge v) (destination_of bytes))
 
 -- one more packet, at its entry; the verdict that stands here is replaced in the same step by its own
 abbrev pub one_more : Packets → ℕ → Packets
-one_more packets edge = record packets { verdicts = packets.verdicts ++ Dropped rule.Lost (record { 0 = edge }) ∷ []; paths = packets.paths ++ (edge ∷ []) ∷ [] }
+one_more packets edge =
+    record packets { verdicts = packets.verdicts ++ Dropped rule.Lost (record { 0 = edge }) ∷ []; paths = packets.paths ++ (edge ∷ []) ∷ [] }
 
 abbrev pub enter : Network → World → Packets → ℕ → List ℕ → Packets
 enter topology world packets s bytes =
-    enter_by topology world (one_more packets (home_of topology s)) (length packets.verdicts) bytes (home_of topology s) (vrf_of topology s) (first_rule (entry_rules (world.config.attached s) bytes))
+    enter_by topology world (one_more packets (home_of topology s)) (length packets.verdicts) bytes (home_of topology s) (vrf_of topology s)
+        (first_rule (entry_rules (world.config.attached s) bytes))
 
 -- 4. Arrival at a node, loss, and a link that is cut
 
@@ -165,7 +172,8 @@ lose packets node (Some token) = drop_at packets token.packet rule.Lost node
 -- each frame of a channel ends, the first first
 abbrev pub cut_each : Packets → ℕ → ℕ → List Token → Packets
 cut_each packets at node [] = packets
-cut_each packets at node (token ∷ tokens) = cut_each (drop_at (record packets { flying = put packets.flying at tokens }) token.packet rule.LinkCut node) at node tokens
+cut_each packets at node (token ∷ tokens) =
+    cut_each (drop_at (record packets { flying = put packets.flying at tokens }) token.packet rule.LinkCut node) at node tokens
 
 abbrev pub cut : Network → Packets → ℕ → Dir → Packets
 cut topology packets l dir = cut_each packets (channel l dir) (sender (wiring_of topology) l dir) (flying_on packets l dir)
@@ -178,8 +186,10 @@ before_step packets = record packets { delivered = None }
 
 abbrev pub moved : Network → World → Packets → Step → List ℕ → Packets
 moved topology world packets (Inject s number) bytes = enter topology world packets s.0 bytes
-moved topology world packets (Carry l dir place) bytes = carry topology world (taken packets l.0 dir place) (receiver (wiring_of topology) l.0 dir) (slice_get (flying_on packets l.0 dir) place)
-moved topology world packets (Lose l dir place) bytes = lose (taken packets l.0 dir place) (sender (wiring_of topology) l.0 dir) (slice_get (flying_on packets l.0 dir) place)
+moved topology world packets (Carry l dir place) bytes =
+    carry topology world (taken packets l.0 dir place) (receiver (wiring_of topology) l.0 dir) (slice_get (flying_on packets l.0 dir) place)
+moved topology world packets (Lose l dir place) bytes =
+    lose (taken packets l.0 dir place) (sender (wiring_of topology) l.0 dir) (slice_get (flying_on packets l.0 dir) place)
 moved topology world packets (LinkDown l) bytes = cut topology (cut topology packets l.0 Forth) l.0 Back
 moved topology world packets _ bytes = packets
 

@@ -3,7 +3,8 @@ use Rattle.std.specs.Prelude.{◌≡◌, ℕ, ◌+◌, ◌==◌, Bool, true, fal
 use Rattle.std.specs.List.{list_any}
 use Rattle.mn_topo.specs.Network.{Network}
 use Rattle.mn_topo.specs.declared.steps.Step.{Step}
-use Rattle.mn_topo.specs.declared.steps.Step.TheVariants.{LinkUp, LinkDown, Learn, LdpAdmin, HearLdp, BgpUp, BgpDown, HearBgp, AddRoute, DelRoute, Import, Export, Attach, Detach, Inject, Carry, Lose}
+use Rattle.mn_topo.specs.declared.steps.Step.TheVariants.{LinkUp, LinkDown, Learn, LdpAdmin, HearLdp, BgpUp, BgpDown, HearBgp, AddRoute, DelRoute, Import}
+use Rattle.mn_topo.specs.declared.steps.Step.TheVariants.{Export, Attach, Detach, Inject, Carry, Lose}
 use Rattle.mn_topo.specs.declared.steps.JournalEntry.{JournalEntry}
 use Rattle.mn_prefix.specs.Prefix.{AddressBlock}
 use Rattle.mn_ledger.specs.World.{World}
@@ -47,9 +48,12 @@ pub record KeepsOtherParts (topology : Network) (world : World) (packets : Packe
   pub moved : is_moving step ≡ false → packets_after topology (after topology world step) packets step bytes ≡ before_step packets
   pub knows : is_transport step ≡ false → (node : ℕ) → known topology (after topology world step) node ≡ known topology world node
   pub sends : is_transport step ≡ false → (node fec : ℕ)
-      → usable topology (after topology world step).config (after topology world step).views (after topology world step).sessions node fec ≡ usable topology world.config world.views world.sessions node fec
+      → usable topology (after topology world step).config (after topology world step).views
+          (after topology world step).sessions node fec ≡ usable topology world.config world.views world.sessions node fec
   pub exports : is_routing step ≡ false → (edge : ℕ) → exports_of topology (after topology world step).config edge ≡ exports_of topology world.config edge
-  pub holds : is_routing step ≡ false → (edge v : ℕ) → held topology (after topology world step).config (after topology world step).peerings edge v ≡ held topology world.config world.peerings edge v
+  pub holds : is_routing step ≡ false →
+      (edge v : ℕ) →
+      held topology (after topology world step).config (after topology world step).peerings edge v ≡ held topology world.config world.peerings edge v
 
 -- what the last step that says anything says
 abbrev pub later : {A : Type 0} → Option A → Option A → Option A
@@ -120,9 +124,15 @@ pub record IsByLastSteps (topology : Network) (entries : List JournalEntry) : Ty
   pub links : (l : ℕ) → (world_of topology entries).config.is_up l ≡ unwrap_or (last_said (makes_up l) entries) false
   pub switches_are : (l : ℕ) → (world_of topology entries).config.ldp_on l ≡ unwrap_or (last_said (switches l) entries) true
   pub sessions : (a b : ℕ) → (world_of topology entries).config.bgp_on a b ≡ unwrap_or (last_said (starts a b) entries) false
-  pub imports : (v target : ℕ) → has_target ((world_of topology entries).config.imports v) target ≡ unwrap_or (last_said (imports_target v target) entries) (has_target ((first_config topology).imports v) target)
-  pub exports : (v target : ℕ) → has_target ((world_of topology entries).config.exports v) target ≡ unwrap_or (last_said (exports_target v target) entries) (has_target ((first_config topology).exports v) target)
-  pub statics : (s : ℕ) (prefix : AddressBlock) → list_any (is_static s prefix) (world_of topology entries).config.statics ≡ unwrap_or (last_said (routes_prefix s prefix) entries) (list_any (is_static s prefix) (first_config topology).statics)
+  pub imports : (v target : ℕ) →
+      has_target ((world_of topology entries).config.imports v) target ≡ unwrap_or (last_said (imports_target v target) entries)
+      (has_target ((first_config topology).imports v) target)
+  pub exports : (v target : ℕ) →
+      has_target ((world_of topology entries).config.exports v) target ≡ unwrap_or (last_said (exports_target v target) entries)
+      (has_target ((first_config topology).exports v) target)
+  pub statics : (s : ℕ) (prefix : AddressBlock) →
+      list_any (is_static s prefix) (world_of topology entries).config.statics ≡ unwrap_or (last_said (routes_prefix s prefix) entries)
+      (list_any (is_static s prefix) (first_config topology).statics)
   pub attached : (s : ℕ) → is_some ((world_of topology entries).config.attached s) ≡ unwrap_or (last_said (makes_attached s) entries) true
   pub attachment : (s n : ℕ) → (world_of topology entries).config.attached s ≡ Some n → n ≡ 1 + times (attaches_site s) entries
   pub attaches : (s : ℕ) → (world_of topology entries).config.attaches s ≡ times (attaches_site s) entries

@@ -19,4 +19,5 @@ known_after topology world step node =
 abbrev pub said_by : Network → World → Step → ℕ → List Said
 said_by topology world step node =
     filter (λ said. said.end == node)
-    (said_in topology world.config world.views world.sessions (config_after world.config step) (views_after world.views step) (counted topology world.sessions step) step)
+    (said_in topology world.config world.views world.sessions (config_after world.config step) (views_after world.views step)
+        (counted topology world.sessions step) step)

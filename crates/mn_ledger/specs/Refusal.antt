@@ -1,5 +1,6 @@
 -- Which steps are refused, and why: the first cause that holds.
-use Rattle.std.specs.Prelude.{ℕ, ◌+◌, ◌-◌, ◌==◌, ◌&&◌, ◌||◌, Bool, true, false, cond, not, nat_lt, nat_le, List, [], ◌∷◌, ◌++◌, map, length, sum, Option, Some, None, is_some, is_none}
+use Rattle.std.specs.Prelude.{ℕ, ◌+◌, ◌-◌, ◌==◌, ◌&&◌, ◌||◌, Bool, true, false, cond, not, nat_lt, nat_le, List, [], ◌∷◌, ◌++◌, map, length, sum, Option}
+use Rattle.std.specs.Prelude.{Some, None, is_some, is_none}
 use Rattle.std.specs.List.{flat_map, list_any}
 pub use Rattle.mn_base.specs.Rules.{when as where_holds, first_broken as first_cause}
 use Rattle.mn_base.specs.Wiring.{nodes_of, links_of, link, sender, receiver}
@@ -8,10 +9,12 @@ use Rattle.mn_prefix.specs.Prefix.{AddressBlock, same_prefix}
 use Rattle.mn_ipv4.specs.Header.{total_length}
 use Rattle.mn_topo.specs.Network.{Network, wiring_of}
 use Rattle.mn_topo.specs.declared.steps.Step.{Step}
-use Rattle.mn_topo.specs.declared.steps.Step.TheVariants.{LinkUp, LinkDown, Learn, LdpAdmin, HearLdp, BgpUp, BgpDown, HearBgp, AddRoute, DelRoute, Import, Export, Attach, Detach, Inject, Carry, Lose}
+use Rattle.mn_topo.specs.declared.steps.Step.TheVariants.{LinkUp, LinkDown, Learn, LdpAdmin, HearLdp, BgpUp, BgpDown, HearBgp, AddRoute, DelRoute, Import}
+use Rattle.mn_topo.specs.declared.steps.Step.TheVariants.{Export, Attach, Detach, Inject, Carry, Lose}
 use Rattle.mn_topo.specs.declared.steps.JournalEntry.{JournalEntry}
 use Rattle.mn_ledger.specs.declared.refused.Refused.{Refused}
-use Rattle.mn_ledger.specs.declared.refused.Refused.TheVariants.{Unchanged, Empty, PrefixTaken, NoRouteThere, RoutesFull, TargetsFull, LabelsSpent, NetFull, TooManySteps}
+use Rattle.mn_ledger.specs.declared.refused.Refused.TheVariants.{Unchanged, Empty, PrefixTaken, NoRouteThere, RoutesFull, TargetsFull, LabelsSpent, NetFull}
+use Rattle.mn_ledger.specs.declared.refused.Refused.TheVariants.{TooManySteps}
 use Rattle.mn_ledger.specs.Places.{vrf_of, home_of, sites_at, edges}
 use Rattle.mn_ledger.specs.World.{SiteRoute, Config, Views, Sessions, Peerings, World}
 use Rattle.mn_ledger.specs.Transport.{lives}
@@ -40,7 +43,8 @@ is_unchanged config _ = false
 abbrev pub is_empty : Network → World → Packets → Step → Bool
 is_empty topology world packets (Learn node l) = nat_le (world.views.changes l.0) (world.views.learned node.0 l.0)
 is_empty topology world packets (HearLdp l dir) =
-    not (lives world.config l.0) || nat_le (length (world.sessions.said l.0 (sender (wiring_of topology) l.0 dir))) (world.sessions.heard l.0 (receiver (wiring_of topology) l.0 dir))
+    not (lives world.config l.0) || nat_le (length (world.sessions.said l.0 (sender (wiring_of topology) l.0 dir)))
+        (world.sessions.heard l.0 (receiver (wiring_of topology) l.0 dir))
 is_empty topology world packets (HearBgp a b) =
     not (peers_live world.config a.0 b.0) || nat_le (length (world.peerings.told a.0 b.0)) (world.peerings.heard b.0 a.0)
 is_empty topology world packets (Carry l dir place) = nat_le (length (flying_on packets l.0 dir)) place
@@ -50,7 +54,8 @@ is_empty topology world packets _ = false
 -- the site at which the VRF has the prefix
 abbrev pub taken_by : Network → ℕ → AddressBlock → List SiteRoute → Option ℕ
 taken_by topology v prefix [] = None
-taken_by topology v prefix (static ∷ statics) = cond ((vrf_of topology static.site == v) && same_prefix static.prefix prefix) (Some static.site) (taken_by topology v prefix statics)
+taken_by topology v prefix (static ∷ statics) =
+    cond ((vrf_of topology static.site == v) && same_prefix static.prefix prefix) (Some static.site) (taken_by topology v prefix statics)
 
 abbrev pub prefix_refusal : Option ℕ → ℕ → Option Refused
 prefix_refusal (Some s) count = Some (PrefixTaken (record { 0 = s }))
@@ -77,7 +82,8 @@ is_spent topology config _ = false
 
 -- what is in flight: the notices that aren't learned, and the messages that aren't heard
 abbrev pub notices_unlearned : Network → Views → ℕ
-notices_unlearned topology views = sum (flat_map (λ node. map (λ l. views.changes l - views.learned node l) (links_of (wiring_of topology))) (nodes_of (wiring_of topology)))
+notices_unlearned topology views =
+    sum (flat_map (λ node. map (λ l. views.changes l - views.learned node l) (links_of (wiring_of topology))) (nodes_of (wiring_of topology)))
 
 abbrev pub unheard_over : Network → Sessions → ℕ → ℕ
 unheard_over topology sessions l =
@@ -95,7 +101,8 @@ in_flight topology world =
 
 -- the total lengths of the packets that fly
 unfoldable pub bytes_flying : Network → Packets → ℕ
-bytes_flying topology packets = sum (flat_map (λ l. map (λ token. total_length token.bytes) (flying_on packets l Forth ++ flying_on packets l Back)) (links_of (wiring_of topology)))
+bytes_flying topology packets =
+    sum (flat_map (λ l. map (λ token. total_length token.bytes) (flying_on packets l Forth ++ flying_on packets l Back)) (links_of (wiring_of topology)))
 
 -- the step takes something out of flight
 abbrev pub takes_out : Step → Bool
@@ -125,7 +132,8 @@ limits topology world packets count step bytes =
 
 abbrev pub refusal_at : Network → World → Packets → ℕ → Step → List ℕ → Option Refused
 refusal_at topology world packets count step bytes =
-    first_cause (where_holds (is_unchanged world.config step) Unchanged ∷ where_holds (is_empty topology world packets step) Empty ∷ limits topology world packets count step bytes)
+    first_cause (where_holds (is_unchanged world.config step) Unchanged ∷ where_holds (is_empty topology world packets step) Empty
+        ∷ limits topology world packets count step bytes)
 
 -- why the step is refused after these entries, and none where it is done
 abbrev pub refusal : Network → List JournalEntry → List (List ℕ) → Step → List ℕ → Option Refused

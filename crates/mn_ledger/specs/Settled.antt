@@ -18,9 +18,11 @@ use Rattle.mn_ledger.specs.Ledger.{world_of}
 pub record IsSettled (topology : Network) (world : World) : Type 0 where
   pub learned : (node l : ℕ) → node < length topology.loopbacks → l < length topology.links → world.views.learned node l ≡ world.views.changes l
   pub switched : (l : ℕ) → l < length topology.links → world.config.is_up l ≡ true → world.config.ldp_on l ≡ true
-  pub heard : (l node : ℕ) → l < length topology.links → is_end (wiring_of topology) l node ≡ true → lives world.config l ≡ true → world.sessions.heard l node ≡ length (world.sessions.said l (across (wiring_of topology) l node))
+  pub heard : (l node : ℕ) → l < length topology.links → is_end (wiring_of topology) l node ≡ true → lives world.config l ≡ true →
+      world.sessions.heard l node ≡ length (world.sessions.said l (across (wiring_of topology) l node))
   pub peered : (one other : ℕ) → one ≢ other → is_edge topology.vrfs one ≡ true → is_edge topology.vrfs other ≡ true → peers_live world.config one other ≡ true
-  pub told : (one other : ℕ) → one ≢ other → is_edge topology.vrfs one ≡ true → is_edge topology.vrfs other ≡ true → world.peerings.heard one other ≡ length (world.peerings.told other one)
+  pub told : (one other : ℕ) → one ≢ other → is_edge topology.vrfs one ≡ true → is_edge topology.vrfs other ≡ true →
+      world.peerings.heard one other ≡ length (world.peerings.told other one)
 
 -- only packets move
 abbrev pub moves_packets : Step → Bool
@@ -36,7 +38,9 @@ pub record IsSteady (topology : Network) (before entries : List JournalEntry) : 
 -- the nodes by which a packet goes from one node to another, at most so many after the first
 abbrev pub hops_from : Network → World → ℕ → ℕ → ℕ → List ℕ
 hops_from topology world zero node to = node ∷ []
-hops_from topology world (suc more) node to = elim (next (wiring_of topology) (view_of (wiring_of topology) world.views node) node to) [ None ↦ node ∷ [] | Some hop ↦ node ∷ hops_from topology world more hop.0 to ]
+hops_from topology world (suc more) node to =
+    elim (next (wiring_of topology) (view_of (wiring_of topology) world.views node) node to) [ None ↦ node ∷ [] | Some hop ↦ node
+    ∷ hops_from topology world more hop.0 to ]
 
 -- the route from a node to an edge
 abbrev pub route : Network → World → ℕ → ℕ → List ℕ

@@ -8,7 +8,8 @@ use Rattle.mn_base.specs.declared.states.LdpState.{LdpState}
 use Rattle.mn_topo.specs.Network.{Network, wiring_of}
 use Rattle.mn_topo.specs.declared.steps.Step.{Step}
 use Rattle.mn_topo.specs.declared.steps.Step.TheVariants.{LinkUp, LinkDown, Learn, LdpAdmin, HearLdp}
-pub use Rattle.mn_node.specs.Ldp.{Said, is_by, messages_of, said_on, state_by, answer, Hearing, Knowledge, hearing, is_operational, mapped_after, is_mapped, usable_over, usable_by, offers, offered, mention, by_neighbour, mentioned_on, mentioned_from}
+pub use Rattle.mn_node.specs.Ldp.{Said, is_by, messages_of, said_on, state_by, answer, Hearing, Knowledge, hearing, is_operational, mapped_after, is_mapped}
+pub use Rattle.mn_node.specs.Ldp.{usable_over, usable_by, offers, offered, mention, by_neighbour, mentioned_on, mentioned_from}
 unfoldable pub use Rattle.mn_node.specs.Ldp.{news}
 use Rattle.mn_node.specs.Machine.{speaks_first}
 use Rattle.mn_ledger.specs.Tables.{put, put_pair}
@@ -48,10 +49,12 @@ heard_by wiring sessions l node = take (sessions.heard l node) (sessions.said l 
 -- 3. What a node knows, and where it can send
 
 abbrev pub hearing_at : Wiring → Config → Sessions → ℕ → ℕ → Hearing
-hearing_at wiring config sessions node l = record { alive = lives config l && is_end wiring l node; count = sessions.heard l node; messages = heard_by wiring sessions l node }
+hearing_at wiring config sessions node l =
+    record { alive = lives config l && is_end wiring l node; count = sessions.heard l node; messages = heard_by wiring sessions l node }
 
 unfoldable pub knowledge_of : Wiring → Config → Views → Sessions → ℕ → Knowledge
-knowledge_of wiring config views sessions node = record { view = view_of wiring views node; hearings = map (hearing_at wiring config sessions node) (links_of wiring) }
+knowledge_of wiring config views sessions node =
+    record { view = view_of wiring views node; hearings = map (hearing_at wiring config sessions node) (links_of wiring) }
 
 -- what a node knows in this world
 abbrev pub known : Network → World → ℕ → Knowledge
@@ -74,7 +77,8 @@ opening topology config l =
 
 -- the end hears the other's next message, and answers it
 abbrev pub answered : Network → Sessions → ℕ → ℕ → ℕ → List Said
-answered topology sessions l node other = said_on l node (answer (state_of topology sessions l node) (slice_index_or (sessions.said l other) (sessions.heard l node) Address))
+answered topology sessions l node other =
+    said_on l node (answer (state_of topology sessions l node) (slice_index_or (sessions.said l other) (sessions.heard l node) Address))
 
 -- what the step itself makes its ends say, with the sessions as they were and switches as they are now
 abbrev pub replies : Network → Config → Sessions → Step → List Said
@@ -98,7 +102,8 @@ abbrev pub said_in : Network → Config → Views → Sessions → Config → Vi
 said_in topology config views sessions new_config new_views new_sessions step =
     let wiring = wiring_of topology in
     replies topology new_config sessions step
-    ++ flat_map (λ node. news wiring (knowledge_of wiring config views sessions node) (knowledge_of wiring new_config new_views new_sessions node) node) (speakers wiring step)
+    ++ flat_map (λ node. news wiring (knowledge_of wiring config views sessions node) (knowledge_of wiring new_config new_views new_sessions node) node)
+        (speakers wiring step)
 
 -- 5. The sessions after a step
 
@@ -111,7 +116,8 @@ abbrev pub counted : Network → Sessions → Step → Sessions
 counted topology sessions (LinkUp l) = anew sessions l.0
 counted topology sessions (LinkDown l) = anew sessions l.0
 counted topology sessions (LdpAdmin l on) = anew sessions l.0
-counted topology sessions (HearLdp l dir) = let node = receiver (wiring_of topology) l.0 dir in record sessions { heard = put_pair sessions.heard l.0 node (sessions.heard l.0 node + 1) }
+counted topology sessions (HearLdp l dir) = let node = receiver (wiring_of topology) l.0 dir in
+    record sessions { heard = put_pair sessions.heard l.0 node (sessions.heard l.0 node + 1) }
 counted topology sessions _ = sessions
 
 -- the sessions once all these are said

@@ -9,7 +9,8 @@ use Rattle.mn_base.specs.declared.states.BgpState.{BgpState}
 use Rattle.mn_base.specs.declared.states.BgpState.TheVariants as bgp
 use Rattle.mn_topo.specs.Network.{Network, wiring_of}
 pub use Rattle.mn_node.specs.Ldp.{has_ldp_row}
-use Rattle.mn_ledger.specs.World.{Config, Sessions, Peerings, World, Message, Initialization, KeepAlive, Address, Mapping, Withdraw, Release, Telling, Open, Alive, Announce, Unreach}
+use Rattle.mn_ledger.specs.World.{Config, Sessions, Peerings, World, Message, Initialization, KeepAlive, Address, Mapping, Withdraw, Release, Telling, Open}
+use Rattle.mn_ledger.specs.World.{Alive, Announce, Unreach}
 use Rattle.mn_ledger.specs.Transport.{lives, is_active, state_of}
 use Rattle.mn_ledger.specs.Vpn.{peers_live}
 use Rattle.mn_ledger.specs.Vpn as vpn
@@ -89,7 +90,10 @@ pub record IsInTurn (topology : Network) (world : World) : Type 0 where
 
 -- the next message that an end hears has a row in the table of its state
 pub record HasRows (topology : Network) (world : World) : Type 0 where
-  pub ldp : (l node : ℕ) → l < length topology.links → is_end (wiring_of topology) l node ≡ true → lives world.config l ≡ true → world.sessions.heard l node < length (world.sessions.said l (across (wiring_of topology) l node))
-      → has_ldp_row (state_of topology world.sessions l node) (slice_index_or (world.sessions.said l (across (wiring_of topology) l node)) (world.sessions.heard l node) Address) ≡ true
+  pub ldp : (l node : ℕ) → l < length topology.links → is_end (wiring_of topology) l node ≡ true → lives world.config l ≡ true →
+      world.sessions.heard l node < length (world.sessions.said l (across (wiring_of topology) l node))
+      → has_ldp_row (state_of topology world.sessions l node)
+          (slice_index_or (world.sessions.said l (across (wiring_of topology) l node)) (world.sessions.heard l node) Address) ≡ true
   pub bgp : (edge peer : ℕ) → edge ≢ peer → peers_live world.config edge peer ≡ true → world.peerings.heard edge peer < length (world.peerings.told peer edge)
-      → has_bgp_row (vpn.state_of world.config world.peerings edge peer) (slice_index_or (world.peerings.told peer edge) (world.peerings.heard edge peer) Open) ≡ true
+      → has_bgp_row (vpn.state_of world.config world.peerings edge peer)
+          (slice_index_or (world.peerings.told peer edge) (world.peerings.heard edge peer) Open) ≡ true

@@ -1,6 +1,7 @@
 -- What edges tell each other of their VRFs' routes, and which routes a VRF holds: RFC 4271, sections 4 and 8.2.2, and
 -- RFC 4364, sections 4.2, 4.3 and 5.
-use Rattle.std.specs.Prelude.{ℕ, zero, suc, ◌+◌, ◌==◌, ◌&&◌, ◌||◌, Bool, true, false, not, nat_lt, nat_le, if◌then◌else◌, List, [], ◌∷◌, ◌++◌, map, take, filter, slice_index_or, Option, Some, None, is_some, unwrap_or}
+use Rattle.std.specs.Prelude.{ℕ, zero, suc, ◌+◌, ◌==◌, ◌&&◌, ◌||◌, Bool, true, false, not, nat_lt, nat_le, if◌then◌else◌, List, [], ◌∷◌, ◌++◌, map, take}
+use Rattle.std.specs.Prelude.{filter, slice_index_or, Option, Some, None, is_some, unwrap_or}
 use Rattle.std.specs.List.{flat_map, list_any}
 use Rattle.mn_base.specs.declared.states.BgpState.{BgpState}
 use Rattle.mn_base.specs.declared.states.BgpState.TheVariants.{Idle, OpenSent, OpenConfirm, Established}
@@ -46,7 +47,8 @@ abbrev pub is_present : Network → Config → ℕ → SiteRoute → Bool
 is_present topology config v static = (vrf_of topology static.site == v) && is_some (config.attached static.site)
 
 abbrev pub export_of : Config → ℕ → List ℕ → SiteRoute → Export
-export_of config v targets static = record { vrf = v; prefix = static.prefix; site = static.site; attachment = unwrap_or (config.attached static.site) 0; targets = targets }
+export_of config v targets static =
+    record { vrf = v; prefix = static.prefix; site = static.site; attachment = unwrap_or (config.attached static.site) 0; targets = targets }
 
 -- the VRF's statics of attached sites, with these targets, in the order of prefixes
 abbrev pub present_with : Network → Config → ℕ → List ℕ → List Export
@@ -105,7 +107,8 @@ reply _ _ exports = []
 abbrev pub replies : Network → Config → Peerings → Step → List Told
 replies topology config peerings (step.BgpUp a b) = told_to a.0 b.0 (Open ∷ []) ++ told_to b.0 a.0 (Open ∷ [])
 replies topology config peerings (step.HearBgp a b) =
-    told_to b.0 a.0 (reply (state_of config peerings b.0 a.0) (slice_index_or (peerings.told a.0 b.0) (peerings.heard b.0 a.0) Open) (exports_of topology config b.0))
+    told_to b.0 a.0
+        (reply (state_of config peerings b.0 a.0) (slice_index_or (peerings.told a.0 b.0) (peerings.heard b.0 a.0) Open) (exports_of topology config b.0))
 replies topology config peerings _ = []
 
 -- of the same VRF and prefix
@@ -130,12 +133,14 @@ changed before after = withdrawn before after ++ announced before after
 
 -- the peers with which the edge was Established and is
 abbrev pub steady_peers : Network → Config → Peerings → Config → Peerings → ℕ → List ℕ
-steady_peers topology config peerings new_config new_peerings edge = filter (λ peer. is_established config peerings edge peer && is_established new_config new_peerings edge peer) (nodes_of (wiring_of topology))
+steady_peers topology config peerings new_config new_peerings edge =
+    filter (λ peer. is_established config peerings edge peer && is_established new_config new_peerings edge peer) (nodes_of (wiring_of topology))
 
 -- what an edge tells of the change of its exports: export by export, and each to peer after peer
 abbrev pub news : Network → Config → Peerings → Config → Peerings → ℕ → List Told
 news topology config peerings new_config new_peerings edge =
-    flat_map (λ telling. map (λ peer. record { teller = edge; peer = peer; telling = telling }) (steady_peers topology config peerings new_config new_peerings edge))
+    flat_map (λ telling. map (λ peer. record { teller = edge; peer = peer; telling = telling })
+        (steady_peers topology config peerings new_config new_peerings edge))
     (changed (exports_of topology config edge) (exports_of topology new_config edge))
 
 -- all that is told in a step, in the order of telling
@@ -227,7 +232,8 @@ imported config v exports = filter (λ export. meet export.targets (config.impor
 
 -- the exports of the edge's other VRFs: RFC 4364, section 4.3.6
 abbrev pub near_routes : Network → Config → ℕ → ℕ → List HeldRoute
-near_routes topology config edge v = map (λ export. held_by edge (Near export.vrf) export) (imported config v (filter (λ export. not (export.vrf == v)) (exports_of topology config edge)))
+near_routes topology config edge v =
+    map (λ export. held_by edge (Near export.vrf) export) (imported config v (filter (λ export. not (export.vrf == v)) (exports_of topology config edge)))
 
 -- of each VRF and prefix the last mention, where it is an announcement
 abbrev pub believed_after : List Export → Telling → List Export
@@ -249,7 +255,8 @@ believed config peerings edge peer = if peers_live config edge peer then believe
 -- the routes that a peer announced
 abbrev pub far_routes : Network → Config → Peerings → ℕ → ℕ → ℕ → List HeldRoute
 far_routes topology config peerings edge v peer =
-    map (λ export. held_by peer (Far (loopback topology peer) (vrf_at topology export.vrf).rd.0) export) (imported config v (believed config peerings edge peer))
+    map (λ export. held_by peer (Far (loopback topology peer) (vrf_at topology export.vrf).rd.0) export)
+        (imported config v (believed config peerings edge peer))
 
 -- the routes that a VRF of an edge holds
 unfoldable pub held : Network → Config → Peerings → ℕ → ℕ → List HeldRoute
@@ -260,7 +267,8 @@ held topology config peerings edge v =
 
 -- the one is longer, or as long and of a source that is preferred
 abbrev pub is_better : HeldRoute → HeldRoute → Bool
-is_better route other = nat_lt other.prefix.length route.prefix.length || ((route.prefix.length == other.prefix.length) && is_preferred route.source other.source)
+is_better route other =
+    nat_lt other.prefix.length route.prefix.length || ((route.prefix.length == other.prefix.length) && is_preferred route.source other.source)
 
 -- the routes whose prefix contains the address
 abbrev pub matching : ℕ → List HeldRoute → List HeldRoute

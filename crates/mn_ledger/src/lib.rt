@@ -14,28 +14,25 @@
 //!
 //! - `specs/World`: the records; `specs/Places`: what a topology says by number; `specs/Tables`: tables by number
 //! - `specs/Transport`: views, LDP sessions and where a node can send; `specs/Vpn`: BGP sessions, exports, held routes
-//! - `specs/Packets`: entry, hops and ends; `specs/Ledger`: the start, one step, a journal
+//! - `specs/Entry`, `specs/Packets`: entry, hops and ends; `specs/Ledger`: the start, one step, a journal
 //! - `specs/Refusal`: which steps are refused; `specs/Lawful`: journals of which none is
 //! - `specs/Items`: what is in flight, with numbers and due ticks; `specs/Settled`: settled worlds
 //! - `specs/Verdicts`, `specs/Parts`, `specs/OneMore`, `specs/Turns`, `specs/Tidy`, `specs/Bounds`, `specs/Quiet`,
 //!   `specs/Nearer`, `specs/InFlight`, `specs/Best`, `specs/OneKind`: what the laws say
-//! - `specs/Routes`, `specs/Entry`, `specs/Deliveries`, `specs/Accounts`: the packets of one node, sent one after another
 //! - `laws`: the laws of all these; `proofs/TwoLinks`, `proofs/MoreRuns`, `proofs/Flights`: runs that are computed
 //!   step by step
 #![tactic(auto)]
 
 mod laws;
 mod refused;
-mod route;
 mod verdict;
 
 pub use laws::{
     a_step_keeps_other_parts, a_step_withdraws_or_announces, best_names_one_held_route,
-    every_message_has_a_row, every_packet_is_accounted_for, journals_are_bounded,
+    every_message_has_a_row, journals_are_bounded,
     last_steps_decide, lists_are_tidy, memory_refuses_nothing, one_entry_more,
     packets_are_in_one_place, sessions_are_in_turn, the_next_hop_is_nearer,
     what_flies_has_not_arrived, who_learns_nothing_says_nothing,
 };
 pub use refused::Refused;
-pub use route::Route;
 pub use verdict::Verdict;

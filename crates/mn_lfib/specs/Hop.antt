@@ -15,7 +15,8 @@ carried_ttl frame = elim frame.entries [ [] ↦ ttl_of frame.packet | top ∷ be
 abbrev pub LeavesWith : ℕ → Labelled → Forwarded → Labelled → Type 0
 LeavesWith ttl before (Drop rule) after = after ≡ before
 LeavesWith ttl before (Next next_hop) after = (carried_ttl after ≡ ttl) × (0 < length after.entries) × (after.packet ≡ before.packet)
-LeavesWith ttl before (Site site) after = (carried_ttl after ≡ ttl) × (after.entries ≡ []) × IsTrue (is_packet after.packet) × ChangesTtlOnly before.packet after.packet
+LeavesWith ttl before (Site site) after =
+    (carried_ttl after ≡ ttl) × (after.entries ≡ []) × IsTrue (is_packet after.packet) × ChangesTtlOnly before.packet after.packet
 
 -- it carries one hop less than before, and at least one
 abbrev pub IsOneHop : Labelled → Forwarded → Labelled → Type 0

@@ -15,7 +15,8 @@ other true false h = refl
 other false true h = refl
 other false false h = absurd (h refl)
 
-turned_is : (ups : List Bool) (was_up : Bool) (count : ℕ) → AllTurn was_up ups → count ≤ length ups → turned was_up count ≡ after_changes was_up (take count ups)
+turned_is : (ups : List Bool) (was_up : Bool) (count : ℕ) → AllTurn was_up ups → count ≤ length ups →
+    turned was_up count ≡ after_changes was_up (take count ups)
 turned_is [] was_up zero h p = refl
 turned_is (up ∷ ups) was_up zero h p = refl
 turned_is [] was_up (suc count) h p = absurd (none_below count p)

@@ -1,5 +1,6 @@
 -- A look-up from the longest length on: the first prefix that is there is the longest match.
-use Rattle.std.proofs.Common.{◌≡◌, ◌<◌, ◌≤◌, ◌-◌, ◌*◌, ◌/◌, ◌%◌, ◌^◌, ℕ, Bool, true, false, cond, List, [], ◌∷◌, Option, Some, None, refl, ap, sym, ◌∙◌, subst, arith, ◌⊎◌, inl, inr}
+use Rattle.std.proofs.Common.{◌≡◌, ◌<◌, ◌≤◌, ◌-◌, ◌*◌, ◌/◌, ◌%◌, ◌^◌, ℕ, Bool, true, false, cond, List, [], ◌∷◌, Option, Some, None, refl, ap, sym, ◌∙◌}
+use Rattle.std.proofs.Common.{subst, arith, ◌⊎◌, inl, inr}
 use Rattle.std.specs.Prelude.{nat_le}
 use Rattle.std.proofs.lemmas.Bool.Decides.{nat_tests}
 use Rattle.std.specs.List.{AllByRecursion}
@@ -29,7 +30,9 @@ pub network_is : (size address : ℕ) → address < 2 ^ 32 → size ≤ 32 → I
 network_is size address fits short = record {
   fits = omega (arith, fits, div-mul-le_self address (2 ^ (32 - size)));
   short = short;
-  clear = mod-eq-sub-div-mul (network size address) (2 ^ (32 - size)) ∙ ap (λ n. network size address - n * 2 ^ (32 - size)) (mul-div_cancel (address / 2 ^ (32 - size)) (pow_pos (32 - size))) ∙ itself (network size address);
+  clear = mod-eq-sub-div-mul (network size address) (2 ^ (32 - size))
+      ∙ ap (λ n. network size address - n * 2 ^ (32 - size)) (mul-div_cancel (address / 2 ^ (32 - size)) (pow_pos (32 - size)))
+      ∙ itself (network size address);
 }
   where
     itself : (n : ℕ) → n - n ≡ 0
@@ -39,7 +42,8 @@ contains_it : (size address : ℕ) → contains (prefix_at size address) address
 contains_it size address = test_same _ _ (sym (mul-div_cancel (address / 2 ^ (32 - size)) (pow_pos (32 - size))))
 
 module _ {T : Type 0} where
-  pub form_of : (P : AddressBlock → Type 0) (p : AddressBlock) (v : T) (pairs : List (AddressBlock × T)) → AllByRecursion P (keys_of pairs) → value_at p pairs ≡ Some v → P p
+  pub form_of : (P : AddressBlock → Type 0) (p : AddressBlock) (v : T) (pairs : List (AddressBlock × T)) → AllByRecursion P (keys_of pairs) →
+      value_at p pairs ≡ Some v → P p
   form_of P p v [] h e = cc
   form_of P p v (pair ∷ pairs) h e = split (same_prefix p pair.0) refl (form_of P p v pairs h.1) e
     where
@@ -54,7 +58,8 @@ module _ {T : Type 0} where
   pub none_pair : (p : AddressBlock) (pairs : List (AddressBlock × T)) → None ≡ value_at p pairs → ◌≡◌ {A = Option (AddressBlock × T)} None (pair_at p pairs)
   none_pair p pairs h = ap (option_map (λ value. (p, value))) h
 
-  pub some_pair : (p q : AddressBlock) (v : T) (pairs : List (AddressBlock × T)) → q ≡ p → Some v ≡ value_at p pairs → ◌≡◌ {A = Option (AddressBlock × T)} (Some (q, v)) (pair_at p pairs)
+  pub some_pair : (p q : AddressBlock) (v : T) (pairs : List (AddressBlock × T)) → q ≡ p → Some v ≡ value_at p pairs →
+      ◌≡◌ {A = Option (AddressBlock × T)} (Some (q, v)) (pair_at p pairs)
   some_pair p q v pairs same h = ap (λ q. let o : Option (AddressBlock × T) = Some (q, v) in o) same ∙ ap (option_map (λ value. (p, value))) h
 
   pub no_pair : (p : AddressBlock) (pairs : List (AddressBlock × T)) → pair_at p pairs ≡ None → value_at p pairs ≡ None
@@ -68,7 +73,8 @@ module _ {T : Type 0} where
   apart None v e k = cc
   apart (Some w) v e k = cc
 
-  no_longer : (address size : ℕ) (pairs : List (AddressBlock × T)) → IsTable pairs → NoneLonger size address pairs → (p : AddressBlock) (v : T) → value_at p pairs ≡ Some v → contains p address ≡ true → p.length ≤ size
+  no_longer : (address size : ℕ) (pairs : List (AddressBlock × T)) → IsTable pairs → NoneLonger size address pairs →
+      (p : AddressBlock) (v : T) → value_at p pairs ≡ Some v → contains p address ≡ true → p.length ≤ size
   no_longer address size pairs table none p v held covers = by_size (two_ways (nat_le p.length size))
     where
       form : IsPrefix p.address p.length
@@ -77,9 +83,11 @@ module _ {T : Type 0} where
       by_size : (nat_le p.length size ≡ true) ⊎ (nat_le p.length size ≡ false) → p.length ≤ size
       by_size (inl h) = grind (arith, nat_tests, h)
       by_size (inr h) =
-          absurd (apart (value_at p pairs) v (ap (λ q. value_at q pairs) (its_prefix p address form covers) ∙ none p.length (grind (arith, nat_tests, h)) form.short) held)
+          absurd (apart (value_at p pairs) v (ap (λ q. value_at q pairs) (its_prefix p address form covers)
+              ∙ none p.length (grind (arith, nat_tests, h)) form.short) held)
 
-  pub first_is_longest : (address size : ℕ) (pairs : List (AddressBlock × T)) (v : T) → IsTable pairs → NoneLonger size address pairs → value_at (prefix_at size address) pairs ≡ Some v → longest_match address pairs ≡ Some (prefix_at size address, v)
+  pub first_is_longest : (address size : ℕ) (pairs : List (AddressBlock × T)) (v : T) → IsTable pairs → NoneLonger size address pairs →
+      value_at (prefix_at size address) pairs ≡ Some v → longest_match address pairs ≡ Some (prefix_at size address, v)
   first_is_longest address size pairs v table none there =
       (longest_some address pairs (prefix_at size address, v) table).1 (record {
         held = there;
@@ -87,7 +95,8 @@ module _ {T : Type 0} where
         longest = λ p w held covers. no_longer address size pairs table none p w held covers;
       })
 
-  pub none_is_longest : (address : ℕ) (pairs : List (AddressBlock × T)) → IsTable pairs → ((n : ℕ) → n ≤ 32 → value_at (prefix_at n address) pairs ≡ None) → longest_match address pairs ≡ None
+  pub none_is_longest : (address : ℕ) (pairs : List (AddressBlock × T)) → IsTable pairs →
+      ((n : ℕ) → n ≤ 32 → value_at (prefix_at n address) pairs ≡ None) → longest_match address pairs ≡ None
   none_is_longest address pairs table none =
       (longest_none address pairs table).1 (λ p v held. not_it p v held (two_ways (contains p address)))
     where
@@ -97,13 +106,17 @@ module _ {T : Type 0} where
           let form = form_of (λ p. IsPrefix p.address p.length) p v pairs table.prefixes held in
           absurd (apart (value_at p pairs) v (ap (λ q. value_at q pairs) (its_prefix p address form covers) ∙ none p.length form.short) held)
 
-  pub first_pair : (address size : ℕ) (pairs : List (AddressBlock × T)) → IsTable pairs → NoneLonger size address pairs → is_some (pair_at (prefix_at size address) pairs) ≡ true → pair_at (prefix_at size address) pairs ≡ longest_match address pairs
+  pub first_pair : (address size : ℕ) (pairs : List (AddressBlock × T)) → IsTable pairs → NoneLonger size address pairs →
+      is_some (pair_at (prefix_at size address) pairs) ≡ true → pair_at (prefix_at size address) pairs ≡ longest_match address pairs
   first_pair address size pairs table none some = by (value_at (prefix_at size address) pairs) refl some
     where
-      by : (o : Option T) → value_at (prefix_at size address) pairs ≡ o → is_some (option_map {U = AddressBlock × T} (λ value. (prefix_at size address, value)) o) ≡ true → pair_at (prefix_at size address) pairs ≡ longest_match address pairs
+      by : (o : Option T) → value_at (prefix_at size address) pairs ≡ o →
+          is_some (option_map {U = AddressBlock × T} (λ value. (prefix_at size address, value)) o) ≡ true →
+          pair_at (prefix_at size address) pairs ≡ longest_match address pairs
       by None e h = cc
       by (Some v) e h = ap (option_map (λ value. (prefix_at size address, value))) e ∙ sym (first_is_longest address size pairs v table none e)
 
-  pub mapped_some : {B : Type 0} (f : B → AddressBlock × T) (o : Option B) (pair : Option (AddressBlock × T)) → option_map f o ≡ pair → is_some o ≡ true → is_some pair ≡ true
+  pub mapped_some : {B : Type 0} (f : B → AddressBlock × T) (o : Option B) (pair : Option (AddressBlock × T)) → option_map f o ≡ pair → is_some o ≡ true →
+      is_some pair ≡ true
   mapped_some f None pair e h = cc
   mapped_some f (Some x) pair e h = ap is_some (sym e)

@@ -6,7 +6,7 @@ use Rattle.std.specs.List.{list_any, AllByRecursion}
 use Rattle.std.proofs.lemmas.Bool.Decides.{nat_tests}
 use Rattle.mn_base.specs.Ordered.{Ascends, IsOrder, with_one, first_by}
 use Rattle.mn_base.proofs.Bools.{no, two_ways, and_on, and_parts, same_test, same_numbers}
-use Rattle.mn_base.proofs.Members.{In, in_filter, filter_in, in_map, map_in, none_passes, passes_none}
+use Rattle.mn_base.proofs.Members.{In, in_filter, filter_in, in_map, map_in, none_passes, passes_none, all_in}
 use Rattle.mn_base.proofs.Orders.{by_number, by_number_then, first_tells, first_same, first_neither}
 use Rattle.mn_base.proofs.Places.{fold_ascends}
 use Rattle.mn_base.proofs.Kept.{fold_in, in_fold, ascending_unique}
@@ -21,6 +21,7 @@ use Rattle.mn_bgp_spelling.specs.Spelling.{Labels}
 use Rattle.mn_routing_model.specs.Sources.{as_held}
 use Rattle.mn_routing_model.proofs.Lookup.{SameRoutes, preferred_same}
 use Rattle.mn_net.specs.Tables.{prefixes_of, best_for, best_at, held_at}
+use Rattle.mn_vrf.proofs.Keeping.{all_in as all_from}
 
 abbrev Route : Type 0
 Route = AddressBlock × Source
@@ -59,14 +60,6 @@ prefixes_rise g h b = elim (first_tells g.0.address h.0.address _ b) [
     less m n later k = ap (λ c. c || ((m == n) && later)) (less_is_so m n k)
 
 -- 2. The first route of each prefix, of routes in their order
-
-all_in : {A : Type 0} (P : A → Type 0) (xs : List A) (x : A) → AllByRecursion P xs → In xs x → P x
-all_in P [] x h i = absurd i
-all_in P (y ∷ ys) x h i = elim i [ inl e ↦ subst P e h.0 | inr j ↦ all_in P ys x h.1 j ]
-
-all_from : {A : Type 0} (P : A → Type 0) (xs : List A) → ((x : A) → In xs x → P x) → AllByRecursion P xs
-all_from P [] h = tt
-all_from P (x ∷ xs) h = (h x (inl refl), all_from P xs (λ y i. h y (inr i)))
 
 -- they stand at this prefix or behind it
 abbrev NotBefore : Option AddressBlock → List Route → Type 0

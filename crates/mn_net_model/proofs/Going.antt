@@ -43,39 +43,51 @@ added_length : (f : Bool) (b : List ℕ) (ps : List (List ℕ)) → length (adde
 added_length true b ps = one_longer ps b
 added_length false b ps = omega arith
 
-each_more : (es : List JournalEntry) (e : JournalEntry) (b : List ℕ) (ps : List (List ℕ)) → length ps ≡ injections es → length (with_packet e.step b ps) ≡ injections (es ++ e ∷ [])
+each_more : (es : List JournalEntry) (e : JournalEntry) (b : List ℕ) (ps : List (List ℕ)) → length ps ≡ injections es →
+    length (with_packet e.step b ps) ≡ injections (es ++ e ∷ [])
 each_more es e b ps h = added_length (injects e.step) b ps ∙ ap (λ n. n + one_if (injects e.step)) h ∙ sym (injections-push es e)
 
 -- 2. The ledger with one entry more
 
 pub flight_more : (t : Network) (es : List JournalEntry) (tick : ℕ) (s : Step) (b : List ℕ) (ps : List (List ℕ)) → length ps ≡ injections es →
     flight_of t (pushed es tick s) (with_packet s b ps)
-    ≡ record { made = (flight_of t es ps).made + length (made_now t es ps s b); items = left_in_flight t s (flight_of t es ps).items ++ numbered t tick (flight_of t es ps).made (made_now t es ps s b) }
+    ≡ record { made =
+        (flight_of t es ps).made + length (made_now t es ps s b); items =
+        left_in_flight t s (flight_of t es ps).items ++ numbered t tick (flight_of t es ps).made (made_now t es ps s b) }
 flight_more t es tick s b ps h = flight_from-push t es (record { tick = tick; step = s }) b (start t) no_packets (record { made = 0; items = [] }) ps h
 
-pub packets_more : (t : Network) (es : List JournalEntry) (tick : ℕ) (s : Step) (b : List ℕ) (ps : List (List ℕ)) → length ps ≡ injections es → packets_of t (pushed es tick s) (with_packet s b ps) ≡ later_packets t es ps s b
+pub packets_more : (t : Network) (es : List JournalEntry) (tick : ℕ) (s : Step) (b : List ℕ) (ps : List (List ℕ)) → length ps ≡ injections es →
+    packets_of t (pushed es tick s) (with_packet s b ps) ≡ later_packets t es ps s b
 packets_more t es tick s b ps h = packets_from-push t es (record { tick = tick; step = s }) b (start t) no_packets ps h
 
-pub lawful_more : (t : Network) (es : List JournalEntry) (tick : ℕ) (s : Step) (b : List ℕ) (ps : List (List ℕ)) → length ps ≡ injections es → IsLawfulJournal t es ps → MayStep t es tick s b ps → IsLawfulJournal t (pushed es tick s) (with_packet s b ps)
+pub lawful_more : (t : Network) (es : List JournalEntry) (tick : ℕ) (s : Step) (b : List ℕ) (ps : List (List ℕ)) → length ps ≡ injections es →
+    IsLawfulJournal t es ps → MayStep t es tick s b ps → IsLawfulJournal t (pushed es tick s) (with_packet s b ps)
 lawful_more t es tick s b ps h lawful may = lawful_from-push t es (record { tick = tick; step = s }) b 0 (start t) no_packets 0 ps h lawful may.fitting may.late
     (subst (λ m. refusal_at t (world_of t es) (packets_of t es ps) m s b ≡ None) (omega arith) may.unrefused)
 
 -- nodes give more labels
-pub labelled_more : (t : Network) (es : List JournalEntry) (tick : ℕ) (s : Step) (m : Moving) (k : Packets) → transit.StandsFor t (given t es) m k → transit.StandsFor t (given t (pushed es tick s)) m k
+pub labelled_more : (t : Network) (es : List JournalEntry) (tick : ℕ) (s : Step) (m : Moving) (k : Packets) → transit.StandsFor t (given t es) m k →
+    transit.StandsFor t (given t (pushed es tick s)) m k
 labelled_more t es tick s m k h =
-    stands_later t (given t es) (given t (pushed es tick s)) m k (has_fecs t es) (λ node. (given_in t node (world_of t es).config s, gives_more t es (record { tick = tick; step = s }) node)) h
+    stands_later t (given t es) (given t (pushed es tick s)) m k (has_fecs t es)
+        (λ node. (given_in t node (world_of t es).config s, gives_more t es (record { tick = tick; step = s }) node)) h
 
 -- 3. Each clause
 
 edge_nodes : (t : Network) (s : Step) → fits t s ≡ true → ((n : ℕ) → is_edge t.vrfs n ≡ true → n < length t.loopbacks) → NodesOf t s
-edge_nodes t (HearBgp a b) fit h = let f = and-both (is_edge t.vrfs a.0 && is_edge t.vrfs b.0) _ fit in let g = and-both (is_edge t.vrfs a.0) (is_edge t.vrfs b.0) f.0 in (h a.0 g.0, h b.0 g.1)
-edge_nodes t (BgpUp a b) fit h = let f = and-both (is_edge t.vrfs a.0 && is_edge t.vrfs b.0) _ fit in let g = and-both (is_edge t.vrfs a.0) (is_edge t.vrfs b.0) f.0 in (h a.0 g.0, h b.0 g.1)
-edge_nodes t (BgpDown a b) fit h = let f = and-both (is_edge t.vrfs a.0 && is_edge t.vrfs b.0) _ fit in let g = and-both (is_edge t.vrfs a.0) (is_edge t.vrfs b.0) f.0 in (h a.0 g.0, h b.0 g.1)
+edge_nodes t (HearBgp a b) fit h = let f = and-both (is_edge t.vrfs a.0 && is_edge t.vrfs b.0) _ fit in let g =
+    and-both (is_edge t.vrfs a.0) (is_edge t.vrfs b.0) f.0 in (h a.0 g.0, h b.0 g.1)
+edge_nodes t (BgpUp a b) fit h = let f = and-both (is_edge t.vrfs a.0 && is_edge t.vrfs b.0) _ fit in let g =
+    and-both (is_edge t.vrfs a.0) (is_edge t.vrfs b.0) f.0 in (h a.0 g.0, h b.0 g.1)
+edge_nodes t (BgpDown a b) fit h = let f = and-both (is_edge t.vrfs a.0 && is_edge t.vrfs b.0) _ fit in let g =
+    and-both (is_edge t.vrfs a.0) (is_edge t.vrfs b.0) f.0 in (h a.0 g.0, h b.0 g.1)
 edge_nodes t _ fit h = tt
 
 -- what leaves and what is made, of one flight
-clause : (number : Channel → Option ℕ) (t : Network) (es : List JournalEntry) (tick : ℕ) (s : Step) (b : List ℕ) (ps : List (List ℕ)) (left own now : List Key) → length ps ≡ injections es →
-    keys_on number (left_in_flight t s (flight_of t es ps).items) ≡ left → keys_on number (numbered t tick (flight_of t es ps).made (made_now t es ps s b)) ≡ own → now ≡ left ++ own →
+clause : (number : Channel → Option ℕ) (t : Network) (es : List JournalEntry) (tick : ℕ) (s : Step) (b : List ℕ) (ps : List (List ℕ))
+    (left own now : List Key) → length ps ≡ injections es →
+    keys_on number (left_in_flight t s (flight_of t es ps).items) ≡ left →
+        keys_on number (numbered t tick (flight_of t es ps).made (made_now t es ps s b)) ≡ own → now ≡ left ++ own →
     now ≡ keys_on number (flight_of t (pushed es tick s) (with_packet s b ps)).items
 clause number t es tick s b ps left own now each e f h =
     h ∙ ap (λ k. k ++ own) (sym e) ∙ ap (λ k. keys_on number (left_in_flight t s (flight_of t es ps).items) ++ k) (sym f)

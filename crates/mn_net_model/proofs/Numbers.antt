@@ -8,7 +8,7 @@ use Rattle.mn_base.proofs.Bools.{none_below}
 use Rattle.mn_flight.specs.declared.Item.{Item as ItemOf}
 use Rattle.mn_topo.specs.Network.{Network}
 use Rattle.mn_topo.specs.declared.steps.JournalEntry.{JournalEntry}
-use Rattle.mn_timetable.proofs.Taking.{Ascends}
+use Rattle.mn_flight.proofs.OnChannels.{Ascends}
 use Rattle.mn_ledger.specs.Items.{Item, flight_of}
 use Rattle.mn_laws.specs.Flight.{AreAscending}
 use Rattle.mn_laws.proofs.Ordered.{numbers_ascend}
@@ -20,7 +20,8 @@ AreBelow made keys = AllByRecursion (λ (key : Key). key.number < made) keys
 
 to_top : (low high : ℕ) (xs : List Item) → AreAscending low high xs → low ≤ high
 to_top low high [] h = h
-to_top low high (x ∷ xs) h = let first : low ≤ x.number = h.0 in let rest : suc x.number ≤ high = to_top (suc x.number) high xs h.1 in omega (arith, first, rest)
+to_top low high (x ∷ xs) h = let first : low ≤ x.number = h.0 in let rest : suc x.number ≤ high = to_top (suc x.number) high xs h.1 in
+    omega (arith, first, rest)
 
 each_below : (number : Numbering) (low high : ℕ) (xs : List Item) → AreAscending low high xs → AreBelow high (keys_on number xs)
 each_below number low high [] h = tt
@@ -68,7 +69,8 @@ items_above low n (x ∷ xs) less h =
 items_ascend : {T : Type 0} (low : ℕ) (xs : List (ItemOf T)) → KeysAscend low (keys_in xs) → Ascends xs
 items_ascend low [] h = λ i j d less below. absurd (none_below j below)
 items_ascend {T = T} low (x ∷ xs) h =
-    AllPairs-cons (λ (a : ItemOf T) (b : ItemOf T). a.number < b.number) x xs (items_above (suc x.number) x.number xs (omega arith) h.1) (items_ascend (suc x.number) xs h.1)
+    AllPairs-cons (λ (a : ItemOf T) (b : ItemOf T). a.number < b.number) x xs (items_above (suc x.number) x.number xs (omega arith) h.1)
+        (items_ascend (suc x.number) xs h.1)
 
 pub flight_ascends : {T : Type 0} (number : Numbering) (t : Network) (es : List JournalEntry) (ps : List (List ℕ)) (xs : List (ItemOf T)) →
     keys_in xs ≡ keys_on number (flight_of t es ps).items → Ascends xs

@@ -23,7 +23,8 @@ use Rattle.mn_transit.specs.Moving.{Moving}
 use Rattle.mn_transit.specs.Stands as transit
 use Rattle.mn_transit.specs.Stands.{Makes}
 use Rattle.mn_transit.proofs.Standing.{stands_begun}
-use Rattle.mn_timetable.specs.Keys.{Key, keys_in, keys_on, keys_by, of_notices, of_messages, of_routes, of_frames, frames_leave, notices_leave, messages_leave, routes_leave}
+use Rattle.mn_timetable.specs.Keys.{Key, keys_in, keys_on, keys_by, of_notices, of_messages, of_routes, of_frames, frames_leave, notices_leave}
+use Rattle.mn_timetable.specs.Keys.{messages_leave, routes_leave}
 use Rattle.mn_timetable.specs.Steps.{pushed, later_world, messages_now, routes_now}
 use Rattle.mn_ledger.specs.OneMore.{with_packet}
 use Rattle.mn_net_model.specs.Stands.{Packed, StandsFor}
@@ -33,20 +34,19 @@ use Rattle.mn_timetable.proofs.Keys.{keys_dropped}
 use Rattle.mn_net_model.proofs.Numbers.{flight_ascends}
 use Rattle.mn_net_model.proofs.Going.{goes_on, labelled_more}
 use Rattle.mn_net_model.proofs.Moved.{frames_counted, made_counted, frames_quiet, taken_keys}
+use Rattle.mn_base.proofs.Bools.{clash}
 
 -- the packets' part after a step, and how many items it made; all else stays
 abbrev pub moved_on : Packed → Moving → ℕ → Packed
 moved_on old moving more = record { moving = moving; notices = old.notices; messages = old.messages; routes = old.routes; made = old.made + more }
 
-clash : true ≡ false → ⊥
-clash e = cc
-
-still : (keys : List Key) → keys ≡ keys ++ []
+pub still : (keys : List Key) → keys ≡ keys ++ []
 still keys = sym (append-nil keys)
 
 -- 1. A packet is carried: `Transit::carry`
 
-pub carried : (t : Network) (es : List JournalEntry) (tick : ℕ) (l : LinkNo) (dir : Dir) (place : ℕ) (b : List ℕ) (ps : List (List ℕ)) (old : Packed) (moving : Moving) (made : Bool) →
+pub carried : (t : Network) (es : List JournalEntry) (tick : ℕ) (l : LinkNo) (dir : Dir) (place : ℕ) (b : List ℕ) (ps : List (List ℕ)) (old : Packed)
+    (moving : Moving) (made : Bool) →
     StandsFor t es old ps → MayStep t es tick (Carry l dir place) b ps →
     place < length (on_channel (channel l.0 dir) old.moving.flying) →
     transit.StandsFor t (given t (pushed es tick (Carry l dir place))) moving (later_packets t es ps (Carry l dir place) b) →
@@ -70,7 +70,8 @@ carried t es tick l dir place b ps old moving made h may there moved makes =
 
 -- 2. A packet is injected: `Transit::inject`
 
-pub injected : (t : Network) (es : List JournalEntry) (tick : ℕ) (site : SiteNo) (number : ℕ) (b : List ℕ) (ps : List (List ℕ)) (old : Packed) (moving : Moving) (made : Bool) →
+pub injected : (t : Network) (es : List JournalEntry) (tick : ℕ) (site : SiteNo) (number : ℕ) (b : List ℕ) (ps : List (List ℕ)) (old : Packed)
+    (moving : Moving) (made : Bool) →
     StandsFor t es old ps → MayStep t es tick (Inject site number) b ps →
     transit.StandsFor t (given t (pushed es tick (Inject site number))) moving (later_packets t es ps (Inject site number) b) →
     Makes t tick old.made old.moving.flying moving.flying made →
@@ -91,7 +92,8 @@ injected t es tick site number b ps old moving made h may moved makes =
 
 -- 3. A packet is lost: `Transit::lose`
 
-pub lost : (t : Network) (es : List JournalEntry) (tick : ℕ) (l : LinkNo) (dir : Dir) (place : ℕ) (b : List ℕ) (ps : List (List ℕ)) (old : Packed) (moving : Moving) →
+pub lost : (t : Network) (es : List JournalEntry) (tick : ℕ) (l : LinkNo) (dir : Dir) (place : ℕ) (b : List ℕ) (ps : List (List ℕ)) (old : Packed)
+    (moving : Moving) →
     StandsFor t es old ps → MayStep t es tick (Lose l dir place) b ps →
     place < length (on_channel (channel l.0 dir) old.moving.flying) →
     transit.StandsFor t (given t (pushed es tick (Lose l dir place))) moving (later_packets t es ps (Lose l dir place) b) →
@@ -106,19 +108,25 @@ lost t es tick l dir place b ps old moving h may there moved left =
       notices = still old.notices;
       messages = still old.messages;
       routes = still old.routes;
-      frames = frames_quiet t es tick s b ps old new h (λ w v. refl) (ap keys_in left ∙ taken_keys (channel l.0 dir) place old.moving.flying (flight_ascends of_frames t es ps old.moving.flying h.frames) there);
+      frames = frames_quiet t es tick s b ps old new h (λ w v. refl)
+          (ap keys_in left ∙ taken_keys (channel l.0 dir) place old.moving.flying (flight_ascends of_frames t es ps old.moving.flying h.frames) there);
     })
 
 -- 4. What the messages' parts say of a step: what has left their flights, what was put into them, and how much that was
 
 pub record HaveSaid (t : Network) (es : List JournalEntry) (tick : ℕ) (s : Step) (old new : Packed) : Type 0 where
-  pub notices : new.notices ≡ notices_leave (length t.loopbacks) s old.notices ++ keys_on (of_notices (length t.loopbacks)) (numbered t tick old.made (notices_in t s))
-  pub messages : new.messages ≡ messages_leave s old.messages ++ keys_on (of_messages t) (numbered t tick (old.made + length (notices_in t s)) (messages_now t es s))
-  pub routes : new.routes ≡ routes_leave (length t.loopbacks) s old.routes ++ keys_on (of_routes (length t.loopbacks)) (numbered t tick (old.made + length (notices_in t s) + length (messages_now t es s)) (routes_now t es s))
+  pub notices : new.notices ≡ notices_leave (length t.loopbacks) s old.notices ++ keys_on (of_notices (length t.loopbacks))
+      (numbered t tick old.made (notices_in t s))
+  pub messages : new.messages ≡ messages_leave s old.messages ++ keys_on (of_messages t)
+      (numbered t tick (old.made + length (notices_in t s)) (messages_now t es s))
+  pub routes : new.routes ≡ routes_leave (length t.loopbacks) s old.routes ++ keys_on (of_routes (length t.loopbacks))
+      (numbered t tick (old.made + length (notices_in t s) + length (messages_now t es s)) (routes_now t es s))
   pub made : new.made ≡ old.made + (length (notices_in t s) + (length (messages_now t es s) + length (routes_now t es s)))
 
 three : {A : Type 0} (xs ys zs : List A) → length xs + (length ys + length zs) ≡ length (xs ++ (ys ++ (zs ++ [])))
-three xs ys zs = ap (λ n. length xs + (length ys + n)) (ap length (sym (append-nil zs))) ∙ ap (λ n. length xs + n) (sym (length-append ys (zs ++ []))) ∙ sym (length-append xs (ys ++ (zs ++ [])))
+three xs ys zs =
+    ap (λ n. length xs + (length ys + n)) (ap length (sym (append-nil zs))) ∙ ap (λ n. length xs + n) (sym (length-append ys (zs ++ [])))
+    ∙ sym (length-append xs (ys ++ (zs ++ [])))
 
 -- a step that makes no frame
 quiet : (t : Network) (es : List JournalEntry) (tick : ℕ) (s : Step) (b : List ℕ) (ps : List (List ℕ)) (old new : Packed) →
@@ -130,7 +138,8 @@ quiet t es tick s b ps old new h may none said moved left =
     goes_on t es tick s b ps old new h may (record {
       packets = moved;
       made = said.made ∙ ap (λ n. old.made + n) (three (notices_in t s) (messages_now t es s) (routes_now t es s)
-          ∙ ap (λ fs. length (notices_in t s ++ (messages_now t es s ++ (routes_now t es s ++ fs)))) (sym (none (packets_of t es ps) (later_packets t es ps s b))));
+          ∙ ap (λ fs. length (notices_in t s ++ (messages_now t es s ++ (routes_now t es s ++ fs))))
+              (sym (none (packets_of t es ps) (later_packets t es ps s b))));
       notices = said.notices;
       messages = said.messages;
       routes = said.routes;
@@ -184,5 +193,6 @@ pub unmoved : (t : Network) (es : List JournalEntry) (tick : ℕ) (s : Step) (b 
 unmoved t es tick s b ps old new h may quiet_step said begun =
     quiet t es tick s b ps old new h may (no_frames s quiet_step) said
     (subst (λ k. transit.StandsFor t (given t (pushed es tick s)) new.moving k) (sym (none_moved t (later_world t es s) (packets_of t es ps) s b quiet_step))
-    (labelled_more t es tick s new.moving (before_step (packets_of t es ps)) (stands_begun t (given t es) old.moving new.moving (packets_of t es ps) begun h.packets)))
+    (labelled_more t es tick s new.moving (before_step (packets_of t es ps))
+        (stands_begun t (given t es) old.moving new.moving (packets_of t es ps) begun h.packets)))
     (ap (λ (m : Moving). keys_in m.flying) begun ∙ none_leave s quiet_step (keys_in old.moving.flying))

@@ -10,4 +10,5 @@ use Rattle.mn_net_model.specs.Stands.{Packed, StandsFor}
 -- the notices and messages in flight that the ledger counts are those of the three flights
 abbrev pub IsCounted : Type 0
 IsCounted = (topology : Network) (journal : List JournalEntry) (packed : Packed) (inputs : List (List ℕ)) → IsLawful topology →
-    StandsFor topology journal packed inputs → in_flight topology (world_of topology journal) ≡ length packed.notices + length packed.messages + length packed.routes
+    StandsFor topology journal packed inputs →
+        in_flight topology (world_of topology journal) ≡ length packed.notices + length packed.messages + length packed.routes

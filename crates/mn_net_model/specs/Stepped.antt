@@ -30,16 +30,23 @@ later_packets topology journal inputs step bytes = packets_after topology (later
 
 -- all that the step makes, and its parts
 abbrev pub made_now : Network → List JournalEntry → List (List ℕ) → Step → List ℕ → List (Channel × Load)
-made_now topology journal inputs step bytes = made_in topology (world_of topology journal) (later_world topology journal step) (packets_of topology journal inputs) (later_packets topology journal inputs step bytes) step
+made_now topology journal inputs step bytes =
+    made_in topology (world_of topology journal) (later_world topology journal step) (packets_of topology journal inputs)
+    (later_packets topology journal inputs step bytes) step
 
 -- each part has done the step: the packets' part moved them as the ledger does; of the messages what leaves has left, and what
 -- is made was put into its flight, numbered on from what was made before, notices first, then LDP's messages, then BGP's
-pub record IsStepped (topology : Network) (journal : List JournalEntry) (tick : ℕ) (step : Step) (bytes : List ℕ) (inputs : List (List ℕ)) (old new : Packed) : Type 0 where
+pub record IsStepped (topology : Network) (journal : List JournalEntry) (tick : ℕ) (step : Step) (bytes : List ℕ) (inputs : List (List ℕ))
+    (old new : Packed) : Type 0 where
   pub packets : transit.StandsFor topology (given topology (pushed journal tick step)) new.moving (later_packets topology journal inputs step bytes)
   pub made : new.made ≡ old.made + length (made_now topology journal inputs step bytes)
-  pub notices : new.notices ≡ notices_leave (length topology.loopbacks) step old.notices ++ keys_on (of_notices (length topology.loopbacks)) (numbered topology tick old.made (notices_in topology step))
-  pub messages : new.messages ≡ messages_leave step old.messages ++ keys_on (of_messages topology) (numbered topology tick (old.made + length (notices_in topology step)) (messages_now topology journal step))
-  pub routes : new.routes ≡ routes_leave (length topology.loopbacks) step old.routes ++ keys_on (of_routes (length topology.loopbacks)) (numbered topology tick (old.made + length (notices_in topology step) + length (messages_now topology journal step)) (routes_now topology journal step))
+  pub notices : new.notices ≡ notices_leave (length topology.loopbacks) step old.notices ++ keys_on (of_notices (length topology.loopbacks))
+      (numbered topology tick old.made (notices_in topology step))
+  pub messages : new.messages ≡ messages_leave step old.messages ++ keys_on (of_messages topology)
+      (numbered topology tick (old.made + length (notices_in topology step)) (messages_now topology journal step))
+  pub routes : new.routes ≡ routes_leave (length topology.loopbacks) step old.routes ++ keys_on (of_routes (length topology.loopbacks))
+      (numbered topology tick (old.made + length (notices_in topology step) + length (messages_now topology journal step))
+      (routes_now topology journal step))
   pub frames : keys_in new.moving.flying ≡ keys_on of_frames (flight_of topology (pushed journal tick step) (with_packet step bytes inputs)).items
 
 -- once each part has done the step, the network stands for the journal with one entry more

@@ -1,5 +1,5 @@
 -- The steps of the transport and of the routes, from what these say of them.
-use Rattle.std.proofs.Common.{ℕ, ◌≡◌, ◌+◌, ◌<◌, true, false, List, [], ◌++◌, length, refl, arith, sym, ap, ◌∙◌, subst, None, append-nil}
+use Rattle.std.proofs.Common.{ℕ, ◌≡◌, ◌+◌, ◌<◌, true, false, List, [], ◌++◌, length, refl, arith, sym, ap, ◌∙◌, subst, None}
 use Rattle.std.specs.List.{All}
 use Rattle.mn_base.proofs.Bools.{no}
 use Rattle.mn_base.specs.declared.links.Dir.TheVariants.{Forth, Back}
@@ -29,7 +29,7 @@ use Rattle.mn_timetable.specs.Keys.{Key, keys_in, keys_on, of_notices, of_messag
 use Rattle.mn_timetable.specs.Steps.{pushed, later_world, messages_now, routes_now}
 use Rattle.mn_net_model.proofs.Going.{labelled_more}
 use Rattle.mn_net_model.proofs.Numbers.{flight_below}
-use Rattle.mn_net_model.proofs.Steps.{HaveSaid, cut_down, unmoved, moves}
+use Rattle.mn_net_model.proofs.Steps.{HaveSaid, cut_down, unmoved, moves, still}
 use Rattle.mn_transport_model.specs.Carried.{Carried}
 use Rattle.mn_transport_model.specs.Stands.{IsTransport}
 use Rattle.mn_transport_model.specs.Steps as transport
@@ -156,9 +156,6 @@ route_numbers net is =
     is.stands.stands.routes
 
 -- 4. What is said
-
-still : (keys : List Key) → keys ≡ keys ++ []
-still keys = sym (append-nil keys)
 
 -- a step of links tells no routes
 none_told : (t : Network) (es : List JournalEntry) (s : Step) → is_transport s ≡ true → routes_now t es s ≡ []

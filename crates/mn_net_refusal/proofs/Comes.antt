@@ -1,9 +1,8 @@
 -- What comes next by keys is what comes next in the ledger.
-use Rattle.std.proofs.Common.{ℕ, suc, ◌≡◌, ◌+◌, ◌*◌, ◌<◌, ◌≤◌, ◌⊎◌, inl, inr, Bool, true, false, cond, List, [], ◌∷◌, length, refl, arith, sym, ap, ◌∙◌}
+use Rattle.std.proofs.Common.{ℕ, suc, ◌≡◌, ◌+◌, ◌*◌, ◌<◌, ◌≤◌, ◌⊎◌, inl, inr, Bool, true, false, List, [], ◌∷◌, length, refl, arith, sym, ap, ◌∙◌}
 use Rattle.std.proofs.Common.{subst, Option, Some, None}
 use Rattle.std.specs.Prelude.{◌==◌, ◌&&◌, ◌||◌, ◌/◌, ◌%◌, nat_lt, nat_le, is_some, option_map, if◌then◌else◌}
-use Rattle.std.specs.List.{Contains}
-use Rattle.std.proofs.lemmas.Bool.Decides.{nat_tests, eqb_tells}
+use Rattle.std.proofs.lemmas.Bool.Decides.{nat_tests}
 use Rattle.std.proofs.lemmas.Nat.{div-add-mod'}
 use Rattle.mn_base.specs.declared.links.Dir.{Dir}
 use Rattle.mn_base.specs.declared.links.Dir.TheVariants.{Forth, Back}
@@ -28,7 +27,7 @@ use Rattle.mn_course.specs.Coming.{kind_of, is_kind, is_due, comes_before, is_lo
 use Rattle.mn_course.specs.Next.{IsNext}
 use Rattle.mn_course.proofs.Nexts.{what_is_next}
 use Rattle.mn_timetable.specs.Keys.{Key, Numbering, keys_in, keys_on, with_key, of_notices, of_messages, of_routes, of_frames, channel_from, IsThere, AreThere}
-use Rattle.mn_timetable.proofs.OtherKeys.{pair_one}
+use Rattle.mn_timetable.proofs.OtherKeys.{pair_one, turned}
 use Rattle.mn_net_model.specs.Stands.{Packed, StandsFor}
 use Rattle.mn_net_model.proofs.News.{all_there}
 use Rattle.mn_net_tally.specs.Laws.{TellsLosses}
@@ -36,6 +35,7 @@ use Rattle.mn_net_tally.specs.Tallies.{is_one}
 use Rattle.mn_net_refusal.specs.Alike.{ComesAlike}
 use Rattle.mn_net_refusal.specs.Coming.{first_key, dir_of, learns_on, hears_on, tells_on, carries_on, as_coming, news_coming, coming_seen}
 use Rattle.mn_net_refusal.proofs.Firsts.{IsFirst, first_is}
+use Rattle.mn_course.proofs.Made.{at_least}
 
 -- 1. Items and their keys
 
@@ -73,16 +73,6 @@ to_keys number (y ∷ ys) x c i e = elim i [
         IsIn (record { channel = c; due = x.due; number = x.number }) (with_key o y (keys_on number ys))
     by None j = j
     by (Some d) j = inr j
-
--- two items in flight have two numbers
-at_least : (low high : ℕ) (xs : List Item) (y : Item) → AreAscending low high xs → In xs y → low ≤ y.number
-at_least low high [] y h i = absurd i
-at_least low high (x ∷ xs) y h i =
-    let first : low ≤ x.number = h.0 in
-    elim i [
-      | inl e ↦ subst (λ (z : Item). low ≤ z.number) e first
-      | inr j ↦ (let rest : suc x.number ≤ y.number = at_least (suc x.number) high xs y h.1 j in omega (arith, rest, first))
-    ]
 
 one_of_number : (low high : ℕ) (xs : List Item) (x y : Item) → AreAscending low high xs → In xs x → In xs y → x.number ≡ y.number → x ≡ y
 one_of_number low high [] x y h i j e = absurd i
@@ -134,9 +124,6 @@ carries_channel l Forth =
 carries_channel l Back =
     ap (λ n. let s : Step = Carry (record { 0 = n }) (dir_of (2 * l + 1)) 0 in s) (odd l) ∙ ap (λ b. let s : Step =
     Carry (record { 0 = l }) (if b then Forth else Back) 0 in s) (odd_test l)
-
-turned : (a b : ℕ) → (a == b) ≡ (b == a)
-turned a b = grind (arith, nat_tests)
 
 -- 2. What comes, of the items that are due by some test
 

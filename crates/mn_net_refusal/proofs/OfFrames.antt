@@ -1,17 +1,13 @@
 -- Frames fly on directions of the topology's links alone.
-use Rattle.std.proofs.Common.{ℕ, zero, suc, ◌≡◌, ◌+◌, ◌*◌, ◌<◌, List, [], ◌∷◌, length, refl, arith, sym, ap, subst, Option, Some, None, inl, inr}
-use Rattle.std.specs.Prelude.{⊤}
+use Rattle.std.proofs.Common.{ℕ, ◌*◌, ◌<◌, List, [], ◌∷◌, length, refl, sym, subst, inl, inr}
 use Rattle.std.specs.List.{All, AllByRecursion}
 use Rattle.std.proofs.lemmas.List.Elements.{All-nil, All-cons}
-use Rattle.mn_base.specs.declared.links.Dir.{Dir}
-use Rattle.mn_base.specs.declared.links.Dir.TheVariants.{Forth, Back}
 use Rattle.mn_base.proofs.Members.{In, contained_in}
 use Rattle.mn_flight.specs.declared.Item.{Item as ItemOf}
 use Rattle.mn_flight.specs.Flying.{IsFlight}
 use Rattle.mn_topo.specs.Lawful.{IsLawful}
 use Rattle.mn_topo.specs.Network.{Network}
 use Rattle.mn_topo.specs.declared.steps.JournalEntry.{JournalEntry}
-use Rattle.mn_ledger.specs.Lawful.{IsLawfulJournal}
 use Rattle.mn_ledger.specs.Packets.{channel}
 use Rattle.mn_ledger.specs.Items.{Channel, Notices, Messages, Routes, Frames, Load, Notice, Says, Tells, Carries, Item, flight_of}
 use Rattle.mn_laws.specs.Flight.{IsOfChannel}
@@ -19,10 +15,7 @@ use Rattle.mn_laws.proofs.Channels.{channels_are}
 use Rattle.mn_timetable.specs.Keys.{Key, keys_in, keys_on, of_frames, with_key}
 use Rattle.mn_net_model.specs.Stands.{Packed, StandsFor}
 use Rattle.mn_net_model.proofs.Numbers.{flight_ascends}
-
-two_for_each : (l n : ℕ) (d : Dir) → l < n → channel l d < 2 * n
-two_for_each l n Forth h = omega (arith, h)
-two_for_each l n Back h = omega (arith, h)
+use Rattle.mn_net_tally.proofs.Counting.{two_within as two_for_each}
 
 abbrev On : ℕ → List Key → Type 0
 On n keys = AllByRecursion (λ (key : Key). key.channel < n) keys

@@ -1,20 +1,18 @@
 -- As many items fly on a channel of the ledger as keys have its number.
-use Rattle.std.proofs.Common.{ℕ, zero, suc, ◌≡◌, ◌+◌, ◌*◌, ◌<◌, Bool, true, false, cond, List, [], ◌∷◌, length, refl, sym, ap, ◌∙◌, Option, Some, None}
+use Rattle.std.proofs.Common.{ℕ, suc, ◌≡◌, ◌+◌, ◌*◌, ◌<◌, Bool, true, false, cond, List, [], ◌∷◌, length, refl, sym, ap, ◌∙◌, Option, Some, None}
 use Rattle.std.specs.Prelude.{◌==◌, nat_lt}
 use Rattle.mn_base.specs.Wiring.{sender}
 use Rattle.mn_base.specs.declared.links.Dir.{Dir}
 use Rattle.mn_base.proofs.Bools.{and_on, less_is}
 use Rattle.mn_topo.specs.Lawful.{IsLawful}
 use Rattle.mn_topo.specs.Network.{Network, wiring_of}
-use Rattle.mn_topo.specs.Steps.{fits}
-use Rattle.mn_topo.specs.declared.steps.Step.{Step}
 use Rattle.mn_topo.specs.declared.steps.Step.TheVariants.{Learn, HearLdp, HearBgp}
 use Rattle.mn_ledger.specs.Packets.{channel}
 use Rattle.mn_ledger.specs.Items.{Channel, Notices, Messages, Routes, Frames, Notice, Item, same_channel, items_on, without}
 use Rattle.mn_timetable.specs.Keys.{Key, Numbering, of_notices, of_messages, of_routes, with_key, keys_on, keys_by, is_number, key_without, Names, IsThere}
-use Rattle.mn_timetable.specs.Keys.{AreThere}
 use Rattle.mn_timetable.proofs.OtherKeys.{notices_left, messages_left, routes_left}
 use Rattle.mn_net_refusal.specs.Refusal.{count_on}
+pub use Rattle.mn_timetable.proofs.OtherKeys.{names as names_all}
 
 -- 1. Where the numbering names a channel by a number
 
@@ -36,12 +34,6 @@ counted_names number on c (x ∷ xs) h = by (number x.on) h.0 (counted_names num
             (cond b (key_at d x ∷ keys_by (λ n. n == c) (keys_on number xs)) (keys_by (λ n. n == c) (keys_on number xs)))
         split true r = ap suc r
         split false r = r
-
-pub names_all : (t : Network) (number : Numbering) (on : Channel) (c : ℕ) →
-    ((other : Channel) → IsThere t other → same_channel on other ≡ is_number c (number other)) →
-    (xs : List Item) → AreThere t xs → Names number on c xs
-names_all t number on c h [] there = tt
-names_all t number on c h (x ∷ xs) there = (h x.on there.0, names_all t number on c h xs there.1)
 
 -- 2. An item alone on its channel leaves where its number does
 

@@ -1,24 +1,21 @@
 -- A tally goes on with each step.
-use Rattle.std.proofs.Common.{ℕ, zero, suc, ◌≡◌, ◌+◌, ◌-◌, ◌*◌, ◌<◌, ◌≤◌, ◌⊎◌, inl, inr, Bool, true, false, cond, List, [], ◌∷◌, ◌++◌, length, map, filter}
-use Rattle.std.proofs.Common.{refl, arith, sym, ap, ◌∙◌, subst, append-nil, Option, Some, None}
-use Rattle.std.specs.Prelude.{◌==◌, ◌/◌, nat_le, slice_get, slice_index, slice_set, find, option_map, if◌then◌else◌}
-use Rattle.std.specs.List.{Contains, AllByRecursion, list_any}
+use Rattle.std.proofs.Common.{ℕ, zero, suc, ◌≡◌, ◌+◌, ◌-◌, ◌*◌, ◌<◌, ◌≤◌, ◌⊎◌, inl, inr, Bool, true, false, cond, List, [], ◌∷◌, ◌++◌, length, filter}
+use Rattle.std.proofs.Common.{refl, arith, sym, ap, ◌∙◌, subst, Option, Some, None}
+use Rattle.std.specs.Prelude.{◌==◌, ◌/◌, slice_get, slice_index, slice_set, find, option_map, if◌then◌else◌}
+use Rattle.std.specs.List.{Contains, AllByRecursion}
 use Rattle.std.proofs.lemmas.Bool.Decides.{nat_tests}
 use Rattle.mn_base.specs.Wiring.{link}
 use Rattle.mn_base.specs.declared.links.Dir.{Dir}
 use Rattle.mn_base.specs.declared.links.Dir.TheVariants.{Forth, Back}
-use Rattle.mn_base.specs.declared.numbers.LinkNo.{LinkNo}
-use Rattle.mn_base.specs.declared.numbers.SiteNo.{SiteNo}
 use Rattle.mn_base.proofs.Bools.{no, clash, two_ways, test_same, same_test, same_numbers, other_test, none_below}
 use Rattle.mn_base.proofs.Members.{In, in_contained, contained_in, in_rest, in_map, map_in, in_filter, filter_in, none_passes, passes_none}
 use Rattle.mn_base.proofs.Rules.{some_is, none_is}
 use Rattle.mn_flight.specs.declared.Item.{Item as ItemOf}
-use Rattle.mn_prefix.specs.Prefix.{AddressBlock}
 use Rattle.mn_topo.specs.Lawful.{IsLawful}
 use Rattle.mn_topo.specs.Network.{Network, wiring_of}
 use Rattle.mn_topo.specs.declared.steps.Step.{Step}
-use Rattle.mn_topo.specs.declared.steps.Step.TheVariants.{LinkUp, LinkDown, Learn, LdpAdmin, HearLdp, BgpUp, BgpDown, HearBgp, AddRoute, DelRoute, Import}
-use Rattle.mn_topo.specs.declared.steps.Step.TheVariants.{Export, Attach, Detach, Inject, Carry, Lose}
+use Rattle.mn_topo.specs.declared.steps.Step.TheVariants.{LinkUp, AddRoute, DelRoute}
+use Rattle.mn_topo.specs.declared.steps.Step.TheVariants.{Inject, Carry}
 use Rattle.mn_topo.specs.declared.steps.JournalEntry.{JournalEntry}
 use Rattle.mn_ledger.specs.World.{World, Config}
 use Rattle.mn_ledger.specs.Lawful.{IsLawfulJournal}
@@ -26,7 +23,7 @@ use Rattle.mn_ledger.specs.Verdicts.{injections}
 use Rattle.mn_ledger.specs.Ledger.{world_of, packets_of, after, config_after}
 use Rattle.mn_ledger.specs.Packets.{Packets, channel, packets_after}
 use Rattle.mn_ledger.specs.Items.{Channel, Notices, Messages, Routes, Frames, Load, Notice, Says, Tells, Carries, Item, Flight, delay_on, notices_in}
-use Rattle.mn_ledger.specs.Items.{messages_in, routes_in, frames_in, made_in, numbered, left_in_flight, made_by, flight_of}
+use Rattle.mn_ledger.specs.Items.{messages_in, routes_in, frames_in, numbered, left_in_flight, made_by, flight_of}
 use Rattle.mn_ledger.specs.OneMore.{with_packet, made_then}
 use Rattle.mn_ledger.specs.InFlight.{AreNumbered}
 use Rattle.mn_ledger.proofs.Choice.{keeps}
@@ -39,15 +36,14 @@ use Rattle.mn_laws.proofs.Channels.{channels_are}
 use Rattle.mn_laws.proofs.Ordered.{numbers_ascend}
 use Rattle.mn_course.specs.Coming.{is_each, is_lost}
 use Rattle.mn_timetable.specs.Keys.{Key, key_of, keys_in, keys_on, of_frames, with_key, key_without, frames_leave}
-use Rattle.mn_timetable.specs.Steps.{pushed, later_world}
-use Rattle.mn_timetable.proofs.Taking.{one_channel}
+use Rattle.mn_timetable.specs.Steps.{pushed}
+use Rattle.mn_ledger.proofs.Directions.{one_channel}
 use Rattle.mn_timetable.proofs.FrameKeys.{frames_left}
 use Rattle.mn_timetable.proofs.Keys.{keys_more}
-use Rattle.mn_timetable.proofs.Made.{IsOneFrame, one_frame, frames_made}
+use Rattle.mn_timetable.proofs.Made.{one_frame, frames_made}
 use Rattle.mn_net_model.specs.Stands.{Packed, StandsFor}
-use Rattle.mn_net_model.specs.Stepped.{MayStep, later_packets, made_now}
 use Rattle.mn_net_model.proofs.Going.{flight_more}
-use Rattle.mn_net_tally.specs.Tallies.{Tally, Tallies, lost_numbers, is_one, with_frame, frame_of, after_frame}
+use Rattle.mn_net_tally.specs.Tallies.{Tally, Tallies, lost_numbers, is_one, frame_of, after_frame}
 use Rattle.mn_net_tally.specs.Laws.{may_send, changes_statics, CountsAsItDid, CountsStatics, CountsFrames, TellsWhatIsLost}
 use Rattle.mn_net_tally.proofs.Sent.{get_of, new, OneSent, one_sent, sent_quiet, lost_quiet, sent_one, lost_one}
 use Rattle.mn_net_tally.proofs.Statics.{statics_stay, one_static_more, has_few, one_static_less}
@@ -140,7 +136,7 @@ set_length [] i v = refl
 set_length (x ∷ xs) zero v = refl
 set_length (x ∷ xs) (suc i) v = ap suc (set_length xs i v)
 
-two_within : (l n : ℕ) (d : Dir) → l < n → channel l d < 2 * n
+pub two_within : (l n : ℕ) (d : Dir) → l < n → channel l d < 2 * n
 two_within l n Forth h = omega (arith, h)
 two_within l n Back h = omega (arith, h)
 

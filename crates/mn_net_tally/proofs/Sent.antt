@@ -1,8 +1,7 @@
 -- A journal with one entry more, by the frames among what its last step made.
-use Rattle.std.proofs.Common.{ℕ, zero, suc, ◌≡◌, ◌+◌, ◌*◌, ◌<◌, ◌≤◌, ◌⊎◌, inl, inr, Bool, true, false, cond, List, [], ◌∷◌, ◌++◌, length, map, filter, refl}
-use Rattle.std.proofs.Common.{arith, sym, ap, ◌∙◌, subst, append-nil, Option, Some, None}
+use Rattle.std.proofs.Common.{ℕ, zero, suc, ◌≡◌, ◌+◌, ◌<◌, ◌≤◌, ◌⊎◌, inl, inr, Bool, true, false, cond, List, [], ◌∷◌, ◌++◌, length, map, filter, refl}
+use Rattle.std.proofs.Common.{arith, sym, ap, ◌∙◌, subst, append-nil, Some}
 use Rattle.std.specs.Prelude.{◌==◌, nat_le, slice_get, slice_index_or, if◌then◌else◌}
-use Rattle.std.specs.List.{Contains}
 use Rattle.std.proofs.lemmas.List.{map-append, length-append}
 use Rattle.std.proofs.lemmas.List.Elements.{filter-append}
 use Rattle.mn_base.specs.Wiring.{link}
@@ -27,8 +26,9 @@ use Rattle.mn_laws.specs.Ids.{frames_sent, frame_number}
 use Rattle.mn_course.specs.Coming.{is_each, is_lost}
 use Rattle.mn_timetable.specs.Keys.{Key, keys_on, of_frames, with_key}
 use Rattle.mn_timetable.specs.Steps.{pushed}
-use Rattle.mn_timetable.proofs.Taking.{one_channel}
+use Rattle.mn_ledger.proofs.Directions.{one_channel}
 use Rattle.mn_net_tally.specs.Tallies.{lost_numbers}
+use Rattle.mn_ledger.proofs.OneKind.{none_left as filter_no}
 
 -- 1. Lists
 
@@ -36,10 +36,6 @@ filter_same : {A : Type 0} (p q : A → Bool) (xs : List A) → ((x : A) → In 
 filter_same p q [] h = refl
 filter_same p q (x ∷ xs) h =
     ap (λ b. cond b (x ∷ filter p xs) (filter p xs)) (h x (inl refl)) ∙ ap (λ ys. cond (q x) (x ∷ ys) ys) (filter_same p q xs (λ y i. h y (inr i)))
-
-filter_no : {A : Type 0} (p : A → Bool) (xs : List A) → ((x : A) → In xs x → p x ≡ false) → filter p xs ≡ []
-filter_no p [] h = refl
-filter_no p (x ∷ xs) h = ap (λ b. cond b (x ∷ filter p xs) (filter p xs)) (h x (inl refl)) ∙ filter_no p xs (λ y i. h y (inr i))
 
 filter_each : {A : Type 0} (p : A → Bool) (xs : List A) → ((x : A) → In xs x → p x ≡ true) → filter p xs ≡ xs
 filter_each p [] h = refl

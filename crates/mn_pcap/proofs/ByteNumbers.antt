@@ -17,7 +17,8 @@ number-append true n xs ys h = big_from-append n xs ys h
 number-append false n xs ys h = little_from-append n xs ys h
 
 -- no four bytes are a known magic in both orders, nor one and the beginning of a pcapng file
-pub one_order : (bytes : List ℕ) → IsBytes bytes → is_magic (number false 4 bytes) ≡ true → (is_magic (number true 4 bytes) ≡ false) × ((number true 4 bytes == pcapng) ≡ false)
+pub one_order : (bytes : List ℕ) → IsBytes bytes → is_magic (number false 4 bytes) ≡ true →
+    (is_magic (number true 4 bytes) ≡ false) × ((number true 4 bytes == pcapng) ≡ false)
 unfolding number
 one_order bytes fits h =
     let a = fits.below 0 in
@@ -30,7 +31,8 @@ pub not_pcapng : (n : ℕ) → is_magic n ≡ true → (n == pcapng) ≡ false
 not_pcapng n h = grind (arith, nat_tests)
 
 -- a field of a header is the same in what begins with the header
-pub number-field : (big : Bool) (n at : ℕ) (header body : List ℕ) → at + n ≤ length header → number big n (drop at (header ++ body)) ≡ number big n (drop at header)
+pub number-field : (big : Bool) (n at : ℕ) (header body : List ℕ) → at + n ≤ length header →
+    number big n (drop at (header ++ body)) ≡ number big n (drop at header)
 number-field big n at header body h =
     ap (λ (xs : List ℕ). number big n xs) (drop-append-le at header body (omega arith))
     ∙ number-append big n (drop at header) body (simp length-drop (omega arith))

@@ -1,5 +1,6 @@
 -- A scan from piece to piece.
-use Rattle.std.proofs.Common.{◌≡◌, ◌==◌, ◌≤◌, ◌<◌, ◌+◌, ◌^◌, ℕ, Bool, true, false, List, [], ◌++◌, length, take, drop, Option, Some, Result, Ok, Err, refl, ap, sym, ◌∙◌, subst, arith, append_assoc, length-drop}
+use Rattle.std.proofs.Common.{◌≡◌, ◌==◌, ◌≤◌, ◌<◌, ◌+◌, ◌^◌, ℕ, Bool, true, false, List, [], ◌++◌, length, take, drop, Option, Some, Result, Ok, Err, refl}
+use Rattle.std.proofs.Common.{ap, sym, ◌∙◌, subst, arith, append_assoc, length-drop}
 use Rattle.std.specs.Prelude.{Vec}
 use Rattle.std.specs.declared.alloc.Global.{Global}
 use Rattle.std.proofs.Math.Seq.{take-add}
@@ -42,7 +43,8 @@ lost_from (RecordHeader form) lost done is = refl
 lost_from (Captured form place left) lost done is = refl
 lost_from (Refused bad) lost done is = cc
 
-fed_is : (stage : Stage) (lost : Bool) (done : Unit {0}) (head : List ℕ) (at fed : ℕ) (bytes : List ℕ) (places : List Place) → settled stage lost ≡ Ok done → IsAt stage head at fed bytes places → fed ≡ length bytes
+fed_is : (stage : Stage) (lost : Bool) (done : Unit {0}) (head : List ℕ) (at fed : ℕ) (bytes : List ℕ) (places : List Place) →
+    settled stage lost ≡ Ok done → IsAt stage head at fed bytes places → fed ≡ length bytes
 fed_is FileHeader lost done head at fed bytes places is p = p.0
 fed_is (RecordHeader form) lost done head at fed bytes places is p = p.0
 fed_is (Captured form place left) lost done head at fed bytes places is p = p.0
@@ -50,33 +52,39 @@ fed_is (Refused bad) lost done head at fed bytes places is p = cc
 
 -- A scan that refuses goes on so.
 
-pub refused_keeps : (scan : Scan) (bytes more : List ℕ) (bad : PcapBad) → standing scan ≡ Err bad → is_lost scan ≡ false → Keeps scan bytes → Keeps scan (bytes ++ more)
+pub refused_keeps : (scan : Scan) (bytes more : List ℕ) (bad : PcapBad) → standing scan ≡ Err bad → is_lost scan ≡ false → Keeps scan bytes →
+    Keeps scan (bytes ++ more)
 refused_keeps scan bytes more bad is kept k = record {
   done = k.done ++ [];
   follows = refused_more scan.cursor bytes more k.done bad (refused_by scan.cursor.stage scan.lost bad is kept) k.follows;
   kept = λ all. k.kept all ∙ sym (append-nil k.done);
 }
 
-pub refused_found : (scan : Scan) (bytes : List ℕ) (bad : PcapBad) → standing scan ≡ Err bad → is_lost scan ≡ false → Keeps scan bytes → records_of bytes ≡ Err bad
+pub refused_found : (scan : Scan) (bytes : List ℕ) (bad : PcapBad) → standing scan ≡ Err bad → is_lost scan ≡ false → Keeps scan bytes →
+    records_of bytes ≡ Err bad
 refused_found scan bytes bad is kept k = end_refused scan.cursor bad bytes k.done (refused_by scan.cursor.stage scan.lost bad is kept) k.follows
 
-pub finds_refusal : (answer : Result (Form × Vec Place Global) PcapBad) (bytes : List ℕ) (bad : PcapBad) → answer ≡ Err bad → records_of bytes ≡ Err bad → Finds answer bytes
+pub finds_refusal : (answer : Result (Form × Vec Place Global) PcapBad) (bytes : List ℕ) (bad : PcapBad) → answer ≡ Err bad → records_of bytes ≡ Err bad →
+    Finds answer bytes
 finds_refusal answer bytes bad is found = subst (λ (a : Result (Form × Vec Place Global) PcapBad). Finds a bytes) (sym is) found
 
 -- what a settled scan answers
 pub record AnswersAgain (scan : Scan) (answer : Result (Unit {0}) PcapBad) (piece : List ℕ) : Type 0 where
   pub fed : (bytes : List ℕ) → IsFed scan bytes → IsFed scan (bytes ++ piece)
-  pub told : (bytes : List ℕ) → IsFed scan bytes → is_lost scan ≡ false → length bytes + length piece < 2 ^ 63 → Tells answer (lasting (records_of (bytes ++ piece)))
+  pub told : (bytes : List ℕ) → IsFed scan bytes → is_lost scan ≡ false → length bytes + length piece < 2 ^ 63 →
+      Tells answer (lasting (records_of (bytes ++ piece)))
   pub again : (bytes : List ℕ) (bad : PcapBad) → IsFed scan bytes → is_lost scan ≡ false → lasting (records_of bytes) ≡ Some bad → answer ≡ Err bad
   pub memory : is_lost scan ≡ is_no_memory answer
   pub lost : is_lost scan ≡ true → answer ≡ Err bad.NoMemory
 
-pub settled_answers : (scan : Scan) (answer : Result (Unit {0}) PcapBad) (piece : List ℕ) (bad : PcapBad) → answer ≡ Err bad → standing scan ≡ Err bad → AnswersAgain scan answer piece
+pub settled_answers : (scan : Scan) (answer : Result (Unit {0}) PcapBad) (piece : List ℕ) (bad : PcapBad) → answer ≡ Err bad → standing scan ≡ Err bad →
+    AnswersAgain scan answer piece
 settled_answers scan answer piece bad given is =
     let same : answer ≡ standing scan = given ∙ sym is in
     record {
       fed = λ bytes fed kept. refused_keeps scan bytes piece bad is kept (fed kept);
-      told = λ bytes fed kept within. subst (λ (a : Result (Unit {0}) PcapBad). Tells a (lasting (records_of (bytes ++ piece)))) (sym same) (told scan (bytes ++ piece) (refused_keeps scan bytes piece bad is kept (fed kept)));
+      told = λ bytes fed kept within. subst (λ (a : Result (Unit {0}) PcapBad). Tells a (lasting (records_of (bytes ++ piece)))) (sym same)
+          (told scan (bytes ++ piece) (refused_keeps scan bytes piece bad is kept (fed kept)));
       again = λ bytes other fed kept before. same ∙ told_again scan bytes other (fed kept) before;
       memory = ap is_no_memory (sym same);
       lost = λ out. same ∙ no_memory (standing scan) out;
@@ -85,7 +93,9 @@ settled_answers scan answer piece bad given is =
 -- Too many bytes.
 
 pub lost_now : (old new : Scan) (done : Unit {0}) → standing old ≡ Ok done → new.cursor ≡ old.cursor → new.lost ≡ true → is_lost new ≡ true
-lost_now old new done is cursor lost = ap is_no_memory (ap (λ (c : Cursor). settled c.stage new.lost) cursor ∙ ap (λ (b : Bool). settled old.cursor.stage b) lost ∙ lost_from old.cursor.stage old.lost done is)
+lost_now old new done is cursor lost =
+    ap is_no_memory (ap (λ (c : Cursor). settled c.stage new.lost) cursor ∙ ap (λ (b : Bool). settled old.cursor.stage b) lost
+    ∙ lost_from old.cursor.stage old.lost done is)
 
 pub not_lost : (scan : Scan) (done : Unit {0}) → standing scan ≡ Ok done → is_lost scan ≡ false
 not_lost scan done is = ap is_no_memory is
@@ -111,7 +121,8 @@ one_piece bytes piece n m = append_assoc bytes (take n piece) (take m (drop n pi
 pub none_left : (rest : List ℕ) → (length rest == 0) ≡ true → length rest ≡ 0
 none_left rest is = grind (arith, nat_tests)
 
-pub all_taken : (scan : Scan) (bytes piece rest : List ℕ) (n : ℕ) → n ≤ length piece → rest ≡ drop n piece → length rest ≡ 0 → Keeps scan (bytes ++ take n piece) → Keeps scan (bytes ++ piece)
+pub all_taken : (scan : Scan) (bytes piece rest : List ℕ) (n : ℕ) → n ≤ length piece → rest ≡ drop n piece → length rest ≡ 0 →
+    Keeps scan (bytes ++ take n piece) → Keeps scan (bytes ++ piece)
 all_taken scan bytes piece rest n within is none k =
     let l = sym (length-drop n piece) ∙ ap length (sym is) ∙ none in
     subst (λ (xs : List ℕ). Keeps scan (bytes ++ xs)) (take_all n piece (omega arith)) k

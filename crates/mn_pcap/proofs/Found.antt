@@ -1,5 +1,6 @@
 -- What a scan answers, from where its cursor stands.
-use Rattle.std.proofs.Common.{◌≡◌, ◌<◌, ℕ, Bool, true, false, List, [], length, Option, Some, None, Result, Ok, Err, refl, ap, sym, ◌∙◌, subst, arith, inl, inr, length-drop}
+use Rattle.std.proofs.Common.{◌≡◌, ◌<◌, ℕ, Bool, true, false, List, [], length, Option, Some, None, Result, Ok, Err, refl, ap, sym, ◌∙◌, subst, arith, inl}
+use Rattle.std.proofs.Common.{inr, length-drop}
 use Rattle.std.proofs.lemmas.List.{append-nil}
 use Rattle.std.proofs.lemmas.Bool.{cases_lt}
 use Rattle.mn_pcap.specs.declared.message.Form.{Form}
@@ -18,27 +19,32 @@ use Rattle.mn_pcap.proofs.InOrder.{read_whole, read_to, counted}
 use Rattle.mn_pcap.proofs.Pieces.{cut_in_header, cut_in_record, between_continues}
 
 -- in the midst of a record
-in_header_cut : (form : Form) (bytes : List ℕ) (done : List Place) (at : ℕ) (head : List ℕ) → IsInHeader form bytes done at head → record_at form.big bytes at ≡ Err (bad.Refused CutShort at)
+in_header_cut : (form : Form) (bytes : List ℕ) (done : List Place) (at : ℕ) (head : List ℕ) → IsInHeader form bytes done at head →
+    record_at form.big bytes at ≡ Err (bad.Refused CutShort at)
 in_header_cut form bytes done at head h =
     let l = sym (length-drop at bytes) ∙ ap length h.head_is in
     let short = h.short in
     let within = h.between.within in
     cut_in_header form.big bytes at (omega arith)
 
-in_record_cut : (form : Form) (bytes : List ℕ) (done : List Place) (at : ℕ) (place : Place) (left : ℕ) → IsInRecord form bytes done at place left → 0 < left → record_at form.big bytes at ≡ Err (bad.Refused CutShort at)
+in_record_cut : (form : Form) (bytes : List ℕ) (done : List Place) (at : ℕ) (place : Place) (left : ℕ) → IsInRecord form bytes done at place left →
+    0 < left → record_at form.big bytes at ≡ Err (bad.Refused CutShort at)
 in_record_cut form bytes done at place left r some =
     let end = r.left_is ∙ ap end_of r.place_is in
     cut_in_record form.big bytes at r.header r.lawful (omega arith)
 
 -- How many records are whole.
 
-counted_at : (stage : Stage) (head : List ℕ) (at fed : ℕ) (bytes : List ℕ) (done : List Place) → IsAt stage head at fed bytes done → count_of bytes ≡ length done
+counted_at : (stage : Stage) (head : List ℕ) (at fed : ℕ) (bytes : List ℕ) (done : List Place) → IsAt stage head at fed bytes done →
+    count_of bytes ≡ length done
 counted_at FileHeader head at fed bytes done p =
     ap (λ (h : Result Form PcapBad). elim h [ Err bad ↦ 0 | Ok form ↦ length (all_records form.big bytes).0 ]) p.4 ∙ sym (ap length p.3)
 counted_at (RecordHeader form) head at fed bytes done p =
-    counted bytes form done at (bad.Refused CutShort at) p.1.between.header (in_header_cut form bytes done at head p.1) (between_continues form bytes done at p.1.between)
+    counted bytes form done at (bad.Refused CutShort at) p.1.between.header (in_header_cut form bytes done at head p.1)
+        (between_continues form bytes done at p.1.between)
 counted_at (Captured form place left) head at fed bytes done p =
-    counted bytes form done at (bad.Refused CutShort at) p.1.between.header (in_record_cut form bytes done at place left p.1 p.2) (between_continues form bytes done at p.1.between)
+    counted bytes form done at (bad.Refused CutShort at) p.1.between.header (in_record_cut form bytes done at place left p.1 p.2)
+        (between_continues form bytes done at p.1.between)
 counted_at (Refused bad) head at fed bytes done p = sym (ap count_of (append-nil bytes)) ∙ p.count []
 
 pub counts : (cursor : Cursor) (bytes : List ℕ) (done : List Place) → Follows cursor bytes done → cursor.whole ≡ count_of bytes
@@ -50,25 +56,30 @@ refused_header : (bytes : List ℕ) (bad : PcapBad) → header_of bytes ≡ Err 
 refused_header bytes bad is = ap (λ (h : Result Form PcapBad). after h (λ form. unless (all_records form.big bytes).1 (all_records form.big bytes).0)) is
 
 -- at the end of a record, and anywhere else
-pub whole_at : (form : Form) (head : List ℕ) (at fed : ℕ) (bytes : List ℕ) (done : List Place) → IsAt (RecordHeader form) head at fed bytes done → at ≡ fed → EndsSo (Ok form) bytes done
+pub whole_at : (form : Form) (head : List ℕ) (at fed : ℕ) (bytes : List ℕ) (done : List Place) → IsAt (RecordHeader form) head at fed bytes done →
+    at ≡ fed → EndsSo (Ok form) bytes done
 whole_at form head at fed bytes done p end =
     let all = p.0 in
     let b = p.1.between in
     let c = between_continues form bytes done at b in
     (b.header, read_whole bytes form done at b.header (omega arith) c, c.inside)
 
-cut_at : (form : Form) (head : List ℕ) (at fed : ℕ) (bytes : List ℕ) (done : List Place) → IsAt (RecordHeader form) head at fed bytes done → (at ≡ fed → ⊥) → records_of bytes ≡ Err (bad.Refused CutShort at)
+cut_at : (form : Form) (head : List ℕ) (at fed : ℕ) (bytes : List ℕ) (done : List Place) → IsAt (RecordHeader form) head at fed bytes done →
+    (at ≡ fed → ⊥) → records_of bytes ≡ Err (bad.Refused CutShort at)
 cut_at form head at fed bytes done p apart =
     let all = p.0 in
     let b = p.1.between in
     let within = b.within in
-    read_to bytes form done at (bad.Refused CutShort at) b.header (in_header_cut form bytes done at head p.1) (omega (arith, apart)) (between_continues form bytes done at b)
+    read_to bytes form done at (bad.Refused CutShort at) b.header (in_header_cut form bytes done at head p.1) (omega (arith, apart))
+        (between_continues form bytes done at b)
 
-cut_in : (form : Form) (place : Place) (left : ℕ) (head : List ℕ) (at fed : ℕ) (bytes : List ℕ) (done : List Place) → IsAt (Captured form place left) head at fed bytes done → records_of bytes ≡ Err (bad.Refused CutShort at)
+cut_in : (form : Form) (place : Place) (left : ℕ) (head : List ℕ) (at fed : ℕ) (bytes : List ℕ) (done : List Place) →
+    IsAt (Captured form place left) head at fed bytes done → records_of bytes ≡ Err (bad.Refused CutShort at)
 cut_in form place left head at fed bytes done p =
     let b = p.1.between in
     let header = p.1.header in
-    read_to bytes form done at (bad.Refused CutShort at) b.header (in_record_cut form bytes done at place left p.1 p.2) (omega arith) (between_continues form bytes done at b)
+    read_to bytes form done at (bad.Refused CutShort at) b.header (in_record_cut form bytes done at place left p.1 p.2) (omega arith)
+        (between_continues form bytes done at b)
 
 refused_at : (bad : PcapBad) (bytes : List ℕ) (done : List Place) → IsRefusedFor bad bytes done → records_of bytes ≡ Err bad
 refused_at bad bytes done p = sym (ap records_of (append-nil bytes)) ∙ p.refused []
@@ -80,7 +91,8 @@ refusal_at (RecordHeader form) = None
 refusal_at (Captured form place left) = None
 refusal_at (Refused bad) = Some bad
 
-lasting_at : (stage : Stage) (head : List ℕ) (at fed : ℕ) (bytes : List ℕ) (done : List Place) → IsAt stage head at fed bytes done → lasting (records_of bytes) ≡ refusal_at stage
+lasting_at : (stage : Stage) (head : List ℕ) (at fed : ℕ) (bytes : List ℕ) (done : List Place) → IsAt stage head at fed bytes done →
+    lasting (records_of bytes) ≡ refusal_at stage
 lasting_at FileHeader head at fed bytes done p = ap lasting (refused_header bytes (bad.Refused CutShort 0) p.4)
 lasting_at (RecordHeader form) head at fed bytes done p = elim (cases_lt at fed) [
   | inl before ↦ ap lasting (cut_at form head at fed bytes done p (λ same. absurd (omega arith)))
@@ -115,22 +127,28 @@ told_again scan bytes bad k is = settled_at scan.cursor.stage scan.lost bad (sym
 
 -- The end.
 
-pub end_whole : (cursor : Cursor) (form : Form) (bytes : List ℕ) (done : List Place) → cursor.stage ≡ RecordHeader form → cursor.at ≡ cursor.fed → Follows cursor bytes done → EndsSo (Ok form) bytes done
+pub end_whole : (cursor : Cursor) (form : Form) (bytes : List ℕ) (done : List Place) → cursor.stage ≡ RecordHeader form → cursor.at ≡ cursor.fed →
+    Follows cursor bytes done → EndsSo (Ok form) bytes done
 end_whole cursor form bytes done stage end f =
     whole_at form cursor.head cursor.at cursor.fed bytes done (subst (λ (s : Stage). IsAt s cursor.head cursor.at cursor.fed bytes done) stage f.is_at) end
 
-pub end_refused : (cursor : Cursor) (bad : PcapBad) (bytes : List ℕ) (done : List Place) → cursor.stage ≡ Refused bad → Follows cursor bytes done → records_of bytes ≡ Err bad
+pub end_refused : (cursor : Cursor) (bad : PcapBad) (bytes : List ℕ) (done : List Place) → cursor.stage ≡ Refused bad → Follows cursor bytes done →
+    records_of bytes ≡ Err bad
 end_refused cursor bad bytes done stage f = refused_at bad bytes done (subst (λ (s : Stage). IsAt s cursor.head cursor.at cursor.fed bytes done) stage f.is_at)
 
-pub end_cut : (cursor : Cursor) (form : Form) (bytes : List ℕ) (done : List Place) → cursor.stage ≡ RecordHeader form → (cursor.at ≡ cursor.fed → ⊥) → Follows cursor bytes done → records_of bytes ≡ Err (bad.Refused CutShort cursor.at)
+pub end_cut : (cursor : Cursor) (form : Form) (bytes : List ℕ) (done : List Place) → cursor.stage ≡ RecordHeader form →
+    (cursor.at ≡ cursor.fed → ⊥) → Follows cursor bytes done → records_of bytes ≡ Err (bad.Refused CutShort cursor.at)
 end_cut cursor form bytes done stage apart f =
     cut_at form cursor.head cursor.at cursor.fed bytes done (subst (λ (s : Stage). IsAt s cursor.head cursor.at cursor.fed bytes done) stage f.is_at) apart
 
-cut_elsewhere : (stage : Stage) (head : List ℕ) (at fed : ℕ) (bytes : List ℕ) (done : List Place) → ((form : Form) → stage ≡ RecordHeader form → ⊥) → ((bad : PcapBad) → stage ≡ Refused bad → ⊥) → IsAt stage head at fed bytes done → records_of bytes ≡ Err (bad.Refused CutShort at)
-cut_elsewhere FileHeader head at fed bytes done one two p = refused_header bytes (bad.Refused CutShort 0) p.4 ∙ ap (λ (n : ℕ). Err (bad.Refused CutShort n)) (sym p.1)
+cut_elsewhere : (stage : Stage) (head : List ℕ) (at fed : ℕ) (bytes : List ℕ) (done : List Place) → ((form : Form) → stage ≡ RecordHeader form → ⊥) →
+    ((bad : PcapBad) → stage ≡ Refused bad → ⊥) → IsAt stage head at fed bytes done → records_of bytes ≡ Err (bad.Refused CutShort at)
+cut_elsewhere FileHeader head at fed bytes done one two p =
+    refused_header bytes (bad.Refused CutShort 0) p.4 ∙ ap (λ (n : ℕ). Err (bad.Refused CutShort n)) (sym p.1)
 cut_elsewhere (RecordHeader form) head at fed bytes done one two p = absurd (one form refl)
 cut_elsewhere (Captured form place left) head at fed bytes done one two p = cut_in form place left head at fed bytes done p
 cut_elsewhere (Refused bad) head at fed bytes done one two p = absurd (two bad refl)
 
-pub end_elsewhere : (cursor : Cursor) (bytes : List ℕ) (done : List Place) → ((form : Form) → cursor.stage ≡ RecordHeader form → ⊥) → ((bad : PcapBad) → cursor.stage ≡ Refused bad → ⊥) → Follows cursor bytes done → records_of bytes ≡ Err (bad.Refused CutShort cursor.at)
+pub end_elsewhere : (cursor : Cursor) (bytes : List ℕ) (done : List Place) → ((form : Form) → cursor.stage ≡ RecordHeader form → ⊥) →
+    ((bad : PcapBad) → cursor.stage ≡ Refused bad → ⊥) → Follows cursor bytes done → records_of bytes ≡ Err (bad.Refused CutShort cursor.at)
 end_elsewhere cursor bytes done one two f = cut_elsewhere cursor.stage cursor.head cursor.at cursor.fed bytes done one two f.is_at

@@ -1,5 +1,6 @@
 -- What each step of a scan leads to.
-use Rattle.std.proofs.Common.{◌≡◌, ◌≤◌, ◌<◌, ◌+◌, ◌-◌, ℕ, true, List, [], ◌∷◌, ◌++◌, length, drop, Result, Ok, Err, refl, ap, sym, ◌∙◌, append_assoc, subst, arith, length-drop, length-append}
+use Rattle.std.proofs.Common.{◌≡◌, ◌≤◌, ◌<◌, ◌+◌, ◌-◌, ℕ, true, List, [], ◌∷◌, ◌++◌, length, drop, Result, Ok, Err, refl, ap, sym, ◌∙◌, append_assoc, subst}
+use Rattle.std.proofs.Common.{arith, length-drop, length-append}
 use Rattle.std.proofs.lemmas.List.{drop-drop, drop-append-le, drop_all}
 use Rattle.mn_pcap.specs.declared.message.Form.{Form}
 use Rattle.mn_pcap.specs.declared.message.Place.{Place}
@@ -28,8 +29,11 @@ header_read bytes form is short =
 pub header_refused : (bytes : List ℕ) (bad : PcapBad) → header_of bytes ≡ Err bad → lasts bad ≡ true → IsRefusedFor bad bytes []
 header_refused bytes bad is last = record {
   lasting = last;
-  refused = λ more. ap (λ (h : Result Form PcapBad). after h (λ form. unless (all_records form.big (bytes ++ more)).1 (all_records form.big (bytes ++ more)).0)) (header_refused_more bytes more bad is last);
-  count = λ more. ap (λ (h : Result Form PcapBad). elim h [ Err bad ↦ 0 | Ok form ↦ length (all_records form.big (bytes ++ more)).0 ]) (header_refused_more bytes more bad is last);
+  refused =
+      λ more. ap (λ (h : Result Form PcapBad). after h (λ form. unless (all_records form.big (bytes ++ more)).1 (all_records form.big (bytes ++ more)).0))
+      (header_refused_more bytes more bad is last);
+  count = λ more. ap (λ (h : Result Form PcapBad). elim h [ Err bad ↦ 0 | Ok form ↦ length (all_records form.big (bytes ++ more)).0 ])
+      (header_refused_more bytes more bad is last);
 }
 
 -- Within a record's header.
@@ -37,7 +41,8 @@ header_refused bytes bad is last = record {
 head_more : (bytes more head : List ℕ) (at : ℕ) → at ≤ length bytes → drop at bytes ≡ head → drop at (bytes ++ more) ≡ head ++ more
 head_more bytes more head at within is = drop-append-le at bytes more within ∙ ap (λ (xs : List ℕ). xs ++ more) is
 
-pub header_goes_on : (form : Form) (bytes more : List ℕ) (done : List Place) (at : ℕ) (head : List ℕ) → length (head ++ more) < 16 → IsInHeader form bytes done at head → IsInHeader form (bytes ++ more) done at (head ++ more)
+pub header_goes_on : (form : Form) (bytes more : List ℕ) (done : List Place) (at : ℕ) (head : List ℕ) → length (head ++ more) < 16 →
+    IsInHeader form bytes done at head → IsInHeader form (bytes ++ more) done at (head ++ more)
 header_goes_on form bytes more done at head short h = record {
   between = between_more form bytes more done at h.between;
   head_is = head_more bytes more head at h.between.within h.head_is;
@@ -50,7 +55,8 @@ pub record HeaderWhole (form : Form) (bytes : List ℕ) (done : List Place) (at 
   pub header : length bytes ≡ at + 16
   pub length_is : captured_length form.big bytes at ≡ number form.big 4 (drop 8 head)
 
-pub header_whole : (form : Form) (bytes more : List ℕ) (done : List Place) (at : ℕ) (head : List ℕ) → length (head ++ more) ≡ 16 → IsInHeader form bytes done at head → HeaderWhole form (bytes ++ more) done at (head ++ more)
+pub header_whole : (form : Form) (bytes more : List ℕ) (done : List Place) (at : ℕ) (head : List ℕ) → length (head ++ more) ≡ 16 →
+    IsInHeader form bytes done at head → HeaderWhole form (bytes ++ more) done at (head ++ more)
 header_whole form bytes more done at head whole h =
     let within = h.between.within in
     let is = head_more bytes more head at within h.head_is in
@@ -62,7 +68,8 @@ header_whole form bytes more done at head whole h =
       length_is = ap (λ (xs : List ℕ). number form.big 4 xs) (sym (drop-drop 8 at (bytes ++ more))) ∙ ap (λ (xs : List ℕ). number form.big 4 (drop 8 xs)) is;
     }
 
-pub header_read_on : (form : Form) (bytes : List ℕ) (done : List Place) (at : ℕ) (head : List ℕ) (size fed : ℕ) → size ≡ number form.big 4 (drop 8 head) → size ≤ snaplen → fed ≡ length bytes → HeaderWhole form bytes done at head → IsInRecord form bytes done at (record { at = fed; length = size }) size
+pub header_read_on : (form : Form) (bytes : List ℕ) (done : List Place) (at : ℕ) (head : List ℕ) (size fed : ℕ) → size ≡ number form.big 4 (drop 8 head) →
+    size ≤ snaplen → fed ≡ length bytes → HeaderWhole form bytes done at head → IsInRecord form bytes done at (record { at = fed; length = size }) size
 header_read_on form bytes done at head size fed is lawful whole h =
     let same = h.length_is ∙ sym is in
     let end = h.header in
@@ -70,15 +77,20 @@ header_read_on form bytes done at head size fed is lawful whole h =
       between = h.between;
       header = omega arith;
       lawful = omega arith;
-      place_is = let place : ℕ → ℕ → Place = λ at length. record { at = at; length = length } in ap (λ (n : ℕ). place n size) (whole ∙ end) ∙ ap (λ (n : ℕ). place (at + 16) n) (sym same);
+      place_is = let place : ℕ → ℕ → Place = λ at length. record { at = at; length = length } in
+          ap (λ (n : ℕ). place n size) (whole ∙ end) ∙ ap (λ (n : ℕ). place (at + 16) n) (sym same);
       left_is = omega arith;
     }
 
-pub header_refuses : (form : Form) (bytes : List ℕ) (done : List Place) (at : ℕ) (head : List ℕ) (size : ℕ) → size ≡ number form.big 4 (drop 8 head) → snaplen < size → HeaderWhole form bytes done at head → IsRefusedFor (Refused BadRecord at) bytes done
+pub header_refuses : (form : Form) (bytes : List ℕ) (done : List Place) (at : ℕ) (head : List ℕ) (size : ℕ) → size ≡ number form.big 4 (drop 8 head) →
+    snaplen < size → HeaderWhole form bytes done at head → IsRefusedFor (Refused BadRecord at) bytes done
 header_refuses form bytes done at head size is high h = record {
   lasting = refl;
-  refused = λ more. read_to (bytes ++ more) form done at (Refused BadRecord at) (between more).header (bad more) (within more) (between_continues form (bytes ++ more) done at (between more));
-  count = λ more. counted (bytes ++ more) form done at (Refused BadRecord at) (between more).header (bad more) (between_continues form (bytes ++ more) done at (between more));
+  refused =
+      λ more. read_to (bytes ++ more) form done at (Refused BadRecord at) (between more).header (bad more) (within more)
+      (between_continues form (bytes ++ more) done at (between more));
+  count = λ more. counted (bytes ++ more) form done at (Refused BadRecord at) (between more).header (bad more)
+      (between_continues form (bytes ++ more) done at (between more));
 }
   where
     between : (more : List ℕ) → IsBetween form (bytes ++ more) done at
@@ -96,7 +108,8 @@ header_refuses form bytes done at head size is high h = record {
 
 -- Within a record's bytes.
 
-pub record_goes_on : (form : Form) (bytes more : List ℕ) (done : List Place) (at : ℕ) (place : Place) (left : ℕ) → length more ≤ left → IsInRecord form bytes done at place left → IsInRecord form (bytes ++ more) done at place (left - length more)
+pub record_goes_on : (form : Form) (bytes more : List ℕ) (done : List Place) (at : ℕ) (place : Place) (left : ℕ) → length more ≤ left →
+    IsInRecord form bytes done at place left → IsInRecord form (bytes ++ more) done at place (left - length more)
 record_goes_on form bytes more done at place left within r =
     let all = length-append bytes more in
     let header = r.header in
@@ -111,7 +124,8 @@ record_goes_on form bytes more done at place left within r =
       left_is = omega arith;
     }
 
-pub record_ends : (form : Form) (bytes : List ℕ) (done : List Place) (at : ℕ) (place : Place) → IsInRecord form bytes done at place 0 → IsInHeader form bytes (done ++ place ∷ []) (length bytes) []
+pub record_ends : (form : Form) (bytes : List ℕ) (done : List Place) (at : ℕ) (place : Place) → IsInRecord form bytes done at place 0 →
+    IsInHeader form bytes (done ++ place ∷ []) (length bytes) []
 record_ends form bytes done at place r =
     let left = r.left_is in
     let end : end_of place ≡ length bytes = omega arith in

@@ -1,5 +1,6 @@
 -- What is read, and what the format spells.
-use Rattle.std.proofs.Common.{◌≡◌, ◌==◌, ◌≤◌, ◌<◌, ◌+◌, ◌-◌, ℕ, zero, suc, Bool, true, false, List, [], ◌∷◌, ◌++◌, length, take, drop, map, Option, Some, None, Result, Ok, Err, refl, ap, sym, ◌∙◌, append_assoc, subst, arith, inl, inr, length-drop, length-append}
+use Rattle.std.proofs.Common.{◌≡◌, ◌==◌, ◌≤◌, ◌<◌, ◌+◌, ◌-◌, ℕ, zero, suc, Bool, true, false, List, [], ◌∷◌, ◌++◌, length, take, drop, map, Option, Some}
+use Rattle.std.proofs.Common.{None, Result, Ok, Err, refl, ap, sym, ◌∙◌, append_assoc, subst, arith, inl, inr, length-drop, length-append}
 use Rattle.std.specs.Prelude.{slice_range, nat_lt}
 use Rattle.std.proofs.Math.Seq.{take-add}
 use Rattle.std.proofs.lemmas.List.{drop-drop, length-take-le, drop_at, take_at}
@@ -61,7 +62,8 @@ at_the_end most big bytes at is =
     subst (λ (x : List Place × Option PcapBad). Standing big bytes at x) (sym (ended most big bytes at closed))
     (record { end = at; within = omega arith; stand = refl; stops = is })
 
-pub standing : (most : ℕ) (big : Bool) (bytes : List ℕ) (at : ℕ) → at ≤ length bytes → length bytes ≤ at + most → Standing big bytes at (records_from most big bytes at)
+pub standing : (most : ℕ) (big : Bool) (bytes : List ℕ) (at : ℕ) → at ≤ length bytes → length bytes ≤ at + most →
+    Standing big bytes at (records_from most big bytes at)
 standing zero big bytes at within enough = at_the_end zero big bytes at (omega arith)
 standing (suc most) big bytes at within enough = elim (cases_lt at (length bytes)) [
   | inl before ↦ step most big bytes at before enough (λ from w e. standing most big bytes from w e) (record_at big bytes at) refl
@@ -70,16 +72,20 @@ standing (suc most) big bytes at within enough = elim (cases_lt at (length bytes
 
 -- What is read is spelled so.
 
-one_spelled : (big : Bool) (bytes : List ℕ) (at : ℕ) (place : Place) → IsRead big bytes at place → IsRecord big (slice_range bytes at (end_of place)) (bytes_at bytes place)
+one_spelled : (big : Bool) (bytes : List ℕ) (at : ℕ) (place : Place) → IsRead big bytes at place →
+    IsRecord big (slice_range bytes at (end_of place)) (bytes_at bytes place)
 one_spelled big bytes at place r =
     let end = ap end_of r.place_is in
     let whole = r.whole in
-    let size : length (bytes_at bytes (place_of big bytes at)) ≡ captured_length big bytes at = length-range bytes (at + 16) (at + 16 + captured_length big bytes at) (omega arith) (omega arith) ∙ omega arith in
+    let size : length (bytes_at bytes (place_of big bytes at)) ≡ captured_length big bytes at =
+        length-range bytes (at + 16) (at + 16 + captured_length big bytes at) (omega arith) (omega arith) ∙ omega arith in
     let first : at + 16 - at ≡ 16 = omega arith in
     subst (λ (p : Place). IsRecord big (slice_range bytes at (end_of p)) (bytes_at bytes p)) (sym r.place_is) (record {
       header = slice_range bytes at (at + 16);
       size = length-range bytes at (at + 16) (omega arith) r.header ∙ first;
-      length_says = ap (λ (n : ℕ). number big 4 (drop 8 (take n (drop at bytes)))) first ∙ number-front big 4 8 16 (drop at bytes) (omega arith) ∙ ap (λ (xs : List ℕ). number big 4 xs) (drop-drop 8 at bytes) ∙ sym size;
+      length_says =
+          ap (λ (n : ℕ). number big 4 (drop 8 (take n (drop at bytes)))) first ∙ number-front big 4 8 16 (drop at bytes) (omega arith)
+          ∙ ap (λ (xs : List ℕ). number big 4 xs) (drop-drop 8 at bytes) ∙ sym size;
       within = let lawful = r.lawful in omega arith;
       whole = range_in_two bytes at (at + 16) (at + 16 + captured_length big bytes at) (omega arith) (omega arith);
     })
@@ -88,7 +94,8 @@ pub record Spelled (big : Bool) (bytes : List ℕ) (at : ℕ) (places : List Pla
   pub before : at ≤ end
   pub are_records : AreRecords big (slice_range bytes at end) (map (bytes_at bytes) places)
 
-pub spelled : (big : Bool) (bytes : List ℕ) (at : ℕ) (places : List Place) (end : ℕ) → end ≤ length bytes → Stand big bytes at places end → Spelled big bytes at places end
+pub spelled : (big : Bool) (bytes : List ℕ) (at : ℕ) (places : List Place) (end : ℕ) → end ≤ length bytes → Stand big bytes at places end →
+    Spelled big bytes at places end
 spelled big bytes at [] end within is =
     let none : end - at ≡ 0 = omega arith in
     record { before = omega arith; are_records = ap (λ (n : ℕ). take n (drop at bytes)) none }
@@ -99,12 +106,15 @@ spelled big bytes at (place ∷ places) end within is =
     let high = more.before in
     record {
       before = omega arith;
-      are_records = (slice_range bytes at (end_of place), slice_range bytes (end_of place) end, range_in_two bytes at (end_of place) end (omega arith) high, one_spelled big bytes at place r, more.are_records);
+      are_records =
+          (slice_range bytes at (end_of place), slice_range bytes (end_of place) end, range_in_two bytes at (end_of place) end
+          (omega arith) high, one_spelled big bytes at place r, more.are_records);
     }
 
 -- What is spelled so is read.
 
-record_ok : (big : Bool) (bytes : List ℕ) (at : ℕ) → at + 16 ≤ length bytes → captured_length big bytes at ≤ snaplen → at + 16 + captured_length big bytes at ≤ length bytes → record_at big bytes at ≡ Ok (place_of big bytes at)
+record_ok : (big : Bool) (bytes : List ℕ) (at : ℕ) → at + 16 ≤ length bytes → captured_length big bytes at ≤ snaplen →
+    at + 16 + captured_length big bytes at ≤ length bytes → record_at big bytes at ≡ Ok (place_of big bytes at)
 unfolding record_at
 record_ok big bytes at header within whole =
     let a : nat_lt (length bytes) (at + 16) ≡ false = grind (arith, nat_tests) in
@@ -120,7 +130,8 @@ pub record First (big : Bool) (bytes : List ℕ) (at : ℕ) (captured others : L
   pub whole : end_of (place_of big bytes at) ≤ length bytes
   pub others_are : drop (end_of (place_of big bytes at)) bytes ≡ others
 
-first_is_read : (big : Bool) (bytes : List ℕ) (at : ℕ) (first captured others : List ℕ) → at ≤ length bytes → drop at bytes ≡ first ++ others → IsRecord big first captured → First big bytes at captured others
+first_is_read : (big : Bool) (bytes : List ℕ) (at : ℕ) (first captured others : List ℕ) → at ≤ length bytes → drop at bytes ≡ first ++ others →
+    IsRecord big first captured → First big bytes at captured others
 first_is_read big bytes at first captured others low split r =
     let parts : drop at bytes ≡ r.header ++ (captured ++ others) = split ∙ ap (λ (xs : List ℕ). xs ++ others) r.whole ∙ append_assoc r.header captured others in
     let header = r.size in
@@ -129,17 +140,24 @@ first_is_read big bytes at first captured others low split r =
     ∙ ap (λ (xs : List ℕ). number big 4 (drop 8 xs)) parts
     ∙ number-field big 4 8 r.header (captured ++ others) (omega arith)
     ∙ r.length_says in
-    let lengths : length bytes - at ≡ 16 + (length captured + length others) = sym (length-drop at bytes) ∙ ap length parts ∙ length-append r.header (captured ++ others) ∙ (let l = length-append captured others in omega arith) in
-    let tail : drop (at + 16) bytes ≡ captured ++ others = sym (drop-drop 16 at bytes) ∙ ap (λ (xs : List ℕ). drop 16 xs) parts ∙ drop_at r.header (captured ++ others) 16 header in
+    let lengths : length bytes - at ≡ 16 + (length captured + length others) =
+        sym (length-drop at bytes) ∙ ap length parts ∙ length-append r.header (captured ++ others) ∙ (let l = length-append captured others in
+        omega arith) in
+    let tail : drop (at + 16) bytes ≡ captured ++ others =
+        sym (drop-drop 16 at bytes) ∙ ap (λ (xs : List ℕ). drop 16 xs) parts ∙ drop_at r.header (captured ++ others) 16 header in
     let within = r.within in
     let count : at + 16 + captured_length big bytes at - (at + 16) ≡ length captured = omega arith in
     let end : at + 16 + captured_length big bytes at ≡ (at + 16) + length captured = omega arith in
     record {
       is = record_ok big bytes at (omega arith) (omega arith) (omega arith);
-      bytes_are = ap (λ (n : ℕ). take n (drop (at + 16) bytes)) count ∙ ap (λ (xs : List ℕ). take (length captured) xs) tail ∙ take_at captured others (length captured) refl;
+      bytes_are =
+          ap (λ (n : ℕ). take n (drop (at + 16) bytes)) count ∙ ap (λ (xs : List ℕ). take (length captured) xs) tail
+          ∙ take_at captured others (length captured) refl;
       before = omega arith;
       whole = omega arith;
-      others_are = ap (λ (n : ℕ). drop n bytes) end ∙ sym (drop-drop (length captured) (at + 16) bytes) ∙ ap (λ (xs : List ℕ). drop (length captured) xs) tail ∙ drop_at captured others (length captured) refl;
+      others_are =
+          ap (λ (n : ℕ). drop n bytes) end ∙ sym (drop-drop (length captured) (at + 16) bytes) ∙ ap (λ (xs : List ℕ). drop (length captured) xs) tail
+          ∙ drop_at captured others (length captured) refl;
     }
 
 pub record ReadAgain (bytes : List ℕ) (captured : List (List ℕ)) (found : List Place × Option PcapBad) : Type 0 where
@@ -149,7 +167,8 @@ pub record ReadAgain (bytes : List ℕ) (captured : List (List ℕ)) (found : Li
 past_the_end : (bytes : List ℕ) (at : ℕ) → at ≤ length bytes → drop at bytes ≡ [] → at ≡ length bytes
 past_the_end bytes at low is = let l = sym (length-drop at bytes) ∙ ap length is in omega arith
 
-pub read_again : (big : Bool) (bytes : List ℕ) (captured : List (List ℕ)) (most at : ℕ) → at ≤ length bytes → length bytes ≤ at + most → AreRecords big (drop at bytes) captured → ReadAgain bytes captured (records_from most big bytes at)
+pub read_again : (big : Bool) (bytes : List ℕ) (captured : List (List ℕ)) (most at : ℕ) → at ≤ length bytes → length bytes ≤ at + most →
+    AreRecords big (drop at bytes) captured → ReadAgain bytes captured (records_from most big bytes at)
 read_again big bytes [] most at low enough is =
     let end = past_the_end bytes at low is in
     let closed : (at == length bytes) ≡ true = grind (arith, nat_tests) in
@@ -167,4 +186,6 @@ read_again big bytes (one ∷ more) (suc most) at low enough is =
     let others : AreRecords big (drop (end_of (place_of big bytes at)) bytes) more = subst (λ (xs : List ℕ). AreRecords big xs more) (sym f.others_are) is.4 in
     let rest = read_again big bytes more most (end_of (place_of big bytes at)) w (omega arith) others in
     subst (λ (x : List Place × Option PcapBad). ReadAgain bytes (one ∷ more) x) (sym (next most big bytes at (place_of big bytes at) open_ f.is))
-    (record { captured_are = ap (λ (c : List ℕ). c ∷ map (bytes_at bytes) (records_from most big bytes (end_of (place_of big bytes at))).0) f.bytes_are ∙ ap (λ (cs : List (List ℕ)). one ∷ cs) rest.captured_are; whole = rest.whole })
+    (record { captured_are =
+        ap (λ (c : List ℕ). c ∷ map (bytes_at bytes) (records_from most big bytes (end_of (place_of big bytes at))).0) f.bytes_are
+        ∙ ap (λ (cs : List (List ℕ)). one ∷ cs) rest.captured_are; whole = rest.whole })

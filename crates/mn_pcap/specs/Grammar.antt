@@ -51,7 +51,8 @@ pub record IsRecord (big : Bool) (record_bytes captured : List ℕ) : Type 0 whe
 -- records one after another, and nothing else
 abbrev pub AreRecords : Bool → List ℕ → List (List ℕ) → Type 0
 AreRecords big bytes [] = bytes ≡ []
-AreRecords big bytes (captured ∷ more) = (first : List ℕ) × (others : List ℕ) × (bytes ≡ first ++ others) × IsRecord big first captured × AreRecords big others more
+AreRecords big bytes (captured ∷ more) =
+    (first : List ℕ) × (others : List ℕ) × (bytes ≡ first ++ others) × IsRecord big first captured × AreRecords big others more
 
 -- a file of this form, and the captured bytes of its records
 pub record IsCapture (form : Form) (bytes : List ℕ) (captured : List (List ℕ)) : Type 0 where

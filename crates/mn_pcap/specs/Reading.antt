@@ -1,5 +1,6 @@
 -- A capture file as it is read: the refusals in the order in which they are tried, and the places of the records.
-use Rattle.std.specs.Prelude.{ℕ, zero, suc, ◌+◌, ◌%◌, ◌==◌, ◌||◌, ◌&&◌, ◌≡◌, ◌<◌, Bool, true, false, not, nat_lt, nat_le, List, [], ◌∷◌, length, drop, take, map, slice_range, Option, Some, None, Result, Ok, Err, Vec, ⊤, if◌then◌else◌}
+use Rattle.std.specs.Prelude.{ℕ, zero, suc, ◌+◌, ◌%◌, ◌==◌, ◌||◌, ◌&&◌, ◌≡◌, ◌<◌, Bool, true, false, not, nat_lt, nat_le, List, [], ◌∷◌, length, drop, take}
+use Rattle.std.specs.Prelude.{map, slice_range, Option, Some, None, Result, Ok, Err, Vec, ⊤, if◌then◌else◌}
 use Rattle.std.specs.declared.alloc.Global.{Global}
 use Rattle.mn_pcap.specs.Format.{major, minor, snaplen}
 use Rattle.mn_pcap.specs.Grammar.{number, is_magic, link_type_of, file_header_size, record_header_size, IsCapture}
@@ -87,7 +88,8 @@ end_of place = place.at + place.length
 unfoldable pub records_from : ℕ → Bool → List ℕ → ℕ → List Place × Option PcapBad
 records_from zero big bytes at = ([], None)
 records_from (suc most) big bytes at =
-    if at == length bytes then ([], None) else elim (record_at big bytes at) [ Err bad ↦ ([], Some bad) | Ok place ↦ (let more = records_from most big bytes (end_of place) in (place ∷ more.0, more.1)) ]
+    if at == length bytes then ([], None) else elim (record_at big bytes at) [ Err bad ↦ ([], Some bad) | Ok place ↦ (let more =
+        records_from most big bytes (end_of place) in (place ∷ more.0, more.1)) ]
 
 -- a record has at least a byte, so a file has no more of them than bytes
 abbrev pub all_records : Bool → List ℕ → List Place × Option PcapBad

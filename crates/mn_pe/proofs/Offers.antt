@@ -1,11 +1,12 @@
 -- As a route is heard, each VRF of the edge holds it in its place, or holds nothing there: no other place changes.
-use Rattle.std.proofs.Common.{ℕ, zero, suc, ◌≡◌, ◌≢◌, ◌<◌, ◌⊎◌, inl, inr, Bool, true, false, cond, List, [], ◌∷◌, ◌++◌, map, filter, length, refl, arith, sym, ◌∙◌, ap, subst}
+use Rattle.std.proofs.Common.{ℕ, zero, suc, ◌≡◌, ◌≢◌, ◌<◌, ◌⊎◌, inl, inr, Bool, true, false, cond, List, [], ◌∷◌, ◌++◌, map, filter, length, refl, arith}
+use Rattle.std.proofs.Common.{sym, ◌∙◌, ap, subst}
 use Rattle.std.specs.Prelude.{◌==◌, ◌||◌, nat_lt, slice_set, slice_index_or}
 use Rattle.std.specs.List.{flat_map, range_with_len}
 use Rattle.std.proofs.lemmas.Bool.Decides.{eqb_tells, nat_tests}
 use Rattle.std.proofs.lemmas.List.{get_or-set_same, get_or-set_other}
 use Rattle.mn_prefix.specs.Prefix.{AddressBlock}
-use Rattle.mn_base.proofs.Bools.{no}
+use Rattle.mn_base.proofs.Bools.{no, less_itself}
 use Rattle.mn_base.proofs.Members.{In, in_append, in_front, in_rest, in_map, in_filter, filter_in, in_flat_map, map_in, flat_map_in, range_in}
 use Rattle.mn_base.specs.Ordered.{Ascends, with_one, without_one}
 use Rattle.mn_base.proofs.Orders.{first_same, first_neither}
@@ -19,9 +20,6 @@ use Rattle.mn_vrf.specs.declared.source.Source.{Source}
 use Rattle.mn_pe.specs.Held.{far_over, held_own, held_near, held_far, in_order}
 use Rattle.mn_base.proofs.Kept.{fold_in, in_fold, with_in, in_with_new, in_with, with_is, without_is}
 use Rattle.mn_vrf.proofs.Orders.{route_order}
-
-Route : Type 0
-Route = AddressBlock × Source
 
 -- the two stand in different places
 abbrev pub AreApart : AddressBlock × Source → AddressBlock × Source → Type 0
@@ -71,9 +69,6 @@ set_length (x ∷ xs) (suc at) v = ap suc (set_length xs at v)
 
 abbrev pub far_of : Edge → ℕ → Heard → AddressBlock × Source
 far_of edge q route = (route.prefix, far_over (slice_index_or edge.loopbacks q 0) route.rd.0 q route.label)
-
-pub less_itself : (n : ℕ) → nat_lt n n ≡ false
-less_itself n = grind (arith, nat_tests)
 
 pub neither_less : (m n : ℕ) → (nat_lt m n || nat_lt n m) ≡ false → m ≡ n
 neither_less m n h = grind (arith, nat_tests, h)

@@ -1,7 +1,8 @@
 -- Of an edge that keeps its lists in order each VRF has one route at each place.
-use Rattle.std.proofs.Common.{ℕ, ◌≡◌, ◌≢◌, ◌+◌, ◌<◌, ◌⊎◌, inl, inr, Bool, true, false, List, [], ◌∷◌, ◌++◌, filter, length, refl, arith, sym, ◌∙◌, ap, subst, Option, Some, None}
+use Rattle.std.proofs.Common.{ℕ, ◌≡◌, ◌≢◌, ◌+◌, ◌<◌, ◌⊎◌, inl, inr, Bool, true, false, List, [], ◌∷◌, ◌++◌, filter, length, refl, arith, sym, ◌∙◌, ap}
+use Rattle.std.proofs.Common.{subst, Option, Some, None}
 use Rattle.std.specs.Prelude.{◌==◌, ◌||◌, ◌&&◌, not, nat_lt, slice_index_or}
-use Rattle.std.specs.List.{flat_map, range_with_len, AllByRecursion}
+use Rattle.std.specs.List.{flat_map, range_with_len}
 use Rattle.std.proofs.lemmas.Bool.Decides.{eqb_tells, nat_tests}
 use Rattle.mn_base.specs.declared.numbers.Rt.{Rt}
 use Rattle.mn_prefix.specs.Prefix.{AddressBlock, prefix_before}
@@ -19,6 +20,7 @@ use Rattle.mn_pe.specs.Held.{Exported, own_over, near_over, label_of, export_at,
 use Rattle.mn_pe.proofs.Present.{export_before, present_ascends}
 use Rattle.mn_pe.proofs.Offers.{AreApart, HasOnePlaces, far_of}
 use Rattle.mn_pe.proofs.Retracts.{by_sources, by_addresses, by_places}
+pub use Rattle.mn_base.proofs.Members.{all_in}
 
 -- what the edge keeps
 pub record IsKept (edge : Edge) : Type 0 where
@@ -27,11 +29,8 @@ pub record IsKept (edge : Edge) : Type 0 where
   pub heard : (k : ℕ) → Ascends heard_before (heard_of_peer edge k)
   pub loopbacks : (j k : ℕ) → j ≢ k → j < length edge.heard → k < length edge.heard → slice_index_or edge.loopbacks j 0 ≢ slice_index_or edge.loopbacks k 0
 
-pub all_in : {A : Type 0} (P : A → Type 0) (xs : List A) (x : A) → AllByRecursion P xs → In xs x → P x
-all_in P [] x h i = absurd i
-all_in P (y ∷ ys) x h i = elim i [ inl e ↦ subst P e h.0 | inr j ↦ all_in P ys x h.1 j ]
-
-pub one_of : {A : Type 0} (before : A → A → Bool) (xs : List A) (x y : A) → Ascends before xs → In xs x → In xs y → ((before x y || before y x) ≡ true) ⊎ (y ≡ x)
+pub one_of : {A : Type 0} (before : A → A → Bool) (xs : List A) (x y : A) → Ascends before xs → In xs x → In xs y →
+    ((before x y || before y x) ≡ true) ⊎ (y ≡ x)
 one_of before [] x y up i j = absurd i
 one_of before (z ∷ zs) x y up i j = elim i [
   | inl e ↦ elim j [

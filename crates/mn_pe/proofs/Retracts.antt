@@ -5,7 +5,7 @@ use Rattle.std.specs.List.{range_with_len}
 use Rattle.std.proofs.lemmas.Bool.Decides.{eqb_tells}
 use Rattle.mn_base.specs.declared.numbers.Rd.{Rd}
 use Rattle.mn_prefix.specs.Prefix.{AddressBlock}
-use Rattle.mn_base.proofs.Bools.{no}
+use Rattle.mn_base.proofs.Bools.{no, less_itself}
 use Rattle.mn_base.proofs.Members.{In, in_append, in_map, in_filter, filter_in, in_flat_map, in_range, map_in}
 use Rattle.mn_base.specs.Ordered.{first_by, without_one}
 use Rattle.mn_base.proofs.Orders.{first_same, first_neither}
@@ -17,7 +17,8 @@ use Rattle.mn_vrf.specs.Routes.{source_before, route_before}
 use Rattle.mn_vrf.specs.declared.source.Source.{Source}
 use Rattle.mn_pe.specs.Held.{Exported, own_over, near_over, held_own, held_near, held_far, in_order, present_with}
 use Rattle.mn_base.proofs.Kept.{with_in, in_with}
-use Rattle.mn_pe.proofs.Offers.{less_itself, neither_less, AreApart, HasOnePlaces, goes_out, far_of, place_apart, set_length, with_peer, raw_of, moved, this_peer, other_peer}
+use Rattle.mn_pe.proofs.Offers.{neither_less, AreApart, HasOnePlaces, goes_out, far_of, place_apart, set_length, with_peer, raw_of, moved, this_peer}
+use Rattle.mn_pe.proofs.Offers.{other_peer}
 
 -- 1. Routes of different sources stand apart
 

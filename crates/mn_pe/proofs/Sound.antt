@@ -1,5 +1,6 @@
 -- Each VRF still holds what it should.
-use Rattle.std.proofs.Common.{ℕ, zero, suc, ◌≡◌, ◌≢◌, ◌<◌, ◌≤◌, inl, inr, Bool, true, false, cond, ◌^◌, List, [], ◌∷◌, map, filter, length, refl, sym, ◌∙◌, ap, subst, Option}
+use Rattle.std.proofs.Common.{ℕ, zero, suc, ◌≡◌, ◌≢◌, ◌<◌, ◌≤◌, inl, inr, Bool, true, false, cond, ◌^◌, List, [], ◌∷◌, map, filter, length, refl, sym, ◌∙◌}
+use Rattle.std.proofs.Common.{ap, subst, Option}
 use Rattle.std.specs.Prelude.{slice_set, slice_index_or, ◌||◌, ◌==◌, if◌then◌else◌}
 use Rattle.std.specs.List.{AllByRecursion}
 use Rattle.std.proofs.lemmas.List.{set-get_or, get_or-set_same, get_or_default}
@@ -24,7 +25,8 @@ use Rattle.mn_bgp_wire.specs.Says.{Says}
 use Rattle.mn_vpn_nlri.specs.declared.message.VpnRoute.{VpnRoute}
 use Rattle.mn_base.specs.declared.numbers.Rt.{Rt}
 use Rattle.mn_base.specs.declared.numbers.VrfNo.{VrfNo}
-use Rattle.mn_pe.specs.Pe.{InOrder, HaveLabels, AreLabelled, AllHold, IsSound, taking, giving, after_giving, after_taking, edge_of, after_forgetting, numbered, found_in}
+use Rattle.mn_pe.specs.Pe.{InOrder, HaveLabels, AreLabelled, AllHold, IsSound, taking, giving, after_giving, after_taking, edge_of, after_forgetting}
+use Rattle.mn_pe.specs.Pe.{numbered, found_in}
 
 pub all_map : {A : Type 0} {B : Type 0} (f : A → B) (P : A → Type 0) (Q : B → Type 0) (xs : List A) → ((x : A) → In xs x → P x → Q (f x)) →
     AllByRecursion P xs → AllByRecursion Q (map f xs)

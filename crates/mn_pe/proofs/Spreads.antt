@@ -1,5 +1,6 @@
 -- As statics of one VRF become present, or no longer, each VRF of the edge holds their routes, or doesn't, and all else stays.
-use Rattle.std.proofs.Common.{ℕ, ◌≡◌, ◌≢◌, ◌⊎◌, inl, inr, Bool, true, false, List, [], ◌∷◌, ◌++◌, map, filter, length, refl, sym, ◌∙◌, ap, subst, Option, Some, None}
+use Rattle.std.proofs.Common.{ℕ, ◌≡◌, ◌≢◌, ◌⊎◌, inl, inr, Bool, true, false, List, [], ◌∷◌, ◌++◌, map, filter, length, refl, sym, ◌∙◌, ap, subst, Option}
+use Rattle.std.proofs.Common.{Some, None}
 use Rattle.std.specs.Prelude.{◌==◌, ◌&&◌, not, slice_index_or, if◌then◌else◌}
 use Rattle.std.specs.List.{flat_map, range_with_len}
 use Rattle.std.proofs.lemmas.Bool.Decides.{eqb_tells}
@@ -12,7 +13,8 @@ use Rattle.mn_targets.specs.Targets.{meet}
 use Rattle.mn_vrf.specs.declared.source.Source.{Source}
 use Rattle.mn_vrf.specs.Vrf.{Static, VrfState}
 use Rattle.mn_pe.specs.Edge.{Edge}
-use Rattle.mn_pe.specs.Held.{Exported, label_of, export_at, present_with, exports_with, exports_of, own_over, near_over, far_over, held_own, held_near, held_far}
+use Rattle.mn_pe.specs.Held.{Exported, label_of, export_at, present_with, exports_with, exports_of, own_over, near_over, far_over, held_own, held_near}
+use Rattle.mn_pe.specs.Held.{held_far}
 use Rattle.mn_pe.specs.Changes.{Change, Comes, Goes, change_of, spread_to, spread_over}
 use Rattle.mn_pe.proofs.Offers.{HasOnePlaces}
 use Rattle.mn_pe.proofs.Folds.{AreChanges}

@@ -1,9 +1,7 @@
 -- A list that is changed from the front on.
 use Rattle.std.proofs.Common.{ℕ, zero, suc, ◌≡◌, ◌<◌, ◌+◌, ◌≤◌, List, [], ◌∷◌, ◌++◌, map, take, drop, length, refl, arith, ap, ◌∙◌, sym, subst}
 use Rattle.std.specs.Prelude.{slice_set, slice_index_or}
-
-none : (k : ℕ) → k < 0 → ⊥
-none k h = omega (arith, h)
+use Rattle.mn_base.proofs.Bools.{none_below as none}
 
 -- a place behind the end
 pub set_beyond : {A : Type 0} (xs : List A) (at : ℕ) (v : A) → length xs ≤ at → slice_set xs at v ≡ xs

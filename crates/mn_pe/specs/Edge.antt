@@ -32,7 +32,8 @@ after_withdrawn heard (route ∷ routes) = after_withdrawn (without_heard route.
 
 abbrev pub after_reached : List Rt → List Heard → List VpnRoute → List Heard
 after_reached targets heard [] = heard
-after_reached targets heard (route ∷ routes) = after_reached targets (with_heard (record { rd = route.rd; prefix = route.prefix; label = route.label; targets = targets }) heard) routes
+after_reached targets heard (route ∷ routes) =
+    after_reached targets (with_heard (record { rd = route.rd; prefix = route.prefix; label = route.label; targets = targets }) heard) routes
 
 -- as an UPDATE of a peer is heard
 abbrev pub heard_after : List Heard → Says → List Heard

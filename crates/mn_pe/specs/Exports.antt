@@ -35,14 +35,16 @@ exports_by_over labels site vrf (target ∷ targets) = flat_map (export_over lab
 
 -- and what the VRFs of a number do
 abbrev pub exports_over_among : List (Option ℕ) → ℕ → ℕ → List VrfState → List Exported
-exports_over_among labels v site vrfs = flat_map (λ (vrf : VrfState). exports_by_over labels site vrf vrf.exports) (filter (λ (vrf : VrfState). vrf.number == v) vrfs)
+exports_over_among labels v site vrfs =
+    flat_map (λ (vrf : VrfState). exports_by_over labels site vrf vrf.exports) (filter (λ (vrf : VrfState). vrf.number == v) vrfs)
 
 -- the export of one static, if it is one
 abbrev pub export_by : List (Option ℕ) → VrfState → List Rt → Option Static → Option Exported
 export_by labels vrf targets None = None
 export_by labels vrf [] (Some static) = None
 export_by labels vrf (target ∷ targets) (Some static) =
-    option_map (λ label. record { vrf = vrf.number; rd = vrf.rd; prefix = static.prefix; label = label; site = static.site; targets = target ∷ targets }) (slice_index_or labels static.site None)
+    option_map (λ label. record { vrf = vrf.number; rd = vrf.rd; prefix = static.prefix; label = label; site = static.site; targets = target ∷ targets })
+        (slice_index_or labels static.site None)
 
 -- an edge's exports of the VRFs of a number, of a site, and of a site's prefix
 abbrev pub exports_at : Edge → ℕ → List Exported
@@ -52,4 +54,5 @@ abbrev pub exports_over : Edge → ℕ → List Exported
 exports_over edge site = exports_over_among edge.labels (vrf_of_site edge site) site edge.vrfs
 
 abbrev pub export_of : Edge → ℕ → AddressBlock → Option Exported
-export_of edge site prefix = found_in (vrf_of_site edge site) (λ (vrf : VrfState). export_by edge.labels vrf vrf.exports (static_of prefix vrf.statics)) edge.vrfs
+export_of edge site prefix =
+    found_in (vrf_of_site edge site) (λ (vrf : VrfState). export_by edge.labels vrf vrf.exports (static_of prefix vrf.statics)) edge.vrfs

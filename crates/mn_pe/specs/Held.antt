@@ -26,7 +26,8 @@ label_of edge site = slice_index_or edge.labels site None
 
 abbrev pub export_at : VrfState → List Rt → Static → Option ℕ → List Exported
 export_at vrf targets static None = []
-export_at vrf targets static (Some label) = record { vrf = vrf.number; rd = vrf.rd; prefix = static.prefix; label = label; site = static.site; targets = targets } ∷ []
+export_at vrf targets static (Some label) =
+    record { vrf = vrf.number; rd = vrf.rd; prefix = static.prefix; label = label; site = static.site; targets = targets } ∷ []
 
 -- the VRF's statics of attached sites, with these targets
 abbrev pub present_with : Edge → VrfState → List Rt → List Exported
@@ -56,10 +57,14 @@ held_own edge vrf = map (λ export. (export.prefix, own_over export.site)) (pres
 
 -- those whose targets meet the VRF's import set
 abbrev pub held_near : Edge → VrfState → List (AddressBlock × Source)
-held_near edge vrf = map (λ export. (export.prefix, near_over export.vrf export.site)) (filter (λ export. not (export.vrf == vrf.number) && meet export.targets vrf.imports) (exports_of edge))
+held_near edge vrf =
+    map (λ export. (export.prefix, near_over export.vrf export.site))
+    (filter (λ export. not (export.vrf == vrf.number) && meet export.targets vrf.imports) (exports_of edge))
 
 abbrev pub held_far : Edge → VrfState → ℕ → List (AddressBlock × Source)
-held_far edge vrf peer = map (λ route. (route.prefix, far_over (slice_index_or edge.loopbacks peer 0) route.rd.0 peer route.label)) (filter (λ route. meet route.targets vrf.imports) (heard_of_peer edge peer))
+held_far edge vrf peer =
+    map (λ route. (route.prefix, far_over (slice_index_or edge.loopbacks peer 0) route.rd.0 peer route.label))
+    (filter (λ route. meet route.targets vrf.imports) (heard_of_peer edge peer))
 
 -- in the order in which they are kept
 abbrev pub in_order : List (AddressBlock × Source) → List (AddressBlock × Source)

@@ -1,5 +1,6 @@
 -- What contracts see of an edge with its held routes, and when it is sound. RFC 4364, sections 4.3 and 5.
-use Rattle.std.specs.Prelude.{ℕ, ◌^◌, ◌≤◌, ◌≡◌, ◌≢◌, ◌<◌, nat_lt, Bool, true, false, cond, List, [], ◌∷◌, map, length, slice_index_or, Option, None, if◌then◌else◌, ◌==◌}
+use Rattle.std.specs.Prelude.{ℕ, ◌^◌, ◌≤◌, ◌≡◌, ◌≢◌, ◌<◌, nat_lt, Bool, true, false, cond, List, [], ◌∷◌, map, length, slice_index_or, Option, None}
+use Rattle.std.specs.Prelude.{if◌then◌else◌, ◌==◌}
 use Rattle.std.specs.List.{AllByRecursion}
 use Rattle.mn_base.specs.declared.numbers.Rd.{Rd}
 use Rattle.mn_base.specs.declared.numbers.Rt.{Rt}
@@ -24,7 +25,8 @@ pub record PeNow : Type 0 where
 
 -- what the edge was told, of VRFs that hold routes
 abbrev pub edge_of : List Holding → List VrfNo → List (Option ℕ) → List ℕ → List (List Heard) → Edge
-edge_of holdings sites labels loopbacks heard = record { vrfs = map (λ (holding : Holding). holding.vrf) holdings; sites = sites; labels = labels; loopbacks = loopbacks; heard = heard }
+edge_of holdings sites labels loopbacks heard =
+    record { vrfs = map (λ (holding : Holding). holding.vrf) holdings; sites = sites; labels = labels; loopbacks = loopbacks; heard = heard }
 
 -- labels have 20 bits: RFC 3032, section 2.1
 abbrev pub HaveLabels : List Heard → Type 0
@@ -58,7 +60,9 @@ pub record IsSound (edge : Edge) (holdings : List Holding) : Type 0 where
 
 -- a VRF holds a route of these targets if it imports one of them, and else nothing in its place
 abbrev pub taking : AddressBlock × Source → List Rt → Holding → Holding
-taking route targets holding = record holding { held = cond (meet targets holding.vrf.imports) (with_one route_before route holding.held) (without_one route_before route holding.held) }
+taking route targets holding =
+    record holding { held =
+    cond (meet targets holding.vrf.imports) (with_one route_before route holding.held) (without_one route_before route holding.held) }
 
 -- it holds nothing in the place of a route
 abbrev pub giving : AddressBlock × Source → Holding → Holding
@@ -71,17 +75,20 @@ far_route loopback peer rd prefix label = (prefix, far_over loopback rd.0 peer l
 -- as a peer's routes are withdrawn, one after another
 abbrev pub after_giving : ℕ → ℕ → List Holding → List VpnRoute → List Holding
 after_giving loopback peer holdings [] = holdings
-after_giving loopback peer holdings (route ∷ routes) = after_giving loopback peer (map (giving (far_route loopback peer route.rd route.prefix 0)) holdings) routes
+after_giving loopback peer holdings (route ∷ routes) =
+    after_giving loopback peer (map (giving (far_route loopback peer route.rd route.prefix 0)) holdings) routes
 
 -- and as they are announced
 abbrev pub after_taking : ℕ → ℕ → List Rt → List Holding → List VpnRoute → List Holding
 after_taking loopback peer targets holdings [] = holdings
-after_taking loopback peer targets holdings (route ∷ routes) = after_taking loopback peer targets (map (taking (far_route loopback peer route.rd route.prefix route.label) targets) holdings) routes
+after_taking loopback peer targets holdings (route ∷ routes) =
+    after_taking loopback peer targets (map (taking (far_route loopback peer route.rd route.prefix route.label) targets) holdings) routes
 
 -- as all that was heard of a peer is forgotten
 abbrev pub after_forgetting : ℕ → ℕ → List Holding → List Heard → List Holding
 after_forgetting loopback peer holdings [] = holdings
-after_forgetting loopback peer holdings (route ∷ routes) = after_forgetting loopback peer (map (giving (far_route loopback peer route.rd route.prefix 0)) holdings) routes
+after_forgetting loopback peer holdings (route ∷ routes) =
+    after_forgetting loopback peer (map (giving (far_route loopback peer route.rd route.prefix 0)) holdings) routes
 
 -- of the VRF of this number, if it is one of these
 abbrev pub numbered : {A : Type 0} → ℕ → (Holding → Option A) → List Holding → Option A

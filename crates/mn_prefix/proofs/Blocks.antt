@@ -17,7 +17,8 @@ quotient_in size p a some clear low high =
     sym (ap (λ n. n / size) whole) ∙ div-mul-add (p / size) size (a - p) (omega (arith, low, high))
 
 -- a prefix contains the addresses of its block
-pub contains_block : (p : AddressBlock) (address : ℕ) → IsPrefix p.address p.length → (contains p address ≡ true) ↔ ((p.address ≤ address) × (address < p.address + 2 ^ (32 - p.length)))
+pub contains_block : (p : AddressBlock) (address : ℕ) → IsPrefix p.address p.length →
+    (contains p address ≡ true) ↔ ((p.address ≤ address) × (address < p.address + 2 ^ (32 - p.length)))
 contains_block p address form = (
   λ h. lies_in (2 ^ (32 - p.length)) p.address address (pow_pos (32 - p.length)) form.clear (eqb-true _ _ h),
   λ h. eq-eqb _ _ (quotient_in (2 ^ (32 - p.length)) p.address address (pow_pos (32 - p.length)) form.clear h.0 h.1),

@@ -1,5 +1,6 @@
 -- The longest match of a table, in terms of what the table has at each prefix.
-use Rattle.std.proofs.Common.{◌≡◌, ◌≤◌, ◌<◌, ◌+◌, ◌-◌, ◌*◌, ◌/◌, ◌%◌, ◌^◌, ◌↔◌, ◌⊎◌, inl, inr, ℕ, zero, suc, length, take, Bool, true, false, not, cond, nat_le, List, [], ◌∷◌, Option, Some, None, refl, ap, sym, ◌∙◌, subst, arith, eq-eqb}
+use Rattle.std.proofs.Common.{◌≡◌, ◌≤◌, ◌<◌, ◌+◌, ◌-◌, ◌*◌, ◌/◌, ◌%◌, ◌^◌, ◌↔◌, ◌⊎◌, inl, inr, ℕ, zero, suc, length, take, Bool, true, false, not, cond}
+use Rattle.std.proofs.Common.{nat_le, List, [], ◌∷◌, Option, Some, None, refl, ap, sym, ◌∙◌, subst, arith, eq-eqb}
 use Rattle.std.specs.Prelude.{◌==◌, ◌||◌, filter, slice_index_or}
 use Rattle.std.specs.List.{IsDistinct, AllByRecursion, list_all}
 use Rattle.std.specs.Map.{keys_of}
@@ -42,7 +43,8 @@ from_filter : {A : Type 0} (test : A → Bool) (x : A) (xs : List A) → IsIn x 
 from_filter test x [] i = absurd i
 from_filter test x (y ∷ ys) i = split (test y) refl (from_filter test x ys) i
   where
-    split : (b : Bool) → test y ≡ b → (IsIn x (filter test ys) → (test x ≡ true) × IsIn x ys) → IsIn x (cond b (y ∷ filter test ys) (filter test ys)) → (test x ≡ true) × IsIn x (y ∷ ys)
+    split : (b : Bool) → test y ≡ b → (IsIn x (filter test ys) → (test x ≡ true) × IsIn x ys) → IsIn x (cond b (y ∷ filter test ys) (filter test ys)) →
+        (test x ≡ true) × IsIn x (y ∷ ys)
     split true t f k = elim k [ inl e ↦ (ap test e ∙ t, inl e) | inr j ↦ ((f j).0, inr (f j).1) ]
     split false t f k = ((f k).0, inr (f k).1)
 
@@ -81,10 +83,13 @@ raised true n m k l h = at_most_is n k (omega (arith, l, at_most_tells n m h))
 raised false n m k l h = refl
 
 le_or_lt : (a b : ℕ) → (a ≤ b) ⊎ (b < a)
-le_or_lt a b = elim (nat_le a b) as (λ v. nat_le a b ≡ v → (a ≤ b) ⊎ (b < a)) [ true ↦ λ h. inl (at_most_tells a b h) | false ↦ λ h. inr (grind (arith, nat_tests, h)) ] refl
+le_or_lt a b =
+    elim (nat_le a b) as (λ v. nat_le a b ≡ v →
+    (a ≤ b) ⊎ (b < a)) [ true ↦ λ h. inl (at_most_tells a b h) | false ↦ λ h. inr (grind (arith, nat_tests, h)) ] refl
 
 -- two prefixes of one length that contain an address are one
-pub one_of_length : (p q : AddressBlock) (address : ℕ) → IsPrefix p.address p.length → IsPrefix q.address q.length → p.length ≡ q.length → contains p address ≡ true → contains q address ≡ true → p ≡ q
+pub one_of_length : (p q : AddressBlock) (address : ℕ) → IsPrefix p.address p.length → IsPrefix q.address q.length → p.length ≡ q.length →
+    contains p address ≡ true → contains q address ≡ true → p ≡ q
 one_of_length p q address fp fq same cp cq =
     let size : ℕ = 2 ^ (32 - p.length) in
     let some : 0 < size = pow_pos (32 - p.length) in
@@ -126,7 +131,8 @@ module _ {T : Type 0} where
   key e = e.0
 
   -- of the pairs that match, one that is longest is among the longest matches
-  among : (address : ℕ) (es : List (AddressBlock × T)) (e : AddressBlock × T) → IsIn e es → contains e.0 address ≡ true → ((x : AddressBlock × T) → IsIn x es → contains x.0 address ≡ true → x.0.length ≤ e.0.length) → IsIn e (longest_matches key address es)
+  among : (address : ℕ) (es : List (AddressBlock × T)) (e : AddressBlock × T) → IsIn e es → contains e.0 address ≡ true →
+      ((x : AddressBlock × T) → IsIn x es → contains x.0 address ≡ true → x.0.length ≤ e.0.length) → IsIn e (longest_matches key address es)
   among address es e i c most =
       let found : List (AddressBlock × T) = matching key address es in
       in_filter (is_longest key found) e found (in_filter (λ x. contains x.0 address) e es i c)
@@ -152,8 +158,11 @@ module _ {T : Type 0} where
   one_top : (address : ℕ) (es : List (AddressBlock × T)) (e f : AddressBlock × T) → IsTable es → IsTop address es e → IsTop address es f → e ≡ f
   one_top address es e f t te tf =
       let lengths : e.0.length ≡ f.0.length = omega (arith, te.most f tf.inside tf.covers, tf.most e te.inside te.covers) in
-      let prefixes : e.0 ≡ f.0 = one_of_length e.0 f.0 address (key_at (λ p. IsPrefix p.address p.length) e es t.prefixes te.inside) (key_at (λ p. IsPrefix p.address p.length) f es t.prefixes tf.inside) lengths te.covers tf.covers in
-      let values : e.1 ≡ f.1 = same_Some e.1 f.1 (sym (in_value e es t.distinct te.inside) ∙ ap (λ p. value_at p es) prefixes ∙ in_value f es t.distinct tf.inside) in
+      let prefixes : e.0 ≡ f.0 =
+          one_of_length e.0 f.0 address (key_at (λ p. IsPrefix p.address p.length) e es t.prefixes te.inside)
+          (key_at (λ p. IsPrefix p.address p.length) f es t.prefixes tf.inside) lengths te.covers tf.covers in
+      let values : e.1 ≡ f.1 =
+          same_Some e.1 f.1 (sym (in_value e es t.distinct te.inside) ∙ ap (λ p. value_at p es) prefixes ∙ in_value f es t.distinct tf.inside) in
       ap (λ p. (p, e.1)) prefixes ∙ ap (λ v. (f.0, v)) values
 
   top_match : (address : ℕ) (es : List (AddressBlock × T)) (e : AddressBlock × T) → IsTable es → IsTop address es e → longest_match address es ≡ Some e
@@ -164,7 +173,8 @@ module _ {T : Type 0} where
   match_top : (address : ℕ) (es : List (AddressBlock × T)) (e : AddressBlock × T) → longest_match address es ≡ Some e → IsTop address es e
   match_top address es e h = from_among address es e (first_in e (longest_matches key address es) h)
 
-  pub longest_some : (address : ℕ) (es : List (AddressBlock × T)) (e : AddressBlock × T) → IsTable es → (longest_match address es ≡ Some e) ↔ IsLongestMatch address es e
+  pub longest_some : (address : ℕ) (es : List (AddressBlock × T)) (e : AddressBlock × T) → IsTable es →
+      (longest_match address es ≡ Some e) ↔ IsLongestMatch address es e
   longest_some address es e t = (
     λ h. let k = match_top address es e h in record {
       held = in_value e es t.distinct k.inside;
@@ -179,7 +189,8 @@ module _ {T : Type 0} where
   )
 
   -- of pairs of which one contains the address, one is the longest
-  top_exists : (address : ℕ) (es : List (AddressBlock × T)) → ((e : AddressBlock × T) × IsTop address es e) ⊎ ((e : AddressBlock × T) → IsIn e es → contains e.0 address ≡ false)
+  top_exists : (address : ℕ) (es : List (AddressBlock × T)) →
+      ((e : AddressBlock × T) × IsTop address es e) ⊎ ((e : AddressBlock × T) → IsIn e es → contains e.0 address ≡ false)
   top_exists address [] = inr (λ e i. absurd i)
   top_exists address (x ∷ xs) = choose (contains x.0 address) refl (top_exists address xs)
     where
@@ -190,7 +201,8 @@ module _ {T : Type 0} where
         most = λ y i k. elim i [ inl q ↦ omega (arith, ap (λ e. e.0.length) q) | inr j ↦ absurd (not_both_ways (contains y.0 address) k (none y j)) ];
       }
 
-      longer : contains x.0 address ≡ true → (e : AddressBlock × T) → IsTop address xs e → (x.0.length ≤ e.0.length) ⊎ (e.0.length < x.0.length) → (f : AddressBlock × T) × IsTop address (x ∷ xs) f
+      longer : contains x.0 address ≡ true → (e : AddressBlock × T) → IsTop address xs e → (x.0.length ≤ e.0.length) ⊎ (e.0.length < x.0.length) →
+          (f : AddressBlock × T) × IsTop address (x ∷ xs) f
       longer c e top (inl h) = (
         e,
         record {
@@ -208,7 +220,9 @@ module _ {T : Type 0} where
         },
       )
 
-      choose : (b : Bool) → contains x.0 address ≡ b → ((e : AddressBlock × T) × IsTop address xs e) ⊎ ((e : AddressBlock × T) → IsIn e xs → contains e.0 address ≡ false) → ((e : AddressBlock × T) × IsTop address (x ∷ xs) e) ⊎ ((e : AddressBlock × T) → IsIn e (x ∷ xs) → contains e.0 address ≡ false)
+      choose : (b : Bool) → contains x.0 address ≡ b →
+          ((e : AddressBlock × T) × IsTop address xs e) ⊎ ((e : AddressBlock × T) → IsIn e xs → contains e.0 address ≡ false) →
+          ((e : AddressBlock × T) × IsTop address (x ∷ xs) e) ⊎ ((e : AddressBlock × T) → IsIn e (x ∷ xs) → contains e.0 address ≡ false)
       choose true c (inr none) = inl (x, alone c none)
       choose true c (inl top) = inl (longer c top.0 top.1 (le_or_lt x.0.length top.0.0.length))
       choose false c (inr none) = inr (λ e i. elim i [ inl q ↦ ap (λ y. contains y.0 address) q ∙ c | inr j ↦ none e j ])
@@ -221,13 +235,15 @@ module _ {T : Type 0} where
         },
       )
 
-  pub longest_none : (address : ℕ) (es : List (AddressBlock × T)) → IsTable es → (longest_match address es ≡ None) ↔ ((p : AddressBlock) (v : T) → value_at p es ≡ Some v → contains p address ≡ false)
+  pub longest_none : (address : ℕ) (es : List (AddressBlock × T)) → IsTable es →
+      (longest_match address es ≡ None) ↔ ((p : AddressBlock) (v : T) → value_at p es ≡ Some v → contains p address ≡ false)
   longest_none address es t = (
     λ h. elim (top_exists address es) [
       | inl top ↦ absurd (apart top.0 (longest_match address es) h (top_match address es top.0 t top.1))
       | inr none ↦ λ p v i. none (p, v) (value_in p v es i)
     ],
-    λ none. nothing (longest_match address es) (λ e h. let k = match_top address es e h in not_both_ways (contains e.0 address) k.covers (none e.0 e.1 (in_value e es t.distinct k.inside))),
+    λ none. nothing (longest_match address es) (λ e h. let k = match_top address es e h in
+        not_both_ways (contains e.0 address) k.covers (none e.0 e.1 (in_value e es t.distinct k.inside))),
   )
     where
       apart : (e : AddressBlock × T) (o : Option (AddressBlock × T)) → o ≡ None → o ≡ Some e → ⊥
@@ -244,52 +260,67 @@ module _ {T : Type 0} where
   at_in (e ∷ es) zero d h = inl refl
   at_in (e ∷ es) (suc i) d h = inr (at_in es i d (omega (arith, h)))
 
-  pub place_longest : (address : ℕ) (es : List (AddressBlock × T)) (i : ℕ) (d : AddressBlock × T) → IsTable es → IsLongestPlace address es (length es) i → longest_match address es ≡ Some (slice_index_or es i d)
+  pub place_longest : (address : ℕ) (es : List (AddressBlock × T)) (i : ℕ) (d : AddressBlock × T) → IsTable es → IsLongestPlace address es (length es) i →
+      longest_match address es ≡ Some (slice_index_or es i d)
   place_longest address es i d t h =
       let e : AddressBlock × T = slice_index_or es i d in
-      let all : list_all (λ x. not (contains x.0 address) || nat_le x.0.length e.0.length) es ≡ true = subst (λ l. list_all (λ x. not (contains x.0 address) || nat_le x.0.length e.0.length) l ≡ true) (take-length es) (h.longest d) in
+      let all : list_all (λ x. not (contains x.0 address) || nat_le x.0.length e.0.length) es ≡ true =
+          subst (λ l. list_all (λ x. not (contains x.0 address) || nat_le x.0.length e.0.length) l ≡ true) (take-length es) (h.longest d) in
       top_match address es e t (record {
         inside = at_in es i d h.there;
         covers = h.covers d;
-        most = λ x j c. at_most_tells _ _ (or_false (contains x.0 address) _ (all_at (λ x. not (contains x.0 address) || nat_le x.0.length e.0.length) x es all j) c);
+        most = λ x j c. at_most_tells _ _
+            (or_false (contains x.0 address) _ (all_at (λ x. not (contains x.0 address) || nat_le x.0.length e.0.length) x es all j) c);
       })
 
-  pub place_none : (address : ℕ) (es : List (AddressBlock × T)) → IsTable es → list_all (λ x. not (contains x.0 address)) (take (length es) es) ≡ true → longest_match address es ≡ None
+  pub place_none : (address : ℕ) (es : List (AddressBlock × T)) → IsTable es → list_all (λ x. not (contains x.0 address)) (take (length es) es) ≡ true →
+      longest_match address es ≡ None
   place_none address es t h =
       let all : list_all (λ x. not (contains x.0 address)) es ≡ true = subst (λ l. list_all (λ x. not (contains x.0 address)) l ≡ true) (take-length es) h in
       (longest_none address es t).1 (λ p v k. not_true (contains p address) (all_at (λ x. not (contains x.0 address)) (p, v) es all (value_in p v es k)))
 
   -- 5. One pair more
-  one_more : (test : AddressBlock × T → Bool) (es : List (AddressBlock × T)) (i : ℕ) (d : AddressBlock × T) → i < length es → list_all test (take i es) ≡ true → test (slice_index_or es i d) ≡ true → list_all test (take (i + 1) es) ≡ true
+  one_more : (test : AddressBlock × T → Bool) (es : List (AddressBlock × T)) (i : ℕ) (d : AddressBlock × T) → i < length es →
+      list_all test (take i es) ≡ true → test (slice_index_or es i d) ≡ true → list_all test (take (i + 1) es) ≡ true
   one_more test es i d h a b = list_all_more test es i d h ∙ and_on (list_all test (take i es)) (test (slice_index_or es i d)) a b
 
-  all_more : (p q : AddressBlock × T → Bool) (xs : List (AddressBlock × T)) → ((x : AddressBlock × T) → p x ≡ true → q x ≡ true) → list_all p xs ≡ true → list_all q xs ≡ true
+  all_more : (p q : AddressBlock × T → Bool) (xs : List (AddressBlock × T)) →
+      ((x : AddressBlock × T) → p x ≡ true → q x ≡ true) → list_all p xs ≡ true → list_all q xs ≡ true
   all_more p q xs f h = all_from q xs (λ x i. f x (all_at p x xs h i))
 
   -- the first that contains it is taken
-  pub takes_first : (address : ℕ) (es : List (AddressBlock × T)) (i : ℕ) (e : AddressBlock × T) → i < length es → e ≡ slice_index_or es i e → contains e.0 address ≡ true → IsBestPlace address es i None → IsLongestPlace address es (i + 1) i
+  pub takes_first : (address : ℕ) (es : List (AddressBlock × T)) (i : ℕ) (e : AddressBlock × T) → i < length es → e ≡ slice_index_or es i e →
+      contains e.0 address ≡ true → IsBestPlace address es i None → IsLongestPlace address es (i + 1) i
   takes_first address es i e h q c b = record {
     there = omega arith;
     covers = λ d. subst (λ (x : AddressBlock × T). contains x.0 address ≡ true) (q ∙ get_or_default es i e d h) c;
     longest = λ d. one_more (λ x. not (contains x.0 address) || nat_le x.0.length (slice_index_or es i d).0.length) es i d h
-        (all_more (λ x. not (contains x.0 address)) (λ x. not (contains x.0 address) || nat_le x.0.length (slice_index_or es i d).0.length) (take i es) (λ x k. first (contains x.0 address) _ k) b)
+        (all_more (λ x. not (contains x.0 address)) (λ x. not (contains x.0 address) || nat_le x.0.length (slice_index_or es i d).0.length) (take i es)
+            (λ x k. first (contains x.0 address) _ k) b)
         (within _ _ (at_most_is (slice_index_or es i d).0.length (slice_index_or es i d).0.length (omega arith)));
   }
 
   -- and so is a longer one
-  pub takes_longer : (address : ℕ) (es : List (AddressBlock × T)) (i at : ℕ) (e f : AddressBlock × T) → i < length es → e ≡ slice_index_or es i e → f ≡ slice_index_or es at f → contains e.0 address ≡ true → f.0.length < e.0.length → IsLongestPlace address es i at → IsLongestPlace address es (i + 1) i
+  pub takes_longer : (address : ℕ) (es : List (AddressBlock × T)) (i at : ℕ) (e f : AddressBlock × T) → i < length es → e ≡ slice_index_or es i e →
+      f ≡ slice_index_or es at f → contains e.0 address ≡ true → f.0.length < e.0.length → IsLongestPlace address es i at →
+      IsLongestPlace address es (i + 1) i
   takes_longer address es i at e f h q r c l b = record {
     there = omega arith;
     covers = λ d. subst (λ (x : AddressBlock × T). contains x.0 address ≡ true) (q ∙ get_or_default es i e d h) c;
     longest = λ d.
-        let old : f.0.length ≡ (slice_index_or es at d).0.length = ap (λ (x : AddressBlock × T). x.0.length) (r ∙ get_or_default es at f d (omega (arith, b.there, h))) in
+        let old : f.0.length ≡ (slice_index_or es at d).0.length =
+            ap (λ (x : AddressBlock × T). x.0.length) (r ∙ get_or_default es at f d (omega (arith, b.there, h))) in
         let new : e.0.length ≡ (slice_index_or es i d).0.length = ap (λ (x : AddressBlock × T). x.0.length) (q ∙ get_or_default es i e d h) in
         one_more (λ x. not (contains x.0 address) || nat_le x.0.length (slice_index_or es i d).0.length) es i d h
-        (all_more (λ x. not (contains x.0 address) || nat_le x.0.length (slice_index_or es at d).0.length) (λ x. not (contains x.0 address) || nat_le x.0.length (slice_index_or es i d).0.length) (take i es) (λ x k. raised (contains x.0 address) x.0.length (slice_index_or es at d).0.length (slice_index_or es i d).0.length (omega (arith, old, new, l)) k) (b.longest d))
+        (all_more (λ x. not (contains x.0 address) || nat_le x.0.length (slice_index_or es at d).0.length)
+            (λ x. not (contains x.0 address) || nat_le x.0.length (slice_index_or es i d).0.length) (take i es)
+            (λ x k. raised (contains x.0 address) x.0.length (slice_index_or es at d).0.length (slice_index_or es i d).0.length
+            (omega (arith, old, new, l)) k) (b.longest d))
         (within _ _ (at_most_is (slice_index_or es i d).0.length (slice_index_or es i d).0.length (omega arith)));
   }
 
-  pub place_pair : (address : ℕ) (es : List (AddressBlock × T)) (i : ℕ) (e f : AddressBlock × T) → IsTable es → IsLongestPlace address es (length es) i → e ≡ slice_index_or es i e → f ≡ slice_index_or es i f → ◌≡◌ {A = Option (AddressBlock × T)} (Some (e.0, f.1)) (longest_match address es)
+  pub place_pair : (address : ℕ) (es : List (AddressBlock × T)) (i : ℕ) (e f : AddressBlock × T) → IsTable es → IsLongestPlace address es (length es) i →
+      e ≡ slice_index_or es i e → f ≡ slice_index_or es i f → ◌≡◌ {A = Option (AddressBlock × T)} (Some (e.0, f.1)) (longest_match address es)
   place_pair address es i e f t h q r =
       let same : f ≡ e = r ∙ get_or_default es i f e h.there ∙ sym q in
       ap (λ (x : AddressBlock × T). let o : Option (AddressBlock × T) = Some (e.0, x.1) in o) same ∙ ap (λ x. Some x) q ∙ sym (place_longest address es i e t h)

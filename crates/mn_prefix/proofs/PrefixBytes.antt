@@ -25,7 +25,8 @@ pub first_bytes : (count : ℕ) (bytes : List ℕ) → IsBytes bytes → length 
 first_bytes zero [] h size few = refl
 first_bytes (suc zero) (a ∷ []) h size few = one (let a_fits = h.below 0 in omega arith)
 first_bytes (suc (suc zero)) (a ∷ b ∷ []) h size few = let a_fits = h.below 0 in let b_fits = h.below 1 in two (omega arith) (omega arith)
-first_bytes (suc (suc (suc zero))) (a ∷ b ∷ c ∷ []) h size few = let a_fits = h.below 0 in let b_fits = h.below 1 in let c_fits = h.below 2 in three (omega arith) (omega arith) (omega arith)
+first_bytes (suc (suc (suc zero))) (a ∷ b ∷ c ∷ []) h size few = let a_fits = h.below 0 in let b_fits = h.below 1 in let c_fits = h.below 2 in
+    three (omega arith) (omega arith) (omega arith)
 first_bytes (suc (suc (suc (suc zero)))) (a ∷ b ∷ c ∷ d ∷ []) h size few =
     let a_fits = h.below 0 in
     let b_fits = h.below 1 in
@@ -40,7 +41,8 @@ octets_again bytes h few = first_bytes (length bytes) bytes h refl few
 pub address_fits : (bytes : List ℕ) → IsBytes bytes → address_of bytes < 2 ^ 32
 address_fits bytes h = big_from-lt 0 4 bytes h.below
 
-address_again : (count address : ℕ) → address < 2 ^ 32 → count ≤ 4 → address % 2 ^ (8 * (4 - count)) ≡ 0 → address_of (take count (big_bytes 4 address)) ≡ address
+address_again : (count address : ℕ) → address < 2 ^ 32 → count ≤ 4 → address % 2 ^ (8 * (4 - count)) ≡ 0 →
+    address_of (take count (big_bytes 4 address)) ≡ address
 address_again zero address fits few clear = omega arith
 address_again (suc zero) address fits few clear = omega arith
 address_again (suc (suc zero)) address fits few clear = omega arith
@@ -56,7 +58,8 @@ pub prefix_again : (address bits : ℕ) → IsPrefix address bits → address_of
 prefix_again address bits p =
     let short = p.short in
     let split : 32 - bits ≡ (32 - bits - 8 * (4 - octets bits)) + 8 * (4 - octets bits) = omega arith in
-    let clear : address % 2 ^ (8 * (4 - octets bits)) ≡ 0 = clear_below address (32 - bits - 8 * (4 - octets bits)) (8 * (4 - octets bits)) (ap (λ (k : ℕ). address % 2 ^ k) (sym split) ∙ p.clear) in
+    let clear : address % 2 ^ (8 * (4 - octets bits)) ≡ 0 =
+        clear_below address (32 - bits - 8 * (4 - octets bits)) (8 * (4 - octets bits)) (ap (λ (k : ℕ). address % 2 ^ k) (sym split) ∙ p.clear) in
     address_again (octets bits) address p.fits (omega arith) clear
 
 pub length-prefix_octets : (prefix : AddressBlock) → prefix.length ≤ 32 → length (prefix_octets prefix) ≡ octets prefix.length

@@ -10,8 +10,7 @@
 //!
 //! - this file: `Prefix`, its order, and which addresses it contains
 //! - `carried`: the bytes of a prefix that protocols carry
-//! - `table`: `PrefixTable`, the calls that each table of prefixes has
-//! - `pairs`: the plainest such table, which shows that its clauses can be met
+//! - `table`: `PrefixTable`, the calls that each table of prefixes has; `mn_lpm` has two
 //! - `laws`: what follows from the definitions of `specs/`
 #![tactic(auto)]
 
@@ -22,7 +21,6 @@ use std::marker::Model;
 
 mod carried;
 mod laws;
-mod pairs;
 mod table;
 #[cfg(test)]
 mod tests;

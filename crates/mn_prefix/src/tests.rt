@@ -1,6 +1,4 @@
-use crate::pairs::Pairs;
-use crate::{Prefix, PrefixTable};
-use std::process::Abort;
+use crate::Prefix;
 use std::test::Fail;
 
 /// The address that is written A.B.C.D.
@@ -80,41 +78,10 @@ fn prefixes_go_by_address_and_then_by_length(rt: HostRuntime) -> Result<(), Fail
     Ok(())
 }
 
-/// The longest match of an address, and its value.
-fn longest<T: PrefixTable<u8>>(table: &T, bytes: [u8; 4]) -> Option<(Prefix, u8)> {
-    match table.longest(dotted(bytes)) {
-        Some((found, value)) => Some((found, *value)),
-        None => None,
-    }
-}
-
-/// What a table answers about three prefixes within one another.
-fn answers<T: PrefixTable<u8>>(rt: &impl Abort, table: &mut T) -> Result<(), Fail> {
-    let all = prefix([0, 0, 0, 0], 0)?;
-    let net = prefix([10, 0, 0, 0], 8)?;
-    let part = prefix([10, 2, 0, 0], 16)?;
-    assert_eq!(rt; table.insert(net, 8)?, None);
-    assert_eq!(rt; table.insert(part, 16)?, None);
-    assert_eq!(rt; table.insert(all, 0)?, None);
-    assert_eq!(rt; table.insert(net, 88)?, Some(8));
-    assert_eq!(rt; table.get(net).copied(), Some(88));
-    assert_eq!(rt; table.get(prefix([10, 0, 0, 0], 9)?).copied(), None);
-    assert_eq!(rt; longest(table, [10, 2, 0, 1]), Some((part, 16)));
-    assert_eq!(rt; longest(table, [10, 3, 0, 1]), Some((net, 88)));
-    assert_eq!(rt; table.remove(net), Some(88));
-    assert_eq!(rt; table.remove(net), None);
-    assert_eq!(rt; longest(table, [10, 3, 0, 1]), Some((all, 0)));
-    Ok(())
-}
-
 #[test]
-fn a_table_answers_the_longest_prefix(rt: HostRuntime) -> Result<(), Fail> {
-    let mut table = Pairs::new(rt.alloc());
-    answers(&rt, &mut table)?;
-    assert_eq!(rt; table.remove(prefix([0, 0, 0, 0], 0)?), Some(0));
-    assert_eq!(rt; longest(&table, [11, 0, 0, 1]), None);
+fn the_laws_hold(_rt: HostRuntime) {
     crate::longest_of_a_table::<u8>();
     crate::contains_its_block();
     crate::orders_by_address_then_length();
-    Ok(())
+    crate::octets_tell_a_prefix();
 }

@@ -1,5 +1,5 @@
 -- The ends of sessions, row by row.
-use Rattle.std.proofs.Common.{ℕ, zero, suc, ◌≡◌, ◌<◌, ◌+◌, List, [], ◌∷◌, ◌++◌, map, length, refl, arith, sym, ◌∙◌, ap, subst, get_or, Option, Some, None}
+use Rattle.std.proofs.Common.{ℕ, zero, suc, ◌≡◌, ◌<◌, ◌+◌, List, [], ◌∷◌, ◌++◌, map, length, refl, sym, ◌∙◌, ap, get_or, Option, Some, None}
 use Rattle.std.proofs.Common.{Result, Ok, Err}
 use Rattle.std.specs.Prelude.{IfOk, OnOk, slice_get, slice_set, slice_index_or}
 use Rattle.std.specs.List.{All}
@@ -10,18 +10,12 @@ use Rattle.mn_bgp_wire.specs.declared.message.BgpMessage.{BgpMessage}
 use Rattle.mn_bgp_wire.specs.declared.refusal.BgpWireBad.{BgpWireBad}
 use Rattle.mn_bgp_wire.specs.declared.refusal.BgpWireBad.TheVariants as bads
 use Rattle.mn_bgp_wire.specs.Reading.{Fails}
-use Rattle.mn_routing_model.proofs.Putting.{below_next}
+use Rattle.mn_routing_model.proofs.Putting.{below_next, get_row}
 
 map_set : {R B : Type 0} (f : R → B) (rows : List R) (i : ℕ) (x : R) → map f (slice_set rows i x) ≡ slice_set (map f rows) i (f x)
 map_set f [] i x = refl
 map_set f (y ∷ ys) zero x = refl
 map_set f (y ∷ ys) (suc i) x = ap (λ zs. f y ∷ zs) (map_set f ys i x)
-
-get_row : {R A : Type 0} (f : R → List A) (rows : List R) (k : ℕ) (row : R) → k < length (map f rows) → row ≡ get_or rows k row →
-    f row ≡ slice_index_or (map f rows) k []
-get_row f [] k row h e = absurd (let none : k < 0 → ⊥ = (λ p. omega (arith, p)) in none h)
-get_row f (x ∷ xs) zero row h e = ap f e
-get_row f (x ∷ xs) (suc k) row h e = get_row f xs k row (omega (arith, h)) e
 
 found : {A : Type 0} (xs : List A) (k : ℕ) (x d : A) → slice_get xs k ≡ Some x → get_or xs k d ≡ x
 found [] k x d h = absurd (let none : None ≡ Some x → ⊥ = (λ e. cc) in none h)

@@ -16,9 +16,7 @@ use Rattle.mn_bgp_spelling.specs.Spelling.{Labels, as_targets}
 use Rattle.mn_routing_model.specs.Standing.{says_of, heard_if}
 use Rattle.mn_base.proofs.Kept.{with_in, in_with_new, in_with}
 use Rattle.mn_routing_model.proofs.Removing.{two_prefixes, same_place}
-
-no : false ≡ true → ⊥
-no e = cc
+use Rattle.mn_base.proofs.Bools.{no}
 
 -- a route as it is kept
 abbrev pub heard_route : Network → Labels → Export → Heard

@@ -47,7 +47,8 @@ use Rattle.mn_routing_model.proofs.Matching.{exports_at_are, exports_over_are, e
 use Rattle.mn_routing_model.proofs.News.{vrf_of_site_is, at_home, vrfs_apart}
 use Rattle.mn_routing_model.proofs.Placed.{edge_is, has_edge}
 use Rattle.mn_routing_model.proofs.Goes.{Brings, brings}
-use Rattle.mn_routing_model.proofs.Sayable.{Fits, all_fits, sets_go, labels_go, all_sayable}
+use Rattle.mn_bgp_spelling.proofs.Writable.{sets_go}
+use Rattle.mn_routing_model.proofs.Sayable.{Fits, all_fits, labels_go, all_sayable}
 use Rattle.mn_routing_model.proofs.Refusing.{set_free, found, add_free, del_free}
 
 -- 1. Parts of what an edge exports

@@ -1,11 +1,8 @@
 -- What an edge exports is what the ledger says, one for one and in the same order.
-use Rattle.std.proofs.Common.{ℕ, ◌≡◌, ◌<◌, ◌⊎◌, inl, inr, Bool, true, false, List, [], ◌∷◌, ◌++◌, map, filter, length, refl, sym, ◌∙◌, ap, subst, Option}
-use Rattle.std.proofs.Common.{Some, None}
+use Rattle.std.proofs.Common.{ℕ, ◌≡◌, ◌<◌, inl, inr, Bool, true, false, List, [], ◌∷◌, ◌++◌, map, filter, length, refl, sym, ◌∙◌, ap, subst}
 use Rattle.std.proofs.lemmas.List.{map-append}
 use Rattle.std.specs.Prelude.{◌==◌, ◌||◌, nat_lt, if◌then◌else◌}
 use Rattle.std.specs.List.{flat_map, range_with_len, AllByRecursion}
-use Rattle.mn_base.specs.declared.numbers.Rt.{Rt}
-use Rattle.mn_prefix.specs.Prefix.{AddressBlock}
 use Rattle.mn_topo.specs.Network.{Network}
 use Rattle.mn_ledger.specs.Places.{vrf_of, edge_of, vrfs_at}
 use Rattle.mn_ledger.specs.World.{SiteRoute, Config, Export, Peerings}
@@ -16,33 +13,24 @@ use Rattle.mn_ledger.proofs.Peers.{same_numbers, and_left}
 use Rattle.mn_ledger.proofs.Statics.{SameStatic, HasStatics}
 use Rattle.mn_base.specs.Ordered.{Ascends, IsOrder}
 use Rattle.mn_base.proofs.Orders.{by_number, by_number_then}
-use Rattle.mn_base.proofs.Places.{all_append, all_turned, fold_ascends}
-use Rattle.mn_prefix.specs.Prefix.{prefix_before}
-use Rattle.mn_vrf.specs.Vrf.{Static, VrfState, static_before}
-use Rattle.mn_pe.specs.Edge.{Edge}
-use Rattle.mn_pe.specs.Held.{Exported, label_of, export_at}
+use Rattle.mn_base.proofs.Places.{all_turned, fold_ascends}
+use Rattle.mn_vrf.specs.Vrf.{static_before}
+use Rattle.mn_pe.specs.Held.{Exported}
 use Rattle.mn_pe.specs.Held as held
+use Rattle.mn_pe.proofs.Present.{export_before, present_ascends}
 use Rattle.mn_bgp_spelling.specs.Spelling.{Labels, as_targets}
 use Rattle.mn_routing_model.specs.Standing.{static_of, statics_in, vrf_in, edge_in}
 use Rattle.mn_base.proofs.Kept.{ascending_unique}
 use Rattle.mn_routing_model.proofs.Removing.{two_prefixes, static_order}
 use Rattle.mn_routing_model.proofs.Present.{exported, present_there, present_only}
-
-no : false ≡ true → ⊥
-no e = cc
-
-two_ways : (b : Bool) → (b ≡ true) ⊎ (b ≡ false)
-two_ways true = inl refl
-two_ways false = inr refl
+use Rattle.mn_base.proofs.Bools.{no}
+use Rattle.mn_base.proofs.Members.{map_in as mapped}
 
 or_other : (a b : Bool) → a ≡ false → (a || b) ≡ true → b ≡ true
 or_other true b h g = absurd (no (sym h))
 or_other false b h g = g
 
 -- by prefix
-abbrev pub export_before : Exported → Exported → Bool
-export_before x y = prefix_before x.prefix y.prefix
-
 export_order : IsOrder export_before
 export_order = by_number_then (λ (x : Exported). x.prefix.address) (λ x y. nat_lt x.prefix.length y.prefix.length)
     (by_number (λ (x : Exported). x.prefix.length))
@@ -116,36 +104,7 @@ map_ascends f (x ∷ xs) same up = (
   map_ascends f xs same up.1,
 )
 
--- 2. The edge's order
-
-from_static : (vrf : VrfState) (targets : List Rt) (static : Static) (o : Option ℕ) (P : AddressBlock → Type 0) → P static.prefix →
-    AllByRecursion (λ (x : Exported). P x.prefix) (export_at vrf targets static o)
-from_static vrf targets static None P h = tt
-from_static vrf targets static (Some label) P h = (h, tt)
-
-one_static : (vrf : VrfState) (targets : List Rt) (static : Static) (o : Option ℕ) (rest : List Exported) →
-    AllByRecursion (λ (x : Exported). prefix_before static.prefix x.prefix ≡ true) rest → Ascends export_before rest →
-    Ascends export_before (export_at vrf targets static o ++ rest)
-one_static vrf targets static None rest h up = up
-one_static vrf targets static (Some label) rest h up = (h, up)
-
-all_from : (edge : Edge) (vrf : VrfState) (targets : List Rt) (P : AddressBlock → Type 0) (xs : List Static) →
-    AllByRecursion (λ (x : Static). P x.prefix) xs → AllByRecursion (λ (x : Exported). P x.prefix)
-    (flat_map (λ static. export_at vrf targets static (label_of edge static.site)) xs)
-all_from edge vrf targets P [] h = tt
-all_from edge vrf targets P (x ∷ xs) h =
-    all_append (λ (y : Exported). P y.prefix) (export_at vrf targets x (label_of edge x.site))
-    (flat_map (λ static. export_at vrf targets static (label_of edge static.site)) xs)
-    (from_static vrf targets x (label_of edge x.site) P h.0) (all_from edge vrf targets P xs h.1)
-
-pub present_ascends : (edge : Edge) (vrf : VrfState) (targets : List Rt) (xs : List Static) → Ascends static_before xs →
-    Ascends export_before (flat_map (λ static. export_at vrf targets static (label_of edge static.site)) xs)
-present_ascends edge vrf targets [] up = tt
-present_ascends edge vrf targets (x ∷ xs) up =
-    one_static vrf targets x (label_of edge x.site) (flat_map (λ static. export_at vrf targets static (label_of edge static.site)) xs)
-    (all_from edge vrf targets (λ p. prefix_before x.prefix p ≡ true) xs up.0) (present_ascends edge vrf targets xs up.1)
-
--- 3. The same lists
+-- 2. The same lists
 
 flat_map_map : {A B C : Type 0} (f : A → B) (g : B → List C) (xs : List A) → flat_map g (map f xs) ≡ flat_map (λ x. g (f x)) xs
 flat_map_map f g [] = refl
@@ -156,10 +115,6 @@ map_flat_map : {A B C : Type 0} (f : B → C) (g : A → List B) (h : A → List
 map_flat_map f g h [] e = refl
 map_flat_map f g h (x ∷ xs) e = map-append f (g x) (flat_map g xs) ∙ ap (λ ys. ys ++ map f (flat_map g xs)) (e x (inl refl))
     ∙ ap (λ ys. h x ++ ys) (map_flat_map f g h xs (λ y i. e y (inr i)))
-
-mapped : {A B : Type 0} (f : A → B) (xs : List A) (x : A) → In xs x → In (map f xs) (f x)
-mapped f [] x i = absurd i
-mapped f (y ∷ ys) x i = elim i [ inl e ↦ inl (ap f e) | inr j ↦ inr (mapped f ys x j) ]
 
 module _ (t : Network) (l : Labels) (c : Config) (p : Peerings) (e : ℕ) (has : HasStatics t c.statics)
     (sited : (x : SiteRoute) → In c.statics x → x.site < length t.sites) where

@@ -65,7 +65,7 @@ use Rattle.mn_routing_model.proofs.Exports.{exports_same}
 use Rattle.mn_routing_model.proofs.Present.{exported}
 use Rattle.mn_routing_model.proofs.News.{announced_told}
 use Rattle.mn_routing_model.proofs.Others.{then_stands}
-use Rattle.mn_routing_model.proofs.Taking.{left_on, left_off, without_at}
+use Rattle.mn_flight.proofs.OnChannels.{left_on, left_off, without_at}
 use Rattle.mn_routing_model.proofs.Sayable.{all_fits, all_sayable}
 use Rattle.mn_routing_model.proofs.Goes.{Brings, brings, routes_go, heard_all, tolds, keys_then, count_then}
 

@@ -11,7 +11,7 @@ use Rattle.mn_topo.specs.Network.{Network}
 use Rattle.mn_topo.specs.Lawful.{IsLawful}
 use Rattle.mn_ledger.specs.Places.{loopback, vrf_at, edge_of, edges}
 use Rattle.mn_ledger.specs.World.{SiteRoute, Config, Export, Telling, Peerings}
-use Rattle.mn_ledger.specs.Vpn.{peers_live, heard_of, HeldRoute, is_preferred, own_routes, near_routes, far_routes, imported, believed, believed_from, best}
+use Rattle.mn_ledger.specs.Vpn.{peers_live, heard_of, HeldRoute, own_routes, near_routes, far_routes, imported, believed, believed_from, best}
 use Rattle.mn_ledger.specs.Vpn as vpn
 use Rattle.mn_ledger.proofs.Members.{In, in_append, in_front, in_rest, in_map, in_filter, filter_in, in_flat_map, in_take, in_range}
 use Rattle.mn_ledger.proofs.Peers.{and_left, and_right}
@@ -40,13 +40,7 @@ use Rattle.mn_base.proofs.Kept.{fold_in, in_fold}
 use Rattle.mn_routing_model.proofs.Lookup.{SameRoutes, lookup_is_best, preferred_same}
 use Rattle.mn_routing_model.proofs.Believed.{heard_route, NamesVrf, KeepsBelieved, keeps_from}
 use Rattle.mn_routing_model.proofs.Present.{exported, present_there, present_only, all_there, all_only, meets_same}
-
-no : false ≡ true → ⊥
-no e = cc
-
-two_ways : (b : Bool) → (b ≡ true) ⊎ (b ≡ false)
-two_ways true = inl refl
-two_ways false = inr refl
+use Rattle.mn_base.proofs.Bools.{no, two_ways}
 
 -- 1. The order of routes
 

@@ -1,21 +1,18 @@
 -- A step that one edge is told touches the exports of this edge alone, so it alone has news.
-use Rattle.std.proofs.Common.{ℕ, zero, suc, ◌≡◌, ◌≢◌, ◌+◌, ◌<◌, inl, inr, Bool, true, false, cond, List, [], ◌∷◌, ◌++◌, map, filter, length, refl, arith}
-use Rattle.std.proofs.Common.{sym, ◌∙◌, ap, subst}
-use Rattle.std.specs.Prelude.{◌==◌, ◌&&◌, ◌||◌, if◌then◌else◌, slice_index_or}
+use Rattle.std.proofs.Common.{ℕ, zero, suc, ◌≡◌, ◌≢◌, ◌+◌, ◌<◌, true, List, [], ◌∷◌, ◌++◌, map, filter, length, refl, arith}
+use Rattle.std.proofs.Common.{sym, ◌∙◌, ap}
+use Rattle.std.specs.Prelude.{◌==◌, ◌||◌, slice_index_or}
 use Rattle.std.specs.List.{flat_map, range_with_len}
-use Rattle.std.proofs.lemmas.Bool.Decides.{eqb_tells}
-use Rattle.mn_base.proofs.Bools.{no, and_left, and_right, same_numbers, or_true, same_test}
+use Rattle.mn_base.proofs.Bools.{no, and_left, same_numbers, or_true, same_test, never}
 use Rattle.mn_base.proofs.Members.{In, in_filter, filter_in, range_in}
-use Rattle.mn_base.specs.declared.numbers.NodeNo.{NodeNo}
 use Rattle.mn_topo.specs.Network.{Network}
-use Rattle.mn_topo.specs.Lawful.{IsLawful}
 use Rattle.mn_topo.specs.VrfTable.{is_edge}
 use Rattle.mn_topo.specs.declared.vrfs.VrfDef.{VrfDef}
 use Rattle.mn_topo.specs.declared.steps.Step.{Step}
 use Rattle.mn_topo.specs.declared.steps.Step.TheVariants as step
-use Rattle.mn_ledger.specs.Places.{vrf_at, vrf_of, edge_of, home_of, vrfs_at, edges}
+use Rattle.mn_ledger.specs.Places.{vrf_of, edge_of, home_of, edges}
 use Rattle.mn_ledger.specs.World.{Config, Export, Telling, Announce, Unreach, Peerings}
-use Rattle.mn_ledger.specs.Vpn.{Told, exports_of, changed, news, steady_peers}
+use Rattle.mn_ledger.specs.Vpn.{exports_of, changed, news, steady_peers}
 use Rattle.mn_ledger.specs.Ledger.{config_after, with_target}
 use Rattle.mn_ledger.proofs.OneKind.{IsBehind, from_exports, none_left}
 use Rattle.mn_routing_model.specs.Touched.{touches, comes, goes, by_set, told_of}
@@ -48,10 +45,6 @@ touched_at t c (step.Export v target on) edge x b h = sym (ap (edge_of t) (sym (
 touched_at t c (step.Attach s) edge x b h = sym (ap (home_of t) (sym (same_numbers x.site s.0 h)) ∙ site_home t c edge x b)
 touched_at t c (step.Detach s) edge x b h = sym (ap (home_of t) (sym (same_numbers x.site s.0 h)) ∙ site_home t c edge x b)
 touched_at t c _ edge x b h = absurd (no h)
-
-never : (b : Bool) → (b ≡ true → ⊥) → b ≡ false
-never true h = absurd (h refl)
-never false h = refl
 
 none_touched : (t : Network) (c : Config) (s : Step) (edge : ℕ) → edge ≢ home_in t s → filter (touches t s) (exports_of t c edge) ≡ []
 none_touched t c s edge d =

@@ -4,7 +4,7 @@ use Rattle.std.proofs.Common.{ℕ, suc, ◌≡◌, ◌+◌, ◌<◌, ◌≤◌, 
 use Rattle.std.proofs.Common.{subst, Option, Some, None}
 use Rattle.std.specs.Prelude.{◌==◌, ◌&&◌, ◌||◌, not, nat_lt, unwrap_or, option_map, if◌then◌else◌}
 use Rattle.std.specs.List.{flat_map, list_any, list_all, range_with_len}
-use Rattle.std.proofs.lemmas.Bool.Decides.{eqb_tells, nat_tests}
+use Rattle.std.proofs.lemmas.Bool.Decides.{eqb_tells}
 use Rattle.mn_base.specs.declared.states.BgpState.{BgpState}
 use Rattle.mn_base.specs.declared.states.BgpState.TheVariants.{OpenSent, OpenConfirm}
 use Rattle.mn_topo.specs.Network.{Network}
@@ -16,16 +16,16 @@ use Rattle.mn_topo.specs.declared.steps.Step.TheVariants as step
 use Rattle.mn_ledger.specs.Tables.{put, put_pair}
 use Rattle.mn_ledger.specs.Places.{edges}
 use Rattle.mn_ledger.specs.World.{SiteRoute, Config, Export, Telling, Open, Alive, Announce, Unreach, Peerings, World}
-use Rattle.mn_ledger.specs.Vpn.{peers_live, is_for, export_of, exports_of, same_export, withdrawn, announced, changed, Told, is_between, tellings_of}
-use Rattle.mn_ledger.specs.Vpn.{told_to, reply, replies, steady_peers, news, told_in, counted, with_told, peerings_after}
+use Rattle.mn_ledger.specs.Vpn.{peers_live, is_for, exports_of, same_export, withdrawn, announced, changed, Told, is_between, tellings_of}
+use Rattle.mn_ledger.specs.Vpn.{told_to, reply, replies, steady_peers, news, told_in, counted, peerings_after}
 use Rattle.mn_ledger.specs.Ledger.{is_static, config_after, after, start, statics_from, no_packets, next_of, left_by, world_from, world_of}
 use Rattle.mn_ledger.proofs.GoingBy.{put_here, put_off, pair_here, pair_off}
 use Rattle.mn_ledger.proofs.Members.{In, in_append, in_map, in_filter, filter_in, in_flat_map}
-use Rattle.mn_ledger.proofs.Tellings.{Behind, exported_by, AllGood, tellings_go}
+use Rattle.mn_ledger.proofs.Tellings.{Behind, exported_by, AllGood, tellings_go, in_cleared}
 use Rattle.mn_ledger.proofs.Statics.{HasStatics, HasForms, first_statics, first_forms, statics_go, forms_go}
 use Rattle.mn_ledger.proofs.Turning.{loopbacks_apart}
 use Rattle.mn_ledger.proofs.Peers.{same_numbers}
-use Rattle.mn_base.proofs.Bools.{and_left}
+use Rattle.mn_base.proofs.Bools.{and_left, no}
 use Rattle.mn_topo.specs.SiteTable.{is_lawful_prefix}
 use Rattle.mn_ledger.specs.Vpn.{best}
 use Rattle.mn_ledger.specs.Vpn as vpn
@@ -46,9 +46,7 @@ use Rattle.mn_routing_model.proofs.Exports.{exports_same}
 use Rattle.mn_routing_model.proofs.Believed.{NamesVrf}
 use Rattle.mn_routing_model.proofs.Attaching.{IsKnown}
 use Rattle.mn_routing_model.proofs.Holding.{range_in, Stands, finds}
-
-no : false ≡ true → ⊥
-no e = cc
+use Rattle.mn_timetable.proofs.OtherKeys.{less-is as less_of}
 
 -- 1. Attachments
 
@@ -176,15 +174,6 @@ AllTellSound t c p = (teller peer : ℕ) (m : Telling) → In (p.told teller pee
 
 -- 3. A step
 
-in_cleared : (f : ℕ → ℕ → List Telling) (a b edge peer : ℕ) (m : Telling) → In (put_pair f a b [] edge peer) m → In (f edge peer) m
-in_cleared f a b edge peer m i = elim (eqb_tells edge a) [
-  | inr p ↦ subst (λ xs. In xs m) (pair_off f a b [] edge peer (inl p.1)) i
-  | inl p ↦ elim (eqb_tells peer b) [
-    | inr q ↦ subst (λ xs. In xs m) (pair_off f a b [] edge peer (inr q.1)) i
-    | inl q ↦ absurd (subst (λ xs. In xs m) (ap (λ j. put_pair f a b [] j peer) p.1 ∙ ap (put_pair f a b [] a) q.1 ∙ pair_here f a b []) i)
-  ]
-]
-
 still_sound : (t : Network) (c : Config) (p : Peerings) (s : Step) → AllTellSound t c p → AllTellSound t c (counted p s)
 still_sound t c p (step.BgpUp a b) h = λ edge peer m i. h edge peer m
     (in_cleared p.told a.0 b.0 edge peer m (in_cleared (put_pair p.told a.0 b.0 []) b.0 a.0 edge peer m i))
@@ -222,9 +211,6 @@ sound_go t w s n h = λ edge peer m i. sound_more t w.config s m (h edge peer m 
 
 abbrev pub AreSited : Network → Config → Type 0
 AreSited t c = (x : SiteRoute) → In c.statics x → x.site < length t.sites
-
-less_of : (m n : ℕ) → nat_lt m n ≡ true → m < n
-less_of m n h = grind (arith, nat_tests, h)
 
 pub sited_go : (t : Network) (c : Config) (s : Step) → fits t s ≡ true → AreSited t c → AreSited t (config_after c s)
 sited_go t c (step.AddRoute a p) fit h = λ x i. elim (in_append c.statics (record { site = a.0; prefix = p } ∷ []) x i) [

@@ -32,7 +32,6 @@ pub mod Sayable
 pub mod Refusing
 pub mod Can
 pub mod Exporting
-pub mod Taking
 pub mod Turning
 pub mod HearsNext
 pub mod Said

@@ -1,10 +1,10 @@
 -- Of the same routes the first longest match in their order is the ledger's best.
 use Rattle.std.proofs.Common.{ℕ, ◌≡◌, ◌⊎◌, inl, inr, Bool, true, false, List, [], ◌∷◌, filter, refl, arith, sym, ◌∙◌, ap, subst, Option, Some, None}
 use Rattle.std.specs.Prelude.{◌==◌, ◌&&◌, ◌||◌, nat_lt, nat_le, option_map}
-use Rattle.std.specs.List.{list_all, AllByRecursion}
+use Rattle.std.specs.List.{list_all}
 use Rattle.std.proofs.lemmas.Bool.Decides.{nat_tests}
 use Rattle.mn_prefix.specs.Prefix.{AddressBlock, IsPrefix, contains}
-use Rattle.mn_prefix.specs.Longest.{is_longest, longest_matches}
+use Rattle.mn_prefix.specs.Longest.{is_longest}
 use Rattle.mn_prefix.specs.Longest as longest
 use Rattle.mn_prefix.specs.Table.{first_of, longest_match}
 use Rattle.mn_ledger.specs.Vpn.{HeldRoute, is_better, is_preferred, best}
@@ -19,19 +19,10 @@ use Rattle.mn_vrf.specs.Routes.{source_before, route_before}
 use Rattle.mn_vrf.specs.declared.source.Source.{Source}
 use Rattle.mn_bgp_spelling.specs.Spelling.{Labels}
 use Rattle.mn_routing_model.specs.Sources.{source_from, as_held}
-
-no : false ≡ true → ⊥
-no e = cc
-
-two_ways : (b : Bool) → (b ≡ true) ⊎ (b ≡ false)
-two_ways true = inl refl
-two_ways false = inr refl
+use Rattle.mn_base.proofs.Bools.{no, two_ways}
+use Rattle.mn_base.proofs.Members.{all_in}
 
 -- 1. The first of an ascending list
-
-all_in : {A : Type 0} (P : A → Type 0) (xs : List A) (x : A) → AllByRecursion P xs → In xs x → P x
-all_in P [] x h i = absurd i
-all_in P (y ∷ ys) x h i = elim i [ inl e ↦ subst P e h.0 | inr j ↦ all_in P ys x h.1 j ]
 
 pub first_is_least : {A : Type 0} (before : A → A → Bool) (xs : List A) (x : A) → ((y z : A) → before y z ≡ true → before z y ≡ true → ⊥) →
     Ascends before xs → In xs x → ((y : A) → In xs y → (before x y ≡ true) ⊎ (x ≡ y)) → first_of xs ≡ Some x

@@ -1,19 +1,19 @@
 -- Of an edge's exports those of one VRF, over one site, or of one prefix are what the edge is asked for.
-use Rattle.std.proofs.Common.{ℕ, zero, suc, ◌≡◌, ◌≢◌, ◌+◌, ◌<◌, ◌≤◌, ◌⊎◌, inl, inr, Bool, true, false, cond, List, [], ◌∷◌, ◌++◌, map, filter, length, refl}
+use Rattle.std.proofs.Common.{ℕ, ◌≡◌, ◌≢◌, ◌+◌, ◌⊎◌, inl, inr, Bool, true, false, cond, List, [], ◌∷◌, ◌++◌, map, filter, length, refl}
 use Rattle.std.proofs.Common.{arith, sym, ◌∙◌, ap, subst, append-nil, Option, Some, None}
 use Rattle.std.specs.Prelude.{◌==◌, ◌&&◌, ◌||◌, if◌then◌else◌, slice_index_or, option_map}
-use Rattle.std.specs.List.{flat_map, range_with_len, AllByRecursion}
+use Rattle.std.specs.List.{flat_map}
 use Rattle.std.proofs.lemmas.Bool.Decides.{eqb_tells, nat_tests}
 use Rattle.std.proofs.lemmas.List.Elements.{filter-append}
-use Rattle.mn_base.specs.Ordered.{Ascends, one_at}
-use Rattle.mn_base.proofs.Bools.{no, and_left, and_right, same_test, other_test, same_numbers}
-use Rattle.mn_base.proofs.Members.{In, in_flat_map, in_filter, in_range}
+use Rattle.mn_base.specs.Ordered.{Ascends}
+use Rattle.mn_base.proofs.Bools.{no, same_test, other_test}
+use Rattle.mn_base.proofs.Members.{In, in_flat_map, all_in as all_of}
 use Rattle.mn_base.specs.declared.numbers.Rt.{Rt}
 use Rattle.mn_prefix.specs.Prefix.{AddressBlock, same_prefix, prefix_before}
 use Rattle.mn_vrf.specs.Vrf.{Static, VrfState, static_before}
 use Rattle.mn_vrf.specs.Vrf as vrf_specs
 use Rattle.mn_pe.specs.Edge.{Edge, vrf_of_site}
-use Rattle.mn_pe.specs.Held.{Exported, label_of, export_at, present_with, exports_with, exports_of}
+use Rattle.mn_pe.specs.Held.{Exported, label_of, export_at, exports_with, exports_of}
 use Rattle.mn_pe.specs.Pe.{found_in}
 use Rattle.mn_pe.specs.Exports.{labelled, exports_by, export_over, exports_by_over, export_by, exports_at, exports_over, export_of}
 use Rattle.mn_routing_model.specs.Doing.{those_of}
@@ -147,10 +147,6 @@ of_one : (edge : Edge) (vrf : VrfState) (ts : List Rt) (prefix : AddressBlock) (
     filter (is_of prefix) (export_at vrf ts static (label_of edge static.site)) ≡ cond b (export_at vrf ts static (label_of edge static.site)) []
 of_one edge vrf ts prefix static b e = filter_const (is_of prefix) b (export_at vrf ts static (label_of edge static.site))
     (λ x i. ap (same_prefix prefix) (at_same vrf ts static (label_of edge static.site) x i).1.1 ∙ e)
-
-all_of : {A : Type 0} (P : A → Type 0) (xs : List A) (x : A) → AllByRecursion P xs → In xs x → P x
-all_of P [] x h i = absurd i
-all_of P (y ∷ ys) x h i = elim i [ inl e ↦ subst P e h.0 | inr j ↦ all_of P ys x h.1 j ]
 
 of_none : (edge : Edge) (vrf : VrfState) (ts : List Rt) (prefix : AddressBlock) (xs : List Static) →
     ((static : Static) → In xs static → same_prefix prefix static.prefix ≡ false)

@@ -1,33 +1,30 @@
 -- What an edge tells in a step is the news of the exports that it is asked for.
-use Rattle.std.proofs.Common.{ℕ, zero, suc, ◌≡◌, ◌≢◌, ◌+◌, ◌<◌, ◌≤◌, inl, inr, Bool, true, false, cond, List, [], ◌∷◌, ◌++◌, map, filter, length, refl}
-use Rattle.std.proofs.Common.{arith, sym, ◌∙◌, ap, subst, Option, Some, None}
+use Rattle.std.proofs.Common.{ℕ, zero, suc, ◌≡◌, ◌<◌, inl, inr, Bool, true, false, List, [], ◌∷◌, map, filter, length, refl}
+use Rattle.std.proofs.Common.{arith, sym, ◌∙◌, ap, subst}
 use Rattle.std.specs.Prelude.{◌==◌, ◌&&◌, slice_index_or, nat_lt}
-use Rattle.std.specs.List.{flat_map, range_with_len, AllByRecursion}
 use Rattle.mn_base.specs.Ordered.{Ascends}
 use Rattle.mn_base.proofs.Bools.{same_numbers, less_tells}
-use Rattle.mn_base.proofs.Members.{In, in_map, in_filter}
+use Rattle.mn_base.proofs.Members.{In, in_map, in_filter, all_in as all_of}
 use Rattle.mn_base.proofs.Kept.{fold_in}
 use Rattle.mn_base.specs.declared.numbers.SiteNo.{SiteNo}
 use Rattle.mn_base.specs.declared.numbers.VrfNo.{VrfNo}
-use Rattle.mn_base.specs.declared.numbers.Rt.{Rt}
 use Rattle.mn_prefix.specs.Prefix.{AddressBlock, same_prefix}
 use Rattle.mn_topo.specs.declared.sites.SiteDef.{SiteDef}
 use Rattle.mn_topo.specs.Network.{Network}
 use Rattle.mn_topo.specs.declared.steps.Step.{Step}
-use Rattle.mn_topo.specs.declared.steps.Step.TheVariants as step
-use Rattle.mn_ledger.specs.Places.{vrf_of, vrfs_at, home_of, edge_of}
-use Rattle.mn_ledger.specs.World.{SiteRoute, Config, Export, Telling, Announce, Unreach, Peerings}
+use Rattle.mn_ledger.specs.Places.{vrf_of, vrfs_at}
+use Rattle.mn_ledger.specs.World.{SiteRoute, Config, Export, Announce, Unreach, Peerings}
 use Rattle.mn_ledger.specs.Vpn as vpn
 use Rattle.mn_ledger.specs.Ledger.{config_after}
 use Rattle.mn_ledger.proofs.Statics.{HasStatics}
 use Rattle.mn_ledger.proofs.Turning.{loopbacks_apart}
 use Rattle.mn_topo.specs.Lawful.{IsLawful}
 use Rattle.mn_vrf.specs.Vrf.{Static, VrfState, static_before}
-use Rattle.mn_pe.specs.Edge.{Edge, vrf_of_site}
+use Rattle.mn_pe.specs.Edge.{vrf_of_site}
 use Rattle.mn_pe.specs.Held.{Exported, exports_of}
 use Rattle.mn_pe.specs.Exports.{exports_at, exports_over, export_of}
 use Rattle.mn_bgp_spelling.specs.Spelling.{Labels, bytes_in}
-use Rattle.mn_routing_model.specs.Standing.{static_of, statics_in, vrf_in, edge_in}
+use Rattle.mn_routing_model.specs.Standing.{static_of, vrf_in, edge_in}
 use Rattle.mn_routing_model.specs.Touched.{touches, comes, goes}
 use Rattle.mn_routing_model.specs.Sending.{spelled_in}
 use Rattle.mn_routing_model.specs.Doing.{those_of}
@@ -58,10 +55,6 @@ at_home t l c p e site vrf static i j is =
     let f = in_filter (λ static. vrf_of t static.site == m.0) c.statics n.0 n.1 in
     sym (ap (λ (u : VrfState). u.number) m.2) ∙ sym (same_numbers (vrf_of t n.0.site) m.0 f.1) ∙ ap (vrf_of t) (ap (λ (s : Static). s.site) n.2 ∙ is)
     ∙ sym (vrf_of_site_is t l c p e site)
-
-all_of : {A : Type 0} (P : A → Type 0) (xs : List A) (x : A) → AllByRecursion P xs → In xs x → P x
-all_of P [] x h i = absurd i
-all_of P (y ∷ ys) x h i = elim i [ inl e ↦ subst P e h.0 | inr j ↦ all_of P ys x h.1 j ]
 
 apart_of : (vrfs : List VrfState) → Ascends (λ (u w : VrfState). nat_lt u.number w.number) vrfs → AreApartVrfs vrfs
 apart_of [] up = tt

@@ -19,9 +19,7 @@ use Rattle.mn_ledger.proofs.Tellings as tellings
 use Rattle.mn_ledger.proofs.OneKind.{none_left, from_exports}
 use Rattle.mn_routing_model.specs.Touched.{touches, comes, goes, by_set, told_of}
 use Rattle.mn_routing_model.proofs.Told.{behind_vrf, behind_site}
-
-no : false ≡ true → ⊥
-no e = cc
+use Rattle.mn_base.proofs.Bools.{no, never}
 
 -- 1. One number of a range
 
@@ -102,10 +100,6 @@ edge_of_step t (step.Export v target on) = edge_of t v.0
 edge_of_step t (step.Attach s) = home_of t s.0
 edge_of_step t (step.Detach s) = home_of t s.0
 edge_of_step t _ = 0
-
-never : (b : Bool) → (b ≡ true → ⊥) → b ≡ false
-never true h = absurd (h refl)
-never false h = refl
 
 untouched : (t : Network) (c : Config) (s : Step) (edge : ℕ) → edge ≢ edge_of_step t s → (e : Export) → In (exports_of t c edge) e → touches t s e ≡ false
 untouched t c (step.AddRoute s p) edge d e i = never (touches t (step.AddRoute s p) e)

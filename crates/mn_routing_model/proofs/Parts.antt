@@ -36,13 +36,7 @@ use Rattle.mn_routing_model.proofs.Steps.{import_here, import_off, export_here, 
 use Rattle.mn_routing_model.proofs.Attaching.{AllKnown, attach_here, attach_off, detach_here, detach_off}
 use Rattle.mn_routing_model.proofs.Removing.{del_here, del_off}
 use Rattle.mn_routing_model.proofs.Sessions.{with_session, live_off, down_first, down_second, down_off, up_same}
-
-swap_ways : {P Q : Type 0} → P ⊎ Q → Q ⊎ P
-swap_ways d = elim d [ inl p ↦ inr p | inr q ↦ inl q ]
-
-mapped_if : {A B : Type 0} (f : A → B) (b : Bool) (x : A) → option_map f (if b then Some x else None) ≡ (if b then Some (f x) else None)
-mapped_if f true x = refl
-mapped_if f false x = refl
+use Rattle.mn_routing_model.proofs.Whole.{mapped_if}
 
 both : (es fs : List (Option Edge)) (ss rs : List (List (Option BgpSession))) → es ≡ fs → ss ≡ rs →
     (let r : RoutesNow = record { edges = es; sessions = ss } in r) ≡ record { edges = fs; sessions = rs }

@@ -1,5 +1,5 @@
 -- The statics of attached sites, and so an edge's exports, as the ledger has them and as the edge has them.
-use Rattle.std.proofs.Common.{ℕ, ◌≡◌, ◌<◌, inl, inr, true, false, List, [], ◌∷◌, map, filter, length, refl, sym, ◌∙◌, ap, subst, Option, Some, None}
+use Rattle.std.proofs.Common.{ℕ, ◌≡◌, ◌<◌, inl, inr, true, List, [], ◌∷◌, map, filter, length, refl, sym, ◌∙◌, ap, subst, Option, Some, None}
 use Rattle.std.specs.Prelude.{◌==◌, ◌&&◌, ◌||◌, is_some, unwrap_or, option_map, if◌then◌else◌}
 use Rattle.std.specs.List.{list_any, range_with_len}
 use Rattle.mn_base.specs.declared.numbers.Rt.{Rt}
@@ -22,9 +22,7 @@ use Rattle.mn_routing_model.specs.Standing.{static_of, statics_in, vrf_in, label
 use Rattle.mn_routing_model.proofs.Tables.{map_numbers_at}
 use Rattle.mn_base.proofs.Kept.{fold_in, in_fold}
 use Rattle.mn_routing_model.proofs.Removing.{two_prefixes}
-
-no : false ≡ true → ⊥
-no e = cc
+use Rattle.mn_base.proofs.Bools.{no}
 
 -- an export as its edge has it
 abbrev pub exported : Network → Labels → Export → Exported

@@ -1,5 +1,5 @@
 -- One message after another is put into flight.
-use Rattle.std.proofs.Common.{ℕ, zero, suc, ◌≡◌, ◌+◌, ◌*◌, ◌<◌, ◌≤◌, Bool, true, false, List, [], ◌∷◌, ◌++◌, length, map, drop, refl, arith, sym, ◌∙◌, ap}
+use Rattle.std.proofs.Common.{ℕ, zero, suc, ◌≡◌, ◌+◌, ◌<◌, ◌≤◌, Bool, true, false, List, [], ◌∷◌, ◌++◌, length, map, drop, refl, arith, sym, ◌∙◌, ap}
 use Rattle.std.proofs.Common.{subst, append_assoc, append-nil, get_or, add-one}
 use Rattle.std.specs.Prelude.{if◌then◌else◌, slice_index_or, Option}
 use Rattle.std.specs.List.{All, AllByRecursion}
@@ -49,7 +49,7 @@ peers_below from limit (x ∷ xs) h = by (is_steady x) (peers_below (from + 1) l
     by true rest = (omega (arith, h), rest)
     by false rest = rest
 
-get_row : {R A : Type 0} (f : R → List A) (rows : List R) (k : ℕ) (row : R) → k < length (map f rows) → row ≡ get_or rows k row →
+pub get_row : {R A : Type 0} (f : R → List A) (rows : List R) (k : ℕ) (row : R) → k < length (map f rows) → row ≡ get_or rows k row →
     f row ≡ slice_index_or (map f rows) k []
 get_row f [] k row h e = absurd (let none : k < 0 → ⊥ = (λ p. omega (arith, p)) in none h)
 get_row f (x ∷ xs) zero row h e = ap f e

@@ -1,34 +1,29 @@
 -- Where nothing refuses a step its edge doesn't refuse it either.
-use Rattle.std.proofs.Common.{ℕ, zero, suc, ◌≡◌, ◌≢◌, ◌+◌, ◌<◌, ◌≤◌, ◌⊎◌, inl, inr, Bool, true, false, cond, not, List, [], ◌∷◌, ◌++◌, map, filter, length}
-use Rattle.std.proofs.Common.{refl, arith, sym, ◌∙◌, ap, subst, Option, Some, None}
-use Rattle.std.specs.Prelude.{◌==◌, ◌&&◌, ◌||◌, nat_le, nat_lt, option_map, if◌then◌else◌, is_some, is_none}
-use Rattle.std.specs.List.{list_any, range_with_len}
+use Rattle.std.proofs.Common.{ℕ, zero, suc, ◌≡◌, ◌+◌, ◌<◌, inl, inr, Bool, true, false, cond, not, List, [], ◌∷◌, map, filter, length}
+use Rattle.std.proofs.Common.{refl, arith, sym, ◌∙◌, ap, Option, Some, None}
+use Rattle.std.specs.Prelude.{◌==◌, ◌&&◌, ◌||◌, nat_le, if◌then◌else◌}
+use Rattle.std.specs.List.{range_with_len}
 use Rattle.std.proofs.lemmas.Bool.Decides.{eqb_tells, nat_tests}
 use Rattle.std.proofs.lemmas.Option.{same_Some}
-use Rattle.mn_base.specs.Ordered.{one_at, Ascends}
 use Rattle.mn_base.specs.declared.numbers.Rt.{Rt}
-use Rattle.mn_base.proofs.Bools.{no, same_test, other_test, same_numbers, and_left, and_right}
+use Rattle.mn_base.proofs.Bools.{no, same_test, same_numbers}
 use Rattle.mn_base.proofs.Members.{In, in_map, in_filter, filter_in, range_in, one_alike}
 use Rattle.mn_base.proofs.Kept.{fold_in}
 use Rattle.mn_prefix.specs.Prefix.{AddressBlock, same_prefix, prefix_before}
 use Rattle.mn_topo.specs.Network.{Network}
-use Rattle.mn_topo.specs.Lawful.{IsLawful}
 use Rattle.mn_targets.specs.Targets.{has_target}
-use Rattle.mn_ledger.specs.Places.{vrf_of, edge_of, vrfs_at}
+use Rattle.mn_ledger.specs.Places.{vrf_of, edge_of}
 use Rattle.mn_ledger.specs.World.{SiteRoute, Config, Peerings}
 use Rattle.mn_ledger.specs.Vpn as vpn
-use Rattle.mn_ledger.specs.declared.refused.Refused.{Refused}
 use Rattle.mn_ledger.specs.Refusal.{agree, taken_by, prefix_refusal}
 use Rattle.mn_ledger.proofs.Statics.{HasStatics, SameStatic}
 use Rattle.mn_bgp_spelling.specs.Spelling.{Labels, as_targets}
 use Rattle.mn_vrf.specs.Vrf.{Static, VrfState, static_before, set_refused, add_refused, del_refused, refused_over}
 use Rattle.mn_vrf.specs.Vrf as vrf_specs
-use Rattle.mn_vrf.specs.declared.refusal.VrfBad.{VrfBad}
 use Rattle.mn_vrf.specs.declared.refusal.VrfBad.TheVariants as vrf_bad
 use Rattle.mn_pe.specs.Pe.{found_in}
 use Rattle.mn_routing_model.specs.Standing.{static_of, statics_in, vrf_in, edge_in}
 use Rattle.mn_routing_model.proofs.Removing.{two_prefixes}
-use Rattle.mn_routing_model.proofs.Matching.{AreApartVrfs}
 
 -- 1. A target
 
@@ -36,7 +31,7 @@ has_same : (target : Rt) (xs : List ℕ) → has_target target (as_targets xs) �
 has_same target [] = refl
 has_same target (x ∷ xs) = ap (λ b. (x == target.0) || b) (has_same target xs)
 
-as_long : (xs : List ℕ) → length (as_targets xs) ≡ length xs
+pub as_long : (xs : List ℕ) → length (as_targets xs) ≡ length xs
 as_long [] = refl
 as_long (x ∷ xs) = ap suc (as_long xs)
 

@@ -1,8 +1,8 @@
 -- A static goes: its VRF has it no longer, and nothing else changes.
-use Rattle.std.proofs.Common.{ℕ, ◌≡◌, ◌≢◌, ◌⊎◌, inl, inr, Bool, true, false, cond, List, [], ◌∷◌, map, filter, length, refl, arith, sym, ◌∙◌, ap}
+use Rattle.std.proofs.Common.{ℕ, ◌≡◌, ◌≢◌, ◌⊎◌, inl, inr, Bool, true, false, cond, List, [], ◌∷◌, map, filter, length, refl, sym, ◌∙◌, ap}
 use Rattle.std.specs.Prelude.{◌==◌, ◌&&◌, ◌||◌, not, nat_lt}
 use Rattle.std.specs.List.{range_with_len}
-use Rattle.std.proofs.lemmas.Bool.Decides.{eqb_tells, nat_tests}
+use Rattle.std.proofs.lemmas.Bool.Decides.{eqb_tells}
 use Rattle.mn_base.specs.declared.numbers.SiteNo.{SiteNo}
 use Rattle.mn_base.specs.Wiring.{nodes_of}
 use Rattle.mn_prefix.specs.Prefix.{AddressBlock, same_prefix}
@@ -26,21 +26,14 @@ use Rattle.mn_bgp_spelling.specs.Spelling.{Labels}
 use Rattle.mn_routing_model.specs.Standing.{static_of, statics_in, vrf_in, label_in, heard_in, edge_in, in_order}
 use Rattle.mn_routing_model.proofs.Hearing.{IsInTurn}
 use Rattle.mn_routing_model.proofs.Steps.{made, same_parts, still_heard, on_vrfs, off_vrfs}
-
-no : false ≡ true → ⊥
-no e = cc
+use Rattle.mn_base.proofs.Bools.{no, less_itself as itself}
+use Rattle.mn_pe.proofs.Offers.{neither_less as neither}
 
 pub static_order : IsOrder static_before
 static_order =
     by_number_then (λ (x : Static). x.prefix.address) (λ x y. nat_lt x.prefix.length y.prefix.length) (by_number (λ (x : Static). x.prefix.length))
 
 -- 1. One place among statics is one prefix
-
-neither : (m n : ℕ) → (nat_lt m n || nat_lt n m) ≡ false → m ≡ n
-neither m n h = grind (arith, nat_tests, h)
-
-itself : (m : ℕ) → nat_lt m m ≡ false
-itself m = grind (arith, nat_tests)
 
 pub same_place : (p : AddressBlock) → (prefix_before p p || prefix_before p p) ≡ false
 same_place p = ap (λ b. b || b) (first_same p.address p.address (nat_lt p.length p.length) refl ∙ itself p.length)

@@ -1,32 +1,29 @@
 -- What an edge tells can be said: sets of targets ascend and are of their form, 16 at most, and labels have 20 bits.
-use Rattle.std.proofs.Common.{ℕ, zero, suc, ◌≡◌, ◌≢◌, ◌+◌, ◌-◌, ◌*◌, ◌<◌, ◌≤◌, ◌^◌, inl, inr, Bool, true, false, cond, not, List, [], ◌∷◌, ◌++◌, map}
-use Rattle.std.proofs.Common.{filter, length, fold, refl, arith, sym, ◌∙◌, ap, subst, Option, Some, None}
-use Rattle.std.specs.Prelude.{◌==◌, ◌&&◌, nat_lt, nat_le, slice_index_or, option_map, if◌then◌else◌}
-use Rattle.std.specs.List.{AllByRecursion, list_all, range_with_len}
-use Rattle.std.proofs.lemmas.Bool.Decides.{nat_tests, eqb_tells}
+use Rattle.std.proofs.Common.{ℕ, zero, suc, ◌≡◌, ◌+◌, ◌-◌, ◌<◌, ◌≤◌, ◌^◌, inl, inr, Bool, true, false, List, [], ◌∷◌, map}
+use Rattle.std.proofs.Common.{length, refl, arith, sym, ◌∙◌, ap, subst, Option, Some, None}
+use Rattle.std.specs.Prelude.{◌==◌, ◌&&◌, nat_lt, slice_index_or, option_map, if◌then◌else◌}
+use Rattle.std.specs.List.{range_with_len}
+use Rattle.std.proofs.lemmas.Bool.Decides.{eqb_tells}
 use Rattle.std.proofs.lemmas.Bool.{and_parts}
 use Rattle.std.proofs.lemmas.Option.{same_Some}
-use Rattle.mn_base.specs.Numbers.{has_rt_form, has_rd_form}
+use Rattle.mn_base.specs.Numbers.{has_rd_form}
 use Rattle.mn_base.specs.Ordered.{IsAscending}
 use Rattle.mn_base.specs.declared.numbers.Rt.{Rt}
-use Rattle.mn_base.proofs.Bools.{and_left, and_right, not_at_most_tells}
+use Rattle.mn_base.proofs.Bools.{not_at_most_tells}
 use Rattle.mn_base.proofs.Members.{In, in_map, in_filter, in_flat_map, in_range}
-use Rattle.mn_base.proofs.Places.{all_filter}
 use Rattle.mn_topo.specs.Network.{Network}
-use Rattle.mn_topo.specs.Lawful.{IsLawful, is_vrf_of, AreTargets}
-use Rattle.mn_topo.specs.Steps.{fits, has_vrf}
-use Rattle.mn_topo.specs.declared.vrfs.VrfDef.{VrfDef}
+use Rattle.mn_topo.specs.Lawful.{IsLawful, is_vrf_of}
 use Rattle.mn_topo.specs.declared.steps.Step.{Step}
 use Rattle.mn_topo.specs.declared.steps.Step.TheVariants as step
 use Rattle.mn_topo.specs.declared.steps.JournalEntry.{JournalEntry}
 use Rattle.mn_vpn_nlri.specs.Grammar.{AllTargets}
-use Rattle.mn_ledger.specs.Tables.{put, put_pair}
+use Rattle.mn_ledger.specs.Tables.{put_pair}
 use Rattle.mn_ledger.specs.Places.{vrf_at, vrfs_at, edge_of, home_of}
 use Rattle.mn_ledger.specs.World.{Config, Peerings, World}
 use Rattle.mn_ledger.specs.Packets.{Packets, packets_after}
-use Rattle.mn_ledger.specs.Ledger.{with_target, ascending, config_after, after, start, first_config, no_packets, next_of, left_by, world_from, world_of}
+use Rattle.mn_ledger.specs.Ledger.{ascending, after, start, no_packets, next_of, left_by, world_from, world_of}
 use Rattle.mn_ledger.specs.Lawful.{IsLawfulFrom, IsLawfulJournal}
-use Rattle.mn_ledger.specs.Refusal.{is_targets_full, is_spent, labels_given}
+use Rattle.mn_ledger.specs.Refusal.{is_spent, labels_given}
 use Rattle.mn_ledger.proofs.GoingBy.{pair_here, pair_off}
 use Rattle.mn_ledger.proofs.Order.{EachBefore, pairs}
 use Rattle.mn_ledger.proofs.Refusals.{free}
@@ -35,93 +32,15 @@ use Rattle.mn_laws.proofs.There.{at_all}
 use Rattle.mn_frames.specs.Numbers.{first_labels, labels_after, labels_from, labels_of, sites_before}
 use Rattle.mn_bgp_spelling.specs.Spelling.{Labels, as_targets}
 use Rattle.mn_bgp_spelling.specs.Laws.{AreLabels}
+use Rattle.mn_bgp_spelling.proofs.Writable.{AreOfForm, AreFewAndFormed, no_longer, sets_go, first_sets}
 use Rattle.mn_vrf.specs.Vrf.{Static, VrfState}
 use Rattle.mn_pe.specs.Edge.{Edge}
 use Rattle.mn_pe.specs.Held.{Exported, label_of, export_at, present_with, exports_with, exports_of}
 use Rattle.mn_routing_model.specs.Standing.{vrf_in, label_in, edge_in}
 use Rattle.mn_routing_model.specs.Doing.{IsSayable, AreSayable}
+use Rattle.mn_routing_model.proofs.Refusing.{as_long as as_many}
 
--- 1. Sets of targets
-
-abbrev pub AreFormed : List ℕ → Type 0
-AreFormed targets = AllByRecursion (λ target. has_rt_form target ≡ true) targets
-
--- 16 at most, and of their form
-abbrev pub IsFewAndFormed : List ℕ → Type 0
-IsFewAndFormed targets = (length targets ≤ 16) × AreFormed targets
-
-abbrev pub AreFewAndFormed : Config → Type 0
-AreFewAndFormed c = (v : ℕ) → IsFewAndFormed (c.exports v)
-
-one_more : (x : ℕ) (xs : List ℕ) → length (with_target x true xs) ≡ suc (length xs)
-one_more x [] = refl
-one_more x (y ∷ ys) = split (nat_lt x y) (one_more x ys)
-  where
-    split : (b : Bool) → length (with_target x true ys) ≡ suc (length ys) → length (cond b (x ∷ y ∷ ys) (y ∷ with_target x true ys)) ≡ suc (suc (length ys))
-    split true more = refl
-    split false more = ap suc more
-
-formed_with : (x : ℕ) (xs : List ℕ) → has_rt_form x ≡ true → AreFormed xs → AreFormed (with_target x true xs)
-formed_with x [] h all = (h, tt)
-formed_with x (y ∷ ys) h all = split (nat_lt x y) (formed_with x ys h all.1)
-  where
-    split : (b : Bool) → AreFormed (with_target x true ys) → AreFormed (cond b (x ∷ y ∷ ys) (y ∷ with_target x true ys))
-    split true more = (h, all)
-    split false more = (all.0, more)
-
-pub no_longer : {A : Type 0} (p : A → Bool) (xs : List A) → length (filter p xs) ≤ length xs
-no_longer p [] = omega arith
-no_longer p (x ∷ xs) = split (p x) (no_longer p xs)
-  where
-    split : (b : Bool) → length (filter p xs) ≤ length xs → length (cond b (x ∷ filter p xs) (filter p xs)) ≤ suc (length xs)
-    split true more = omega (arith, more)
-    split false more = omega (arith, more)
-
-room : (n : ℕ) → nat_le 16 n ≡ false → suc n ≤ 16
-room n h = grind (arith, nat_tests, h)
-
-put_sets : (f : ℕ → List ℕ) (k : ℕ) (xs : List ℕ) → ((v : ℕ) → IsFewAndFormed (f v)) → IsFewAndFormed xs → (v : ℕ) → IsFewAndFormed (put f k xs v)
-put_sets f k xs h g v = split (v == k)
-  where
-    split : (b : Bool) → IsFewAndFormed (cond b xs (f v))
-    split true = g
-    split false = h v
-
-pub sets_go : (t : Network) (c : Config) (s : Step) → fits t s ≡ true → is_targets_full c s ≡ false → AreFewAndFormed c → AreFewAndFormed (config_after c s)
-sets_go t c (step.Export v x true) fit full h =
-    put_sets c.exports v.0 (with_target x.0 true (c.exports v.0)) h
-    (let more : length (with_target x.0 true (c.exports v.0)) ≡ suc (length (c.exports v.0)) = one_more x.0 (c.exports v.0) in
-    let free_place : suc (length (c.exports v.0)) ≤ 16 = room (length (c.exports v.0)) full in
-    (omega (arith, more, free_place), formed_with x.0 (c.exports v.0) (and_right (has_vrf t v) (has_rt_form x.0) fit) (h v.0).1))
-sets_go t c (step.Export v x false) fit full h =
-    put_sets c.exports v.0 (with_target x.0 false (c.exports v.0)) h
-    (let fewer : length (filter (λ other. not (x.0 == other)) (c.exports v.0)) ≤ length (c.exports v.0) =
-    no_longer (λ other. not (x.0 == other)) (c.exports v.0) in
-    let few : length (c.exports v.0) ≤ 16 = (h v.0).0 in
-    (omega (arith, fewer, few), all_filter (λ target. has_rt_form target ≡ true) (λ other. not (x.0 == other)) (c.exports v.0) (h v.0).1))
-sets_go t c _ fit full h = h
-
-sorted_set : (xs : List Rt) (set : List ℕ) → length set + length xs ≤ 16 → AreFormed set → list_all (λ (target : Rt). has_rt_form target.0) xs ≡ true →
-    IsFewAndFormed (fold (λ set target. with_target target.0 true set) set xs)
-sorted_set [] set few formed all = (omega (arith, few), formed)
-sorted_set (x ∷ xs) set few formed all =
-    sorted_set xs (with_target x.0 true set) (let more : length (with_target x.0 true set) ≡ suc (length set) = one_more x.0 set in omega (arith, few, more))
-    (formed_with x.0 set (and_left (has_rt_form x.0) (list_all (λ (target : Rt). has_rt_form target.0) xs) all) formed)
-    (and_right (has_rt_form x.0) (list_all (λ (target : Rt). has_rt_form target.0) xs) all)
-
-abbrev HasSets : VrfDef → Type 0
-HasSets vrf = AreTargets vrf.«import» × AreTargets vrf.export
-
-first_sets : (t : Network) → IsLawful t → AreFewAndFormed (start t).config
-first_sets t lawful v = by_index t.vrfs v lawful.vrfs.targets
-  where
-    by_index : (vrfs : List VrfDef) (v : ℕ) → AllByRecursion HasSets vrfs →
-        IsFewAndFormed (ascending (slice_index_or vrfs v (record { node = record { 0 = 0 }; rd = record { 0 = 0 }; «import» = []; export = [] })).export)
-    by_index [] v all = (omega arith, tt)
-    by_index (vrf ∷ vrfs) zero all = let few : length vrf.export ≤ 16 = all.0.1.few in sorted_set vrf.export [] (omega (arith, few)) tt all.0.1.formed
-    by_index (vrf ∷ vrfs) (suc v) all = by_index vrfs v all.1
-
--- 2. Labels
+-- 1. Labels
 
 below_or : (f : Labels) (a b x : ℕ) → AreLabels f → x < 2 ^ 20 → AreLabels (put_pair f a b x)
 below_or f a b x h g site attachment = elim (eqb_tells site a) [
@@ -171,7 +90,7 @@ unfolding labels_of
 all_fits t es ps lawful journal =
     fits_from t es 0 (start t) no_packets 0 ps (first_labels t) journal (record { sets = first_sets t lawful; labels = first_labels_fit t lawful })
 
--- 3. An edge's exports
+-- 2. An edge's exports
 
 rise_each : (low : ℕ) (xs : List ℕ) → Rise low xs → EachBefore (λ (x y : Rt). x.0 < y.0) (as_targets xs)
 rise_each low [] h = tt
@@ -188,11 +107,7 @@ rise_each low (x ∷ xs) h = (
       | inr j ↦ (let more : suc x ≤ y = least (suc x) xs y h.1 j in let first : low ≤ x = h.0 in omega (arith, more, first))
     ]
 
-as_many : (xs : List ℕ) → length (as_targets xs) ≡ length xs
-as_many [] = refl
-as_many (x ∷ xs) = ap suc (as_many xs)
-
-formed_targets : (xs : List ℕ) → AreFormed xs → AllTargets (as_targets xs)
+formed_targets : (xs : List ℕ) → AreOfForm xs → AllTargets (as_targets xs)
 formed_targets [] h = tt
 formed_targets (x ∷ xs) h = (h.0, formed_targets xs h.1)
 

@@ -23,7 +23,7 @@ use Rattle.mn_routing_model.specs.Standing.{vrf_in, label_in, heard_from, heard_
 use Rattle.mn_routing_model.proofs.Tables.{map_same, map_numbers_set}
 use Rattle.mn_routing_model.proofs.Hearing.{IsInTurn, heard_same}
 
-swap : {P Q : Type 0} → P ⊎ Q → Q ⊎ P
+pub swap : {P Q : Type 0} → P ⊎ Q → Q ⊎ P
 swap d = elim d [ inl p ↦ inr p | inr q ↦ inl q ]
 
 less_or_not : (a b : ℕ) → (nat_lt a b ≡ true) ⊎ (nat_lt a b ≡ false)

@@ -1,5 +1,5 @@
 -- What a step tells of an edge's exports is told of those alone that it touches.
-use Rattle.std.proofs.Common.{ℕ, ◌≡◌, ◌≢◌, ◌+◌, ◌⊎◌, inl, inr, Bool, true, false, cond, List, [], ◌∷◌, ◌++◌, map, filter, refl, sym, ◌∙◌, ap, subst, append-nil}
+use Rattle.std.proofs.Common.{ℕ, ◌≡◌, ◌≢◌, ◌+◌, inl, inr, Bool, true, false, cond, List, [], ◌∷◌, ◌++◌, map, filter, refl, sym, ◌∙◌, ap, subst, append-nil}
 use Rattle.std.specs.Prelude.{◌==◌, ◌&&◌, not, Some, None, is_some}
 use Rattle.std.specs.List.{list_any}
 use Rattle.std.proofs.lemmas.Bool.Decides.{eqb_tells}
@@ -23,9 +23,7 @@ use Rattle.mn_ledger.proofs.OneKind.{one_passes, AreSome, IsBehind, from_exports
 use Rattle.mn_ledger.proofs.OneKind.{kept_some, same_where_some}
 use Rattle.mn_routing_model.specs.Touched.{touches, comes, goes, by_set, told_of}
 use Rattle.mn_routing_model.proofs.Removing.{two_prefixes}
-
-no : false ≡ true → ⊥
-no e = cc
+use Rattle.mn_base.proofs.Bools.{no, two_ways, never}
 
 -- 1. Announcements, and withdrawals
 
@@ -33,10 +31,6 @@ filter_same_in : {A : Type 0} (p q : A → Bool) (xs : List A) → ((x : A) → 
 filter_same_in p q [] h = refl
 filter_same_in p q (x ∷ xs) h = ap (λ b. cond b (x ∷ filter p xs) (filter p xs)) (h x (inl refl))
     ∙ ap (λ ys. cond (q x) (x ∷ ys) ys) (filter_same_in p q xs (λ y i. h y (inr i)))
-
-two_ways : (b : Bool) → (b ≡ true) ⊎ (b ≡ false)
-two_ways true = inl refl
-two_ways false = inr refl
 
 announces : (t : Network) (c : Config) (s : Step) (edge : ℕ) → withdrawn (exports_of t c edge) (exports_of t (config_after c s) edge) ≡ []
     → ((e : Export) → In (exports_of t (config_after c s) edge) e → touches t s e ≡ false → In (exports_of t c edge) e)
@@ -94,10 +88,6 @@ still t c new edge e b there on same =
     (ap (λ ts. export_of new b.v ts b.static) same ∙ alike new c b.v (c.exports b.v) b.static on ∙ b.is)
     (to_exports t new edge b.v b.static b.at_edge (subst AreSome (sym same) b.some) there
     (ap (λ o. (vrf_of t b.static.site == b.v) && is_some o) on ∙ b.present))
-
-never : (b : Bool) → (b ≡ true → ⊥) → b ≡ false
-never true h = absurd (h refl)
-never false h = refl
 
 same_for : (e o : Export) → same_export e o ≡ true → (e.vrf ≡ o.vrf) × (e.prefix ≡ o.prefix)
 same_for e o h = for_is e.vrf e.prefix o (and_left _ _ h)

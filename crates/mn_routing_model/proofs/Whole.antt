@@ -32,7 +32,7 @@ update_is t l q Alive = refl
 update_is t l q (Announce e) = refl
 update_is t l q (Unreach v p) = refl
 
-mapped_if : {A B : Type 0} (f : A → B) (b : Bool) (x : A) → option_map f (if b then Some x else None) ≡ (if b then Some (f x) else None)
+pub mapped_if : {A B : Type 0} (f : A → B) (b : Bool) (x : A) → option_map f (if b then Some x else None) ≡ (if b then Some (f x) else None)
 mapped_if f true x = refl
 mapped_if f false x = refl
 

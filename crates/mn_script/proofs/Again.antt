@@ -32,41 +32,50 @@ use Rattle.mn_script.specs.declared.refusal.ScriptRule.TheVariants.{BadNumber, N
 use Rattle.mn_script.specs.Rules.{◌>>=◌, or_rule}
 use Rattle.mn_script.specs.Operands.{lesser, greater, number_in, prefix_in, target_in, node_in, vrf_in, site_in, link_in, edges_in}
 use Rattle.mn_script.specs.Spelled.{node_text, vrf_text, site_text, from_text, to_text, step_words, IsStep}
-use Rattle.mn_script.specs.Steps.{step_line, link_line, learn_line, ldp_line, hear_line, hear_ldp_line, hear_bgp_line, bgp_line, route_line, target_operands, import_line, export_line, site_line, inject_line, frame_operands, carry_line, lose_line}
+use Rattle.mn_script.specs.Steps.{step_line, link_line, learn_line, ldp_line, hear_line, hear_ldp_line, hear_bgp_line, bgp_line, route_line}
+use Rattle.mn_script.specs.Steps.{target_operands, import_line, export_line, site_line, inject_line, frame_operands, carry_line, lose_line}
 use Rattle.mn_topo.specs.declared.steps.Step.{Step}
-use Rattle.mn_topo.specs.declared.steps.Step.TheVariants.{LinkUp, LinkDown, Learn, LdpAdmin, HearLdp, BgpUp, BgpDown, HearBgp, AddRoute, DelRoute, Import, Export, Attach, Detach, Inject, Carry, Lose}
+use Rattle.mn_topo.specs.declared.steps.Step.TheVariants.{LinkUp, LinkDown, Learn, LdpAdmin, HearLdp, BgpUp, BgpDown, HearBgp, AddRoute, DelRoute, Import}
+use Rattle.mn_topo.specs.declared.steps.Step.TheVariants.{Export, Attach, Detach, Inject, Carry, Lose}
 use Rattle.mn_script.specs.declared.command.Command.{Command}
 use Rattle.mn_script.specs.declared.command.Command.TheVariants as command
 use Rattle.mn_script.specs.declared.command.Show.{Show}
 use Rattle.mn_script.specs.declared.command.Show.TheVariants as table
 use Rattle.mn_script.specs.Words.{is_word}
-use Rattle.mn_script.specs.Lines.{run_line, bounded_drain, drain_line, flush_line, plain_show, show_tree, show_vrf, show_line, do_line, table_line, command_line, line_says, show_fits, command_fits}
+use Rattle.mn_script.specs.Lines.{run_line, bounded_drain, drain_line, flush_line, plain_show, show_tree, show_vrf, show_line, do_line, table_line}
+use Rattle.mn_script.specs.Lines.{command_line, line_says, show_fits, command_fits}
 use Rattle.mn_script.specs.Spelled.{show_words, command_words, IsCommand}
 
 -- each name names its thing
 pub node_again : (network : Network) (node : NodeNo) → IsLawful network → node.0 < length network.loopbacks → node_in network (node_text network node) ≡ Ok node
 node_again network node lawful below =
-    ap (λ found. or_rule NoSuchName (option_map (λ n. record { 0 = n }) found)) (name_again network.node_names node.0 [] lawful.nodes.named (omega (arith, below, lawful.nodes.each)))
+    ap (λ found. or_rule NoSuchName (option_map (λ n. record { 0 = n }) found))
+        (name_again network.node_names node.0 [] lawful.nodes.named (omega (arith, below, lawful.nodes.each)))
 
 pub vrf_again : (network : Network) (vrf : VrfNo) → IsLawful network → vrf.0 < length network.vrfs → vrf_in network (vrf_text network vrf) ≡ Ok vrf
 vrf_again network vrf lawful below =
-    ap (λ found. or_rule NoSuchName (option_map (λ n. record { 0 = n }) found)) (name_again network.vrf_names vrf.0 [] lawful.vrfs.named (omega (arith, below, lawful.vrfs.each)))
+    ap (λ found. or_rule NoSuchName (option_map (λ n. record { 0 = n }) found))
+        (name_again network.vrf_names vrf.0 [] lawful.vrfs.named (omega (arith, below, lawful.vrfs.each)))
 
 pub site_again : (network : Network) (site : SiteNo) → IsLawful network → site.0 < length network.sites → site_in network (site_text network site) ≡ Ok site
 site_again network site lawful below =
-    ap (λ found. or_rule NoSuchName (option_map (λ n. record { 0 = n }) found)) (name_again network.site_names site.0 [] lawful.sites.named (omega (arith, below, lawful.sites.each)))
+    ap (λ found. or_rule NoSuchName (option_map (λ n. record { 0 = n }) found))
+        (name_again network.site_names site.0 [] lawful.sites.named (omega (arith, below, lawful.sites.each)))
 
 -- the ends of a link are nodes
-sends : (network : Network) (link : LinkNo) (direction : Dir) → IsLawful network → link.0 < length network.links → sender (wiring_of network) link.0 direction < length network.loopbacks
+sends : (network : Network) (link : LinkNo) (direction : Dir) → IsLawful network → link.0 < length network.links →
+    sender (wiring_of network) link.0 direction < length network.loopbacks
 sends network link Forth lawful below = (lawful.joins_nodes link.0 below).0
 sends network link Back lawful below = (lawful.joins_nodes link.0 below).1
 
-receives : (network : Network) (link : LinkNo) (direction : Dir) → IsLawful network → link.0 < length network.links → receiver (wiring_of network) link.0 direction < length network.loopbacks
+receives : (network : Network) (link : LinkNo) (direction : Dir) → IsLawful network → link.0 < length network.links →
+    receiver (wiring_of network) link.0 direction < length network.loopbacks
 receives network link Forth lawful below = (lawful.joins_nodes link.0 below).1
 receives network link Back lawful below = (lawful.joins_nodes link.0 below).0
 
 -- the names of a link's ends name the link, and its direction from the one to the other
-pub ends_again : (network : Network) (link : LinkNo) (direction : Dir) → IsLawful network → link.0 < length network.links → link_in network (from_text network link direction) (to_text network link direction) ≡ Ok (link, direction)
+pub ends_again : (network : Network) (link : LinkNo) (direction : Dir) → IsLawful network → link.0 < length network.links →
+    link_in network (from_text network link direction) (to_text network link direction) ≡ Ok (link, direction)
 unfolding link_in
 ends_again network link direction lawful below =
     ap (λ found. found >>= (λ from. node_in network (to_text network link direction) >>= (λ to. or_rule NotLinked (link_of network from.0 to.0))))
@@ -76,22 +85,27 @@ ends_again network link direction lawful below =
     ∙ ap (or_rule NotLinked) (link_again network link.0 direction lawful below)
 
 -- the names of two edges name them
-pub edges_again : (network : Network) (a b : NodeNo) → IsLawful network → a.0 < length network.loopbacks → b.0 < length network.loopbacks → are_edges network a b ≡ true → edges_in network (node_text network a) (node_text network b) ≡ Ok (a, b)
+pub edges_again : (network : Network) (a b : NodeNo) → IsLawful network → a.0 < length network.loopbacks → b.0 < length network.loopbacks →
+    are_edges network a b ≡ true → edges_in network (node_text network a) (node_text network b) ≡ Ok (a, b)
 unfolding edges_in
 edges_again network a b lawful first second edges =
-    ap (λ found. found >>= (λ one. node_in network (node_text network b) >>= (λ other. if are_edges network one other then Ok (one, other) else Err NotEdge))) (node_again network a lawful first)
+    ap (λ found. found >>=
+        (λ one. node_in network (node_text network b) >>= (λ other. if are_edges network one other then Ok (one, other) else Err NotEdge)))
+        (node_again network a lawful first)
     ∙ ap (λ found. found >>= (λ other. if are_edges network a other then Ok (a, other) else Err NotEdge)) (node_again network b lawful second)
     ∙ ap (λ t. if t then Ok (a, b) else Err NotEdge) edges
 
 -- a number that isn't too great, with or without the reason why it isn't one
-up_to : (b : Bool) (v most : ℕ) → (if b && nat_le v most then Some v else None) ≡ result_ok {E = TextBad} (if not b then Err NotANumber else if nat_lt most v then Err TooGreat else Ok v)
+up_to : (b : Bool) (v most : ℕ) →
+    (if b && nat_le v most then Some v else None) ≡ result_ok {E = TextBad} (if not b then Err NotANumber else if nat_lt most v then Err TooGreat else Ok v)
 up_to true v most = grind (arith, nat_tests)
 up_to false v most = refl
 
 -- the text of a number, a prefix and a target
 pub number_in_again : (n least most : ℕ) → n < 2 ^ 64 → least ≤ n → n ≤ most → number_in (number_text n) least most ≡ Ok n
 number_in_again n least most fits low high =
-    ap (λ found. or_rule BadNumber (option_and_then (λ m. if nat_le least m then Some m else None) found)) (up_to (is_number (number_text n)) (digits_value 10 (number_text n)) most ∙ ap result_ok (number_again n most fits high))
+    ap (λ found. or_rule BadNumber (option_and_then (λ m. if nat_le least m then Some m else None) found))
+        (up_to (is_number (number_text n)) (digits_value 10 (number_text n)) most ∙ ap result_ok (number_again n most fits high))
     ∙ ap (λ t. or_rule BadNumber (if t then Some n else None)) (le-leb least n low)
 
 pub prefix_in_again : (prefix : AddressBlock) → IsPrefix prefix.address prefix.length → prefix_in (prefix_text prefix) ≡ Ok prefix
@@ -108,26 +122,32 @@ pub greater_second : (a b : NodeNo) → a.0 < b.0 → greater a b ≡ b
 greater_second a b h = ap (λ n. record { 0 = n }) (omega arith)
 
 -- the words of a step are read as the step
-link_up : (network : Network) (link : LinkNo) → IsLawful network → link.0 < length network.links → step_line network (step_words network (LinkUp link)) ≡ Ok (LinkUp link)
+link_up : (network : Network) (link : LinkNo) → IsLawful network → link.0 < length network.links →
+    step_line network (step_words network (LinkUp link)) ≡ Ok (LinkUp link)
 unfolding step_line link_line
 link_up network link lawful below = ap (λ found. found >>= (λ it. Ok (LinkUp it.0))) (ends_again network link Forth lawful below)
 
-link_down : (network : Network) (link : LinkNo) → IsLawful network → link.0 < length network.links → step_line network (step_words network (LinkDown link)) ≡ Ok (LinkDown link)
+link_down : (network : Network) (link : LinkNo) → IsLawful network → link.0 < length network.links →
+    step_line network (step_words network (LinkDown link)) ≡ Ok (LinkDown link)
 unfolding step_line link_line
 link_down network link lawful below = ap (λ found. found >>= (λ it. Ok (LinkDown it.0))) (ends_again network link Forth lawful below)
 
-learn : (network : Network) (node : NodeNo) (link : LinkNo) → IsLawful network → node.0 < length network.loopbacks → link.0 < length network.links → step_line network (step_words network (Learn node link)) ≡ Ok (Learn node link)
+learn : (network : Network) (node : NodeNo) (link : LinkNo) → IsLawful network → node.0 < length network.loopbacks → link.0 < length network.links →
+    step_line network (step_words network (Learn node link)) ≡ Ok (Learn node link)
 unfolding step_line learn_line
 learn network node link lawful there below =
-    ap (λ found. found >>= (λ who. link_in network (from_text network link Forth) (to_text network link Forth) >>= (λ it. Ok (Learn who it.0)))) (node_again network node lawful there)
+    ap (λ found. found >>= (λ who. link_in network (from_text network link Forth) (to_text network link Forth) >>= (λ it. Ok (Learn who it.0))))
+        (node_again network node lawful there)
     ∙ ap (λ found. found >>= (λ it. Ok (Learn node it.0))) (ends_again network link Forth lawful below)
 
-ldp : (network : Network) (link : LinkNo) (on : Bool) → IsLawful network → link.0 < length network.links → step_line network (step_words network (LdpAdmin link on)) ≡ Ok (LdpAdmin link on)
+ldp : (network : Network) (link : LinkNo) (on : Bool) → IsLawful network → link.0 < length network.links →
+    step_line network (step_words network (LdpAdmin link on)) ≡ Ok (LdpAdmin link on)
 unfolding step_line ldp_line
 ldp network link true lawful below = ap (λ found. found >>= (λ it. Ok (LdpAdmin it.0 true))) (ends_again network link Forth lawful below)
 ldp network link false lawful below = ap (λ found. found >>= (λ it. Ok (LdpAdmin it.0 false))) (ends_again network link Forth lawful below)
 
-hear_ldp : (network : Network) (link : LinkNo) (direction : Dir) → IsLawful network → link.0 < length network.links → step_line network (step_words network (HearLdp link direction)) ≡ Ok (HearLdp link direction)
+hear_ldp : (network : Network) (link : LinkNo) (direction : Dir) → IsLawful network → link.0 < length network.links →
+    step_line network (step_words network (HearLdp link direction)) ≡ Ok (HearLdp link direction)
 unfolding step_line hear_line hear_ldp_line
 hear_ldp network link direction lawful below = ap (λ found. found >>= (λ it. Ok (HearLdp it.0 it.1))) (ends_again network link direction lawful below)
 
@@ -146,12 +166,14 @@ among (vrf ∷ vrfs) node nodes found formed =
 pub edge_is_node : (network : Network) (node : NodeNo) → IsLawful network → is_edge network.vrfs node.0 ≡ true → node.0 < length network.loopbacks
 edge_is_node network node lawful edge = among network.vrfs node.0 (length network.loopbacks) edge lawful.vrfs.formed
 
-hear_bgp : (network : Network) (a b : NodeNo) → IsLawful network → are_edges network a b ≡ true → step_line network (step_words network (HearBgp a b)) ≡ Ok (HearBgp a b)
+hear_bgp : (network : Network) (a b : NodeNo) → IsLawful network → are_edges network a b ≡ true →
+    step_line network (step_words network (HearBgp a b)) ≡ Ok (HearBgp a b)
 unfolding step_line hear_line hear_bgp_line
 hear_bgp network a b lawful edges =
     let both = and_parts _ _ edges in
     let each = and_parts _ _ both.0 in
-    ap (λ found. found >>= (λ pair. Ok (HearBgp pair.0 pair.1))) (edges_again network a b lawful (edge_is_node network a lawful each.0) (edge_is_node network b lawful each.1) edges)
+    ap (λ found. found >>= (λ pair. Ok (HearBgp pair.0 pair.1)))
+        (edges_again network a b lawful (edge_is_node network a lawful each.0) (edge_is_node network b lawful each.1) edges)
 
 -- two edges in order are two different edges
 apart : (network : Network) (a b : NodeNo) → are_edges_in_order network a b ≡ true → are_edges network a b ≡ true
@@ -161,33 +183,39 @@ apart network a b edges =
     let differ : (a.0 == b.0) ≡ false = ne_eqb a.0 b.0 (λ same. absurd (omega arith)) in
     and_from _ _ both.0 (ap not differ)
 
-bgp_up : (network : Network) (a b : NodeNo) → IsLawful network → are_edges_in_order network a b ≡ true → step_line network (step_words network (BgpUp a b)) ≡ Ok (BgpUp a b)
+bgp_up : (network : Network) (a b : NodeNo) → IsLawful network → are_edges_in_order network a b ≡ true →
+    step_line network (step_words network (BgpUp a b)) ≡ Ok (BgpUp a b)
 unfolding step_line bgp_line
 bgp_up network a b lawful edges =
     let both = and_parts _ _ edges in
     let each = and_parts _ _ both.0 in
     let before : a.0 < b.0 = ltb-true a.0 b.0 both.1 in
-    ap (λ found. found >>= (λ pair. Ok (BgpUp (lesser pair.0 pair.1) (greater pair.0 pair.1)))) (edges_again network a b lawful (edge_is_node network a lawful each.0) (edge_is_node network b lawful each.1) (apart network a b edges))
+    ap (λ found. found >>= (λ pair. Ok (BgpUp (lesser pair.0 pair.1) (greater pair.0 pair.1))))
+        (edges_again network a b lawful (edge_is_node network a lawful each.0) (edge_is_node network b lawful each.1) (apart network a b edges))
     ∙ ap (λ node. Ok (BgpUp node (greater a b))) (lesser_first a b before)
     ∙ ap (λ node. Ok (BgpUp a node)) (greater_second a b before)
 
-bgp_down : (network : Network) (a b : NodeNo) → IsLawful network → are_edges_in_order network a b ≡ true → step_line network (step_words network (BgpDown a b)) ≡ Ok (BgpDown a b)
+bgp_down : (network : Network) (a b : NodeNo) → IsLawful network → are_edges_in_order network a b ≡ true →
+    step_line network (step_words network (BgpDown a b)) ≡ Ok (BgpDown a b)
 unfolding step_line bgp_line
 bgp_down network a b lawful edges =
     let both = and_parts _ _ edges in
     let each = and_parts _ _ both.0 in
     let before : a.0 < b.0 = ltb-true a.0 b.0 both.1 in
-    ap (λ found. found >>= (λ pair. Ok (BgpDown (lesser pair.0 pair.1) (greater pair.0 pair.1)))) (edges_again network a b lawful (edge_is_node network a lawful each.0) (edge_is_node network b lawful each.1) (apart network a b edges))
+    ap (λ found. found >>= (λ pair. Ok (BgpDown (lesser pair.0 pair.1) (greater pair.0 pair.1))))
+        (edges_again network a b lawful (edge_is_node network a lawful each.0) (edge_is_node network b lawful each.1) (apart network a b edges))
     ∙ ap (λ node. Ok (BgpDown node (greater a b))) (lesser_first a b before)
     ∙ ap (λ node. Ok (BgpDown a node)) (greater_second a b before)
 
-add_route : (network : Network) (site : SiteNo) (prefix : AddressBlock) → IsLawful network → site.0 < length network.sites → IsPrefix prefix.address prefix.length → step_line network (step_words network (AddRoute site prefix)) ≡ Ok (AddRoute site prefix)
+add_route : (network : Network) (site : SiteNo) (prefix : AddressBlock) → IsLawful network → site.0 < length network.sites →
+    IsPrefix prefix.address prefix.length → step_line network (step_words network (AddRoute site prefix)) ≡ Ok (AddRoute site prefix)
 unfolding step_line route_line
 add_route network site prefix lawful there form =
     ap (λ found. found >>= (λ block. site_in network (site_text network site) >>= (λ where_. Ok (AddRoute where_ block)))) (prefix_in_again prefix form)
     ∙ ap (λ found. found >>= (λ where_. Ok (AddRoute where_ prefix))) (site_again network site lawful there)
 
-del_route : (network : Network) (site : SiteNo) (prefix : AddressBlock) → IsLawful network → site.0 < length network.sites → IsPrefix prefix.address prefix.length → step_line network (step_words network (DelRoute site prefix)) ≡ Ok (DelRoute site prefix)
+del_route : (network : Network) (site : SiteNo) (prefix : AddressBlock) → IsLawful network → site.0 < length network.sites →
+    IsPrefix prefix.address prefix.length → step_line network (step_words network (DelRoute site prefix)) ≡ Ok (DelRoute site prefix)
 unfolding step_line route_line
 del_route network site prefix lawful there form =
     ap (λ found. found >>= (λ block. site_in network (site_text network site) >>= (λ where_. Ok (DelRoute where_ block)))) (prefix_in_again prefix form)
@@ -205,28 +233,34 @@ target_again network first vrf target false lawful there form =
     ap (λ found. found >>= (λ value. vrf_in network (vrf_text network vrf) >>= (λ it. Ok (it, value, false)))) (target_in_again target form)
     ∙ ap (λ found. found >>= (λ it. Ok (it, target, false))) (vrf_again network vrf lawful there)
 
-imports : (network : Network) (vrf : VrfNo) (target : Rt) (on : Bool) → IsLawful network → vrf.0 < length network.vrfs → has_rt_form target.0 ≡ true → step_line network (step_words network (Import vrf target on)) ≡ Ok (Import vrf target on)
+imports : (network : Network) (vrf : VrfNo) (target : Rt) (on : Bool) → IsLawful network → vrf.0 < length network.vrfs → has_rt_form target.0 ≡ true →
+    step_line network (step_words network (Import vrf target on)) ≡ Ok (Import vrf target on)
 unfolding step_line import_line
 imports network vrf target on lawful there form =
     ap (λ found. found >>= (λ it. Ok (Import it.0 it.1 it.2))) (target_again network (codes "import") vrf target on lawful there form)
 
-exports : (network : Network) (vrf : VrfNo) (target : Rt) (on : Bool) → IsLawful network → vrf.0 < length network.vrfs → has_rt_form target.0 ≡ true → step_line network (step_words network (Export vrf target on)) ≡ Ok (Export vrf target on)
+exports : (network : Network) (vrf : VrfNo) (target : Rt) (on : Bool) → IsLawful network → vrf.0 < length network.vrfs → has_rt_form target.0 ≡ true →
+    step_line network (step_words network (Export vrf target on)) ≡ Ok (Export vrf target on)
 unfolding step_line export_line
 exports network vrf target on lawful there form =
     ap (λ found. found >>= (λ it. Ok (Export it.0 it.1 it.2))) (target_again network (codes "export") vrf target on lawful there form)
 
-attach : (network : Network) (site : SiteNo) → IsLawful network → site.0 < length network.sites → step_line network (step_words network (Attach site)) ≡ Ok (Attach site)
+attach : (network : Network) (site : SiteNo) → IsLawful network → site.0 < length network.sites →
+    step_line network (step_words network (Attach site)) ≡ Ok (Attach site)
 unfolding step_line site_line
 attach network site lawful there = ap (λ found. found >>= (λ it. Ok (Attach it))) (site_again network site lawful there)
 
-detach : (network : Network) (site : SiteNo) → IsLawful network → site.0 < length network.sites → step_line network (step_words network (Detach site)) ≡ Ok (Detach site)
+detach : (network : Network) (site : SiteNo) → IsLawful network → site.0 < length network.sites →
+    step_line network (step_words network (Detach site)) ≡ Ok (Detach site)
 unfolding step_line site_line
 detach network site lawful there = ap (λ found. found >>= (λ it. Ok (Detach it))) (site_again network site lawful there)
 
-inject : (network : Network) (site : SiteNo) (number : ℕ) → IsLawful network → site.0 < length network.sites → 1 ≤ number → number < 2 ^ 32 → step_line network (step_words network (Inject site number)) ≡ Ok (Inject site number)
+inject : (network : Network) (site : SiteNo) (number : ℕ) → IsLawful network → site.0 < length network.sites → 1 ≤ number → number < 2 ^ 32 →
+    step_line network (step_words network (Inject site number)) ≡ Ok (Inject site number)
 unfolding step_line inject_line
 inject network site number lawful there low high =
-    ap (λ found. found >>= (λ k. site_in network (site_text network site) >>= (λ it. Ok (Inject it k)))) (number_in_again number 1 4294967295 (omega arith) low (omega arith))
+    ap (λ found. found >>= (λ k. site_in network (site_text network site) >>= (λ it. Ok (Inject it k))))
+        (number_in_again number 1 4294967295 (omega arith) low (omega arith))
     ∙ ap (λ found. found >>= (λ it. Ok (Inject it number))) (site_again network site lawful there)
 
 -- the words of a frame are read as its operands
@@ -235,20 +269,24 @@ frame_again : (network : Network) (first : List ℕ) (link : LinkNo) (direction 
     → frame_operands network (first ∷ from_text network link direction ∷ to_text network link direction ∷ number_text place ∷ []) ≡ Ok (link, direction, place)
 unfolding frame_operands
 frame_again network first link direction place lawful below high =
-    ap (λ found. found >>= (λ k. link_in network (from_text network link direction) (to_text network link direction) >>= (λ it. Ok (it.0, it.1, k)))) (number_in_again place 0 4294967295 (omega arith) (omega arith) (omega arith))
+    ap (λ found. found >>= (λ k. link_in network (from_text network link direction) (to_text network link direction) >>= (λ it. Ok (it.0, it.1, k))))
+        (number_in_again place 0 4294967295 (omega arith) (omega arith) (omega arith))
     ∙ ap (λ found. found >>= (λ it. Ok (it.0, it.1, place))) (ends_again network link direction lawful below)
 
-carry : (network : Network) (link : LinkNo) (direction : Dir) (place : ℕ) → IsLawful network → link.0 < length network.links → place < 2 ^ 32 → step_line network (step_words network (Carry link direction place)) ≡ Ok (Carry link direction place)
+carry : (network : Network) (link : LinkNo) (direction : Dir) (place : ℕ) → IsLawful network → link.0 < length network.links → place < 2 ^ 32 →
+    step_line network (step_words network (Carry link direction place)) ≡ Ok (Carry link direction place)
 unfolding step_line carry_line
 carry network link direction place lawful below high =
     ap (λ found. found >>= (λ it. Ok (Carry it.0 it.1 it.2))) (frame_again network (codes "carry") link direction place lawful below high)
 
-lose : (network : Network) (link : LinkNo) (direction : Dir) (place : ℕ) → IsLawful network → link.0 < length network.links → place < 2 ^ 32 → step_line network (step_words network (Lose link direction place)) ≡ Ok (Lose link direction place)
+lose : (network : Network) (link : LinkNo) (direction : Dir) (place : ℕ) → IsLawful network → link.0 < length network.links → place < 2 ^ 32 →
+    step_line network (step_words network (Lose link direction place)) ≡ Ok (Lose link direction place)
 unfolding step_line lose_line
 lose network link direction place lawful below high =
     ap (λ found. found >>= (λ it. Ok (Lose it.0 it.1 it.2))) (frame_again network (codes "lose") link direction place lawful below high)
 
-pub step_again : (network : Network) (step : Step) → IsLawful network → fits network step ≡ true → IsStep step → step_line network (step_words network step) ≡ Ok step
+pub step_again : (network : Network) (step : Step) → IsLawful network → fits network step ≡ true → IsStep step →
+    step_line network (step_words network step) ≡ Ok step
 step_again network (LinkUp link) lawful fit is = link_up network link lawful (ltb-true _ _ fit)
 step_again network (LinkDown link) lawful fit is = link_down network link lawful (ltb-true _ _ fit)
 step_again network (Learn node link) lawful fit is = let both = and_parts _ _ fit in learn network node link lawful (ltb-true _ _ both.0) (ltb-true _ _ both.1)
@@ -263,7 +301,8 @@ step_again network (Import vrf target on) lawful fit is = let both = and_parts _
 step_again network (Export vrf target on) lawful fit is = let both = and_parts _ _ fit in exports network vrf target on lawful (ltb-true _ _ both.0) both.1
 step_again network (Attach site) lawful fit is = attach network site lawful (ltb-true _ _ fit)
 step_again network (Detach site) lawful fit is = detach network site lawful (ltb-true _ _ fit)
-step_again network (Inject site number) lawful fit is = let both = and_parts _ _ fit in inject network site number lawful (ltb-true _ _ both.0) (leb-true _ _ both.1) is
+step_again network (Inject site number) lawful fit is = let both = and_parts _ _ fit in
+    inject network site number lawful (ltb-true _ _ both.0) (leb-true _ _ both.1) is
 step_again network (Carry link direction place) lawful fit is = carry network link direction place lawful (ltb-true _ _ fit) is
 step_again network (Lose link direction place) lawful fit is = lose network link direction place lawful (ltb-true _ _ fit) is
 
@@ -294,23 +333,31 @@ step_words_are network (Inject site number) = record { some = refl; run = refl; 
 step_words_are network (Carry link direction place) = record { some = refl; run = refl; drain = refl; flush = refl; show = refl }
 step_words_are network (Lose link direction place) = record { some = refl; run = refl; drain = refl; flush = refl; show = refl }
 
-step_said : (network : Network) (ws : List (List ℕ)) (step : Step) → StepWords ws → step_line network ws ≡ Ok step → line_says network ws ≡ Ok (Some (command.Do step))
+step_said : (network : Network) (ws : List (List ℕ)) (step : Step) → StepWords ws → step_line network ws ≡ Ok step →
+    line_says network ws ≡ Ok (Some (command.Do step))
 unfolding line_says command_line do_line
 step_said network ws step words h = rw (words.some, words.run, words.drain, words.flush, words.show, h) refl
 
-show_again : (network : Network) (what : Show) → IsLawful network → show_fits network what ≡ true → line_says network (show_words network what) ≡ Ok (Some (command.Show what))
+show_again : (network : Network) (what : Show) → IsLawful network → show_fits network what ≡ true →
+    line_says network (show_words network what) ≡ Ok (Some (command.Show what))
 unfolding line_says command_line table_line show_line plain_show show_tree show_vrf
 show_again network table.Links lawful fit = refl
-show_again network (table.Tree node) lawful fit = ap (λ found. ((found >>= (λ it. Ok (table.Tree it))) >>= (λ what. Ok (command.Show what))) >>= (λ it. Ok (Some it))) (node_again network node lawful (ltb-true _ _ fit))
+show_again network (table.Tree node) lawful fit =
+    ap (λ found. ((found >>= (λ it. Ok (table.Tree it))) >>= (λ what. Ok (command.Show what))) >>= (λ it. Ok (Some it)))
+    (node_again network node lawful (ltb-true _ _ fit))
 show_again network table.Ldp lawful fit = refl
 show_again network table.Bgp lawful fit = refl
-show_again network (table.Vrf vrf) lawful fit = ap (λ found. ((found >>= (λ it. Ok (table.Vrf it))) >>= (λ what. Ok (command.Show what))) >>= (λ it. Ok (Some it))) (vrf_again network vrf lawful (ltb-true _ _ fit))
+show_again network (table.Vrf vrf) lawful fit =
+    ap (λ found. ((found >>= (λ it. Ok (table.Vrf it))) >>= (λ what. Ok (command.Show what))) >>= (λ it. Ok (Some it)))
+    (vrf_again network vrf lawful (ltb-true _ _ fit))
 show_again network table.Flight lawful fit = refl
 
 -- the words of a command are read as the command
-pub command_again : (network : Network) (asked : Command) → IsLawful network → command_fits network asked ≡ true → IsCommand asked → line_says network (command_words network asked) ≡ Ok (Some asked)
+pub command_again : (network : Network) (asked : Command) → IsLawful network → command_fits network asked ≡ true → IsCommand asked →
+    line_says network (command_words network asked) ≡ Ok (Some asked)
 unfolding line_says command_line run_line bounded_drain drain_line flush_line
-command_again network (command.Do step) lawful fit is = step_said network (step_words network step) step (step_words_are network step) (step_again network step lawful fit is)
+command_again network (command.Do step) lawful fit is =
+    step_said network (step_words network step) step (step_words_are network step) (step_again network step lawful fit is)
 command_again network (command.Run ticks) lawful fit is =
     let most : ticks ≤ 1000000 = leb-true _ _ fit in
     ap (λ found. (found >>= (λ n. Ok (command.Run n))) >>= (λ it. Ok (Some it))) (number_in_again ticks 0 1000000 (omega arith) (omega arith) most)

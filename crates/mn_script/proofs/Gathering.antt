@@ -15,11 +15,14 @@ before_both front more (Ok script) = ap Ok (append_assoc front more script)
 before_both front more (Err refused) = refl
 
 -- a command that fits after others that do
-pub fits_more : (network : Network) (script : List Line) (number : ℕ) (said : Option Command) → AllFit network script → IfSome said (λ command. command_fits network command ≡ true) → AllFit network (script ++ line_of number said)
-fits_more network script number None done fits = All-append (λ line. command_fits network line.command ≡ true) script [] done (All-nil (λ line. command_fits network line.command ≡ true))
+pub fits_more : (network : Network) (script : List Line) (number : ℕ) (said : Option Command) → AllFit network script →
+    IfSome said (λ command. command_fits network command ≡ true) → AllFit network (script ++ line_of number said)
+fits_more network script number None done fits =
+    All-append (λ line. command_fits network line.command ≡ true) script [] done (All-nil (λ line. command_fits network line.command ≡ true))
 fits_more network script number (Some command) done fits =
     let P : Line → Type 0 = λ line. command_fits network line.command ≡ true in
-    All-append P script (record { number = number; command = command } ∷ []) done (All-cons P (record { number = number; command = command }) [] fits (All-nil P))
+    All-append P script (record { number = number; command = command } ∷ []) done
+        (All-cons P (record { number = number; command = command }) [] fits (All-nil P))
 
 -- a line has at most one command
 pub few_more : (script : List Line) (number : ℕ) (said : Option Command) → length (script ++ line_of number said) ≤ length script + 1

@@ -1,6 +1,7 @@
 -- Only the words of a command are read as the command.
 use Rattle.std.proofs.Common.{◌≡◌, ◌<◌, ◌≤◌, ◌-◌, ◌%◌, ◌^◌, ◌⊎◌, inl, inr, ℕ, Bool, true, false, List, [], ◌∷◌, length, refl, ap, sym, ◌∙◌, subst, lit<, arith}
-use Rattle.std.specs.Prelude.{min, max, nat_le, ◌==◌, Option, Some, None, option_map, option_and_then, position, Result, Ok, Err, codes, slice_index_or, if◌then◌else◌}
+use Rattle.std.specs.Prelude.{min, max, nat_le, ◌==◌, Option, Some, None, option_map, option_and_then, position, Result, Ok, Err, codes, slice_index_or}
+use Rattle.std.specs.Prelude.{if◌then◌else◌}
 use Rattle.std.specs.Option.{option_map_or}
 use Rattle.std.specs.Result.{result_ok}
 use Rattle.std.specs.Str.{bytes_eq}
@@ -30,19 +31,22 @@ use Rattle.mn_topo.specs.Network.{Network, link_numbered, direction_from, Leads}
 use Rattle.mn_topo.specs.Steps.{are_edges}
 use Rattle.mn_topo.proofs.Ends.{leads}
 use Rattle.mn_topo.specs.declared.steps.Step.{Step}
-use Rattle.mn_topo.specs.declared.steps.Step.TheVariants.{LinkUp, LinkDown, Learn, LdpAdmin, HearLdp, BgpUp, BgpDown, HearBgp, AddRoute, DelRoute, Import, Export, Attach, Detach, Inject}
+use Rattle.mn_topo.specs.declared.steps.Step.TheVariants.{LinkUp, LinkDown, Learn, LdpAdmin, HearLdp, BgpUp, BgpDown, HearBgp, AddRoute, DelRoute, Import}
+use Rattle.mn_topo.specs.declared.steps.Step.TheVariants.{Export, Attach, Detach, Inject}
 use Rattle.mn_script.specs.declared.refusal.ScriptRule.{ScriptRule}
 use Rattle.mn_script.specs.declared.refusal.ScriptRule.TheVariants.{UnknownWord, WrongCount, BadNumber, NoSuchName, NotLinked, NotEdge}
 use Rattle.mn_script.specs.Rules.{◌>>=◌, or_rule}
 use Rattle.mn_script.specs.Words.{word_at, is_word, choice, counted}
 use Rattle.mn_script.specs.Operands.{lesser, greater, number_in, prefix_in, target_in, node_in, vrf_in, site_in, link_in, edges_in}
-use Rattle.mn_script.specs.Steps.{step_line, link_line, learn_line, ldp_line, hear_line, hear_ldp_line, hear_bgp_line, bgp_line, route_line, target_operands, import_line, export_line, site_line, inject_line, frame_operands, carry_line, lose_line}
+use Rattle.mn_script.specs.Steps.{step_line, link_line, learn_line, ldp_line, hear_line, hear_ldp_line, hear_bgp_line, bgp_line, route_line}
+use Rattle.mn_script.specs.Steps.{target_operands, import_line, export_line, site_line, inject_line, frame_operands, carry_line, lose_line}
 use Rattle.mn_script.specs.Spelled.{node_text, vrf_text, site_text, from_text, to_text, AskForStep}
 use Rattle.mn_script.specs.declared.command.Command.{Command}
 use Rattle.mn_script.specs.declared.command.Command.TheVariants as command
 use Rattle.mn_script.specs.declared.command.Show.{Show}
 use Rattle.mn_script.specs.declared.command.Show.TheVariants as table
-use Rattle.mn_script.specs.Lines.{run_line, bounded_drain, drain_line, flush_line, plain_show, show_tree, show_vrf, show_line, do_line, table_line, command_line, line_says}
+use Rattle.mn_script.specs.Lines.{run_line, bounded_drain, drain_line, flush_line, plain_show, show_tree, show_vrf, show_line, do_line, table_line}
+use Rattle.mn_script.specs.Lines.{command_line, line_says}
 use Rattle.mn_script.specs.Spelled.{show_words, AskFor}
 
 -- 1. Chains of rules
@@ -78,7 +82,9 @@ counted_only ws n u h = eqb-true (length ws) n (if_ok (length ws == n) tt u Wron
 
 choice_only : (ws : List (List ℕ)) (one other : List ℕ) (b : Bool) → choice ws one other ≡ Ok b → word_at ws 1 ≡ (if b then one else other)
 choice_only ws one other b h = chosen (length ws == 1) (is_word ws 1 one) (is_word ws 1 other) b (word_is ws 1 one) (word_is ws 1 other) h where
-  chosen : (alone first second : Bool) (b : Bool) → (first ≡ true → word_at ws 1 ≡ one) → (second ≡ true → word_at ws 1 ≡ other) → (if alone then Err WrongCount else if first then Ok true else if second then Ok false else Err UnknownWord) ≡ Ok b → word_at ws 1 ≡ (if b then one else other)
+  chosen : (alone first second : Bool) (b : Bool) → (first ≡ true → word_at ws 1 ≡ one) → (second ≡ true → word_at ws 1 ≡ other) →
+      (if alone then Err WrongCount else if first then Ok true else if second then Ok false else Err UnknownWord) ≡ Ok b →
+      word_at ws 1 ≡ (if b then one else other)
   chosen true first second b is_one is_other h = cc
   chosen false true second true is_one is_other h = is_one refl
   chosen false true second false is_one is_other h = cc
@@ -104,7 +110,8 @@ four_words (a ∷ b ∷ c ∷ d ∷ e ∷ ws) h = absurd (omega arith)
 of_three : (ws : List (List ℕ)) (a b c : List ℕ) → length ws ≡ 3 → word_at ws 0 ≡ a → word_at ws 1 ≡ b → word_at ws 2 ≡ c → ws ≡ a ∷ b ∷ c ∷ []
 of_three ws a b c n p q r = let all = three_words ws n in cc
 
-of_four : (ws : List (List ℕ)) (a b c d : List ℕ) → length ws ≡ 4 → word_at ws 0 ≡ a → word_at ws 1 ≡ b → word_at ws 2 ≡ c → word_at ws 3 ≡ d → ws ≡ a ∷ b ∷ c ∷ d ∷ []
+of_four : (ws : List (List ℕ)) (a b c d : List ℕ) → length ws ≡ 4 → word_at ws 0 ≡ a → word_at ws 1 ≡ b → word_at ws 2 ≡ c → word_at ws 3 ≡ d →
+    ws ≡ a ∷ b ∷ c ∷ d ∷ []
 of_four ws a b c d n p q r s = let all = four_words ws n in cc
 
 -- 3. What words name
@@ -132,21 +139,26 @@ vrf_only network w vrf h = text_of network.vrf_names w vrf.0 (vrf_of _ vrf (or_o
 site_only : (network : Network) (w : List ℕ) (site : SiteNo) → site_in network w ≡ Ok site → w ≡ site_text network site
 site_only network w site h = text_of network.site_names w site.0 (site_of _ site (or_ok NoSuchName _ site h))
 
-link_leads : (network : Network) (m n : ℕ) (found : LinkNo × Dir) (o : Option ℕ) → position (joins m n) network.links ≡ o → ◌≡◌ {A = Option (LinkNo × Dir)} (option_map (λ l. (record { 0 = l }, direction_from m (link_numbered network l))) o) (Some found) → Leads network m n found.0.0 found.1
+link_leads : (network : Network) (m n : ℕ) (found : LinkNo × Dir) (o : Option ℕ) → position (joins m n) network.links ≡ o →
+    ◌≡◌ {A = Option (LinkNo × Dir)} (option_map (λ l. (record { 0 = l }, direction_from m (link_numbered network l))) o) (Some found) →
+    Leads network m n found.0.0 found.1
 link_leads network m n found None e h = cc
 link_leads network m n found (Some l) e h =
     let same : ◌≡◌ {A = LinkNo × Dir} (record { 0 = l }, direction_from m (link_numbered network l)) found = same_Some _ _ h in
     subst (λ f. Leads network m n f.0.0 f.1) same (leads network m n l e)
 
-ends_only : (network : Network) (a b : List ℕ) (found : LinkNo × Dir) → link_in network a b ≡ Ok found → (a ≡ from_text network found.0 found.1) × (b ≡ to_text network found.0 found.1)
+ends_only : (network : Network) (a b : List ℕ) (found : LinkNo × Dir) → link_in network a b ≡ Ok found →
+    (a ≡ from_text network found.0 found.1) × (b ≡ to_text network found.0 found.1)
 unfolding link_in
 ends_only network a b found h =
     let m = bind_ok (node_in network a) _ found h in
     let n = bind_ok (node_in network b) _ found m.2 in
     let way = link_leads network m.0.0 n.0.0 found _ refl (or_ok NotLinked _ found n.2) in
-    (node_only network a m.0 m.1 ∙ ap (λ k. slice_index_or network.node_names k []) (sym way.from), node_only network b n.0 n.1 ∙ ap (λ k. slice_index_or network.node_names k []) (sym way.to))
+    (node_only network a m.0 m.1 ∙ ap (λ k. slice_index_or network.node_names k []) (sym way.from), node_only network b n.0 n.1
+        ∙ ap (λ k. slice_index_or network.node_names k []) (sym way.to))
 
-edges_only : (network : Network) (a b : List ℕ) (pair : NodeNo × NodeNo) → edges_in network a b ≡ Ok pair → (a ≡ node_text network pair.0) × (b ≡ node_text network pair.1)
+edges_only : (network : Network) (a b : List ℕ) (pair : NodeNo × NodeNo) → edges_in network a b ≡ Ok pair →
+    (a ≡ node_text network pair.0) × (b ≡ node_text network pair.1)
 unfolding edges_in
 edges_only network a b pair h =
     let m = bind_ok (node_in network a) _ pair h in
@@ -191,7 +203,9 @@ target_in_only : (w : List ℕ) (target : Rt) → target_in w ≡ Ok target → 
 target_in_only w target h = pair_text_only 0x0002 0x0102 w target.0 (λ e. absurd (omega (arith, e))) (target_of _ target (or_ok BadNumber _ target h))
 
 -- 4. The lines that name a step
-link_asked : (network : Network) (ws : List (List ℕ)) (step : Step) (on : Bool) (link : LinkNo) (direction : Dir) → (if on then LinkUp link else LinkDown link) ≡ step → ws ≡ codes "link" ∷ (if on then codes "up" else codes "down") ∷ from_text network link direction ∷ to_text network link direction ∷ [] → AskForStep network ws step
+link_asked : (network : Network) (ws : List (List ℕ)) (step : Step) (on : Bool) (link : LinkNo) (direction : Dir) →
+    (if on then LinkUp link else LinkDown link) ≡ step → ws ≡ codes "link" ∷ (if on then codes "up" else codes "down") ∷ from_text network link direction
+    ∷ to_text network link direction ∷ [] → AskForStep network ws step
 link_asked network ws step true link Forth same whole = subst (AskForStep network ws) same (inl whole)
 link_asked network ws step true link Back same whole = subst (AskForStep network ws) same (inr whole)
 link_asked network ws step false link Forth same whole = subst (AskForStep network ws) same (inl whole)
@@ -207,11 +221,13 @@ link_only network ws step first h =
     link_asked network ws step on.0 found.0.0 found.0.1 (same_Ok _ step found.2)
     (of_four ws (codes "link") _ _ _ (counted_only ws 4 full.0 full.1) first (choice_only ws (codes "up") (codes "down") on.0 on.1) ends.0 ends.1)
 
-learn_asked : (network : Network) (ws : List (List ℕ)) (step : Step) (node : NodeNo) (link : LinkNo) (direction : Dir) → Learn node link ≡ step → ws ≡ codes "learn" ∷ node_text network node ∷ from_text network link direction ∷ to_text network link direction ∷ [] → AskForStep network ws step
+learn_asked : (network : Network) (ws : List (List ℕ)) (step : Step) (node : NodeNo) (link : LinkNo) (direction : Dir) → Learn node link ≡ step →
+    ws ≡ codes "learn" ∷ node_text network node ∷ from_text network link direction ∷ to_text network link direction ∷ [] → AskForStep network ws step
 learn_asked network ws step node link Forth same whole = subst (AskForStep network ws) same (inl whole)
 learn_asked network ws step node link Back same whole = subst (AskForStep network ws) same (inr whole)
 
-learn_only : (network : Network) (ws : List (List ℕ)) (step : Step) → word_at ws 0 ≡ codes "learn" → learn_line network ws ≡ Ok step → AskForStep network ws step
+learn_only : (network : Network) (ws : List (List ℕ)) (step : Step) → word_at ws 0 ≡ codes "learn" → learn_line network ws ≡ Ok step →
+    AskForStep network ws step
 unfolding learn_line
 learn_only network ws step first h =
     let full = bind_ok (counted ws 4) _ step h in
@@ -221,7 +237,9 @@ learn_only network ws step first h =
     learn_asked network ws step node.0 found.0.0 found.0.1 (same_Ok _ step found.2)
     (of_four ws (codes "learn") _ _ _ (counted_only ws 4 full.0 full.1) first (node_only network (word_at ws 1) node.0 node.1) ends.0 ends.1)
 
-ldp_asked : (network : Network) (ws : List (List ℕ)) (step : Step) (on : Bool) (link : LinkNo) (direction : Dir) → LdpAdmin link on ≡ step → ws ≡ codes "ldp" ∷ (if on then codes "on" else codes "off") ∷ from_text network link direction ∷ to_text network link direction ∷ [] → AskForStep network ws step
+ldp_asked : (network : Network) (ws : List (List ℕ)) (step : Step) (on : Bool) (link : LinkNo) (direction : Dir) → LdpAdmin link on ≡ step →
+    ws ≡ codes "ldp" ∷ (if on then codes "on" else codes "off") ∷ from_text network link direction ∷ to_text network link direction ∷ [] →
+    AskForStep network ws step
 ldp_asked network ws step true link Forth same whole = subst (AskForStep network ws) same (inl whole)
 ldp_asked network ws step true link Back same whole = subst (AskForStep network ws) same (inr whole)
 ldp_asked network ws step false link Forth same whole = subst (AskForStep network ws) same (inl whole)
@@ -237,21 +255,27 @@ ldp_only network ws step first h =
     ldp_asked network ws step on.0 found.0.0 found.0.1 (same_Ok _ step found.2)
     (of_four ws (codes "ldp") _ _ _ (counted_only ws 4 full.0 full.1) first (choice_only ws (codes "on") (codes "off") on.0 on.1) ends.0 ends.1)
 
-hear_ldp_only : (network : Network) (ws : List (List ℕ)) (step : Step) → length ws ≡ 4 → word_at ws 0 ≡ codes "hear" → word_at ws 1 ≡ codes "ldp" → hear_ldp_line network ws ≡ Ok step → AskForStep network ws step
+hear_ldp_only : (network : Network) (ws : List (List ℕ)) (step : Step) → length ws ≡ 4 → word_at ws 0 ≡ codes "hear" → word_at ws 1 ≡ codes "ldp" →
+    hear_ldp_line network ws ≡ Ok step → AskForStep network ws step
 unfolding hear_ldp_line
 hear_ldp_only network ws step four first second h =
     let found = bind_ok (link_in network (word_at ws 2) (word_at ws 3)) _ step h in
     let ends = ends_only network (word_at ws 2) (word_at ws 3) found.0 found.1 in
-    subst (AskForStep network ws) (same_Ok (HearLdp found.0.0 found.0.1) step found.2) (inl (of_four ws (codes "hear") (codes "ldp") _ _ four first second ends.0 ends.1))
+    subst (AskForStep network ws) (same_Ok (HearLdp found.0.0 found.0.1) step found.2)
+        (inl (of_four ws (codes "hear") (codes "ldp") _ _ four first second ends.0 ends.1))
 
-hear_bgp_only : (network : Network) (ws : List (List ℕ)) (step : Step) → length ws ≡ 4 → word_at ws 0 ≡ codes "hear" → word_at ws 1 ≡ codes "bgp" → hear_bgp_line network ws ≡ Ok step → AskForStep network ws step
+hear_bgp_only : (network : Network) (ws : List (List ℕ)) (step : Step) → length ws ≡ 4 → word_at ws 0 ≡ codes "hear" → word_at ws 1 ≡ codes "bgp" →
+    hear_bgp_line network ws ≡ Ok step → AskForStep network ws step
 unfolding hear_bgp_line
 hear_bgp_only network ws step four first second h =
     let found = bind_ok (edges_in network (word_at ws 2) (word_at ws 3)) _ step h in
     let edges = edges_only network (word_at ws 2) (word_at ws 3) found.0 found.1 in
-    subst (AskForStep network ws) (same_Ok (HearBgp found.0.0 found.0.1) step found.2) (inl (of_four ws (codes "hear") (codes "bgp") _ _ four first second edges.0 edges.1))
+    subst (AskForStep network ws) (same_Ok (HearBgp found.0.0 found.0.1) step found.2)
+        (inl (of_four ws (codes "hear") (codes "bgp") _ _ four first second edges.0 edges.1))
 
-hear_either : (network : Network) (ws : List (List ℕ)) (step : Step) (ldp : Bool) → length ws ≡ 4 → word_at ws 0 ≡ codes "hear" → word_at ws 1 ≡ (if ldp then codes "ldp" else codes "bgp") → (if ldp then hear_ldp_line network ws else hear_bgp_line network ws) ≡ Ok step → AskForStep network ws step
+hear_either : (network : Network) (ws : List (List ℕ)) (step : Step) (ldp : Bool) → length ws ≡ 4 → word_at ws 0 ≡ codes "hear" →
+    word_at ws 1 ≡ (if ldp then codes "ldp" else codes "bgp") → (if ldp then hear_ldp_line network ws else hear_bgp_line network ws) ≡ Ok step →
+    AskForStep network ws step
 hear_either network ws step true four first second h = hear_ldp_only network ws step four first second h
 hear_either network ws step false four first second h = hear_bgp_only network ws step four first second h
 
@@ -263,33 +287,43 @@ hear_only network ws step first h =
     hear_either network ws step ldp.0 (counted_only ws 4 full.0 full.1) first (choice_only ws (codes "ldp") (codes "bgp") ldp.0 ldp.1) full.2
 
 -- two nodes in the order of their numbers, which is that of the words or the other
-bgp_up_asked : (network : Network) (ws : List (List ℕ)) (one other : NodeNo) → ws ≡ codes "bgp" ∷ codes "up" ∷ node_text network one ∷ node_text network other ∷ [] → AskForStep network ws (BgpUp (lesser one other) (greater one other))
+bgp_up_asked : (network : Network) (ws : List (List ℕ)) (one other : NodeNo) →
+    ws ≡ codes "bgp" ∷ codes "up" ∷ node_text network one ∷ node_text network other ∷ [] →
+    AskForStep network ws (BgpUp (lesser one other) (greater one other))
 bgp_up_asked network ws one other whole =
     elim (cases_lt one.0 other.0) as (λ _. AskForStep network ws (BgpUp (lesser one other) (greater one other))) [
       | inl before ↦
           let low : one.0 ≡ min one.0 other.0 = omega arith in
           let high : other.0 ≡ max one.0 other.0 = omega arith in
-          inl (whole ∙ ap (λ n. codes "bgp" ∷ codes "up" ∷ slice_index_or network.node_names n [] ∷ node_text network other ∷ []) low ∙ ap (λ n. codes "bgp" ∷ codes "up" ∷ node_text network (lesser one other) ∷ slice_index_or network.node_names n [] ∷ []) high)
+          inl (whole ∙ ap (λ n. codes "bgp" ∷ codes "up" ∷ slice_index_or network.node_names n [] ∷ node_text network other ∷ []) low
+              ∙ ap (λ n. codes "bgp" ∷ codes "up" ∷ node_text network (lesser one other) ∷ slice_index_or network.node_names n [] ∷ []) high)
       | inr after ↦
           let high : one.0 ≡ max one.0 other.0 = omega arith in
           let low : other.0 ≡ min one.0 other.0 = omega arith in
-          inr (whole ∙ ap (λ n. codes "bgp" ∷ codes "up" ∷ slice_index_or network.node_names n [] ∷ node_text network other ∷ []) high ∙ ap (λ n. codes "bgp" ∷ codes "up" ∷ node_text network (greater one other) ∷ slice_index_or network.node_names n [] ∷ []) low)
+          inr (whole ∙ ap (λ n. codes "bgp" ∷ codes "up" ∷ slice_index_or network.node_names n [] ∷ node_text network other ∷ []) high
+              ∙ ap (λ n. codes "bgp" ∷ codes "up" ∷ node_text network (greater one other) ∷ slice_index_or network.node_names n [] ∷ []) low)
     ]
 
-bgp_down_asked : (network : Network) (ws : List (List ℕ)) (one other : NodeNo) → ws ≡ codes "bgp" ∷ codes "down" ∷ node_text network one ∷ node_text network other ∷ [] → AskForStep network ws (BgpDown (lesser one other) (greater one other))
+bgp_down_asked : (network : Network) (ws : List (List ℕ)) (one other : NodeNo) →
+    ws ≡ codes "bgp" ∷ codes "down" ∷ node_text network one ∷ node_text network other ∷ [] →
+    AskForStep network ws (BgpDown (lesser one other) (greater one other))
 bgp_down_asked network ws one other whole =
     elim (cases_lt one.0 other.0) as (λ _. AskForStep network ws (BgpDown (lesser one other) (greater one other))) [
       | inl before ↦
           let low : one.0 ≡ min one.0 other.0 = omega arith in
           let high : other.0 ≡ max one.0 other.0 = omega arith in
-          inl (whole ∙ ap (λ n. codes "bgp" ∷ codes "down" ∷ slice_index_or network.node_names n [] ∷ node_text network other ∷ []) low ∙ ap (λ n. codes "bgp" ∷ codes "down" ∷ node_text network (lesser one other) ∷ slice_index_or network.node_names n [] ∷ []) high)
+          inl (whole ∙ ap (λ n. codes "bgp" ∷ codes "down" ∷ slice_index_or network.node_names n [] ∷ node_text network other ∷ []) low
+              ∙ ap (λ n. codes "bgp" ∷ codes "down" ∷ node_text network (lesser one other) ∷ slice_index_or network.node_names n [] ∷ []) high)
       | inr after ↦
           let high : one.0 ≡ max one.0 other.0 = omega arith in
           let low : other.0 ≡ min one.0 other.0 = omega arith in
-          inr (whole ∙ ap (λ n. codes "bgp" ∷ codes "down" ∷ slice_index_or network.node_names n [] ∷ node_text network other ∷ []) high ∙ ap (λ n. codes "bgp" ∷ codes "down" ∷ node_text network (greater one other) ∷ slice_index_or network.node_names n [] ∷ []) low)
+          inr (whole ∙ ap (λ n. codes "bgp" ∷ codes "down" ∷ slice_index_or network.node_names n [] ∷ node_text network other ∷ []) high
+              ∙ ap (λ n. codes "bgp" ∷ codes "down" ∷ node_text network (greater one other) ∷ slice_index_or network.node_names n [] ∷ []) low)
     ]
 
-bgp_asked : (network : Network) (ws : List (List ℕ)) (step : Step) (up : Bool) (one other : NodeNo) → (if up then BgpUp (lesser one other) (greater one other) else BgpDown (lesser one other) (greater one other)) ≡ step → ws ≡ codes "bgp" ∷ (if up then codes "up" else codes "down") ∷ node_text network one ∷ node_text network other ∷ [] → AskForStep network ws step
+bgp_asked : (network : Network) (ws : List (List ℕ)) (step : Step) (up : Bool) (one other : NodeNo) →
+    (if up then BgpUp (lesser one other) (greater one other) else BgpDown (lesser one other) (greater one other)) ≡ step →
+    ws ≡ codes "bgp" ∷ (if up then codes "up" else codes "down") ∷ node_text network one ∷ node_text network other ∷ [] → AskForStep network ws step
 bgp_asked network ws step true one other same whole = subst (AskForStep network ws) same (bgp_up_asked network ws one other whole)
 bgp_asked network ws step false one other same whole = subst (AskForStep network ws) same (bgp_down_asked network ws one other whole)
 
@@ -303,11 +337,14 @@ bgp_only network ws step first h =
     bgp_asked network ws step up.0 found.0.0 found.0.1 (same_Ok _ step found.2)
     (of_four ws (codes "bgp") _ _ _ (counted_only ws 4 full.0 full.1) first (choice_only ws (codes "up") (codes "down") up.0 up.1) edges.0 edges.1)
 
-route_asked : (network : Network) (ws : List (List ℕ)) (step : Step) (add : Bool) (site : SiteNo) (prefix : AddressBlock) → (if add then AddRoute site prefix else DelRoute site prefix) ≡ step → ws ≡ codes "route" ∷ (if add then codes "add" else codes "del") ∷ site_text network site ∷ prefix_text prefix ∷ [] → AskForStep network ws step
+route_asked : (network : Network) (ws : List (List ℕ)) (step : Step) (add : Bool) (site : SiteNo) (prefix : AddressBlock) →
+    (if add then AddRoute site prefix else DelRoute site prefix) ≡ step →
+    ws ≡ codes "route" ∷ (if add then codes "add" else codes "del") ∷ site_text network site ∷ prefix_text prefix ∷ [] → AskForStep network ws step
 route_asked network ws step true site prefix same whole = subst (AskForStep network ws) same (inl whole)
 route_asked network ws step false site prefix same whole = subst (AskForStep network ws) same (inl whole)
 
-route_only : (network : Network) (ws : List (List ℕ)) (step : Step) → word_at ws 0 ≡ codes "route" → route_line network ws ≡ Ok step → AskForStep network ws step
+route_only : (network : Network) (ws : List (List ℕ)) (step : Step) → word_at ws 0 ≡ codes "route" → route_line network ws ≡ Ok step →
+    AskForStep network ws step
 unfolding route_line
 route_only network ws step first h =
     let add = bind_ok (choice ws (codes "add") (codes "del")) _ step h in
@@ -315,13 +352,16 @@ route_only network ws step first h =
     let prefix = bind_ok (prefix_in (word_at ws 3)) _ step full.2 in
     let site = bind_ok (site_in network (word_at ws 2)) _ step prefix.2 in
     route_asked network ws step add.0 site.0 prefix.0 (same_Ok _ step site.2)
-    (of_four ws (codes "route") _ _ _ (counted_only ws 4 full.0 full.1) first (choice_only ws (codes "add") (codes "del") add.0 add.1) (site_only network (word_at ws 2) site.0 site.1) (prefix_in_only (word_at ws 3) prefix.0 prefix.1))
+    (of_four ws (codes "route") _ _ _ (counted_only ws 4 full.0 full.1) first (choice_only ws (codes "add") (codes "del") add.0 add.1)
+        (site_only network (word_at ws 2) site.0 site.1) (prefix_in_only (word_at ws 3) prefix.0 prefix.1))
 
-import_asked : (network : Network) (ws : List (List ℕ)) (step : Step) (add : Bool) (vrf : VrfNo) (target : Rt) → Import vrf target add ≡ step → ws ≡ codes "import" ∷ (if add then codes "add" else codes "del") ∷ vrf_text network vrf ∷ rt_text target ∷ [] → AskForStep network ws step
+import_asked : (network : Network) (ws : List (List ℕ)) (step : Step) (add : Bool) (vrf : VrfNo) (target : Rt) → Import vrf target add ≡ step →
+    ws ≡ codes "import" ∷ (if add then codes "add" else codes "del") ∷ vrf_text network vrf ∷ rt_text target ∷ [] → AskForStep network ws step
 import_asked network ws step add vrf target same whole = subst (AskForStep network ws) same (inl whole)
 
 -- what is read as the operands of a target is their words
-target_only : (network : Network) (ws : List (List ℕ)) (first : List ℕ) (found : VrfNo × Rt × Bool) → word_at ws 0 ≡ first → target_operands network ws ≡ Ok found
+target_only : (network : Network) (ws : List (List ℕ)) (first : List ℕ) (found : VrfNo × Rt × Bool) → word_at ws 0 ≡ first →
+    target_operands network ws ≡ Ok found
     → ws ≡ first ∷ (if found.2 then codes "add" else codes "del") ∷ vrf_text network found.0 ∷ rt_text found.1 ∷ []
 unfolding target_operands
 target_only network ws first found begins h =
@@ -336,42 +376,51 @@ target_only network ws first found begins h =
     (same_Ok (vrf.0, target.0, add.0) found vrf.2)
     (of_four ws first _ _ _ (counted_only ws 4 full.0 full.1) begins chosen named valued)
 
-import_only : (network : Network) (ws : List (List ℕ)) (step : Step) → word_at ws 0 ≡ codes "import" → import_line network ws ≡ Ok step → AskForStep network ws step
+import_only : (network : Network) (ws : List (List ℕ)) (step : Step) → word_at ws 0 ≡ codes "import" → import_line network ws ≡ Ok step →
+    AskForStep network ws step
 unfolding import_line
 import_only network ws step first h =
     let found = bind_ok (target_operands network ws) _ step h in
     import_asked network ws step found.0.2 found.0.0 found.0.1 (same_Ok _ step found.2) (target_only network ws (codes "import") found.0 first found.1)
 
-export_asked : (network : Network) (ws : List (List ℕ)) (step : Step) (add : Bool) (vrf : VrfNo) (target : Rt) → Export vrf target add ≡ step → ws ≡ codes "export" ∷ (if add then codes "add" else codes "del") ∷ vrf_text network vrf ∷ rt_text target ∷ [] → AskForStep network ws step
+export_asked : (network : Network) (ws : List (List ℕ)) (step : Step) (add : Bool) (vrf : VrfNo) (target : Rt) → Export vrf target add ≡ step →
+    ws ≡ codes "export" ∷ (if add then codes "add" else codes "del") ∷ vrf_text network vrf ∷ rt_text target ∷ [] → AskForStep network ws step
 export_asked network ws step add vrf target same whole = subst (AskForStep network ws) same (inl whole)
 
-export_only : (network : Network) (ws : List (List ℕ)) (step : Step) → word_at ws 0 ≡ codes "export" → export_line network ws ≡ Ok step → AskForStep network ws step
+export_only : (network : Network) (ws : List (List ℕ)) (step : Step) → word_at ws 0 ≡ codes "export" → export_line network ws ≡ Ok step →
+    AskForStep network ws step
 unfolding export_line
 export_only network ws step first h =
     let found = bind_ok (target_operands network ws) _ step h in
     export_asked network ws step found.0.2 found.0.0 found.0.1 (same_Ok _ step found.2) (target_only network ws (codes "export") found.0 first found.1)
 
-site_asked : (network : Network) (ws : List (List ℕ)) (step : Step) (up : Bool) (site : SiteNo) → (if up then Attach site else Detach site) ≡ step → ws ≡ codes "site" ∷ (if up then codes "up" else codes "down") ∷ site_text network site ∷ [] → AskForStep network ws step
+site_asked : (network : Network) (ws : List (List ℕ)) (step : Step) (up : Bool) (site : SiteNo) →
+    (if up then Attach site else Detach site) ≡ step → ws ≡ codes "site" ∷ (if up then codes "up" else codes "down") ∷ site_text network site ∷ [] →
+    AskForStep network ws step
 site_asked network ws step true site same whole = subst (AskForStep network ws) same (inl whole)
 site_asked network ws step false site same whole = subst (AskForStep network ws) same (inl whole)
 
-site_line_only : (network : Network) (ws : List (List ℕ)) (step : Step) → word_at ws 0 ≡ codes "site" → site_line network ws ≡ Ok step → AskForStep network ws step
+site_line_only : (network : Network) (ws : List (List ℕ)) (step : Step) → word_at ws 0 ≡ codes "site" → site_line network ws ≡ Ok step →
+    AskForStep network ws step
 unfolding site_line
 site_line_only network ws step first h =
     let up = bind_ok (choice ws (codes "up") (codes "down")) _ step h in
     let full = bind_ok (counted ws 3) _ step up.2 in
     let site = bind_ok (site_in network (word_at ws 2)) _ step full.2 in
     site_asked network ws step up.0 site.0 (same_Ok _ step site.2)
-    (of_three ws (codes "site") _ _ (counted_only ws 3 full.0 full.1) first (choice_only ws (codes "up") (codes "down") up.0 up.1) (site_only network (word_at ws 2) site.0 site.1))
+    (of_three ws (codes "site") _ _ (counted_only ws 3 full.0 full.1) first (choice_only ws (codes "up") (codes "down") up.0 up.1)
+        (site_only network (word_at ws 2) site.0 site.1))
 
-inject_only : (network : Network) (ws : List (List ℕ)) (step : Step) → word_at ws 0 ≡ codes "inject" → inject_line network ws ≡ Ok step → AskForStep network ws step
+inject_only : (network : Network) (ws : List (List ℕ)) (step : Step) → word_at ws 0 ≡ codes "inject" → inject_line network ws ≡ Ok step →
+    AskForStep network ws step
 unfolding inject_line
 inject_only network ws step first h =
     let full = bind_ok (counted ws 3) _ step h in
     let number = bind_ok (number_in (word_at ws 2) 1 4294967295) _ step full.2 in
     let site = bind_ok (site_in network (word_at ws 1)) _ step number.2 in
     subst (AskForStep network ws) (same_Ok (Inject site.0 number.0) step site.2)
-    (inl (of_three ws (codes "inject") _ _ (counted_only ws 3 full.0 full.1) first (site_only network (word_at ws 1) site.0 site.1) (number_in_only (word_at ws 2) 1 4294967295 number.0 (lit< tt) number.1)))
+    (inl (of_three ws (codes "inject") _ _ (counted_only ws 3 full.0 full.1) first (site_only network (word_at ws 1) site.0 site.1)
+        (number_in_only (word_at ws 2) 1 4294967295 number.0 (lit< tt) number.1)))
 
 -- what is read as the operands of a frame is their words
 frame_only : (network : Network) (ws : List (List ℕ)) (first : List ℕ) (found : LinkNo × Dir × ℕ) → word_at ws 0 ≡ first → frame_operands network ws ≡ Ok found
@@ -387,7 +436,8 @@ frame_only network ws first found begins h =
     (same_Ok (link.0.0, link.0.1, place.0) found link.2)
     (of_four ws first _ _ _ (counted_only ws 4 full.0 full.1) begins ends.0 ends.1 numbered)
 
-carry_only : (network : Network) (ws : List (List ℕ)) (step : Step) → word_at ws 0 ≡ codes "carry" → carry_line network ws ≡ Ok step → AskForStep network ws step
+carry_only : (network : Network) (ws : List (List ℕ)) (step : Step) → word_at ws 0 ≡ codes "carry" → carry_line network ws ≡ Ok step →
+    AskForStep network ws step
 unfolding carry_line
 carry_only network ws step first h =
     let found = bind_ok (frame_operands network ws) _ step h in
@@ -424,19 +474,24 @@ step_only network ws step h0 =
                                         elim (either (is_word ws 0 (codes "import")) (import_line network ws) _ step h6) as (λ _. AskForStep network ws step) [
                                           | inl here ↦ import_only network ws step (word_is ws 0 (codes "import") here.0) here.1
                                           | inr h7 ↦
-                                              elim (either (is_word ws 0 (codes "export")) (export_line network ws) _ step h7) as (λ _. AskForStep network ws step) [
+                                              elim (either (is_word ws 0 (codes "export")) (export_line network ws) _ step h7) as
+                                                  (λ _. AskForStep network ws step) [
                                                 | inl here ↦ export_only network ws step (word_is ws 0 (codes "export") here.0) here.1
                                                 | inr h8 ↦
-                                                    elim (either (is_word ws 0 (codes "site")) (site_line network ws) _ step h8) as (λ _. AskForStep network ws step) [
+                                                    elim (either (is_word ws 0 (codes "site")) (site_line network ws) _ step h8) as
+                                                        (λ _. AskForStep network ws step) [
                                                       | inl here ↦ site_line_only network ws step (word_is ws 0 (codes "site") here.0) here.1
                                                       | inr h9 ↦
-                                                          elim (either (is_word ws 0 (codes "inject")) (inject_line network ws) _ step h9) as (λ _. AskForStep network ws step) [
+                                                          elim (either (is_word ws 0 (codes "inject")) (inject_line network ws) _ step h9) as
+                                                              (λ _. AskForStep network ws step) [
                                                             | inl here ↦ inject_only network ws step (word_is ws 0 (codes "inject") here.0) here.1
                                                             | inr h10 ↦
-                                                                elim (either (is_word ws 0 (codes "carry")) (carry_line network ws) _ step h10) as (λ _. AskForStep network ws step) [
+                                                                elim (either (is_word ws 0 (codes "carry")) (carry_line network ws) _ step h10) as
+                                                                    (λ _. AskForStep network ws step) [
                                                                   | inl here ↦ carry_only network ws step (word_is ws 0 (codes "carry") here.0) here.1
                                                                   | inr h11 ↦
-                                                                      elim (either (is_word ws 0 (codes "lose")) (lose_line network ws) _ step h11) as (λ _. AskForStep network ws step) [
+                                                                      elim (either (is_word ws 0 (codes "lose")) (lose_line network ws) _ step h11) as
+                                                                          (λ _. AskForStep network ws step) [
                                                                         | inl here ↦ lose_only network ws step (word_is ws 0 (codes "lose") here.0) here.1
                                                                         | inr h12 ↦
                                                                             cc
@@ -476,14 +531,16 @@ unfolding run_line
 run_only network ws asked first h =
     let full = bind_ok (counted ws 2) _ asked h in
     let ticks = bind_ok (number_in (word_at ws 1) 0 1000000) _ asked full.2 in
-    subst (AskFor network ws) (same_Ok (command.Run ticks.0) asked ticks.2) (of_two ws (codes "run") _ (counted_only ws 2 full.0 full.1) first (number_in_only (word_at ws 1) 0 1000000 ticks.0 (lit< tt) ticks.1))
+    subst (AskFor network ws) (same_Ok (command.Run ticks.0) asked ticks.2)
+        (of_two ws (codes "run") _ (counted_only ws 2 full.0 full.1) first (number_in_only (word_at ws 1) 0 1000000 ticks.0 (lit< tt) ticks.1))
 
 bounded_only : (network : Network) (ws : List (List ℕ)) (asked : Command) → word_at ws 0 ≡ codes "drain" → bounded_drain ws ≡ Ok asked → AskFor network ws asked
 unfolding bounded_drain
 bounded_only network ws asked first h =
     let full = bind_ok (counted ws 2) _ asked h in
     let steps = bind_ok (number_in (word_at ws 1) 0 4000000) _ asked full.2 in
-    subst (AskFor network ws) (same_Ok (command.Drain (Some steps.0)) asked steps.2) (of_two ws (codes "drain") _ (counted_only ws 2 full.0 full.1) first (number_in_only (word_at ws 1) 0 4000000 steps.0 (lit< tt) steps.1))
+    subst (AskFor network ws) (same_Ok (command.Drain (Some steps.0)) asked steps.2)
+        (of_two ws (codes "drain") _ (counted_only ws 2 full.0 full.1) first (number_in_only (word_at ws 1) 0 4000000 steps.0 (lit< tt) steps.1))
 
 drain_only : (network : Network) (ws : List (List ℕ)) (asked : Command) → word_at ws 0 ≡ codes "drain" → drain_line ws ≡ Ok asked → AskFor network ws asked
 unfolding drain_line
@@ -503,27 +560,34 @@ flush_only network ws asked first h =
 AsksToShow : Network → List (List ℕ) → Show → Type 0
 AsksToShow network ws what = ws ≡ show_words network what
 
-plain_asked : (network : Network) (ws : List (List ℕ)) (what shown : Show) (text : List ℕ) → word_at ws 0 ≡ codes "show" → word_at ws 1 ≡ text → show_words network what ≡ codes "show" ∷ text ∷ [] → plain_show ws what ≡ Ok shown → AsksToShow network ws shown
+plain_asked : (network : Network) (ws : List (List ℕ)) (what shown : Show) (text : List ℕ) → word_at ws 0 ≡ codes "show" → word_at ws 1 ≡ text →
+    show_words network what ≡ codes "show" ∷ text ∷ [] → plain_show ws what ≡ Ok shown → AsksToShow network ws shown
 unfolding AsksToShow plain_show
 plain_asked network ws what shown text first second spelled h =
     let full = bind_ok (counted ws 2) _ shown h in
-    subst (λ s. ws ≡ show_words network s) (same_Ok what shown full.2) (of_two ws (codes "show") text (counted_only ws 2 full.0 full.1) first second ∙ sym spelled)
+    subst (λ s. ws ≡ show_words network s) (same_Ok what shown full.2) (of_two ws (codes "show") text (counted_only ws 2 full.0 full.1) first second
+        ∙ sym spelled)
 
-tree_asked : (network : Network) (ws : List (List ℕ)) (shown : Show) → word_at ws 0 ≡ codes "show" → word_at ws 1 ≡ codes "tree" → show_tree network ws ≡ Ok shown → AsksToShow network ws shown
+tree_asked : (network : Network) (ws : List (List ℕ)) (shown : Show) → word_at ws 0 ≡ codes "show" → word_at ws 1 ≡ codes "tree" →
+    show_tree network ws ≡ Ok shown → AsksToShow network ws shown
 unfolding AsksToShow show_tree
 tree_asked network ws shown first second h =
     let full = bind_ok (counted ws 3) _ shown h in
     let node = bind_ok (node_in network (word_at ws 2)) _ shown full.2 in
-    subst (λ s. ws ≡ show_words network s) (same_Ok (table.Tree node.0) shown node.2) (of_three ws (codes "show") (codes "tree") _ (counted_only ws 3 full.0 full.1) first second (node_only network (word_at ws 2) node.0 node.1))
+    subst (λ s. ws ≡ show_words network s) (same_Ok (table.Tree node.0) shown node.2)
+        (of_three ws (codes "show") (codes "tree") _ (counted_only ws 3 full.0 full.1) first second (node_only network (word_at ws 2) node.0 node.1))
 
-vrf_asked : (network : Network) (ws : List (List ℕ)) (shown : Show) → word_at ws 0 ≡ codes "show" → word_at ws 1 ≡ codes "vrf" → show_vrf network ws ≡ Ok shown → AsksToShow network ws shown
+vrf_asked : (network : Network) (ws : List (List ℕ)) (shown : Show) → word_at ws 0 ≡ codes "show" → word_at ws 1 ≡ codes "vrf" →
+    show_vrf network ws ≡ Ok shown → AsksToShow network ws shown
 unfolding AsksToShow show_vrf
 vrf_asked network ws shown first second h =
     let full = bind_ok (counted ws 3) _ shown h in
     let vrf = bind_ok (vrf_in network (word_at ws 2)) _ shown full.2 in
-    subst (λ s. ws ≡ show_words network s) (same_Ok (table.Vrf vrf.0) shown vrf.2) (of_three ws (codes "show") (codes "vrf") _ (counted_only ws 3 full.0 full.1) first second (vrf_only network (word_at ws 2) vrf.0 vrf.1))
+    subst (λ s. ws ≡ show_words network s) (same_Ok (table.Vrf vrf.0) shown vrf.2)
+        (of_three ws (codes "show") (codes "vrf") _ (counted_only ws 3 full.0 full.1) first second (vrf_only network (word_at ws 2) vrf.0 vrf.1))
 
-show_only : (network : Network) (ws : List (List ℕ)) (shown : Show) → word_at ws 0 ≡ codes "show" → show_line network ws ≡ Ok shown → AsksToShow network ws shown
+show_only : (network : Network) (ws : List (List ℕ)) (shown : Show) → word_at ws 0 ≡ codes "show" → show_line network ws ≡ Ok shown →
+    AsksToShow network ws shown
 unfolding show_line
 show_only network ws shown first h =
     elim (either (length ws == 1) (Err WrongCount) _ shown h) as (λ _. AsksToShow network ws shown) [
@@ -544,8 +608,10 @@ show_only network ws shown first h =
                                   elim (either (is_word ws 1 (codes "vrf")) (show_vrf network ws) _ shown h5) as (λ _. AsksToShow network ws shown) [
                                     | inl here ↦ vrf_asked network ws shown first (word_is ws 1 (codes "vrf") here.0) here.1
                                     | inr h6 ↦
-                                        elim (either (is_word ws 1 (codes "flight")) (plain_show ws table.Flight) _ shown h6) as (λ _. AsksToShow network ws shown) [
-                                          | inl here ↦ plain_asked network ws table.Flight shown (codes "flight") first (word_is ws 1 (codes "flight") here.0) refl here.1
+                                        elim (either (is_word ws 1 (codes "flight")) (plain_show ws table.Flight) _ shown h6) as
+                                            (λ _. AsksToShow network ws shown) [
+                                          | inl here ↦ plain_asked network ws table.Flight shown (codes "flight") first
+                                              (word_is ws 1 (codes "flight") here.0) refl here.1
                                           | inr h7 ↦ absurd cc
                                         ]
                                   ]
@@ -555,7 +621,8 @@ show_only network ws shown first h =
           ]
     ]
 
-table_only : (network : Network) (ws : List (List ℕ)) (asked : Command) → word_at ws 0 ≡ codes "show" → table_line network ws ≡ Ok asked → AskFor network ws asked
+table_only : (network : Network) (ws : List (List ℕ)) (asked : Command) → word_at ws 0 ≡ codes "show" → table_line network ws ≡ Ok asked →
+    AskFor network ws asked
 unfolding table_line AsksToShow
 table_only network ws asked first h =
     let what = bind_ok (show_line network ws) _ asked h in
@@ -567,7 +634,8 @@ do_only network ws asked h =
     let step = bind_ok (step_line network ws) _ asked h in
     subst (AskFor network ws) (same_Ok (command.Do step.0) asked step.2) (step_only network ws step.0 step.1)
 
-some_said : (b : Bool) (r : Result Command ScriptRule) (asked : Command) → ◌≡◌ {A = Result (Option Command) ScriptRule} (if b then Ok None else (r >>= (λ found. Ok (Some found)))) (Ok (Some asked)) → r ≡ Ok asked
+some_said : (b : Bool) (r : Result Command ScriptRule) (asked : Command) →
+    ◌≡◌ {A = Result (Option Command) ScriptRule} (if b then Ok None else (r >>= (λ found. Ok (Some found)))) (Ok (Some asked)) → r ≡ Ok asked
 some_said true r asked h = cc
 some_said false (Ok found) asked h = let same : found ≡ asked = cc in ap Ok same
 some_said false (Err rule) asked h = cc
@@ -576,7 +644,8 @@ some_said false (Err rule) asked h = cc
 pub command_only : (network : Network) (ws : List (List ℕ)) (asked : Command) → line_says network ws ≡ Ok (Some asked) → AskFor network ws asked
 unfolding line_says command_line
 command_only network ws asked h =
-    elim (either (is_word ws 0 (codes "run")) (run_line ws) _ asked (some_said (length ws == 0) (command_line network ws) asked h)) as (λ _. AskFor network ws asked) [
+    elim (either (is_word ws 0 (codes "run")) (run_line ws) _ asked (some_said (length ws == 0) (command_line network ws) asked h)) as
+        (λ _. AskFor network ws asked) [
       | inl here ↦ run_only network ws asked (word_is ws 0 (codes "run") here.0) here.1
       | inr h1 ↦
           elim (either (is_word ws 0 (codes "drain")) (drain_line ws) _ asked h1) as (λ _. AskFor network ws asked) [

@@ -14,7 +14,9 @@ word_kept word next rest e h =
     ∙ ap (λ b. cond (not b) (word ∷ line_words next) []) h
 
 -- a word that is found stands after those before it
-pub word_joins : (found new : List (Bor (List ℕ))) (word : Bor (List ℕ)) (next rest line : List ℕ) → new ≡ found ++ word ∷ [] → words rest ≡ word.now ∷ words next → is_comment word.now ≡ false → texts found ++ line_words rest ≡ line_words line → texts new ++ line_words next ≡ line_words line
+pub word_joins : (found new : List (Bor (List ℕ))) (word : Bor (List ℕ)) (next rest line : List ℕ) → new ≡ found ++ word ∷ [] →
+    words rest ≡ word.now ∷ words next → is_comment word.now ≡ false → texts found ++ line_words rest ≡ line_words line →
+    texts new ++ line_words next ≡ line_words line
 word_joins found new word next rest line pushed first plain before =
     ap (λ ws. texts ws ++ line_words next) pushed
     ∙ ap (λ ws. ws ++ line_words next) (map-append (λ (w : Bor (List ℕ)). w.now) found (word ∷ []))

@@ -1,5 +1,5 @@
 -- Each step of a lawful journal keeps that each edge has told what it exports.
-use Rattle.std.proofs.Common.{ℕ, zero, suc, ◌≡◌, ◌≢◌, ◌+◌, ◌<◌, ◌≤◌, ◌⊎◌, inl, inr, Bool, true, false, cond, List, [], ◌∷◌, ◌++◌, map, filter, length, refl}
+use Rattle.std.proofs.Common.{ℕ, zero, suc, ◌≡◌, ◌≢◌, ◌+◌, ◌<◌, ◌≤◌, ◌⊎◌, inl, inr, Bool, true, false, cond, List, [], ◌∷◌, ◌++◌, map, length, refl}
 use Rattle.std.proofs.Common.{arith, sym, ◌∙◌, ap, subst, append-nil}
 use Rattle.std.specs.Prelude.{◌==◌, ◌&&◌, nat_le, slice_index_or}
 use Rattle.std.specs.List.{flat_map, range_with_len}
@@ -15,14 +15,14 @@ use Rattle.mn_ledger.specs.Turns.{PeersAreInTurn}
 use Rattle.mn_ledger.specs.Tables.{put_pair}
 use Rattle.mn_ledger.specs.Places.{edges}
 use Rattle.mn_ledger.specs.World.{SiteRoute, Config, Export, Telling, Open, Alive, Announce, Unreach, Peerings, World}
-use Rattle.mn_ledger.specs.Vpn.{Told, is_between, tellings_of, told_to, peers_live, state_heard, is_established, exports_of, reply, changed, steady_peers, news}
+use Rattle.mn_ledger.specs.Vpn.{Told, tellings_of, told_to, peers_live, state_heard, is_established, exports_of, reply, changed, steady_peers, news}
 use Rattle.mn_ledger.specs.Vpn.{anew, counted, with_told, peerings_after, believed_from}
 use Rattle.mn_ledger.specs.Ledger.{config_after, after}
 use Rattle.mn_ledger.specs.Packets.{Packets}
 use Rattle.mn_ledger.specs.Refusal.{is_empty}
 use Rattle.mn_ledger.proofs.Members.{In, in_filter, filter_in, in_front}
 use Rattle.mn_ledger.proofs.GoingBy.{or_both, not_false, above, pair_here, pair_off}
-use Rattle.mn_ledger.proofs.Peers.{IsPeerNth, peer-nth, tellings-append, same_test, other_test, and_off, AreInOrder, Which, which, live_sym, state_alive}
+use Rattle.mn_ledger.proofs.Peers.{IsPeerNth, peer-nth, tellings-append, same_test, other_test, and_off, AreInOrder, Which, which, live_sym, state_alive, pick}
 use Rattle.mn_ledger.proofs.Statics.{HasStatics}
 use Rattle.mn_ledger.proofs.Saying.{IsOnce, once-range, once-filter}
 use Rattle.mn_settled.proofs.Changes.{AreSame, AreKept, changes-believed, announced-all, exports-kept, exports-different, believed-append}
@@ -31,11 +31,6 @@ pub use Rattle.mn_ledger.proofs.Peers.{told-own}
 pub use Rattle.mn_ledger.proofs.Peers.{told-other}
 
 -- 1. What one edge tells one peer, of all that is told
-
-pick : (a b : ℕ) (x : Told) (xs : List Told) (on : Bool) → is_between a b x ≡ on
-    → tellings_of a b (x ∷ xs) ≡ cond on (x.telling ∷ tellings_of a b xs) (tellings_of a b xs)
-pick a b x xs true h = ap (λ o. map (λ (told : Told). told.telling) (cond o (x ∷ filter (is_between a b) xs) (filter (is_between a b) xs))) h
-pick a b x xs false h = ap (λ o. map (λ (told : Told). told.telling) (cond o (x ∷ filter (is_between a b) xs) (filter (is_between a b) xs))) h
 
 abbrev to_each : ℕ → List ℕ → Telling → List Told
 to_each e peers telling = map (λ peer. record { teller = e; peer = peer; telling = telling }) peers

@@ -5,7 +5,6 @@ use Rattle.std.specs.Prelude.{◌==◌, ◌&&◌, ◌||◌, not, nat_le, is_some
 use Rattle.std.specs.List.{flat_map}
 use Rattle.std.proofs.lemmas.Bool.Decides.{eqb_tells, leb_tells}
 use Rattle.std.proofs.lemmas.List.{take-append-le}
-use Rattle.std.proofs.lemmas.List.FromFn.{get_or-map-range_with_len}
 use Rattle.mn_base.proofs.Bools.{two_ways, and_off_left, not_on, clash}
 use Rattle.mn_base.specs.Wiring.{Wiring, View, nodes_of, is_end, across, receiver, JoinsNodes, EndsDiffer}
 use Rattle.mn_base.specs.Paths.{IsNext, next}
@@ -19,7 +18,7 @@ use Rattle.mn_topo.specs.declared.steps.Step.TheVariants.{LinkUp, LinkDown, Lear
 use Rattle.mn_topo.specs.declared.steps.JournalEntry.{JournalEntry}
 use Rattle.mn_ledger.specs.Tables.{put, put_pair}
 use Rattle.mn_ledger.specs.World.{World, Config, Views, Sessions, Message, Initialization, KeepAlive, Withdraw}
-use Rattle.mn_ledger.specs.Transport.{Said, Hearing, Knowledge, lives, knowledge_of, hearing, hearing_at, is_operational, is_mapped, usable_over, usable_by}
+use Rattle.mn_ledger.specs.Transport.{Said, Hearing, Knowledge, lives, knowledge_of, hearing, is_operational, is_mapped, usable_over, usable_by}
 use Rattle.mn_ledger.specs.Transport.{offers, said_on, messages_of, answer, opening, replies, news, ends_first, speakers, counted, with_said, sessions_after}
 use Rattle.mn_ledger.specs.Transport.{views_after}
 use Rattle.mn_ledger.specs.Packets.{Packets, packets_after}
@@ -35,6 +34,7 @@ use Rattle.mn_ledger.specs.Turns.{IsInTurn, EndsAreInTurn}
 use Rattle.mn_ledger.proofs.InTurn.{goes_step, begins, not_empty, link_there}
 use Rattle.mn_settled.specs.Offers.{SaysItsOffers}
 use Rattle.mn_settled.proofs.Mapped.{mapped-append, mapped-said, speaks, range_in}
+pub use Rattle.mn_ledger.proofs.Quiet.{hearing-is}
 
 -- 1. Replies mention no FEC
 
@@ -70,12 +70,6 @@ plain_replies x p l m t c s (HearLdp at dir) = plain_on x p l m at.0 (receiver (
 plain_replies x p l m t c s _ = refl
 
 -- 2. What is said in a step is not heard in it
-
-pub hearing-is : (w : Wiring) (c : Config) (v : Views) (s : Sessions) (node l : ℕ) → l < length w.ends
-    → hearing (knowledge_of w c v s node) l ≡ hearing_at w c s node l
-unfolding knowledge_of
-hearing-is w c v s node l h =
-    get_or-map-range_with_len (hearing_at w c s node) 0 (length w.ends) l l (record { alive = false; count = 0; messages = [] }) h (omega arith)
 
 over-same : (w : Wiring) (view : View) (one other : Knowledge) (m p : ℕ) (o : Option (ℕ × ℕ)) → IsNext w view m p o
     → ((l : ℕ) → l < length w.ends → is_end w l m ≡ true → hearing one l ≡ hearing other l) → usable_over one p o ≡ usable_over other p o

@@ -1,5 +1,6 @@
 -- The links at each node, found one after another.
-use Rattle.std.proofs.Common.{ℕ, ◌≡◌, ◌≢◌, ◌+◌, ◌<◌, ◌≤◌, ◌==◌, true, false, List, [], ◌∷◌, ◌++◌, length, get_or, set, replicate, arith, sym, ◌∙◌, ap, ◌⊎◌, inl, inr, subst, get_or-set_other, get_or-set_same}
+use Rattle.std.proofs.Common.{ℕ, ◌≡◌, ◌≢◌, ◌+◌, ◌<◌, ◌≤◌, ◌==◌, true, false, List, [], ◌∷◌, ◌++◌, length, get_or, set, replicate, arith, sym, ◌∙◌, ap, ◌⊎◌}
+use Rattle.std.proofs.Common.{inl, inr, subst, get_or-set_other, get_or-set_same}
 use Rattle.std.specs.Prelude.{All, Contains}
 use Rattle.std.proofs.lemmas.Bool.{eqb-true, lt-ltb, cases_lt}
 use Rattle.std.proofs.lemmas.Bool.Decides.{eqb_tells}
@@ -28,7 +29,8 @@ pub record AreBelow (v : Learned) (k : ℕ) (lists : List (List LinkNo)) : Type 
 abbrev pub put : List (List LinkNo) → ℕ → LinkNo → List (List LinkNo)
 put lists m x = set lists m (get_or lists m [] ++ x ∷ [])
 
-put_each : (v : Learned) (lists : List (List LinkNo)) (m node : ℕ) (x : LinkNo) → m < length lists → goes v m x.0 ≡ true → All (λ l. goes v node l.0 ≡ true) (get_or lists node []) → All (λ l. goes v node l.0 ≡ true) (get_or (put lists m x) node [])
+put_each : (v : Learned) (lists : List (List LinkNo)) (m node : ℕ) (x : LinkNo) → m < length lists → goes v m x.0 ≡ true →
+    All (λ l. goes v node l.0 ≡ true) (get_or lists node []) → All (λ l. goes v node l.0 ≡ true) (get_or (put lists m x) node [])
 put_each v lists m node x p g h =
     elim (eqb_tells node m) [
       | inl e ↦ subst (λ n. All (λ l. goes v n l.0 ≡ true) (get_or (put lists m x) n [])) (sym e.1)
@@ -37,7 +39,8 @@ put_each v lists m node x p g h =
       | inr e ↦ subst (All (λ l. goes v node l.0 ≡ true)) (sym (get_or-set_other lists m node (get_or lists m [] ++ x ∷ []) [] e.1)) h
     ]
 
-put_has : (lists : List (List LinkNo)) (m node : ℕ) (x y : LinkNo) → m < length lists → Contains (get_or lists node []) y → Contains (get_or (put lists m x) node []) y
+put_has : (lists : List (List LinkNo)) (m node : ℕ) (x y : LinkNo) → m < length lists → Contains (get_or lists node []) y →
+    Contains (get_or (put lists m x) node []) y
 put_has lists m node x y p h =
     elim (eqb_tells node m) [
       | inl e ↦ subst (λ n. Contains (get_or (put lists m x) n []) y) (sym e.1)
@@ -57,7 +60,8 @@ module _ (v : Learned) where
   none_below lists n e q =
       record {
         one_each = ap (λ (ls : List (List LinkNo)). length ls) e ∙ length-replicate n _ ∙ q;
-        at = λ node p. subst (AreLinksBelow v 0 node) (sym (ap (λ (ls : List (List LinkNo)). get_or ls node []) e ∙ get_or-replicate n node [] [] (omega (arith, p, q))))
+        at = λ node p. subst (AreLinksBelow v 0 node)
+            (sym (ap (λ (ls : List (List LinkNo)). get_or ls node []) e ∙ get_or-replicate n node [] [] (omega (arith, p, q))))
             (record { each = All-nil (λ l. goes v node l.0 ≡ true); all = λ l p g. absurd (nothing l p) });
       }
     where
@@ -96,17 +100,22 @@ module _ (v : Learned) where
         | inr e ↦ inr (sym (is_b ∙ eqb-true _ _ e))
       ]
 
-      pub up_below : (lists : List (List LinkNo)) → a < length lists → b < length lists → AreBelow v k lists → AreBelow v (k + 1) (put (put lists a (number k)) b (number k))
+      pub up_below : (lists : List (List LinkNo)) → a < length lists → b < length lists → AreBelow v k lists →
+          AreBelow v (k + 1) (put (put lists a (number k)) b (number k))
       up_below lists p q h =
           record {
             one_each = length-set _ b _ ∙ length-set lists a _ ∙ h.one_each;
             at = λ node r. record {
               each = put_each v (put lists a (number k)) b node (number k) q' goes_b (put_each v lists a node (number k) p goes_a (h.at node r).each);
               all = λ l t g. elim (last_or_before l k t) [
-                | inl u ↦ put_has (put lists a (number k)) b node (number k) (number l) q' (put_has lists a node (number k) (number l) p ((h.at node r).all l u g))
-                | inr u ↦ subst (λ n. Contains (get_or (put (put lists a (number k)) b (number k)) node []) (number n)) (sym u) (elim (ends_alone node (subst (λ n. goes v node n ≡ true) u g)) [
-                  | inl w ↦ subst (λ n. Contains (get_or (put (put lists a (number k)) b (number k)) n []) (number k)) (sym w) (put_has (put lists a (number k)) b a (number k) (number k) q' (put_new lists a (number k) p))
-                  | inr w ↦ subst (λ n. Contains (get_or (put (put lists a (number k)) b (number k)) n []) (number k)) (sym w) (put_new (put lists a (number k)) b (number k) q')
+                | inl u ↦ put_has (put lists a (number k)) b node (number k) (number l) q'
+                    (put_has lists a node (number k) (number l) p ((h.at node r).all l u g))
+                | inr u ↦ subst (λ n. Contains (get_or (put (put lists a (number k)) b (number k)) node []) (number n)) (sym u)
+                    (elim (ends_alone node (subst (λ n. goes v node n ≡ true) u g)) [
+                  | inl w ↦ subst (λ n. Contains (get_or (put (put lists a (number k)) b (number k)) n []) (number k)) (sym w)
+                      (put_has (put lists a (number k)) b a (number k) (number k) q' (put_new lists a (number k) p))
+                  | inr w ↦ subst (λ n. Contains (get_or (put (put lists a (number k)) b (number k)) n []) (number k)) (sym w)
+                      (put_new (put lists a (number k)) b (number k) q')
                 ])
               ];
             };
@@ -117,4 +126,5 @@ module _ (v : Learned) where
 
   pub all_below : (k : ℕ) (lists : List (List LinkNo)) → length v.ends ≤ k → AreBelow v k lists → AreLinks v lists
   all_below k lists p h =
-      record { one_each = h.one_each; at = λ node q. record { each = (h.at node q).each; all = λ l g. (h.at node q).all l (omega (arith, p, (goes_at v node l g).there)) g } }
+      record { one_each = h.one_each; at =
+          λ node q. record { each = (h.at node q).each; all = λ l g. (h.at node q).all l (omega (arith, p, (goes_at v node l g).there)) g } }

@@ -1,5 +1,6 @@
 -- The steps of the search keep what holds between them.
-use Rattle.std.proofs.Common.{ℕ, ◌≡◌, ◌≢◌, ◌+◌, ◌*◌, ◌<◌, ◌≤◌, ◌==◌, Bool, true, false, cond, List, [], ◌∷◌, length, get_or, set, replicate, refl, arith, sym, ◌∙◌, ap, ◌⊎◌, inl, inr, subst, get_or-set_other, get_or-set_same}
+use Rattle.std.proofs.Common.{ℕ, ◌≡◌, ◌≢◌, ◌+◌, ◌*◌, ◌<◌, ◌≤◌, ◌==◌, Bool, true, false, cond, List, [], ◌∷◌, length, get_or, set, replicate, refl, arith}
+use Rattle.std.proofs.Common.{sym, ◌∙◌, ap, ◌⊎◌, inl, inr, subst, get_or-set_other, get_or-set_same}
 use Rattle.std.specs.Prelude.{Option, Some, None, if◌then◌else◌, not, nat_lt, count_by, All, Contains, MatchBool, IsPermutation}
 use Rattle.std.specs.declared.cmp.Ordering.{Ordering}
 use Rattle.std.specs.declared.cmp.Ordering.TheVariants.{Less, Equal, Greater}
@@ -9,7 +10,8 @@ use Rattle.std.specs.BinaryHeap.{IsHeap, PopsGreatest}
 use Rattle.std.proofs.lemmas.Bool.{eqb-true, ltb-true, ltb-false, cases_lt}
 use Rattle.std.proofs.lemmas.Bool.Decides.{eqb_tells}
 use Rattle.std.proofs.lemmas.List.{get_or-replicate, get_or_default, length-set, length-replicate}
-use Rattle.std.proofs.lemmas.List.Elements.{All-nil, All-cons, All-tail, All-head, All-contains, All-weaker, All-from_recursion, Contains-append_right, Contains-append_cases, Contains-push_cases}
+use Rattle.std.proofs.lemmas.List.Elements.{All-nil, All-cons, All-tail, All-head, All-contains, All-weaker, All-from_recursion, Contains-append_right}
+use Rattle.std.proofs.lemmas.List.Elements.{Contains-append_cases, Contains-push_cases}
 use Rattle.std.proofs.lemmas.List.Sorted.{All-permutation, Contains-permutation}
 use Rattle.std.proofs.lemmas.List.Sums.{sum_by-set, count_by-le-length}
 use Rattle.mn_base.proofs.Bools.{none_below, two_ways}
@@ -20,19 +22,21 @@ use Rattle.mn_linkdb.specs.Network.{IsNetwork}
 use Rattle.mn_linkdb.specs.Learned.{Learned}
 use Rattle.mn_linkdb.specs.PathTable.{PathTable, IsTable, dist_at, next_at, nothing_known, with_entries}
 use Rattle.mn_spf.specs.declared.way.Way.{Way}
-use Rattle.mn_spf.specs.Ways.{wiring_of, goes, beyond, IsWalked, rank, rank_of, rank_in, rank_at, worse_cmp, way_cmp, AtMost, beats, way_over, rank_over, AreLinksAt}
-use Rattle.mn_spf.specs.Search.{State, is_settled, unsettled, queued, IsFound, IsQueued, IsSearch, NoneOpen, AllOpen, OpenFrom, IsFollowed, Takes, Offers, IsDone}
+use Rattle.mn_spf.specs.Ways.{wiring_of, goes, beyond, IsWalked, rank, rank_of, rank_in, rank_at, worse_cmp, way_cmp, AtMost, beats, way_over, rank_over}
+use Rattle.mn_spf.specs.Ways.{AreLinksAt}
+use Rattle.mn_spf.specs.Search.{State, is_settled, unsettled, queued, IsFound, IsQueued, IsSearch, NoneOpen, AllOpen, OpenFrom, IsFollowed, Takes, Offers}
+use Rattle.mn_spf.specs.Search.{IsDone}
 use Rattle.mn_spf.proofs.Walks.{same_node, link_is, beyond_below, walked_on, walked_first}
 use Rattle.mn_spf.proofs.Best.{at_most_more, known_of, at_most_from}
 
 -- 1. Members of a queue
-contains_head : {X : Type 0} (x : X) (xs : List X) → Contains (x ∷ xs) x
+pub contains_head : {X : Type 0} (x : X) (xs : List X) → Contains (x ∷ xs) x
 contains_head x xs = (0, omega arith, refl)
 
-contains_tail : {X : Type 0} (y x : X) (xs : List X) → Contains xs x → Contains (y ∷ xs) x
+pub contains_tail : {X : Type 0} (y x : X) (xs : List X) → Contains xs x → Contains (y ∷ xs) x
 contains_tail y x xs h = Contains-append_right (y ∷ []) xs x h
 
-only_one : {X : Type 0} (y x : X) → Contains (y ∷ []) x → y ≡ x
+pub only_one : {X : Type 0} (y x : X) → Contains (y ∷ []) x → y ≡ x
 only_one y x h = elim (Contains-push_cases [] y x h) [ inl i ↦ absurd (none_below i.0 i.1) | inr e ↦ e ]
 
 contains_cases : {X : Type 0} (y x : X) (xs : List X) → Contains (y ∷ xs) x → (y ≡ x) ⊎ Contains xs x
@@ -51,7 +55,9 @@ one_less marks node p e =
     omega (arith, sum_by-set (λ b. cond (not b) 1 0) marks node true false p, f)
 
 -- 3. The order of ways
-lt_false : (p q r t : Bool) (o : Ordering) → is_lt (ordering_then (cond p Less (cond q Equal Greater)) (ordering_then (cond r Less (cond t Equal Greater)) o)) ≡ false → (p ≡ false) × (q ≡ true → r ≡ false)
+lt_false : (p q r t : Bool) (o : Ordering) →
+    is_lt (ordering_then (cond p Less (cond q Equal Greater)) (ordering_then (cond r Less (cond t Equal Greater)) o)) ≡ false →
+    (p ≡ false) × (q ≡ true → r ≡ false)
 lt_false true q r t o h = cc
 lt_false false true true t o h = cc
 lt_false false true false t o h = (refl, λ e. refl)
@@ -67,11 +73,11 @@ rank_by a b h fits =
     ]
 
 -- 4. What a better way is
-better_than : (r : ℕ) (o : Option ℕ) (most : ℕ) → beats r o ≡ true → AtMost o most → r ≤ most
+pub better_than : (r : ℕ) (o : Option ℕ) (most : ℕ) → beats r o ≡ true → AtMost o most → r ≤ most
 better_than r None most e h = absurd h
 better_than r (Some k) most e h = omega (arith, ltb-true r k e, h)
 
-no_better : (r : ℕ) (o : Option ℕ) → beats r o ≡ false → AtMost o r
+pub no_better : (r : ℕ) (o : Option ℕ) → beats r o ≡ false → AtMost o r
 no_better r None e = cc
 no_better r (Some k) e = ltb-false r k e
 
@@ -80,7 +86,8 @@ better_not r None most e h p = h
 better_not r (Some k) most e h p = omega (arith, ltb-true r k e, h, p)
 
 -- 5. The way over a link
-rank_chosen : (b : Bool) (cost c hop far : ℕ) → (b ≡ true → (cost ≡ 0) × (hop ≡ 0)) → rank (cost + c) (if b then far else hop) ≡ (if b then rank c far else rank cost hop + 65536 * c)
+pub rank_chosen : (b : Bool) (cost c hop far : ℕ) →
+    (b ≡ true → (cost ≡ 0) × (hop ≡ 0)) → rank (cost + c) (if b then far else hop) ≡ (if b then rank c far else rank cost hop + 65536 * c)
 rank_chosen true cost c hop far z = omega (arith, (z refl).0)
 rank_chosen false cost c hop far z = omega arith
 
@@ -88,7 +95,7 @@ no_lower : (b : Bool) (cost c hop far : ℕ) → (b ≡ true → (cost ≡ 0) ×
 no_lower true cost c hop far z = omega (arith, (z refl).0, (z refl).1)
 no_lower false cost c hop far z = omega arith
 
-hop_fits : (b : Bool) (far hop : ℕ) → far < 65536 → hop < 65536 → (if b then far else hop) < 65536
+pub hop_fits : (b : Bool) (far hop : ℕ) → far < 65536 → hop < 65536 → (if b then far else hop) < 65536
 hop_fits true far hop p q = p
 hop_fits false far hop p q = q
 
@@ -120,7 +127,8 @@ module _ (v : Learned) (root : ℕ) (net : IsNetwork v.nodes v.ends) (here : roo
   over_fits : (s : State) (way : Way) (l : ℕ) → IsFollowed v root s way → goes v way.to l ≡ true → (over way l).hop < 65536
   over_fits s way l f g = hop_fits (way.to == root) _ way.hop (omega (arith, beyond_below v net way.to l g, net.few_nodes)) f.fits
 
-  over_walked : (s : State) (way : Way) (l : ℕ) → IsFollowed v root s way → goes v way.to l ≡ true → IsWalked v root (over way l).to (over way l).cost (over way l).hop
+  over_walked : (s : State) (way : Way) (l : ℕ) → IsFollowed v root s way → goes v way.to l ≡ true →
+      IsWalked v root (over way l).to (over way l).cost (over way l).hop
   over_walked s way l f g =
       elim (eqb_tells way.to root) [
         | inl e ↦ subst (IsWalked v root (over way l).to (over way l).cost) (chosen_true (way.to == root) (beyond v way.to l) way.hop e.0)
@@ -134,7 +142,8 @@ module _ (v : Learned) (root : ℕ) (net : IsNetwork v.nodes v.ends) (here : roo
       ]
 
   -- 6. Which links are open
-  still : (at : ℕ) (links : List LinkNo) (i node l : ℕ) → OpenFrom at links i node l → OpenFrom at links (i + 1) node l ⊎ ((node ≡ at) × (i < length links) × ((get_or links i (record { 0 = l })).0 ≡ l))
+  still : (at : ℕ) (links : List LinkNo) (i node l : ℕ) → OpenFrom at links i node l →
+      OpenFrom at links (i + 1) node l ⊎ ((node ≡ at) × (i < length links) × ((get_or links i (record { 0 = l })).0 ≡ l))
   still at links i node l o =
       elim (cases_lt i o.1) [
         | inl p ↦ inl (o.0, o.1, omega (arith, p), o.3, o.4)
@@ -148,13 +157,15 @@ module _ (v : Learned) (root : ℕ) (net : IsNetwork v.nodes v.ends) (here : roo
   same_known : {a b : ℕ} (o : Option ℕ) → o ≡ Some a → o ≡ Some b → a ≡ b
   same_known o e f = same_node (sym e ∙ f)
 
-  relaxed_here : (t : PathTable) (at l k : ℕ) → IsRelaxed v root t at k l → (node m known : ℕ) → node ≡ at → m ≡ l → rank_at t node ≡ Some known → rank_at t at ≡ Some k → IsRelaxed v root t node known m
+  relaxed_here : (t : PathTable) (at l k : ℕ) → IsRelaxed v root t at k l →
+      (node m known : ℕ) → node ≡ at → m ≡ l → rank_at t node ≡ Some known → rank_at t at ≡ Some k → IsRelaxed v root t node known m
   relaxed_here t at l k h node m known p q r s =
       let e : known ≡ k = same_known (rank_at t at) (ap (rank_at t) (sym p) ∙ r) s in
       subst (λ n. IsRelaxed v root t n known m) (sym p) (subst (λ n. IsRelaxed v root t at known n) (sym q) (subst (λ n. IsRelaxed v root t at n l) (sym e) h))
 
   -- 7. A way is offered
-  module _ (s : State) (way : Way) (links : List LinkNo) (i l : ℕ) (h : IsSearch v root (OpenFrom way.to links i) (rank_of way) s) (f : IsFollowed v root s way) (g : goes v way.to l ≡ true) (is : i < length links → (d : LinkNo) → (get_or links i d).0 ≡ l) where
+  module _ (s : State) (way : Way) (links : List LinkNo) (i l : ℕ) (h : IsSearch v root (OpenFrom way.to links i) (rank_of way) s)
+      (f : IsFollowed v root s way) (g : goes v way.to l ≡ true) (is : i < length links → (d : LinkNo) → (get_or links i d).0 ≡ l) where
     abbrev new : Way
     new = over way l
 
@@ -179,7 +190,9 @@ module _ (v : Learned) (root : ℕ) (net : IsNetwork v.nodes v.ends) (here : roo
               elim (h.relaxed node m known p e x r) [
                 | inl o ↦ elim (still way.to links i node m o) [
                   | inl o ↦ inl o
-                  | inr o ↦ inr (relaxed_here s.table way.to l (rank_of way) (subst (AtMost (rank_at s.table new.to)) (over_rank s way l f) (no_better _ _ worse)) node m known o.0 (it_is m o.1 o.2) r f.known)
+                  | inr o ↦ inr
+                      (relaxed_here s.table way.to l (rank_of way) (subst (AtMost (rank_at s.table new.to)) (over_rank s way l f) (no_better _ _ worse))
+                      node m known o.0 (it_is m o.1 o.2) r f.known)
                 ]
                 | inr a ↦ inr a
               ];
@@ -195,10 +208,13 @@ module _ (v : Learned) (root : ℕ) (net : IsNetwork v.nodes v.ends) (here : roo
           better_not _ _ _ better (h.done new.to to_below (subst (λ n. is_settled s n ≡ true) q e)) (over_higher s way l f)
 
       dist_to : dist_at s'.table new.to ≡ Some new.cost
-      dist_to = ap (λ table. dist_at table new.to) t.table ∙ get_or-set_same s.table.dists new.to (Some new.cost) None (omega (arith, h.one_each.dists, to_below))
+      dist_to =
+          ap (λ table. dist_at table new.to) t.table ∙ get_or-set_same s.table.dists new.to (Some new.cost) None (omega (arith, h.one_each.dists, to_below))
 
       next_to : next_at s'.table new.to ≡ Some (record { 0 = new.hop })
-      next_to = ap (λ table. next_at table new.to) t.table ∙ get_or-set_same s.table.nexts new.to (Some (record { 0 = new.hop })) None (omega (arith, h.one_each.nexts, to_below))
+      next_to =
+          ap (λ table. next_at table new.to) t.table
+          ∙ get_or-set_same s.table.nexts new.to (Some (record { 0 = new.hop })) None (omega (arith, h.one_each.nexts, to_below))
 
       dist_off : (node : ℕ) → node ≢ new.to → dist_at s'.table node ≡ dist_at s.table node
       dist_off node q = ap (λ table. dist_at table node) t.table ∙ get_or-set_other s.table.dists new.to node (Some new.cost) None q
@@ -231,7 +247,8 @@ module _ (v : Learned) (root : ℕ) (net : IsNetwork v.nodes v.ends) (here : roo
 
       queued_still : (w : Way) → IsQueued v root (rank_of way) s w → IsQueued v root (rank_of way) s' w
       queued_still w q =
-          record { there = q.there; fits = q.fits; found = q.found; not_better = q.not_better; not_worse = lower w.to (rank_of w) q.not_worse; bounded = omega (arith, q.bounded, count_same) }
+          record { there = q.there; fits = q.fits; found = q.found; not_better = q.not_better; not_worse = lower w.to (rank_of w) q.not_worse; bounded =
+              omega (arith, q.bounded, count_same) }
 
       queued_new : IsQueued v root (rank_of way) s' new
       queued_new =
@@ -278,16 +295,23 @@ module _ (v : Learned) (root : ℕ) (net : IsNetwork v.nodes v.ends) (here : roo
                 elim (h.relaxed node m known p e' x (sym (rank_off node (settled_other node p e')) ∙ r)) [
                   | inl o ↦ elim (still way.to links i node m o) [
                     | inl o ↦ inl o
-                    | inr o ↦ inr (relaxed_here s'.table way.to l (rank_of way) (at_most_from _ _ _ rank_to (omega (arith, over_rank s way l f))) node m known o.0 (it_is m o.1 o.2) r known_still)
+                    | inr o ↦ inr
+                        (relaxed_here s'.table way.to l (rank_of way) (at_most_from _ _ _ rank_to (omega (arith, over_rank s way l f))) node m known o.0
+                        (it_is m o.1 o.2) r known_still)
                   ]
                   | inr a ↦ inr (lower _ _ a)
                 ];
             waiting = λ node known p e r.
                 elim (eqb_tells node new.to) [
-                  | inl q ↦ (new, Contains-permutation _ _ _ t.queue (contains_head (queued new) s.queue), sym q.1, same_known (rank_at s'.table new.to) rank_to (ap (rank_at s'.table) (sym q.1) ∙ r))
-                  | inr q ↦ (let w = h.waiting node known p (sym (mark_same node) ∙ e) (sym (rank_off node q.1) ∙ r) in (w.0, Contains-permutation _ _ _ t.queue (contains_tail (queued new) _ _ w.1), w.2, w.3))
+                  | inl q ↦
+                      (new, Contains-permutation _ _ _ t.queue (contains_head (queued new) s.queue), sym q.1, same_known (rank_at s'.table new.to) rank_to
+                      (ap (rank_at s'.table) (sym q.1) ∙ r))
+                  | inr q ↦ (let w = h.waiting node known p (sym (mark_same node) ∙ e) (sym (rank_off node q.1) ∙ r) in
+                      (w.0, Contains-permutation _ _ _ t.queue (contains_tail (queued new) _ _ w.1), w.2, w.3))
                 ];
-            ways = All-permutation (λ w. IsQueued v root (rank_of way) s' w.0) _ _ t.queue (All-cons (λ w. IsQueued v root (rank_of way) s' w.0) _ _ queued_new (All-weaker (λ w. IsQueued v root (rank_of way) s w.0) (λ w. IsQueued v root (rank_of way) s' w.0) (λ w. queued_still w.0) _ h.ways));
+            ways = All-permutation (λ w. IsQueued v root (rank_of way) s' w.0) _ _ t.queue
+                (All-cons (λ w. IsQueued v root (rank_of way) s' w.0) _ _ queued_new
+                (All-weaker (λ w. IsQueued v root (rank_of way) s w.0) (λ w. IsQueued v root (rank_of way) s' w.0) (λ w. queued_still w.0) _ h.ways));
             ordered = t.ordered h.ordered;
           }
 
@@ -302,7 +326,8 @@ module _ (v : Learned) (root : ℕ) (net : IsNetwork v.nodes v.ends) (here : roo
             bounded = omega (arith, f.bounded, count_same);
           }
 
-    offered_as : (b : Bool) (s' : State) → beats (rank_of new) (rank_at s.table new.to) ≡ b → MatchBool b (Takes s s' new) (s' ≡ s) → IsSearch v root (OpenFrom way.to links (i + 1)) (rank_of way) s' × IsFollowed v root s' way
+    offered_as : (b : Bool) (s' : State) → beats (rank_of new) (rank_at s.table new.to) ≡ b → MatchBool b (Takes s s' new) (s' ≡ s) →
+        IsSearch v root (OpenFrom way.to links (i + 1)) (rank_of way) s' × IsFollowed v root s' way
     offered_as true s' e t = (taken s' e t, followed_still s' e t)
     offered_as false s' e t = subst (λ z. IsSearch v root (OpenFrom way.to links (i + 1)) (rank_of way) z × IsFollowed v root z way) (sym t) (kept e, f)
 
@@ -311,11 +336,13 @@ module _ (v : Learned) (root : ℕ) (net : IsNetwork v.nodes v.ends) (here : roo
     count_as false s' t = ap unsettled t
 
     -- the link at the next place is followed
-    pub offered : (s' : State) → Offers s s' new → IsSearch v root (OpenFrom way.to links (i + 1)) (rank_of way) s' × IsFollowed v root s' way × (unsettled s' ≡ unsettled s)
+    pub offered : (s' : State) → Offers s s' new → IsSearch v root (OpenFrom way.to links (i + 1)) (rank_of way) s' × IsFollowed v root s' way
+        × (unsettled s' ≡ unsettled s)
     offered s' o = (let a = offered_as _ s' refl o in (a.0, a.1, count_as _ s' o))
 
   -- the links at the node are those of the list
-  pub opened : (at limit : ℕ) (links : List LinkNo) (s : State) → AreLinksAt v at links → IsSearch v root (AllOpen at) limit s → IsSearch v root (OpenFrom at links 0) limit s
+  pub opened : (at limit : ℕ) (links : List LinkNo) (s : State) → AreLinksAt v at links → IsSearch v root (AllOpen at) limit s →
+      IsSearch v root (OpenFrom at links 0) limit s
   opened at limit links s a h =
       record {
         one_each = h.one_each;
@@ -338,7 +365,8 @@ module _ (v : Learned) (root : ℕ) (net : IsNetwork v.nodes v.ends) (here : roo
   past_the_end : (k i n : ℕ) → i ≤ k → k < n → n ≤ i → ⊥
   past_the_end k i n p q r = omega (arith, p, q, r)
 
-  pub closed : (at limit i : ℕ) (links : List LinkNo) (s : State) → length links ≤ i → IsSearch v root (OpenFrom at links i) limit s → IsSearch v root NoneOpen limit s
+  pub closed : (at limit i : ℕ) (links : List LinkNo) (s : State) → length links ≤ i → IsSearch v root (OpenFrom at links i) limit s →
+      IsSearch v root NoneOpen limit s
   closed at limit i links s p h =
       record {
         one_each = h.one_each;
@@ -359,27 +387,36 @@ module _ (v : Learned) (root : ℕ) (net : IsNetwork v.nodes v.ends) (here : roo
       }
 
   -- 8. The start
-  module _ (s : State) (table : s.table ≡ with_entries (nothing_known v.nodes) root (Some 0) None) (marks : s.settled ≡ set (replicate v.nodes false) root true) (empty : s.queue ≡ []) (ordered : IsHeap worse_cmp s.queue) where
+  module _ (s : State) (table : s.table ≡ with_entries (nothing_known v.nodes) root (Some 0) None)
+      (marks : s.settled ≡ set (replicate v.nodes false) root true) (empty : s.queue ≡ []) (ordered : IsHeap worse_cmp s.queue) where
     blank : (node : ℕ) → node ≢ root → node < v.nodes → is_settled s node ≡ false
-    blank node q p = ap (λ m. get_or m node false) marks ∙ get_or-set_other (replicate v.nodes false) root node true false q ∙ get_or-replicate v.nodes node false false p
+    blank node q p =
+        ap (λ m. get_or m node false) marks ∙ get_or-set_other (replicate v.nodes false) root node true false q
+        ∙ get_or-replicate v.nodes node false false p
 
     root_marked : is_settled s root ≡ true
-    root_marked = ap (λ m. get_or m root false) marks ∙ get_or-set_same (replicate v.nodes false) root true false (omega (arith, here, length-replicate v.nodes false))
+    root_marked =
+        ap (λ m. get_or m root false) marks
+        ∙ get_or-set_same (replicate v.nodes false) root true false (omega (arith, here, length-replicate v.nodes false))
 
     dist_root : dist_at s.table root ≡ Some 0
-    dist_root = ap (λ t. dist_at t root) table ∙ get_or-set_same (replicate v.nodes None) root (Some 0) None (omega (arith, here, length-replicate v.nodes (no_number)))
+    dist_root =
+        ap (λ t. dist_at t root) table
+        ∙ get_or-set_same (replicate v.nodes None) root (Some 0) None (omega (arith, here, length-replicate v.nodes (no_number)))
       where
         no_number : Option ℕ
         no_number = None
 
     dist_none : (node : ℕ) → node ≢ root → node < v.nodes → dist_at s.table node ≡ None
-    dist_none node q p = ap (λ t. dist_at t node) table ∙ get_or-set_other (replicate v.nodes None) root node (Some 0) None q ∙ get_or-replicate v.nodes node None None p
+    dist_none node q p =
+        ap (λ t. dist_at t node) table ∙ get_or-set_other (replicate v.nodes None) root node (Some 0) None q ∙ get_or-replicate v.nodes node None None p
 
     next_none : (node : ℕ) → node < v.nodes → next_at s.table node ≡ None
     next_none node p =
         ap (λ t. next_at t node) table
         ∙ elim (eqb_tells node root) [
-          | inl e ↦ ap (λ n. get_or (set (replicate v.nodes no_hop) root no_hop) n no_hop) e.1 ∙ get_or-set_same (replicate v.nodes no_hop) root no_hop no_hop (omega (arith, here, length-replicate v.nodes no_hop))
+          | inl e ↦ ap (λ n. get_or (set (replicate v.nodes no_hop) root no_hop) n no_hop) e.1
+              ∙ get_or-set_same (replicate v.nodes no_hop) root no_hop no_hop (omega (arith, here, length-replicate v.nodes no_hop))
           | inr e ↦ get_or-set_other (replicate v.nodes no_hop) root node no_hop no_hop e.1 ∙ get_or-replicate v.nodes node no_hop no_hop p
         ]
       where
@@ -399,7 +436,8 @@ module _ (v : Learned) (root : ℕ) (net : IsNetwork v.nodes v.ends) (here : roo
           | inr e ↦ found_is node None None (dist_none node e.1 p) (next_none node p) refl
         ]
       where
-        found_is : (node : ℕ) (o : Option ℕ) (n : Option NodeNo) → dist_at s.table node ≡ o → next_at s.table node ≡ n → IsFound v root node o n → IsFound v root node (dist_at s.table node) (next_at s.table node)
+        found_is : (node : ℕ) (o : Option ℕ) (n : Option NodeNo) → dist_at s.table node ≡ o → next_at s.table node ≡ n → IsFound v root node o n →
+            IsFound v root node (dist_at s.table node) (next_at s.table node)
         found_is node o n e f a = subst (λ x. IsFound v root node x (next_at s.table node)) (sym e) (subst (λ x. IsFound v root node o x) (sym f) a)
 
     none_known : (known : ℕ) → ◌≡◌ {A = Option ℕ} None (Some known) → ⊥
@@ -430,16 +468,20 @@ module _ (v : Learned) (root : ℕ) (net : IsNetwork v.nodes v.ends) (here : roo
 
     few_left : unsettled s + 1 ≤ v.nodes
     few_left =
-        let e : count_by not (set (replicate v.nodes false) root true) + 1 ≡ count_by not (replicate v.nodes false) = one_less (replicate v.nodes false) root (omega (arith, here, length-replicate v.nodes false)) (get_or-replicate v.nodes root false false here) in
+        let e : count_by not (set (replicate v.nodes false) root true) + 1 ≡ count_by not (replicate v.nodes false) =
+            one_less (replicate v.nodes false) root (omega (arith, here, length-replicate v.nodes false))
+            (get_or-replicate v.nodes root false false here) in
         omega (arith, e, ap (count_by not) marks, count_by-le-length not (replicate v.nodes false), length-replicate v.nodes false)
 
     pub start_followed : IsFollowed v root s (record { cost = 0; hop = 0; to = root })
     start_followed =
-        record { there = here; fits = omega arith; settled = root_marked; known = rank_start; found = inl (refl, refl, refl); bounded = omega (arith, few_left) }
+        record { there = here; fits = omega arith; settled = root_marked; known = rank_start; found = inl (refl, refl, refl); bounded =
+            omega (arith, few_left) }
 
 -- 9. A way comes out of the queue
 module _ (v : Learned) (root : ℕ) where
-  module _ (s s' : State) (way : Way) (limit : ℕ) (h : IsSearch v root NoneOpen limit s) (moved : IsPermutation s.queue (queued way ∷ s'.queue)) (greatest : PopsGreatest worse_cmp s.queue (queued way) s'.queue) (table : s'.table ≡ s.table) where
+  module _ (s s' : State) (way : Way) (limit : ℕ) (h : IsSearch v root NoneOpen limit s) (moved : IsPermutation s.queue (queued way ∷ s'.queue))
+      (greatest : PopsGreatest worse_cmp s.queue (queued way) s'.queue) (table : s'.table ≡ s.table) where
     ways_moved : All (λ w. IsQueued v root limit s w.0) (queued way ∷ s'.queue)
     ways_moved = All-permutation (λ w. IsQueued v root limit s w.0) _ _ moved h.ways
 
@@ -480,10 +522,13 @@ module _ (v : Learned) (root : ℕ) where
           root_settled = mark_same root ∙ h.root_settled;
           found = found_same;
           done = λ node p e. subst (λ o. AtMost o limit) (sym (rank_same node)) (h.done node p (sym (mark_same node) ∙ e));
-          relaxed = λ node m known p e x r. subst (λ t. ⊥ ⊎ IsRelaxed v root t node known m) (sym table) (h.relaxed node m known p (sym (mark_same node) ∙ e) x (sym (rank_same node) ∙ r));
+          relaxed =
+              λ node m known p e x r. subst (λ t. ⊥ ⊎ IsRelaxed v root t node known m) (sym table)
+              (h.relaxed node m known p (sym (mark_same node) ∙ e) x (sym (rank_same node) ∙ r));
           waiting = λ node known p f r. (let w = h.waiting node known p (sym (mark_same node) ∙ f) (sym (rank_same node) ∙ r) in
               (w.0, waits w.0 w.1 (λ q. apart (sym e ∙ ap (is_settled s) (sym q ∙ w.2) ∙ sym (mark_same node) ∙ f)), w.2, w.3));
-          ways = All-weaker (λ w. IsQueued v root limit s w.0) (λ w. IsQueued v root limit s' w.0) (λ w. queued_same w.0) _ (All-tail (λ w. IsQueued v root limit s w.0) _ _ ways_moved);
+          ways = All-weaker (λ w. IsQueued v root limit s w.0) (λ w. IsQueued v root limit s' w.0) (λ w. queued_same w.0) _
+              (All-tail (λ w. IsQueued v root limit s w.0) _ _ ways_moved);
           ordered = (greatest h.ordered).0;
         }
       where
@@ -492,7 +537,8 @@ module _ (v : Learned) (root : ℕ) where
 
         queued_same : (w : Way) → IsQueued v root limit s w → IsQueued v root limit s' w
         queued_same w q =
-            record { there = q.there; fits = q.fits; found = q.found; not_better = q.not_better; not_worse = subst (λ o. AtMost o (rank_of w)) (sym (rank_same w.to)) q.not_worse; bounded = omega (arith, q.bounded, ap (count_by not) same) }
+            record { there = q.there; fits = q.fits; found = q.found; not_better = q.not_better; not_worse =
+                subst (λ o. AtMost o (rank_of w)) (sym (rank_same w.to)) q.not_worse; bounded = omega (arith, q.bounded, ap (count_by not) same) }
 
     -- its node isn't settled yet
     module _ (marks : s'.settled ≡ set s.settled way.to true) (free : is_settled s way.to ≡ false) where
@@ -510,7 +556,8 @@ module _ (v : Learned) (root : ℕ) where
 
       -- no way in the queue is better
       best : All (λ w. rank_of way ≤ rank_of w.0) s.queue
-      best = All-weaker (λ w. is_lt (worse_cmp (queued way) w) ≡ false) (λ w. rank_of way ≤ rank_of w.0) (λ w e. rank_by w.0 way e popped.fits) _ (All-from_recursion (λ w. is_lt (worse_cmp (queued way) w) ≡ false) _ (greatest h.ordered).1)
+      best = All-weaker (λ w. is_lt (worse_cmp (queued way) w) ≡ false) (λ w. rank_of way ≤ rank_of w.0) (λ w e. rank_by w.0 way e popped.fits) _
+          (All-from_recursion (λ w. is_lt (worse_cmp (queued way) w) ≡ false) _ (greatest h.ordered).1)
 
       best_left : All (λ w. rank_of way ≤ rank_of w.0) s'.queue
       best_left = All-tail (λ w. rank_of way ≤ rank_of w.0) _ _ (All-permutation (λ w. rank_of way ≤ rank_of w.0) _ _ moved best)
@@ -529,7 +576,8 @@ module _ (v : Learned) (root : ℕ) where
 
       queued_on : (w : Way) → IsQueued v root limit s w → rank_of way ≤ rank_of w → IsQueued v root (rank_of way) s' w
       queued_on w q b =
-          record { there = q.there; fits = q.fits; found = q.found; not_better = b; not_worse = subst (λ o. AtMost o (rank_of w)) (sym (rank_same w.to)) q.not_worse; bounded = omega (arith, q.bounded, one_settled) }
+          record { there = q.there; fits = q.fits; found = q.found; not_better = b; not_worse =
+              subst (λ o. AtMost o (rank_of w)) (sym (rank_same w.to)) q.not_worse; bounded = omega (arith, q.bounded, one_settled) }
 
       pub settles : IsSearch v root (AllOpen way.to) (rank_of way) s'
       settles =
@@ -543,19 +591,24 @@ module _ (v : Learned) (root : ℕ) where
             done = λ node p e.
                 elim (eqb_tells node way.to) [
                   | inl q ↦ at_most_from _ _ _ (rank_same node ∙ ap (rank_at s.table) q.1 ∙ known_here) (omega arith)
-                  | inr q ↦ subst (λ o. AtMost o (rank_of way)) (sym (rank_same node)) (at_most_more _ _ _ (h.done node p (sym (mark_off node q.1) ∙ e)) popped.not_better)
+                  | inr q ↦ subst (λ o. AtMost o (rank_of way)) (sym (rank_same node))
+                      (at_most_more _ _ _ (h.done node p (sym (mark_off node q.1) ∙ e)) popped.not_better)
                 ];
             relaxed = λ node m known p e x r.
                 elim (eqb_tells node way.to) [
                   | inl q ↦ inl q.1
-                  | inr q ↦ inr (subst (λ t. IsRelaxed v root t node known m) (sym table) (elim (h.relaxed node m known p (sym (mark_off node q.1) ∙ e) x (sym (rank_same node) ∙ r)) [ inl o ↦ absurd o | inr a ↦ a ]))
+                  | inr q ↦ inr
+                      (subst (λ t. IsRelaxed v root t node known m) (sym table)
+                      (elim (h.relaxed node m known p (sym (mark_off node q.1) ∙ e) x (sym (rank_same node) ∙ r)) [ inl o ↦ absurd o | inr a ↦ a ]))
                 ];
             waiting = λ node known p f r.
                 elim (eqb_tells node way.to) [
                   | inl q ↦ absurd (apart (sym mark_here ∙ ap (is_settled s') (sym q.1) ∙ f))
-                  | inr q ↦ (let w = h.waiting node known p (sym (mark_off node q.1) ∙ f) (sym (rank_same node) ∙ r) in (w.0, waits w.0 w.1 (λ e. q.1 (sym w.2 ∙ e)), w.2, w.3))
+                  | inr q ↦ (let w = h.waiting node known p (sym (mark_off node q.1) ∙ f) (sym (rank_same node) ∙ r) in
+                      (w.0, waits w.0 w.1 (λ e. q.1 (sym w.2 ∙ e)), w.2, w.3))
                 ];
-            ways = All-both (λ w. IsQueued v root limit s w.0) (λ w. rank_of way ≤ rank_of w.0) (λ w. queued_on w.0) _ (All-tail (λ w. IsQueued v root limit s w.0) _ _ ways_moved) best_left;
+            ways = All-both (λ w. IsQueued v root limit s w.0) (λ w. rank_of way ≤ rank_of w.0) (λ w. queued_on w.0) _
+                (All-tail (λ w. IsQueued v root limit s w.0) _ _ ways_moved) best_left;
             ordered = (greatest h.ordered).0;
           }
 

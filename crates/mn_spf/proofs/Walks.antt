@@ -40,7 +40,8 @@ module _ (v : Learned) (net : IsNetwork v.nodes v.ends) where
   beyond_below node l g = cond_below _ _ _ _ (link_is node l g).to (link_is node l g).from
 
 module _ (v : Learned) where
-  walk_on : (ls : List ℕ) (x u l : ℕ) → walk_end (wiring_of v) (links_up v) x ls ≡ Some u → goes v u l ≡ true → walk_end (wiring_of v) (links_up v) x (ls ++ l ∷ []) ≡ Some (beyond v u l)
+  walk_on : (ls : List ℕ) (x u l : ℕ) → walk_end (wiring_of v) (links_up v) x ls ≡ Some u → goes v u l ≡ true →
+      walk_end (wiring_of v) (links_up v) x (ls ++ l ∷ []) ≡ Some (beyond v u l)
   walk_on [] x u l w g =
       subst (λ y. cond (goes v y l) (Some (beyond v y l)) None ≡ Some (beyond v u l)) (sym (same_node w)) (rw g refl)
   walk_on (m ∷ ms) x u l w g =
@@ -52,16 +53,20 @@ module _ (v : Learned) where
   cost_on (m ∷ ms) l = omega (arith, cost_on ms l)
 
   -- a walk goes on over a link at its end
-  pub walked_on : (root u l cost hop : ℕ) → IsWalked v root u cost hop → goes v u l ≡ true → IsWalked v root (beyond v u l) (cost + (link (wiring_of v) l).cost) hop
+  pub walked_on : (root u l cost hop : ℕ) → IsWalked v root u cost hop → goes v u l ≡ true →
+      IsWalked v root (beyond v u l) (cost + (link (wiring_of v) l).cost) hop
   walked_on root u l cost hop h g =
-      record { first = h.first; rest = h.rest ++ l ∷ []; leads = walk_on (h.first ∷ h.rest) root u l h.leads g; costs = cost_on (h.first ∷ h.rest) l ∙ ap (λ n. n + (link (wiring_of v) l).cost) h.costs; by_hop = h.by_hop }
+      record { first = h.first; rest = h.rest ++ l ∷ []; leads = walk_on (h.first ∷ h.rest) root u l h.leads g; costs =
+          cost_on (h.first ∷ h.rest) l ∙ ap (λ n. n + (link (wiring_of v) l).cost) h.costs; by_hop = h.by_hop }
 
   -- a walk of one link
-  pub walked_first : (root l cost : ℕ) → cost ≡ 0 → goes v root l ≡ true → IsWalked v root (beyond v root l) (cost + (link (wiring_of v) l).cost) (beyond v root l)
+  pub walked_first : (root l cost : ℕ) → cost ≡ 0 → goes v root l ≡ true →
+      IsWalked v root (beyond v root l) (cost + (link (wiring_of v) l).cost) (beyond v root l)
   walked_first root l cost z g = record { first = l; rest = []; leads = rw g refl; costs = omega (arith, z); by_hop = refl }
 
   -- loopbacks are of no account to walks
-  pub walk_same : (loopbacks ls : List ℕ) (x : ℕ) → walk_end (record { loopbacks = loopbacks; ends = v.ends }) (links_up v) x ls ≡ walk_end (wiring_of v) (links_up v) x ls
+  pub walk_same : (loopbacks ls : List ℕ) (x : ℕ) →
+      walk_end (record { loopbacks = loopbacks; ends = v.ends }) (links_up v) x ls ≡ walk_end (wiring_of v) (links_up v) x ls
   walk_same loopbacks [] x = refl
   walk_same loopbacks (l ∷ ls) x = ap (λ o. cond (goes v x l) o None) (walk_same loopbacks ls (beyond v x l))
 

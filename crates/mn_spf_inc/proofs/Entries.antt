@@ -12,6 +12,7 @@ use Rattle.mn_spf.proofs.Walks.{link_is, beyond_below}
 use Rattle.mn_spf_inc.specs.declared.way.Way.{Way}
 use Rattle.mn_spf_inc.specs.Ways.{rank_of, way_over, way_in, way_at}
 use Rattle.mn_spf_inc.specs.Mending.{IsFormed, IsKnown}
+use Rattle.mn_spf.proofs.Steps.{rank_chosen, hop_fits}
 
 pub some_is : {X : Type 0} {a b : X} → ◌≡◌ {A = Option X} (Some a) (Some b) → a ≡ b
 some_is e = cc
@@ -67,18 +68,9 @@ no_way t node e = no_rank _ _ node e
 pub same_parts : (c h c' h' : ℕ) → h < 65536 → h' < 65536 → rank c h ≡ rank c' h' → (c ≡ c') × (h ≡ h')
 same_parts c h c' h' p q e = let f : c ≡ c' = omega (arith, p, q, e) in (f, omega (arith, f, e))
 
-rank_chosen : (b : Bool) (cost c hop far : ℕ) →
-    (b ≡ true → (cost ≡ 0) × (hop ≡ 0)) → rank (cost + c) (if b then far else hop) ≡ (if b then rank c far else rank cost hop + 65536 * c)
-rank_chosen true cost c hop far z = omega (arith, (z refl).0)
-rank_chosen false cost c hop far z = omega arith
-
 rank_more : (b : Bool) (cost c hop far : ℕ) → 0 < c → (b ≡ true → (cost ≡ 0) × (hop ≡ 0)) → rank cost hop < rank (cost + c) (if b then far else hop)
 rank_more true cost c hop far p z = omega (arith, p, (z refl).0, (z refl).1)
 rank_more false cost c hop far p z = omega (arith, p)
-
-hop_fits : (b : Bool) (far hop : ℕ) → far < 65536 → hop < 65536 → (if b then far else hop) < 65536
-hop_fits true far hop p q = p
-hop_fits false far hop p q = q
 
 over_chosen : (b : Bool) (near near' c far : ℕ) → near ≤ near' → (if b then rank c far else near + 65536 * c) ≤ (if b then rank c far else near' + 65536 * c)
 over_chosen true near near' c far p = omega arith

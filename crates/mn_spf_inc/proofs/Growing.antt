@@ -2,13 +2,12 @@
 use Rattle.std.proofs.Common.{ℕ, ◌≡◌, ◌≢◌, ◌+◌, ◌*◌, ◌^◌, ◌<◌, ◌≤◌, Bool, true, false, cond, List, [], ◌∷◌, length, get_or, set, refl, arith, sym, ◌∙◌, ap}
 use Rattle.std.proofs.Common.{◌⊎◌, inl, inr, subst, get_or-set_other, get_or-set_same}
 use Rattle.std.specs.Prelude.{Option, Some, None, count_by, Contains, MatchBool}
-use Rattle.std.proofs.lemmas.Bool.{ltb-true, ltb-false}
+use Rattle.std.proofs.lemmas.Bool.{ltb-true}
 use Rattle.std.proofs.lemmas.Bool.Decides.{eqb_tells}
 use Rattle.std.proofs.lemmas.List.{length-set}
-use Rattle.std.proofs.lemmas.List.Elements.{All-cons, Contains-append_right, Contains-append_cases, Contains-push_cases}
+use Rattle.std.proofs.lemmas.List.Elements.{All-cons, Contains-append_cases}
 use Rattle.std.proofs.lemmas.List.Sorted.{All-permutation, Contains-permutation, length_permutation}
 use Rattle.std.proofs.lemmas.List.Sums.{sum_by-set}
-use Rattle.mn_base.proofs.Bools.{none_below}
 use Rattle.mn_base.specs.declared.numbers.NodeNo.{NodeNo}
 use Rattle.mn_base.specs.Wiring.{link}
 use Rattle.mn_linkdb.specs.Network.{IsNetwork}
@@ -22,28 +21,15 @@ use Rattle.mn_spf_inc.specs.Ways.{rank_of, queued}
 use Rattle.mn_spf_inc.specs.Mending.{State, IsFormed, IsHeld, IsRelaxed, is_blank, unknown, IsPending, IsGrowing, IsKnown, Takes, Offers, cost_in, hop_in}
 use Rattle.mn_spf_inc.specs.Mending.{weight, work}
 use Rattle.mn_spf_inc.proofs.Entries.{some_is, none_some, over, over_rank, over_more, over_fits, over_lower}
+pub use Rattle.mn_spf.proofs.Steps.{contains_head, contains_tail}
+use Rattle.mn_spf.proofs.Steps.{only_one, better_than, no_better}
 
 -- 1. Members of a queue
-pub contains_head : {X : Type 0} (x : X) (xs : List X) → Contains (x ∷ xs) x
-contains_head x xs = (0, omega arith, refl)
-
-pub contains_tail : {X : Type 0} (y x : X) (xs : List X) → Contains xs x → Contains (y ∷ xs) x
-contains_tail y x xs h = Contains-append_right (y ∷ []) xs x h
-
-only_one : {X : Type 0} (y x : X) → Contains (y ∷ []) x → y ≡ x
-only_one y x h = elim (Contains-push_cases [] y x h) [ inl i ↦ absurd (none_below i.0 i.1) | inr e ↦ e ]
 
 pub contains_cases : {X : Type 0} (y x : X) (xs : List X) → Contains (y ∷ xs) x → (y ≡ x) ⊎ Contains xs x
 contains_cases y x xs h = elim (Contains-append_cases (y ∷ []) xs x h) [ inl i ↦ inl (only_one y x i) | inr i ↦ inr i ]
 
 -- 2. What a better way is
-better_than : (r : ℕ) (o : Option ℕ) (most : ℕ) → beats r o ≡ true → AtMost o most → r ≤ most
-better_than r None most e h = absurd h
-better_than r (Some k) most e h = omega (arith, ltb-true r k e, h)
-
-no_better : (r : ℕ) (o : Option ℕ) → beats r o ≡ false → AtMost o r
-no_better r None e = cc
-no_better r (Some k) e = ltb-false r k e
 
 better_not : (r : ℕ) (o : Option ℕ) (known : ℕ) → beats r o ≡ true → o ≡ Some known → known ≤ r → ⊥
 better_not r None known e q p = none_some known q

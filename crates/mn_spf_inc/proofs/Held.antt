@@ -31,11 +31,11 @@ pub record IsFrom (v : Learned) (root : ℕ) (t : PathTable) (node cost hop : �
   pub sum : near + (link (wiring_of v) l).cost ≡ cost
   pub by_hop : ((from ≡ root) × (near ≡ 0) × (node ≡ hop)) ⊎ ((from ≢ root) × (next_at t from ≡ Some (record { 0 = hop })))
 
-chosen_true : (b : Bool) (x y : ℕ) → b ≡ true → (if b then x else y) ≡ x
+pub chosen_true : (b : Bool) (x y : ℕ) → b ≡ true → (if b then x else y) ≡ x
 chosen_true true x y e = refl
 chosen_true false x y e = cc
 
-chosen_false : (b : Bool) (x y : ℕ) → b ≡ false → (if b then x else y) ≡ y
+pub chosen_false : (b : Bool) (x y : ℕ) → b ≡ false → (if b then x else y) ≡ y
 chosen_false true x y e = cc
 chosen_false false x y e = refl
 

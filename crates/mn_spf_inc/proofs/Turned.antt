@@ -1,6 +1,5 @@
 -- What is said of a tree from outside when a link is turned.
 use Rattle.std.proofs.Common.{ℕ, ◌≡◌, ◌≢◌, ◌<◌, ◌==◌, Bool, true, false, length, refl, arith, sym, ◌∙◌, ap, inl, inr, subst}
-use Rattle.std.specs.Prelude.{if◌then◌else◌}
 use Rattle.std.proofs.lemmas.Bool.{lt-ltb}
 use Rattle.std.proofs.lemmas.Bool.Decides.{eqb_tells}
 use Rattle.std.proofs.lemmas.List.{length-set}
@@ -15,18 +14,11 @@ use Rattle.mn_spf_inc.specs.Nets.{one_if, with_link}
 use Rattle.mn_spf_inc.specs.Mending.{State, IsMended, IsPassedOver}
 use Rattle.mn_spf_inc.specs.Mended.{Makes, IsKept}
 use Rattle.mn_spf_inc.proofs.Lost.{idle_over}
+use Rattle.mn_spf_inc.proofs.Held.{chosen_true, chosen_false}
 
 pub other_than : (b c : Bool) → b ≢ c → c ≡ false → b ≡ true
 other_than true c q e = refl
 other_than false c q e = absurd (q (sym e))
-
-chosen_true : (b : Bool) (x y : ℕ) → b ≡ true → (if b then x else y) ≡ x
-chosen_true true x y e = refl
-chosen_true false x y e = cc
-
-chosen_false : (b : Bool) (x y : ℕ) → b ≡ false → (if b then x else y) ≡ y
-chosen_false true x y e = cc
-chosen_false false x y e = refl
 
 pub view_kept : (v v' : Learned) (l : ℕ) (up : Bool) → v' ≡ with_link v l up → IsView v → IsView v'
 view_kept v v' l up e h = subst IsView (sym e) (record { network = h.network; one_each = length-set v.counts l (one_if up) ∙ h.one_each })

@@ -1,5 +1,6 @@
 -- How a frame is kept, and what is left of it after a change of its bytes.
-use Rattle.std.proofs.Common.{◌≡◌, ℕ, suc, ◌+◌, ◌*◌, ◌-◌, ◌^◌, ◌<◌, ◌≤◌, ◌==◌, List, [], ◌∷◌, ◌++◌, length, take, drop, refl, ap, sym, ◌∙◌, subst, arith, IsTrue}
+use Rattle.std.proofs.Common.{◌≡◌, ℕ, suc, ◌+◌, ◌*◌, ◌-◌, ◌^◌, ◌<◌, ◌≤◌, ◌==◌, List, [], ◌∷◌, ◌++◌, length, take, drop, refl, ap, sym, ◌∙◌, subst, arith}
+use Rattle.std.proofs.Common.{IsTrue}
 use Rattle.std.proofs.lemmas.List.{length-drop, length-take-le, drop-drop, drop_at, drop-append-le, drop-take, take_at, take-append-drop}
 use Rattle.std.proofs.lemmas.Bool.Decides.{nat_tests}
 use Rattle.mn_ipv4.specs.Header.{good, ttl_of, with_ttl, aged, total_length}
@@ -11,7 +12,8 @@ use Rattle.mn_stack.specs.Grammar.{IsStack, stack_bytes, is_packet}
 use Rattle.mn_stack.specs.Reading.{entries_of}
 use Rattle.mn_stack.specs.Kept.{kept, IsKept}
 use Rattle.mn_stack.specs.Labelled.{Labelled, frame_bytes, popped}
-use Rattle.mn_stack.proofs.Entries.{IsBytes, IsBytes-drop, entries_of-first, entries_of-entry_bytes, stack_bytes-entries_of, length-take-entries_of, take-entries_of-append, length-entry_bytes}
+use Rattle.mn_stack.proofs.Entries.{IsBytes, IsBytes-drop, entries_of-first, entries_of-entry_bytes, stack_bytes-entries_of, length-take-entries_of}
+use Rattle.mn_stack.proofs.Entries.{take-entries_of-append, length-entry_bytes}
 
 abbrev labelled : List Entry → List ℕ → ℕ → Labelled
 labelled entries packet room = record { entries = entries; packet = packet; room = room }
@@ -71,7 +73,8 @@ kept-written room next below depth old new entry fits is_next is_depth written =
     let front : drop (4 * room) new ≡ entry_bytes entry ++ behind = written ∙ ap (λ n. entry_bytes entry ++ drop n old) second in
     let first : entries_of (drop (4 * room) new) ≡ entry ∷ entries_of behind = ap entries_of front ∙ entries_of-entry_bytes entry behind fits in
     let rest : drop (4 * next) new ≡ behind =
-    ap (λ n. drop n new) (sym second) ∙ sym (drop-drop 4 (4 * room) new) ∙ ap (λ ys. drop 4 ys) front ∙ drop_at (entry_bytes entry) behind 4 (length-entry_bytes entry) in
+    ap (λ n. drop n new) (sym second) ∙ sym (drop-drop 4 (4 * room) new) ∙ ap (λ ys. drop 4 ys) front
+        ∙ drop_at (entry_bytes entry) behind 4 (length-entry_bytes entry) in
     let packet : drop (4 * (room + depth)) new ≡ (kept next below old).packet =
     ap (λ n. drop n new) last ∙ sym (packet-behind next below new) ∙ ap (λ ys. drop (4 * below) ys) rest ∙ packet-behind next below old in
     ap (λ d. labelled (take d (entries_of (drop (4 * room) new))) (drop (4 * (room + depth)) new) room) as_suc
@@ -139,7 +142,8 @@ pub IsKept-pushed : (room depth : ℕ) (old new : List ℕ) (entry : Entry) → 
     entry.bottom ≡ (length (kept room depth old).entries == 0) → length new ≡ length old →
     drop (4 * (room - 1)) new ≡ entry_bytes entry ++ drop (4 * (room - 1) + 4) old → IsKept (room - 1) (depth + 1) new
 IsKept-pushed room depth old new entry some k fits bottom same written =
-    IsKept-from (room - 1) (depth + 1) new (entry ∷ (kept room depth old).entries) (kept room depth old).packet (omega (arith, k.counted)) (omega (arith, k.there))
+    IsKept-from (room - 1) (depth + 1) new (entry ∷ (kept room depth old).entries) (kept room depth old).packet (omega (arith, k.counted))
+        (omega (arith, k.there))
     (kept-pushed room depth old new entry some fits written)
     (fits, bottom, k.stack) k.packet
 
@@ -167,7 +171,8 @@ kept-repacked room depth old new packet there written =
     ap (λ es. labelled es (drop place new) room) (entries ∙ sym entries_before)
     ∙ ap (λ p. labelled (take depth (entries_of frame)) p room) behind
 
-is_packet-same : (old new : List ℕ) → IsTrue (is_packet old) → IsTrue (good new) → length new ≡ length old → total_length new ≡ total_length old → IsTrue (is_packet new)
+is_packet-same : (old new : List ℕ) → IsTrue (is_packet old) → IsTrue (good new) → length new ≡ length old → total_length new ≡ total_length old →
+    IsTrue (is_packet new)
 is_packet-same old new h still long total = grind (arith, nat_tests)
 
 pub is_packet-parts : (packet : List ℕ) → IsTrue (is_packet packet) → IsTrue (good packet) × (length packet ≡ total_length packet)
@@ -176,12 +181,14 @@ is_packet-parts packet h = (grind (arith, nat_tests), grind (arith, nat_tests))
 pub ttl_of-packet : (packet : List ℕ) (ttl : ℕ) → IsTrue (is_packet packet) → ttl_of (with_ttl packet ttl) ≡ ttl
 ttl_of-packet packet ttl h = let g = IsGood-from_good packet (is_packet-parts packet h).0 in ttl_of-with_ttl packet ttl (omega arith)
 
-pub with_ttl-is_aged_packet : (packet : List ℕ) (ttl : ℕ) → IsTrue (is_packet packet) → ttl ≤ ttl_of packet → with_ttl packet ttl ≡ aged packet (ttl_of packet - ttl)
+pub with_ttl-is_aged_packet : (packet : List ℕ) (ttl : ℕ) → IsTrue (is_packet packet) → ttl ≤ ttl_of packet →
+    with_ttl packet ttl ≡ aged packet (ttl_of packet - ttl)
 with_ttl-is_aged_packet packet ttl h low =
     let same : ttl_of packet - (ttl_of packet - ttl) ≡ ttl = omega arith in
     ap (λ n. with_ttl packet n) (sym same) ∙ sym (aged-whole packet (ttl_of packet - ttl) (is_packet-parts packet h).1)
 
-pub is_packet-with_ttl : (packet : List ℕ) (ttl : ℕ) → IsTrue (is_packet packet) → IsTrue (good (with_ttl packet ttl)) → IsTrue (is_packet (with_ttl packet ttl))
+pub is_packet-with_ttl : (packet : List ℕ) (ttl : ℕ) → IsTrue (is_packet packet) → IsTrue (good (with_ttl packet ttl)) →
+    IsTrue (is_packet (with_ttl packet ttl))
 is_packet-with_ttl packet ttl h still =
     let third = get_or-with_ttl packet ttl 2 (omega arith) (omega arith) (omega arith) in
     let fourth = get_or-with_ttl packet ttl 3 (omega arith) (omega arith) (omega arith) in
@@ -191,7 +198,8 @@ is_packet-with_ttl packet ttl h still =
 pub IsKept-repacked : (room depth : ℕ) (old new packet : List ℕ) → IsKept room depth old → length new ≡ length old →
     new ≡ take (4 * (room + depth)) old ++ packet → IsTrue (is_packet packet) → IsKept room depth new
 IsKept-repacked room depth old new packet k same written good =
-    IsKept-from room depth new (kept room depth old).entries packet k.counted (omega (arith, k.there)) (kept-repacked room depth old new packet k.there written) k.stack good
+    IsKept-from room depth new (kept room depth old).entries packet k.counted (omega (arith, k.there))
+        (kept-repacked room depth old new packet k.there written) k.stack good
 
 -- all of a vector's elements written
 pub all-written : (len : ℕ) (new old : List ℕ) → length new ≡ len → take len (new ++ drop (length new) old) ≡ new

@@ -1,5 +1,6 @@
 -- The stack at the front of bytes is a stack, and is found again in what is written.
-use Rattle.std.proofs.Common.{◌≡◌, ℕ, zero, suc, ◌+◌, ◌*◌, ◌^◌, ◌<◌, ◌≤◌, ◌==◌, Bool, true, false, cond, List, [], ◌∷◌, ◌++◌, length, take, drop, replicate, refl, ap, sym, ◌∙◌, zero-add, arith, append_assoc, IsTrue, Option, Some, Result, Ok, Err}
+use Rattle.std.proofs.Common.{◌≡◌, ℕ, zero, suc, ◌+◌, ◌*◌, ◌^◌, ◌<◌, ◌≤◌, ◌==◌, Bool, true, false, cond, List, [], ◌∷◌, ◌++◌, length, take, drop, replicate}
+use Rattle.std.proofs.Common.{refl, ap, sym, ◌∙◌, zero-add, arith, append_assoc, IsTrue, Option, Some, Result, Ok, Err}
 use Rattle.std.specs.Bool.{⊤, if◌then◌else◌}
 use Rattle.std.specs.List.{position_from}
 use Rattle.std.proofs.lemmas.List.{length-take, length-append, drop-drop, drop_at}
@@ -34,7 +35,8 @@ four-fit a b c d ha hb hc hd = omega arith
 AllFit-entries_of : (xs : List ℕ) → IsBytes xs → AllFit (entries_of xs)
 unfolding entries_of
 AllFit-entries_of (a ∷ b ∷ c ∷ d ∷ rest) bytes =
-    (Fits-entry_of (big_number 4 (a ∷ b ∷ c ∷ d ∷ [])) (four-fit a b c d (bytes 0) (bytes 1) (bytes 2) (bytes 3)), AllFit-entries_of rest (λ i. bytes (suc (suc (suc (suc i))))))
+    (Fits-entry_of (big_number 4 (a ∷ b ∷ c ∷ d ∷ [])) (four-fit a b c d (bytes 0) (bytes 1) (bytes 2) (bytes 3)), AllFit-entries_of rest
+        (λ i. bytes (suc (suc (suc (suc i))))))
 AllFit-entries_of _ bytes = tt
 
 -- up to the first bottom
@@ -85,7 +87,8 @@ IsFrame-read xs depth bytes there h good = record {
 }
 
 -- behind room for two entries
-pub kept-read : (xs : List ℕ) (depth : ℕ) → kept 2 depth (replicate 8 0 ++ xs) ≡ record { entries = take depth (entries_of xs); packet = drop (4 * depth) xs; room = 2 }
+pub kept-read : (xs : List ℕ) (depth : ℕ) → kept 2 depth (replicate 8 0 ++ xs) ≡ record { entries = take depth (entries_of xs); packet =
+    drop (4 * depth) xs; room = 2 }
 kept-read xs depth =
     let place : 4 * (2 + depth) ≡ 8 + 4 * depth = omega arith in
     let behind : drop (4 * (2 + depth)) (replicate 8 0 ++ xs) ≡ drop (4 * depth) xs =
@@ -111,7 +114,8 @@ length-stack_bytes : (es : List Entry) → length (stack_bytes es) ≡ 4 * lengt
 length-stack_bytes [] = refl
 length-stack_bytes (e ∷ below) = omega (arith, length-append (entry_bytes e) (stack_bytes below), length-entry_bytes e, length-stack_bytes below)
 
-entries_of-stack : (e : Entry) (below : List Entry) (packet : List ℕ) → Fits e → entries_of (stack_bytes (e ∷ below) ++ packet) ≡ e ∷ entries_of (stack_bytes below ++ packet)
+entries_of-stack : (e : Entry) (below : List Entry) (packet : List ℕ) → Fits e →
+    entries_of (stack_bytes (e ∷ below) ++ packet) ≡ e ∷ entries_of (stack_bytes below ++ packet)
 entries_of-stack e below packet fits =
     ap entries_of (append_assoc (entry_bytes e) (stack_bytes below) packet) ∙ entries_of-entry_bytes e (stack_bytes below ++ packet) fits
 
@@ -120,7 +124,8 @@ take-entries [] packet s = refl
 take-entries (e ∷ below) packet s =
     ap (λ fs. take (suc (length below)) fs) (entries_of-stack e below packet s.0) ∙ ap (λ fs. e ∷ fs) (take-entries below packet s.2)
 
-depth-written : (es : List Entry) (i : ℕ) (packet : List ℕ) → IsStack es → 0 < length es → position_from is_bottom (i + 1) (entries_of (stack_bytes es ++ packet)) ≡ Some (i + length es)
+depth-written : (es : List Entry) (i : ℕ) (packet : List ℕ) → IsStack es → 0 < length es →
+    position_from is_bottom (i + 1) (entries_of (stack_bytes es ++ packet)) ≡ Some (i + length es)
 depth-written [] i packet s some = absurd (omega arith)
 depth-written (e ∷ []) i packet s some =
     ap (λ fs. position_from is_bottom (i + 1) fs) (entries_of-stack e [] packet s.0)
@@ -133,7 +138,8 @@ depth-written (e ∷ f ∷ below) i packet s some =
     ∙ depth-written (f ∷ below) (i + 1) packet s.2 (omega arith)
     ∙ ap (λ n. Some n) last
 
-pub frame_of-written : (bytes : List ℕ) (entries : List Entry) (packet : List ℕ) → IsFrame bytes entries packet → 0 < length entries → frame_of bytes ≡ Ok (entries, packet)
+pub frame_of-written : (bytes : List ℕ) (entries : List Entry) (packet : List ℕ) → IsFrame bytes entries packet → 0 < length entries →
+    frame_of bytes ≡ Ok (entries, packet)
 frame_of-written bytes entries packet h some =
     let written = stack_bytes entries ++ packet in
     let behind : drop (4 * length entries) written ≡ packet = drop_at (stack_bytes entries) packet (4 * length entries) (length-stack_bytes entries) in

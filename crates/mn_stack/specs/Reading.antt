@@ -29,4 +29,5 @@ frame_of bytes = frame_at (depth_of bytes) bytes
 
 -- bytes that are a stack and a packet are read as these
 abbrev pub WrittenIsRead : Type 0
-WrittenIsRead = (bytes : List ℕ) (entries : List Entry) (packet : List ℕ) → IsFrame bytes entries packet → 0 < length entries → frame_of bytes ≡ Ok (entries, packet)
+WrittenIsRead =
+    (bytes : List ℕ) (entries : List Entry) (packet : List ℕ) → IsFrame bytes entries packet → 0 < length entries → frame_of bytes ≡ Ok (entries, packet)

@@ -1,5 +1,6 @@
 -- Which targets a list has, before and after a change at one place.
-use Rattle.std.proofs.Common.{ℕ, zero, suc, ◌≡◌, ◌<◌, List, ◌∷◌, length, get_or, refl, arith, sym, ◌∙◌, ap, subst, ◌⊎◌, inl, inr, Result, Ok, Err, IfOk, IfErr, IsTrue, is_ok, ◌↔◌, rules}
+use Rattle.std.proofs.Common.{ℕ, zero, suc, ◌≡◌, ◌<◌, List, ◌∷◌, length, get_or, refl, arith, sym, ◌∙◌, ap, subst, ◌⊎◌, inl, inr, Result, Ok, Err, IfOk}
+use Rattle.std.proofs.Common.{IfErr, IsTrue, is_ok, ◌↔◌, rules}
 use mathlib.Core.Bool.{false≢true}
 use Rattle.std.specs.List.{Contains, insert}
 use Rattle.std.proofs.lemmas.List.{get_or_default}
@@ -54,6 +55,8 @@ first_or_later x y l (suc k, h, e) = inr (k, omega (arith, h), e)
 pub with_insert : (l : List Rt) (t : Rt) (k : ℕ) → IsWith l (insert l k t) t
 with_insert l t k other =
     let moved = IsPermutation-insert l k t in (
-      λ h. elim (first_or_later t other l (Contains-permutation (insert l k t) (t ∷ l) other (IsPermutation-sym (t ∷ l) (insert l k t) moved) h)) [ inl e ↦ inr e | inr i ↦ inl i ],
-      λ h. Contains-permutation (t ∷ l) (insert l k t) other moved (elim h [ inl i ↦ later t other l i | inr e ↦ subst (λ u. Contains (t ∷ l) u) (sym e) (here t l) ]),
+      λ h. elim (first_or_later t other l (Contains-permutation (insert l k t) (t ∷ l) other (IsPermutation-sym (t ∷ l) (insert l k t) moved) h))
+          [ inl e ↦ inr e | inr i ↦ inl i ],
+      λ h. Contains-permutation (t ∷ l) (insert l k t) other moved
+          (elim h [ inl i ↦ later t other l i | inr e ↦ subst (λ u. Contains (t ∷ l) u) (sym e) (here t l) ]),
     )

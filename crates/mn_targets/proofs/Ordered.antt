@@ -6,7 +6,8 @@ use Rattle.std.specs.Ordering.{nat_cmp, ordering_index}
 use Rattle.std.proofs.lemmas.Cmp.{ranked}
 use Rattle.std.proofs.lemmas.List.{get_or_default}
 use Rattle.std.proofs.lemmas.List.Sorted.{IsNonDecreasingBy-from_default, Contains-permutation, IsPermutation-remove, IsPermutation-sym}
-use Rattle.std.proofs.lemmas.List.Edits.{length-insert, get_or-insert_below, get_or-insert_at, get_or-insert_above, get_or-remove_below, get_or-remove_above, length-remove}
+use Rattle.std.proofs.lemmas.List.Edits.{length-insert, get_or-insert_below, get_or-insert_at, get_or-insert_above, get_or-remove_below}
+use Rattle.std.proofs.lemmas.List.Edits.{get_or-remove_above, length-remove}
 use Rattle.std.proofs.lemmas.Bool.{cases_lt}
 use Rattle.std.proofs.lemmas.Bool.Decides.{nat_tests}
 use Rattle.mn_base.specs.declared.numbers.Rt.{Rt}
@@ -35,7 +36,8 @@ module _ (l : List Rt) (up : IsAscending l) (t : Rt) where
       let rise : number_at l i ≤ number_at l j = grind (arith, ascends l up i j, λ (same : i ≡ j). ap (number_at l) same) in
       grind (arith, nat_tests))
 
-  pub searched : (r : Result ℕ ℕ) → IsSearchInRange r (length l) → IsBinarySearchResult (λ (u : Rt). nat_cmp u.0 t.0) l r → record { found : IfOk r (IsAt l t); absent : IfErr r (IsGapFor l t) }
+  pub searched : (r : Result ℕ ℕ) → IsSearchInRange r (length l) → IsBinarySearchResult (λ (u : Rt). nat_cmp u.0 t.0) l r →
+      record { found : IfOk r (IsAt l t); absent : IfErr r (IsGapFor l t) }
   searched (Ok at) within equal = record { found = record { there = within; same = ranked _ t.0 _ (sym (equal zeros)) }; absent = tt }
   searched (Err at) within parted = record {
     found = tt;
@@ -56,8 +58,12 @@ ascending_insert l t at gap up =
     let old = ascends l up in
     let below : (k : ℕ) → k < at → number_at new k ≡ number_at l k = λ k h. ap number (get_or-insert_below l at t zeros k h gap.within) in
     let here : (k : ℕ) → k ≡ at → number_at new k ≡ t.0 = λ k h. rw h (ap number (get_or-insert_at l at t zeros gap.within)) in
-    let above : (k : ℕ) → at < k → number_at new k ≡ number_at l (k - 1) = λ k h. subst (λ q. number_at new q ≡ number_at l (k - 1)) {x = k - 1 + 1} (omega arith) (ap number (get_or-insert_above l at t zeros (k - 1) (omega arith) gap.within)) in
-    ascending new (λ i j lt there. grind (arith, below i, here i, above i, below j, here j, above j, old i j, old i (j - 1), old (i - 1) (j - 1), gap.below i, gap.above (j - 1)))
+    let above : (k : ℕ) → at < k → number_at new k ≡ number_at l (k - 1) =
+        λ k h. subst (λ q. number_at new q ≡ number_at l (k - 1)) {x =
+        k - 1 + 1} (omega arith) (ap number (get_or-insert_above l at t zeros (k - 1) (omega arith) gap.within)) in
+    ascending new
+        (λ i j lt there. grind
+        (arith, below i, here i, above i, below j, here j, above j, old i j, old i (j - 1), old (i - 1) (j - 1), gap.below i, gap.above (j - 1)))
 
 -- 3. One less: the others stay, in order, and none of them is the target
 
@@ -73,7 +79,8 @@ module _ (l : List Rt) (t : Rt) (at : ℕ) (is_at : IsAt l t at) (up : IsAscendi
   ascending_remove =
       let one_less = length-remove l at is_at.there in
       let old = ascends l up in
-      ascending (remove l at) (λ i j lt there. grind (arith, stood_below i, stood_above i, stood_below j, stood_above j, old i j, old i (j + 1), old (i + 1) (j + 1)))
+      ascending (remove l at)
+          (λ i j lt there. grind (arith, stood_below i, stood_above i, stood_below j, stood_above j, old i j, old i (j + 1), old (i + 1) (j + 1)))
 
   other_number : (k : ℕ) → k < length (remove l at) → number_at (remove l at) k ≢ t.0
   other_number k h same =
@@ -94,5 +101,6 @@ module _ (l : List Rt) (t : Rt) (at : ℕ) (is_at : IsAt l t at) (up : IsAscendi
           Contains-permutation (x ∷ remove l at) l other (IsPermutation-sym l (x ∷ remove l at) moved) (later x other (remove l at) h),
           λ e. let p = place_of (remove l at) other h in other_number p.0 p.1.0 (p.1.1 ∙ ap (λ (r : Rt). r.0) e),
         ),
-        λ h. elim (first_or_later x other (remove l at) (Contains-permutation l (x ∷ remove l at) other moved h.0)) [ inl e ↦ absurd (h.1 (e ∙ x_is)) | inr i ↦ i ],
+        λ h. elim (first_or_later x other (remove l at) (Contains-permutation l (x ∷ remove l at) other moved h.0))
+            [ inl e ↦ absurd (h.1 (e ∙ x_is)) | inr i ↦ i ],
       )

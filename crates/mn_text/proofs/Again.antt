@@ -1,5 +1,6 @@
 -- What is written is read again, and what is read is what is written.
-use Rattle.std.proofs.Common.{◌≡◌, ◌≢◌, inl, inr, ℕ, zero, suc, Bool, true, false, not, ◌||◌, ◌==◌, nat_lt, ◌+◌, ◌*◌, ◌/◌, ◌%◌, ◌^◌, ◌<◌, ◌≤◌, List, [], ◌∷◌, ◌++◌, length, get_or, Some, None, Ok, refl, ap, lit<, arith, rules, length-append}
+use Rattle.std.proofs.Common.{◌≡◌, ◌≢◌, inl, inr, ℕ, zero, suc, Bool, true, false, not, ◌||◌, ◌==◌, nat_lt, ◌+◌, ◌*◌, ◌/◌, ◌%◌, ◌^◌, ◌<◌, ◌≤◌, List, []}
+use Rattle.std.proofs.Common.{◌∷◌, ◌++◌, length, get_or, Some, None, Ok, refl, ap, lit<, arith, rules, length-append}
 use Rattle.std.proofs.lemmas.Bool.Decides.{nat_tests, eqb_tells}
 use Rattle.std.proofs.lemmas.Bool.{and_parts}
 use Rattle.std.proofs.Math.Seq.{take-append_seam, drop-append-add}
@@ -162,11 +163,12 @@ pair_as : (n by_as by_address : ℕ) → type_field n ≡ by_as → by_as ≢ by
 unfolding pair_text
 pair_as n by_as by_address h apart = grind (arith, nat_tests, h, apart)
 
-pair_addressed : (n by_address : ℕ) → type_field n ≡ by_address → pair_text by_address n ≡ by_address_text n
+pub pair_addressed : (n by_address : ℕ) → type_field n ≡ by_address → pair_text by_address n ≡ by_address_text n
 unfolding pair_text
 pair_addressed n by_address h = grind (arith, nat_tests, h)
 
-pub pair_again : (n by_as by_address : ℕ) → by_as ≢ by_address → (type_field n == by_as || type_field n == by_address) ≡ true → pair_of by_as by_address (pair_text by_address n) ≡ Some n
+pub pair_again : (n by_as by_address : ℕ) → by_as ≢ by_address →
+    (type_field n == by_as || type_field n == by_address) ≡ true → pair_of by_as by_address (pair_text by_address n) ≡ Some n
 pair_again n by_as by_address apart h =
     elim (eqb_tells (type_field n) by_as) [
       | inl e ↦ rw (pair_as n by_as by_address e.1 apart) (as_again n by_as by_address e.1)

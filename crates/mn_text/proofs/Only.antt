@@ -1,5 +1,7 @@
 -- What is read as a value is the value's text.
-use Rattle.std.proofs.Common.{◌≡◌, ◌≢◌, ℕ, Bool, true, false, ◌&&◌, ◌||◌, ◌==◌, nat_lt, nat_le, cond, if◌then◌else◌, ◌+◌, ◌*◌, ◌/◌, ◌%◌, ◌^◌, ◌<◌, ◌≤◌, List, [], ◌∷◌, ◌++◌, length, get_or, take, drop, Option, Some, None, option_map, option_and_then, refl, ap, sym, ◌∙◌, lit<, arith, add-one, subst}
+use Rattle.std.proofs.Common.{◌≡◌, ◌≢◌, ℕ, Bool, true, false, ◌&&◌, ◌||◌, ◌==◌, nat_lt, nat_le, cond, if◌then◌else◌, ◌+◌, ◌*◌, ◌/◌, ◌%◌, ◌^◌, ◌<◌, ◌≤◌}
+use Rattle.std.proofs.Common.{List, [], ◌∷◌, ◌++◌, length, get_or, take, drop, Option, Some, None, option_map, option_and_then, refl, ap, sym, ◌∙◌, lit<}
+use Rattle.std.proofs.Common.{arith, add-one, subst}
 use Rattle.std.proofs.lemmas.Bool.Decides.{nat_tests}
 use Rattle.std.proofs.lemmas.Bool.{and_parts, eqb-true, ltb-true}
 use Rattle.std.proofs.lemmas.Option.{same_Some}
@@ -16,7 +18,7 @@ use Rattle.mn_prefix.specs.Prefix.{AddressBlock}
 use Rattle.mn_text.specs.Numbers.{begins_well, is_number, number_up_to, number_text}
 use Rattle.mn_text.specs.Addresses.{cut, address_of, slashed_of, address_text, prefix_text}
 use Rattle.mn_text.specs.Pairs.{pair_text, by_as_text, by_address_text, pair_of, as_pair, address_pair, typed, or_else}
-use Rattle.mn_text.proofs.Again.{own}
+use Rattle.mn_text.proofs.Again.{own, pair_addressed}
 
 begun : (w : List ℕ) → begins_well w ≡ true → (0 < length w) × (get_or w 0 0 ≡ 48 → length w ≡ 1)
 begun [] h = cc
@@ -43,7 +45,9 @@ up_to_only w most n fits h =
     (number_only w n p.0 (sym p.2) (omega (arith, small, fits)), small)
 
 -- 2. Cuts
-cut_parts : (byte : ℕ) (w front back : List ℕ) (i : ℕ) (b : Bool) → ◌≡◌ {A = Option (List ℕ × List ℕ)} (option_map (λ (i : ℕ). (take i w, drop (i + 1) w)) (cond b (Some i) None)) (Some (front, back)) → (b ≡ true) × (take i w ≡ front) × (drop (i + 1) w ≡ back)
+cut_parts : (byte : ℕ) (w front back : List ℕ) (i : ℕ) (b : Bool) →
+    ◌≡◌ {A = Option (List ℕ × List ℕ)} (option_map (λ (i : ℕ). (take i w, drop (i + 1) w)) (cond b (Some i) None)) (Some (front, back)) →
+    (b ≡ true) × (take i w ≡ front) × (drop (i + 1) w ≡ back)
 cut_parts byte w front back i true h =
     let e : ◌≡◌ {A = List ℕ × List ℕ} (take i w, drop (i + 1) w) (front, back) = same_Some _ _ h in
     (refl, ap (λ p. p.0) e, ap (λ p. p.1) e)
@@ -63,10 +67,13 @@ bind_parts f None y h = cc
 bind_parts f (Some x) y h = (x, refl, h)
 
 -- four bytes are those of the number that they make
-bytes_of : (a b c d n : ℕ) → a ≤ 255 → b ≤ 255 → c ≤ 255 → d ≤ 255 → ((a * 256 + b) * 256 + c) * 256 + d ≡ n → (n / 256 / 256 / 256 ≡ a) × (n / 256 / 256 % 256 ≡ b) × (n / 256 % 256 ≡ c) × (n % 256 ≡ d)
+bytes_of : (a b c d n : ℕ) → a ≤ 255 → b ≤ 255 → c ≤ 255 → d ≤ 255 → ((a * 256 + b) * 256 + c) * 256 + d ≡ n →
+    (n / 256 / 256 / 256 ≡ a) × (n / 256 / 256 % 256 ≡ b) × (n / 256 % 256 ≡ c) × (n % 256 ≡ d)
 bytes_of a b c d n ha hb hc hd e = (omega arith, omega arith, omega arith, omega arith)
 
-address_join : (w r s f1 f2 f3 f4 : List ℕ) (a b c d n : ℕ) → w ≡ f1 ++ 46 ∷ r → r ≡ f2 ++ 46 ∷ s → s ≡ f3 ++ 46 ∷ f4 → f1 ≡ number_text a → f2 ≡ number_text b → f3 ≡ number_text c → f4 ≡ number_text d → (n / 256 / 256 / 256 ≡ a) × (n / 256 / 256 % 256 ≡ b) × (n / 256 % 256 ≡ c) × (n % 256 ≡ d) → w ≡ address_text n
+address_join : (w r s f1 f2 f3 f4 : List ℕ) (a b c d n : ℕ) → w ≡ f1 ++ 46 ∷ r → r ≡ f2 ++ 46 ∷ s → s ≡ f3 ++ 46 ∷ f4 → f1 ≡ number_text a →
+    f2 ≡ number_text b → f3 ≡ number_text c → f4 ≡ number_text d →
+    (n / 256 / 256 / 256 ≡ a) × (n / 256 / 256 % 256 ≡ b) × (n / 256 % 256 ≡ c) × (n % 256 ≡ d) → w ≡ address_text n
 unfolding address_text
 address_join w r s f1 f2 f3 f4 a b c d n e1 e2 e3 t1 t2 t3 t4 bytes =
     rw (bytes.0, bytes.1, bytes.2, bytes.3, e1, e2, e3, t1, t2, t3, t4) refl
@@ -109,7 +116,8 @@ slashed_only w p h =
     cut_only 47 w _ _ c.1 ∙ cc (address_only c.0.0 a.0 a.1, t.0, ap (λ (p : AddressBlock). p.address) e, ap (λ (p : AddressBlock). p.length) e)
 
 -- 4. Pairs
-as_only : (front back : List ℕ) (v : ℕ) → as_pair front back ≡ Some v → (v < 2 ^ 48) × (front ≡ number_text (v / 2 ^ 32 % 2 ^ 16)) × (back ≡ number_text (v % 2 ^ 32))
+as_only : (front back : List ℕ) (v : ℕ) → as_pair front back ≡ Some v →
+    (v < 2 ^ 48) × (front ≡ number_text (v / 2 ^ 32 % 2 ^ 16)) × (back ≡ number_text (v % 2 ^ 32))
 as_only front back v h =
     let a = bind_parts _ (number_up_to front 65535) v h in
     let n = bind_parts _ (number_up_to back 4294967295) v a.2 in
@@ -120,7 +128,8 @@ as_only front back v h =
     let low : v % 2 ^ 32 ≡ n.0 = omega (arith, e, ta.1, tn.1) in
     (omega (arith, e, ta.1, tn.1), rw high ta.0, rw low tn.0)
 
-addressed_only : (front back : List ℕ) (v : ℕ) → address_pair front back ≡ Some v → (v < 2 ^ 48) × (front ≡ address_text (v / 2 ^ 16 % 2 ^ 32)) × (back ≡ number_text (v % 2 ^ 16))
+addressed_only : (front back : List ℕ) (v : ℕ) → address_pair front back ≡ Some v →
+    (v < 2 ^ 48) × (front ≡ address_text (v / 2 ^ 16 % 2 ^ 32)) × (back ≡ number_text (v % 2 ^ 16))
 addressed_only front back v h =
     let a = bind_parts _ (address_of front) v h in
     let n = bind_parts _ (number_up_to back 65535) v a.2 in
@@ -134,13 +143,15 @@ addressed_only front back v h =
 kind_of : (kind v : ℕ) → v < 2 ^ 48 → (kind * 2 ^ 48 + v) / 2 ^ 48 ≡ kind
 kind_of kind v h = omega (arith, h)
 
-as_typed : (kind v : ℕ) (front back : List ℕ) → (v < 2 ^ 48) × (front ≡ number_text (v / 2 ^ 32 % 2 ^ 16)) × (back ≡ number_text (v % 2 ^ 32)) → front ++ 58 ∷ back ≡ by_as_text (typed kind v)
+as_typed : (kind v : ℕ) (front back : List ℕ) → (v < 2 ^ 48) × (front ≡ number_text (v / 2 ^ 32 % 2 ^ 16)) × (back ≡ number_text (v % 2 ^ 32)) →
+    front ++ 58 ∷ back ≡ by_as_text (typed kind v)
 as_typed kind v front back h =
     let high : (kind * 2 ^ 48 + v) / 2 ^ 32 % 2 ^ 16 ≡ v / 2 ^ 32 % 2 ^ 16 = omega (arith, h.0) in
     let low : (kind * 2 ^ 48 + v) % 2 ^ 32 ≡ v % 2 ^ 32 = omega arith in
     rw (high, low, h.1, h.2) refl
 
-addressed_typed : (kind v : ℕ) (front back : List ℕ) → (v < 2 ^ 48) × (front ≡ address_text (v / 2 ^ 16 % 2 ^ 32)) × (back ≡ number_text (v % 2 ^ 16)) → front ++ 58 ∷ back ≡ by_address_text (typed kind v)
+addressed_typed : (kind v : ℕ) (front back : List ℕ) → (v < 2 ^ 48) × (front ≡ address_text (v / 2 ^ 16 % 2 ^ 32)) × (back ≡ number_text (v % 2 ^ 16)) →
+    front ++ 58 ∷ back ≡ by_address_text (typed kind v)
 addressed_typed kind v front back h =
     let high : (kind * 2 ^ 48 + v) / 2 ^ 16 % 2 ^ 32 ≡ v / 2 ^ 16 % 2 ^ 32 = omega (arith, h.0) in
     let low : (kind * 2 ^ 48 + v) % 2 ^ 16 ≡ v % 2 ^ 16 = omega arith in
@@ -150,16 +161,14 @@ pair_as : (n by_address : ℕ) → type_field n ≢ by_address → pair_text by_
 unfolding pair_text
 pair_as n by_address h = grind (arith, nat_tests, h)
 
-pair_addressed : (n by_address : ℕ) → type_field n ≡ by_address → pair_text by_address n ≡ by_address_text n
-unfolding pair_text
-pair_addressed n by_address h = grind (arith, nat_tests, h)
-
 -- the text and the type of what is read
 record IsPair (by_as by_address : ℕ) (w : List ℕ) (n : ℕ) : Type 0 where
   text : w ≡ pair_text by_address n
   kind : (type_field n == by_as || type_field n == by_address) ≡ true
 
-from_as : (by_as by_address v : ℕ) (front back : List ℕ) → by_as ≢ by_address → (v < 2 ^ 48) × (front ≡ number_text (v / 2 ^ 32 % 2 ^ 16)) × (back ≡ number_text (v % 2 ^ 32)) → IsPair by_as by_address (front ++ 58 ∷ back) (typed by_as v)
+from_as : (by_as by_address v : ℕ) (front back : List ℕ) → by_as ≢ by_address →
+    (v < 2 ^ 48) × (front ≡ number_text (v / 2 ^ 32 % 2 ^ 16)) × (back ≡ number_text (v % 2 ^ 32)) →
+    IsPair by_as by_address (front ++ 58 ∷ back) (typed by_as v)
 from_as by_as by_address v front back apart h =
     let t : type_field (typed by_as v) ≡ by_as = kind_of by_as v h.0 in
     record {
@@ -167,7 +176,9 @@ from_as by_as by_address v front back apart h =
       kind = grind (arith, nat_tests, t);
     }
 
-from_address : (by_as by_address v : ℕ) (front back : List ℕ) → (v < 2 ^ 48) × (front ≡ address_text (v / 2 ^ 16 % 2 ^ 32)) × (back ≡ number_text (v % 2 ^ 16)) → IsPair by_as by_address (front ++ 58 ∷ back) (typed by_address v)
+from_address : (by_as by_address v : ℕ) (front back : List ℕ) →
+    (v < 2 ^ 48) × (front ≡ address_text (v / 2 ^ 16 % 2 ^ 32)) × (back ≡ number_text (v % 2 ^ 16)) →
+    IsPair by_as by_address (front ++ 58 ∷ back) (typed by_address v)
 from_address by_as by_address v front back h =
     let t : type_field (typed by_address v) ≡ by_address = kind_of by_address v h.0 in
     record {
@@ -175,7 +186,8 @@ from_address by_as by_address v front back h =
       kind = grind (arith, nat_tests, t);
     }
 
-either : (by_as by_address : ℕ) (front back : List ℕ) (n : ℕ) (o q : Option ℕ) → o ≡ as_pair front back → q ≡ address_pair front back → by_as ≢ by_address → or_else (option_map (typed by_as) o) (option_map (typed by_address) q) ≡ Some n → IsPair by_as by_address (front ++ 58 ∷ back) n
+either : (by_as by_address : ℕ) (front back : List ℕ) (n : ℕ) (o q : Option ℕ) → o ≡ as_pair front back → q ≡ address_pair front back → by_as ≢ by_address →
+    or_else (option_map (typed by_as) o) (option_map (typed by_address) q) ≡ Some n → IsPair by_as by_address (front ++ 58 ∷ back) n
 either by_as by_address front back n (Some v) q eo eq apart h =
     subst (IsPair by_as by_address (front ++ 58 ∷ back)) (same_Some _ _ h) (from_as by_as by_address v front back apart (as_only front back v (sym eo)))
 either by_as by_address front back n None (Some v) eo eq apart h =
@@ -191,5 +203,6 @@ pair_both by_as by_address w n apart h =
 pub pair_text_only : (by_as by_address : ℕ) (w : List ℕ) (n : ℕ) → by_as ≢ by_address → pair_of by_as by_address w ≡ Some n → w ≡ pair_text by_address n
 pair_text_only by_as by_address w n apart h = (pair_both by_as by_address w n apart h).text
 
-pub pair_kind_only : (by_as by_address : ℕ) (w : List ℕ) (n : ℕ) → by_as ≢ by_address → pair_of by_as by_address w ≡ Some n → (type_field n == by_as || type_field n == by_address) ≡ true
+pub pair_kind_only : (by_as by_address : ℕ) (w : List ℕ) (n : ℕ) → by_as ≢ by_address → pair_of by_as by_address w ≡ Some n →
+    (type_field n == by_as || type_field n == by_address) ≡ true
 pair_kind_only by_as by_address w n apart h = (pair_both by_as by_address w n apart h).kind

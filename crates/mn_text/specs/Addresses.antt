@@ -1,5 +1,6 @@
 -- The texts of IPv4 addresses and prefixes (RFC 4632, section 3.1), and what is read of them.
-use Rattle.std.specs.Prelude.{ℕ, ◌==◌, ◌+◌, ◌-◌, ◌*◌, ◌/◌, ◌%◌, ◌^◌, if◌then◌else◌, List, ◌∷◌, ◌++◌, take, drop, position, Option, Some, option_map, option_and_then, Result, Ok, Err}
+use Rattle.std.specs.Prelude.{ℕ, ◌==◌, ◌+◌, ◌-◌, ◌*◌, ◌/◌, ◌%◌, ◌^◌, if◌then◌else◌, List, ◌∷◌, ◌++◌, take, drop, position, Option, Some, option_map}
+use Rattle.std.specs.Prelude.{option_and_then, Result, Ok, Err}
 use Rattle.std.specs.Option.{option_map_or}
 use Rattle.mn_prefix.specs.Prefix.{AddressBlock}
 use Rattle.mn_text.specs.declared.refusal.TextBad.{TextBad}
@@ -9,7 +10,8 @@ use Rattle.mn_base.specs.Found.{◌>>=◌}
 
 -- the four bytes of an address, the greatest first, joined by dots
 unfoldable pub address_text : ℕ → List ℕ
-address_text a = number_text (a / 256 / 256 / 256) ++ 46 ∷ (number_text (a / 256 / 256 % 256) ++ 46 ∷ (number_text (a / 256 % 256) ++ 46 ∷ number_text (a % 256)))
+address_text a =
+    number_text (a / 256 / 256 / 256) ++ 46 ∷ (number_text (a / 256 / 256 % 256) ++ 46 ∷ (number_text (a / 256 % 256) ++ 46 ∷ number_text (a % 256)))
 
 -- the address, a slash and the length
 unfoldable pub prefix_text : AddressBlock → List ℕ

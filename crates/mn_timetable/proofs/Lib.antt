@@ -1,4 +1,3 @@
-pub mod Taking
 pub mod Keys
 pub mod Made
 pub mod FrameKeys

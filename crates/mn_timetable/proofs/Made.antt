@@ -1,5 +1,6 @@
 -- What a step makes for each of the four flights.
-use Rattle.std.proofs.Common.{ℕ, ◌≡◌, ◌+◌, Bool, true, false, List, [], ◌∷◌, ◌++◌, length, map, refl, sym, ap, ◌∙◌, subst, Option, Some, None, inl, inr, ◌⊎◌, append-nil}
+use Rattle.std.proofs.Common.{ℕ, ◌≡◌, ◌+◌, Bool, true, false, List, [], ◌∷◌, ◌++◌, length, map, refl, sym, ap, ◌∙◌, subst, Option, Some, None, inl, inr}
+use Rattle.std.proofs.Common.{◌⊎◌, append-nil}
 use Rattle.std.specs.Prelude.{slice_get, if◌then◌else◌}
 use Rattle.mn_base.specs.Wiring.{nodes_of}
 use Rattle.mn_base.specs.declared.links.Dir.{Dir}
@@ -13,7 +14,8 @@ use Rattle.mn_ledger.specs.Transport.{Said, is_transport}
 use Rattle.mn_ledger.specs.Vpn.{Told, is_routing}
 use Rattle.mn_ledger.specs.Verdicts.{verdict_on}
 use Rattle.mn_ledger.specs.Packets.{Token, Packets, flying_on}
-use Rattle.mn_ledger.specs.Items.{Channel, Notices, Messages, Routes, Frames, Load, Notice, Carries, notices_in, message_of, messages_in, route_of, routes_in, last_of, frame_by, frame_after, frames_in, made_in, numbered}
+use Rattle.mn_ledger.specs.Items.{Channel, Notices, Messages, Routes, Frames, Load, Notice, Carries, notices_in, message_of, messages_in, route_of}
+use Rattle.mn_ledger.specs.Items.{routes_in, last_of, frame_by, frame_after, frames_in, made_in, numbered}
 use Rattle.mn_timetable.specs.Keys.{Numbering, of_notices, of_messages, of_routes, of_frames, keys_on}
 use Rattle.mn_timetable.proofs.Keys.{keys_more, numbered-append, NoneOf, none_made}
 
@@ -65,7 +67,8 @@ no_said : (number : Numbering) (xs : List Said) → ((k n : ℕ) → number (Mes
 no_said number [] h = tt
 no_said number (x ∷ xs) h = (h x.link x.end, no_said number xs h)
 
-pub no_message_in : (number : Numbering) (t : Network) (w v : World) (s : Step) → ((k n : ℕ) → number (Messages k n) ≡ None) → NoneOf number (messages_in t w v s)
+pub no_message_in : (number : Numbering) (t : Network) (w v : World) (s : Step) →
+    ((k n : ℕ) → number (Messages k n) ≡ None) → NoneOf number (messages_in t w v s)
 no_message_in number t w v s h = none_if number (is_transport s) _ (no_said number _ h)
 
 no_told : (number : Numbering) (xs : List Told) → ((k n : ℕ) → number (Routes k n) ≡ None) → NoneOf number (map route_of xs)
@@ -84,12 +87,14 @@ no_frame_in number w v s h = none_one number (frames_in w v s) h (one_frame w v 
 
 -- 3. What is made for each flight
 
-skip : (number : Numbering) (t : Network) (tick n : ℕ) (xs ys : List (Channel × Load)) → NoneOf number xs → keys_on number (numbered t tick n (xs ++ ys)) ≡ keys_on number (numbered t tick (n + length xs) ys)
+skip : (number : Numbering) (t : Network) (tick n : ℕ) (xs ys : List (Channel × Load)) → NoneOf number xs →
+    keys_on number (numbered t tick n (xs ++ ys)) ≡ keys_on number (numbered t tick (n + length xs) ys)
 skip number t tick n xs ys h =
     ap (keys_on number) (numbered-append t tick n xs ys) ∙ keys_more number (numbered t tick n xs) (numbered t tick (n + length xs) ys)
     ∙ ap (λ k. k ++ keys_on number (numbered t tick (n + length xs) ys)) (none_made number t tick n xs h)
 
-only : (number : Numbering) (t : Network) (tick n : ℕ) (xs ys : List (Channel × Load)) → NoneOf number ys → keys_on number (numbered t tick n (xs ++ ys)) ≡ keys_on number (numbered t tick n xs)
+only : (number : Numbering) (t : Network) (tick n : ℕ) (xs ys : List (Channel × Load)) → NoneOf number ys →
+    keys_on number (numbered t tick n (xs ++ ys)) ≡ keys_on number (numbered t tick n xs)
 only number t tick n xs ys h =
     ap (keys_on number) (numbered-append t tick n xs ys) ∙ keys_more number (numbered t tick n xs) (numbered t tick (n + length xs) ys)
     ∙ ap (λ k. keys_on number (numbered t tick n xs) ++ k) (none_made number t tick (n + length xs) ys h) ∙ append-nil (keys_on number (numbered t tick n xs))
@@ -100,28 +105,39 @@ pub notices_made : (nodes : ℕ) (t : Network) (w v : World) (p q : Packets) (s 
 notices_made nodes t w v p q s tick n =
     only (of_notices nodes) t tick n (notices_in t s) (messages_in t w v s ++ (routes_in t w v s ++ frames_in p q s))
     (none_both (of_notices nodes) (messages_in t w v s) (routes_in t w v s ++ frames_in p q s) (no_message_in (of_notices nodes) t w v s (λ k m. refl))
-    (none_both (of_notices nodes) (routes_in t w v s) (frames_in p q s) (no_route_in (of_notices nodes) t w v s (λ k m. refl)) (no_frame_in (of_notices nodes) p q s (λ l d. refl))))
+    (none_both (of_notices nodes) (routes_in t w v s) (frames_in p q s) (no_route_in (of_notices nodes) t w v s (λ k m. refl))
+        (no_frame_in (of_notices nodes) p q s (λ l d. refl))))
 
 -- messages of LDP come after the notices
 pub messages_made : (t : Network) (w v : World) (p q : Packets) (s : Step) (tick n : ℕ) →
-    keys_on (of_messages t) (numbered t tick n (made_in t w v p q s)) ≡ keys_on (of_messages t) (numbered t tick (n + length (notices_in t s)) (messages_in t w v s))
+    keys_on (of_messages t) (numbered t tick n (made_in t w v p q s)) ≡ keys_on (of_messages t)
+        (numbered t tick (n + length (notices_in t s)) (messages_in t w v s))
 messages_made t w v p q s tick n =
-    skip (of_messages t) t tick n (notices_in t s) (messages_in t w v s ++ (routes_in t w v s ++ frames_in p q s)) (no_notice_in (of_messages t) t s (λ k m. refl))
+    skip (of_messages t) t tick n (notices_in t s) (messages_in t w v s ++ (routes_in t w v s ++ frames_in p q s))
+        (no_notice_in (of_messages t) t s (λ k m. refl))
     ∙ only (of_messages t) t tick (n + length (notices_in t s)) (messages_in t w v s) (routes_in t w v s ++ frames_in p q s)
-    (none_both (of_messages t) (routes_in t w v s) (frames_in p q s) (no_route_in (of_messages t) t w v s (λ k m. refl)) (no_frame_in (of_messages t) p q s (λ l d. refl)))
+    (none_both (of_messages t) (routes_in t w v s) (frames_in p q s) (no_route_in (of_messages t) t w v s (λ k m. refl))
+        (no_frame_in (of_messages t) p q s (λ l d. refl)))
 
 -- and messages of BGP after those of LDP
 pub routes_made : (nodes : ℕ) (t : Network) (w v : World) (p q : Packets) (s : Step) (tick n : ℕ) →
-    keys_on (of_routes nodes) (numbered t tick n (made_in t w v p q s)) ≡ keys_on (of_routes nodes) (numbered t tick (n + length (notices_in t s) + length (messages_in t w v s)) (routes_in t w v s))
+    keys_on (of_routes nodes) (numbered t tick n (made_in t w v p q s)) ≡ keys_on (of_routes nodes)
+        (numbered t tick (n + length (notices_in t s) + length (messages_in t w v s)) (routes_in t w v s))
 routes_made nodes t w v p q s tick n =
-    skip (of_routes nodes) t tick n (notices_in t s) (messages_in t w v s ++ (routes_in t w v s ++ frames_in p q s)) (no_notice_in (of_routes nodes) t s (λ k m. refl))
-    ∙ skip (of_routes nodes) t tick (n + length (notices_in t s)) (messages_in t w v s) (routes_in t w v s ++ frames_in p q s) (no_message_in (of_routes nodes) t w v s (λ k m. refl))
-    ∙ only (of_routes nodes) t tick (n + length (notices_in t s) + length (messages_in t w v s)) (routes_in t w v s) (frames_in p q s) (no_frame_in (of_routes nodes) p q s (λ l d. refl))
+    skip (of_routes nodes) t tick n (notices_in t s) (messages_in t w v s ++ (routes_in t w v s ++ frames_in p q s))
+        (no_notice_in (of_routes nodes) t s (λ k m. refl))
+    ∙ skip (of_routes nodes) t tick (n + length (notices_in t s)) (messages_in t w v s) (routes_in t w v s ++ frames_in p q s)
+        (no_message_in (of_routes nodes) t w v s (λ k m. refl))
+    ∙ only (of_routes nodes) t tick (n + length (notices_in t s) + length (messages_in t w v s)) (routes_in t w v s) (frames_in p q s)
+        (no_frame_in (of_routes nodes) p q s (λ l d. refl))
 
 -- a frame comes last
 pub frames_made : (t : Network) (w v : World) (p q : Packets) (s : Step) (tick n : ℕ) →
-    keys_on of_frames (numbered t tick n (made_in t w v p q s)) ≡ keys_on of_frames (numbered t tick (n + length (notices_in t s) + length (messages_in t w v s) + length (routes_in t w v s)) (frames_in p q s))
+    keys_on of_frames (numbered t tick n (made_in t w v p q s)) ≡ keys_on of_frames
+        (numbered t tick (n + length (notices_in t s) + length (messages_in t w v s) + length (routes_in t w v s)) (frames_in p q s))
 frames_made t w v p q s tick n =
     skip of_frames t tick n (notices_in t s) (messages_in t w v s ++ (routes_in t w v s ++ frames_in p q s)) (no_notice_in of_frames t s (λ k m. refl))
-    ∙ skip of_frames t tick (n + length (notices_in t s)) (messages_in t w v s) (routes_in t w v s ++ frames_in p q s) (no_message_in of_frames t w v s (λ k m. refl))
-    ∙ skip of_frames t tick (n + length (notices_in t s) + length (messages_in t w v s)) (routes_in t w v s) (frames_in p q s) (no_route_in of_frames t w v s (λ k m. refl))
+    ∙ skip of_frames t tick (n + length (notices_in t s)) (messages_in t w v s) (routes_in t w v s ++ frames_in p q s)
+        (no_message_in of_frames t w v s (λ k m. refl))
+    ∙ skip of_frames t tick (n + length (notices_in t s) + length (messages_in t w v s)) (routes_in t w v s) (frames_in p q s)
+        (no_route_in of_frames t w v s (λ k m. refl))

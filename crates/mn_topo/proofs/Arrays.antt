@@ -16,7 +16,8 @@ first_table (datetime d) items entry h = cc
 first_table (array es) items entry h = cc
 
 -- the tables from a value on that is a table
-pub tables_of-drop : (values : List Value) (i : ℕ) (value : Value) (entry : Members) → i < length values → value ≡ get_or values i value → Some entry ≡ as_table (view value)
+pub tables_of-drop : (values : List Value) (i : ℕ) (value : Value) (entry : Members) → i < length values → value ≡ get_or values i value →
+    Some entry ≡ as_table (view value)
     → tables_of (items_view (drop i values)) ≡ entry ∷ tables_of (items_view (drop (i + 1) values))
 tables_of-drop values i value entry below here is_table =
     let seam : drop i values ≡ value ∷ drop (i + 1) values = rw (add-one, drop-cons values i value below) (ap (λ v. v ∷ drop (suc i) values) (sym here)) in

@@ -55,27 +55,33 @@ up_to_sites top head nodes links vrfs h =
     ∙ ap (λ read. read >>= after_vrfs top nodes links) h.vrfs_are
     ∙ ap (λ ts. sites_from vrfs.names ts no_sites >>= after_sites top nodes links vrfs) (sym h.head_is.sites_are)
 
-refused_on : {A B : Type 0} (bad : TopoBad) (read : Result A (TopoRule × Place)) (rest : A → Result B (TopoRule × Place)) → Reads {A = A} (Err bad) read → Reads {A = B} (Err bad) (read >>= rest)
+refused_on : {A B : Type 0} (bad : TopoBad) (read : Result A (TopoRule × Place)) (rest : A → Result B (TopoRule × Place)) → Reads {A = A} (Err bad) read →
+    Reads {A = B} (Err bad) (read >>= rest)
 refused_on (Refused rule place) read rest h = ap (λ r. r >>= rest) h
 refused_on NoMemory read rest h = tt
 
 -- a refusal of the sites is that of the whole
-pub refused_sites : (top : Members) (head : Head) (nodes : NodeTable) (links : List LinkEnds) (vrfs : VrfTable) (bad : TopoBad) → Parts top head nodes links vrfs
+pub refused_sites : (top : Members) (head : Head) (nodes : NodeTable) (links : List LinkEnds) (vrfs : VrfTable) (bad : TopoBad) →
+    Parts top head nodes links vrfs
     → Reads {A = SiteTable} (Err bad) (sites_from vrfs.names (tables_of (items_view head.sites.now)) no_sites) → Reads {A = Network} (Err bad) (network_of top)
 refused_sites top head nodes links vrfs bad h s =
-    rw (up_to_sites top head nodes links vrfs h) (refused_on bad (sites_from vrfs.names (tables_of (items_view head.sites.now)) no_sites) (after_sites top nodes links vrfs) s)
+    rw (up_to_sites top head nodes links vrfs h)
+        (refused_on bad (sites_from vrfs.names (tables_of (items_view head.sites.now)) no_sites) (after_sites top nodes links vrfs) s)
 
 -- the sites make the whole
 pub whole : (top : Members) (head : Head) (nodes : NodeTable) (links : List LinkEnds) (vrfs : VrfTable) (sites : SiteTable) → Parts top head nodes links vrfs
     → sites_from vrfs.names (tables_of (items_view head.sites.now)) no_sites ≡ Ok sites
-    → network_of top ≡ Ok (record { asn = head.asn; notice_delay = head.notice_delay; bgp_delay = head.bgp_delay; node_names = nodes.names; loopbacks = nodes.loopbacks; links = links; vrf_names = vrfs.names; vrfs = vrfs.vrfs; site_names = sites.names; sites = sites.sites })
+    → network_of top ≡ Ok (record { asn = head.asn; notice_delay = head.notice_delay; bgp_delay = head.bgp_delay; node_names = nodes.names; loopbacks =
+        nodes.loopbacks; links = links; vrf_names = vrfs.names; vrfs = vrfs.vrfs; site_names = sites.names; sites = sites.sites })
 whole top head nodes links vrfs sites h s =
     up_to_sites top head nodes links vrfs h
     ∙ ap (λ read. read >>= after_sites top nodes links vrfs) s
     ∙ rw (h.head_is.asn_is, h.head_is.notice_delay_is, h.head_is.bgp_delay_is) refl
 
 -- the whole is lawful
-pub whole_lawful : (top : Members) (head : Head) (nodes : NodeTable) (links : List LinkEnds) (vrfs : VrfTable) (sites : SiteTable) → Parts top head nodes links vrfs
+pub whole_lawful : (top : Members) (head : Head) (nodes : NodeTable) (links : List LinkEnds) (vrfs : VrfTable) (sites : SiteTable) →
+    Parts top head nodes links vrfs
     → sites_from vrfs.names (tables_of (items_view head.sites.now)) no_sites ≡ Ok sites
-    → IsLawful (record { asn = head.asn; notice_delay = head.notice_delay; bgp_delay = head.bgp_delay; node_names = nodes.names; loopbacks = nodes.loopbacks; links = links; vrf_names = vrfs.names; vrfs = vrfs.vrfs; site_names = sites.names; sites = sites.sites })
+    → IsLawful (record { asn = head.asn; notice_delay = head.notice_delay; bgp_delay = head.bgp_delay; node_names = nodes.names; loopbacks =
+        nodes.loopbacks; links = links; vrf_names = vrfs.names; vrfs = vrfs.vrfs; site_names = sites.names; sites = sites.sites })
 whole_lawful top head nodes links vrfs sites h s = network_lawful top _ (whole top head nodes links vrfs sites h s)

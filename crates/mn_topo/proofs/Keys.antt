@@ -12,9 +12,11 @@ among : (known : List (Bor (List ℕ))) (key : List ℕ) → is_among (texts_now
 among [] key = refl
 among (k ∷ ks) key = ap (λ rest. bytes_eq key k.now || rest) (among ks key)
 
-pub unknown : (known : List (Bor (List ℕ))) (es : List (String Global × Value)) → has_unknown_key (texts_now known) (members_view es) ≡ list_any (λ k. not (list_any (λ y. bytes_eq (string_bytes k) y.now) known)) (keys_of es)
+pub unknown : (known : List (Bor (List ℕ))) (es : List (String Global × Value)) →
+    has_unknown_key (texts_now known) (members_view es) ≡ list_any (λ k. not (list_any (λ y. bytes_eq (string_bytes k) y.now) known)) (keys_of es)
 unknown known [] = refl
-unknown known (e ∷ es) = rw (among known (string_bytes e.0)) (ap (λ rest. not (list_any (λ y. bytes_eq (string_bytes e.0) y.now) known) || rest) (unknown known es))
+unknown known (e ∷ es) =
+    rw (among known (string_bytes e.0)) (ap (λ rest. not (list_any (λ y. bytes_eq (string_bytes e.0) y.now) known) || rest) (unknown known es))
 
 -- how many items there are
 item_count : Items → ℕ

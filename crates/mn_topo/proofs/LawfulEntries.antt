@@ -1,5 +1,6 @@
 -- What is read meets the rules.
-use Rattle.std.proofs.Common.{◌≡◌, ◌+◌, ℕ, arith, length, length-append, Bool, true, false, ◌==◌, if◌then◌else◌, List, [], ◌∷◌, ◌++◌, Option, Some, None, is_none, unwrap_or, option_and_then, codes, Result, Ok, refl, ap, ◌∙◌, subst}
+use Rattle.std.proofs.Common.{◌≡◌, ◌+◌, ℕ, arith, length, length-append, Bool, true, false, ◌==◌, if◌then◌else◌, List, [], ◌∷◌, ◌++◌, Option, Some, None}
+use Rattle.std.proofs.Common.{is_none, unwrap_or, option_and_then, codes, Result, Ok, refl, ap, ◌∙◌, subst}
 use Rattle.std.specs.List.{list_all, list_any, IsDistinct, AllByRecursion}
 use Rattle.std.specs.Str.{bytes_eq}
 use Rattle.std.specs.Cmp.{nat_eq_equiv}
@@ -33,7 +34,8 @@ kept true rule h = cc
 kept false rule h = refl
 
 -- a reading that ends well broke no rule, and the rest ended well
-pub reads_on : {A : Type 0} (rule : Option TopoRule) (place : Place) (rest : Result A (TopoRule × Place)) (value : A) → unless_broken rule place rest ≡ Ok value → (rule ≡ None) × (rest ≡ Ok value)
+pub reads_on : {A : Type 0} (rule : Option TopoRule) (place : Place) (rest : Result A (TopoRule × Place)) (value : A) →
+    unless_broken rule place rest ≡ Ok value → (rule ≡ None) × (rest ≡ Ok value)
 reads_on None place rest value h = (refl, h)
 reads_on (Some rule) place rest value h = cc
 
@@ -45,7 +47,8 @@ apart_push P [] x h k = (k, tt)
 apart_push P (y ∷ ys) x h k = (h.0, apart_push P ys x h.1 k)
 
 -- one more that is unlike those before it
-pub distinct_push : {A : Type 0} (same : A → A → Bool) → ((x y : A) → same x y ≡ same y x) → (xs : List A) (x : A) → IsDistinct same xs → list_any (same x) xs ≡ false → IsDistinct same (xs ++ x ∷ [])
+pub distinct_push : {A : Type 0} (same : A → A → Bool) → ((x y : A) → same x y ≡ same y x) →
+    (xs : List A) (x : A) → IsDistinct same xs → list_any (same x) xs ≡ false → IsDistinct same (xs ++ x ∷ [])
 unfolding IsDistinct
 distinct_push same flips [] x h k = (tt, tt)
 distinct_push same flips (y ∷ ys) x h k =
@@ -62,15 +65,18 @@ one_more : {A B : Type 0} (xs : List A) (ys : List B) (x : A) (y : B) → length
 one_more xs ys x y h = simp length-append (ap (λ n. n + 1) h)
 
 -- a loopback that is there is of its form
-loopback_within : (address : Option ℕ) → is_none (option_and_then (λ a. if is_loopback a then Some a else None) address) ≡ false → is_loopback (unwrap_or (option_and_then (λ a. if is_loopback a then Some a else None) address) 0) ≡ true
+loopback_within : (address : Option ℕ) → is_none (option_and_then (λ a. if is_loopback a then Some a else None) address) ≡ false →
+    is_loopback (unwrap_or (option_and_then (λ a. if is_loopback a then Some a else None) address) 0) ≡ true
 loopback_within None h = cc
 loopback_within (Some a) h =
-    elim (is_loopback a) as (λ b. is_loopback a ≡ b → is_none (if b then Some a else None) ≡ false → is_loopback (unwrap_or (if b then Some a else None) 0) ≡ true) [
+    elim (is_loopback a) as (λ b. is_loopback a ≡ b → is_none (if b then Some a else None) ≡ false →
+        is_loopback (unwrap_or (if b then Some a else None) 0) ≡ true) [
       | true ↦ λ e k. e
       | false ↦ λ e k. cc
     ] refl h
 
-loopback_formed : (text : Option (List ℕ)) → is_none (option_and_then loopback_in text) ≡ false → is_loopback (unwrap_or (option_and_then loopback_in text) 0) ≡ true
+loopback_formed : (text : Option (List ℕ)) → is_none (option_and_then loopback_in text) ≡ false →
+    is_loopback (unwrap_or (option_and_then loopback_in text) 0) ≡ true
 loopback_formed None h = cc
 loopback_formed (Some word) h = loopback_within (address_of word) h
 
@@ -83,7 +89,9 @@ node_step earlier entry h lawful =
       named = names_push earlier.names (name_of entry) h.named (not-false _ (kept _ BadName all.1.1.1.0)) (kept _ TwiceNamed all.1.1.1.1.0);
       each = one_more earlier.loopbacks earlier.names (loopback_of entry) (name_of entry) h.each;
       formed = all_push is_loopback earlier.loopbacks (loopback_of entry) h.formed (loopback_formed (text_at (codes "loopback") entry) kinds.1);
-      distinct = distinct_push (λ one other. one == other) nat_eq_equiv.symm earlier.loopbacks (loopback_of entry) h.distinct (kept _ TwiceLoopback all.1.1.1.1.1.0);
+      distinct =
+          distinct_push (λ one other. one == other) nat_eq_equiv.symm earlier.loopbacks (loopback_of entry) h.distinct
+          (kept _ TwiceLoopback all.1.1.1.1.1.0);
     }
 
 pub nodes_lawful : (entries : List Members) (earlier nodes : NodeTable) → nodes_from entries earlier ≡ Ok nodes → AreNodes earlier → AreNodes nodes
@@ -92,7 +100,8 @@ nodes_lawful (entry ∷ entries) earlier nodes h k =
     let on = reads_on (node_rule earlier entry) (Node (length earlier.names)) (nodes_from entries (with_node earlier entry)) nodes h in
     nodes_lawful entries (with_node earlier entry) nodes on.1 (node_step earlier entry k on.0)
 
-pub nodes_count : (entries : List Members) (earlier nodes : NodeTable) → nodes_from entries earlier ≡ Ok nodes → length nodes.names ≡ length earlier.names + length entries
+pub nodes_count : (entries : List Members) (earlier nodes : NodeTable) → nodes_from entries earlier ≡ Ok nodes →
+    length nodes.names ≡ length earlier.names + length entries
 nodes_count [] earlier nodes h = let same : earlier ≡ nodes = cc in rw (← same) (omega arith)
 nodes_count (entry ∷ entries) earlier nodes h =
     let on = reads_on (node_rule earlier entry) (Node (length earlier.names)) (nodes_from entries (with_node earlier entry)) nodes h in

@@ -46,7 +46,8 @@ unfolding IsDistinct
 sites_begin vrfs = record { named = no_names; each = refl; placed = refl; formed = refl; distinct = tt; few_prefixes = omega arith }
 
 -- what is read first, where the whole is read
-first_read : {A B : Type 0} (read : Result A (TopoRule × Place)) (rest : A → Result B (TopoRule × Place)) (value : B) → (read >>= rest) ≡ Ok value → (x : A) × ((read ≡ Ok x) × (rest x ≡ Ok value))
+first_read : {A B : Type 0} (read : Result A (TopoRule × Place)) (rest : A → Result B (TopoRule × Place)) (value : B) → (read >>= rest) ≡ Ok value →
+    (x : A) × ((read ≡ Ok x) × (rest x ≡ Ok value))
 first_read (Ok x) rest value h = (x, (refl, h))
 first_read (Err refused) rest value h = cc
 
@@ -59,7 +60,9 @@ parts_lawful : (top : Members) (nodes : NodeTable) (links : List LinkEnds) (vrfs
     → IsLawful (network_with top nodes links vrfs sites)
 unfolding top_rule
 parts_lawful top nodes links vrfs sites lawful n l v s =
-    let all = all_kept (broken (has_unknown_key top_keys top) UnknownKey ∷ broken (has_wrong_number top || has_wrong_array top) WrongKind ∷ broken (has_too_many top) TooMany ∷ []) lawful in
+    let all =
+        all_kept (broken (has_unknown_key top_keys top) UnknownKey ∷ broken (has_wrong_number top || has_wrong_array top) WrongKind
+        ∷ broken (has_too_many top) TooMany ∷ []) lawful in
     let numbers = or_parts _ _ (or_parts (has_wrong_number top) (has_wrong_array top) (kept _ WrongKind all.1.0)).0 in
     let delays = or_parts _ _ numbers.0 in
     let counts = or_parts _ _ (kept (has_too_many top) TooMany all.1.1.0) in

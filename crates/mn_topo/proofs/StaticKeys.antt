@@ -21,14 +21,18 @@ and_assoc false b c = refl
 
 stands_mapped : (vrf : ℕ) (p : AddressBlock) (keys : List Key) → stands (map static_of keys) vrf p ≡ list_any (is_key vrf p.address p.length) keys
 stands_mapped vrf p [] = refl
-stands_mapped vrf p (key ∷ keys) = rw (and_assoc (vrf == key.0) (p.address == key.1) (p.length == key.2)) (ap (λ rest. is_key vrf p.address p.length key || rest) (stands_mapped vrf p keys))
+stands_mapped vrf p (key ∷ keys) =
+    rw (and_assoc (vrf == key.0) (p.address == key.1) (p.length == key.2))
+    (ap (λ rest. is_key vrf p.address p.length key || rest) (stands_mapped vrf p keys))
 
 -- a look-up among the keys is one among the statics
-pub stands_known : (vrf address length : ℕ) (p : AddressBlock) (keys : List Key) (now : List Static) → map static_of keys ≡ now → address ≡ p.address → length ≡ p.length
+pub stands_known : (vrf address length : ℕ) (p : AddressBlock) (keys : List Key) (now : List Static) → map static_of keys ≡ now → address ≡ p.address →
+    length ≡ p.length
     → list_any (is_key vrf address length) keys ≡ stands now vrf p
 stands_known vrf address length p keys now seen a l = rw (a, l, ← seen) (sym (stands_mapped vrf p keys))
 
-pub put_static : (vrf address length : ℕ) (p : AddressBlock) (keys new : List Key) (now : List Static) → map static_of keys ≡ now → address ≡ p.address → length ≡ p.length
+pub put_static : (vrf address length : ℕ) (p : AddressBlock) (keys new : List Key) (now : List Static) → map static_of keys ≡ now → address ≡ p.address →
+    length ≡ p.length
     → stands now vrf p ≡ false
     → new ≡ (if list_any (is_key vrf address length) keys then keys else keys ++ (vrf, address, length) ∷ [])
     → map static_of new ≡ now ++ (vrf, p) ∷ []

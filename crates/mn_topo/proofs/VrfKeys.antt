@@ -59,7 +59,8 @@ pub edge_known : (q : ℕ) (keys : List ℕ) (vs : List VrfDef) → keys ≡ edg
 edge_known q keys vs same = rw same (edges_from q vs [])
 
 -- the sets after one more VRF
-pub put_vrf : (vrf : VrfDef) (rds new_rds edges room_edges new_edges : List ℕ) (vs room now after : List VrfDef) → rds ≡ map rd_key vs → edges ≡ edges_of vs → vs ≡ now
+pub put_vrf : (vrf : VrfDef) (rds new_rds edges room_edges new_edges : List ℕ) (vs room now after : List VrfDef) → rds ≡ map rd_key vs →
+    edges ≡ edges_of vs → vs ≡ now
     → has_rd now vrf.rd ≡ false
     → new_rds ≡ (if list_any (λ k. vrf.rd.0 == k) rds then rds else rds ++ vrf.rd.0 ∷ [])
     → room_edges ≡ edges

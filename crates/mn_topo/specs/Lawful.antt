@@ -33,7 +33,8 @@ joins_two_of nodes link = (nat_lt link.a.0 nodes && nat_lt link.b.0 nodes) && no
 
 -- a cost of 1 to 65535, a delay of 1 to 1000 and a loss of at most 65535
 abbrev pub has_figures : LinkEnds → Bool
-has_figures link = ((nat_le 1 link.cost && nat_le link.cost 65535) && (nat_le 1 link.delay && nat_le link.delay 1000)) && (nat_le 0 link.loss && nat_le link.loss 65535)
+has_figures link =
+    ((nat_le 1 link.cost && nat_le link.cost 65535) && (nat_le 1 link.delay && nat_le link.delay 1000)) && (nat_le 0 link.loss && nat_le link.loss 65535)
 
 -- links between different nodes, of which no two join the same nodes
 pub record AreLinks (nodes : ℕ) (links : List LinkEnds) : Type 0 where

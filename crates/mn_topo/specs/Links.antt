@@ -1,5 +1,6 @@
 -- The links, and the rules of an entry that is one.
-use Rattle.std.specs.Prelude.{◌≡◌, ℕ, min, max, Bool, false, not, ◌&&◌, ◌||◌, ◌==◌, List, [], ◌∷◌, ◌++◌, length, Option, Some, None, is_none, unwrap_or, codes, Result, Ok, Err}
+use Rattle.std.specs.Prelude.{◌≡◌, ℕ, min, max, Bool, false, not, ◌&&◌, ◌||◌, ◌==◌, List, [], ◌∷◌, ◌++◌, length, Option, Some, None, is_none, unwrap_or}
+use Rattle.std.specs.Prelude.{codes, Result, Ok, Err}
 use Rattle.std.specs.List.{list_any}
 use Rattle.toml.specs.Data.{Members}
 use Rattle.mn_base.specs.declared.links.LinkEnds.{LinkEnds}
@@ -36,7 +37,8 @@ abbrev pub link_rules : List (List ℕ) → List LinkEnds → Members → List (
 link_rules nodes earlier entry =
     broken (has_unknown_key link_keys entry) UnknownKey
     ∷ broken (lacks (codes "a") entry || lacks (codes "b") entry) MissingKey
-    ∷ broken ((is_none (text_at (codes "a") entry) || is_none (text_at (codes "b") entry)) || ((not (is_integer_at (codes "cost") entry) || not (is_integer_at (codes "delay") entry)) || not (is_integer_at (codes "loss") entry))) WrongKind
+    ∷ broken ((is_none (text_at (codes "a") entry) || is_none (text_at (codes "b") entry)) ||
+        ((not (is_integer_at (codes "cost") entry) || not (is_integer_at (codes "delay") entry)) || not (is_integer_at (codes "loss") entry))) WrongKind
     ∷ broken (is_none (named_at nodes (codes "a") entry) || is_none (named_at nodes (codes "b") entry)) NoSuchName
     ∷ broken (number_named nodes (codes "a") entry == number_named nodes (codes "b") entry) SelfLink
     ∷ broken (are_joined earlier (number_named nodes (codes "a") entry) (number_named nodes (codes "b") entry)) TwiceLinked
@@ -60,7 +62,8 @@ link_in nodes entry = record {
 -- the links of the entries after the earlier ones, or the first rule that is broken and its place
 abbrev pub links_from : List (List ℕ) → List Members → List LinkEnds → Result (List LinkEnds) (TopoRule × Place)
 links_from nodes [] earlier = Ok earlier
-links_from nodes (entry ∷ entries) earlier = unless_broken (link_rule nodes earlier entry) (Link (length earlier)) (links_from nodes entries (earlier ++ link_in nodes entry ∷ []))
+links_from nodes (entry ∷ entries) earlier =
+    unless_broken (link_rule nodes earlier entry) (Link (length earlier)) (links_from nodes entries (earlier ++ link_in nodes entry ∷ []))
 
 -- the link of an entry that breaks no rule, and no earlier link joins its ends
 pub record IsLink (nodes : List (List ℕ)) (earlier : List LinkEnds) (entry : Members) (link : LinkEnds) : Type 0 where

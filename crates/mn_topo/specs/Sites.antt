@@ -1,5 +1,6 @@
 -- The sites, and the rules of an entry that is one.
-use Rattle.std.specs.Prelude.{◌≡◌, ℕ, ◌+◌, Bool, false, not, ◌||◌, nat_lt, List, [], ◌∷◌, ◌++◌, length, Option, Some, None, is_none, option_and_then, unwrap_or, codes, Result, Ok, Err}
+use Rattle.std.specs.Prelude.{◌≡◌, ℕ, ◌+◌, Bool, false, not, ◌||◌, nat_lt, List, [], ◌∷◌, ◌++◌, length, Option, Some, None, is_none, option_and_then}
+use Rattle.std.specs.Prelude.{unwrap_or, codes, Result, Ok, Err}
 use Rattle.std.specs.Result.{result_ok}
 use Rattle.std.specs.Borrow.{Bor}
 use Rattle.toml.specs.Data.{Data, Items, no_items, item, Members, as_str}
@@ -80,7 +81,8 @@ with_site vrfs earlier entry = record { names = earlier.names ++ name_of entry �
 -- the sites of the entries after the earlier ones, or the first rule that is broken and its place
 abbrev pub sites_from : List (List ℕ) → List Members → SiteTable → Result SiteTable (TopoRule × Place)
 sites_from vrfs [] earlier = Ok earlier
-sites_from vrfs (entry ∷ entries) earlier = unless_broken (site_rule vrfs earlier entry) (Site (length earlier.names)) (sites_from vrfs entries (with_site vrfs earlier entry))
+sites_from vrfs (entry ∷ entries) earlier =
+    unless_broken (site_rule vrfs earlier entry) (Site (length earlier.names)) (sites_from vrfs entries (with_site vrfs earlier entry))
 
 -- what the first rules take from an entry that breaks none of them
 pub record IsSiteHead (vrfs : List (List ℕ)) (earlier : SiteTable) (entry : Members) (head : SiteHead) : Type 0 where

@@ -1,5 +1,6 @@
 -- The topology that a document is, or the first rule that it breaks and the place.
-use Rattle.std.specs.Prelude.{◌≡◌, ◌≤◌, ℕ, Bool, not, ◌||◌, nat_lt, if◌then◌else◌, List, [], ◌∷◌, length, Option, Some, None, is_none, unwrap_or, codes, Result, Ok, Err}
+use Rattle.std.specs.Prelude.{◌≡◌, ◌≤◌, ℕ, Bool, not, ◌||◌, nat_lt, if◌then◌else◌, List, [], ◌∷◌, length, Option, Some, None, is_none, unwrap_or, codes}
+use Rattle.std.specs.Prelude.{Result, Ok, Err}
 use Rattle.std.specs.Option.{option_map_or}
 use Rattle.std.specs.Str.{is_utf8}
 use Rattle.toml.specs.Data.{Members}
@@ -38,14 +39,18 @@ abbrev pub has_wrong_number : Members → Bool
 has_wrong_number top = (is_none (asn_at top) || is_none (notice_delay_at top)) || is_none (bgp_delay_at top)
 
 abbrev pub has_wrong_array : Members → Bool
-has_wrong_array top = ((not (is_tables_at (codes "node") top) || not (is_tables_at (codes "link") top)) || not (is_tables_at (codes "vrf") top)) || not (is_tables_at (codes "site") top)
+has_wrong_array top =
+    ((not (is_tables_at (codes "node") top) || not (is_tables_at (codes "link") top)) || not (is_tables_at (codes "vrf") top)) || not
+    (is_tables_at (codes "site") top)
 
 -- the array at the key has more entries than this
 abbrev pub has_more_than : ℕ → List ℕ → Members → Bool
 has_more_than most key top = nat_lt most (length (tables_at key top))
 
 abbrev pub has_too_many : Members → Bool
-has_too_many top = ((has_more_than 256 (codes "node") top || has_more_than 1024 (codes "link") top) || has_more_than 512 (codes "vrf") top) || has_more_than 4096 (codes "site") top
+has_too_many top =
+    ((has_more_than 256 (codes "node") top || has_more_than 1024 (codes "link") top) || has_more_than 512 (codes "vrf") top) || has_more_than 4096
+    (codes "site") top
 
 -- the rules of the top table
 unfoldable pub top_rule : Members → Option TopoRule

@@ -1,5 +1,6 @@
 -- The VRFs, and the rules of an entry that is one.
-use Rattle.std.specs.Prelude.{◌≡◌, ℕ, Bool, false, not, ◌&&◌, ◌||◌, ◌==◌, nat_le, if◌then◌else◌, List, [], ◌∷◌, ◌++◌, length, Option, Some, None, is_none, option_and_then, unwrap_or, codes, Result, Ok, Err}
+use Rattle.std.specs.Prelude.{◌≡◌, ℕ, Bool, false, not, ◌&&◌, ◌||◌, ◌==◌, nat_le, if◌then◌else◌, List, [], ◌∷◌, ◌++◌, length, Option, Some, None, is_none}
+use Rattle.std.specs.Prelude.{option_and_then, unwrap_or, codes, Result, Ok, Err}
 use Rattle.std.specs.List.{list_any}
 use Rattle.std.specs.Option.{option_map_or}
 use Rattle.std.specs.Borrow.{Bor}
@@ -54,7 +55,8 @@ abbrev pub vrf_head_rules : List (List ℕ) → VrfTable → Members → List (O
 vrf_head_rules nodes earlier entry =
     broken (has_unknown_key vrf_keys entry) UnknownKey
     ∷ broken ((lacks (codes "name") entry || lacks (codes "node") entry) || lacks (codes "rd") entry) MissingKey
-    ∷ broken (((is_none (text_at (codes "name") entry) || is_none (text_at (codes "node") entry)) || is_none (text_at (codes "rd") entry)) || (not (is_texts_at (codes "import") entry) || not (is_texts_at (codes "export") entry))) WrongKind
+    ∷ broken (((is_none (text_at (codes "name") entry) || is_none (text_at (codes "node") entry)) || is_none (text_at (codes "rd") entry)) ||
+        (not (is_texts_at (codes "import") entry) || not (is_texts_at (codes "export") entry))) WrongKind
     ∷ broken (not (is_name (name_of entry))) BadName
     ∷ broken (has_name earlier.names (name_of entry)) TwiceNamed
     ∷ broken (is_none (named_at nodes (codes "node") entry)) NoSuchName
@@ -91,7 +93,8 @@ with_vrf nodes earlier entry = record { names = earlier.names ++ name_of entry �
 -- the VRFs of the entries after the earlier ones, or the first rule that is broken and its place
 abbrev pub vrfs_from : List (List ℕ) → List Members → VrfTable → Result VrfTable (TopoRule × Place)
 vrfs_from nodes [] earlier = Ok earlier
-vrfs_from nodes (entry ∷ entries) earlier = unless_broken (vrf_rule nodes earlier entry) (Vrf (length earlier.names)) (vrfs_from nodes entries (with_vrf nodes earlier entry))
+vrfs_from nodes (entry ∷ entries) earlier =
+    unless_broken (vrf_rule nodes earlier entry) (Vrf (length earlier.names)) (vrfs_from nodes entries (with_vrf nodes earlier entry))
 
 -- what the first rules take from an entry that breaks none of them
 pub record IsVrfHead (nodes : List (List ℕ)) (earlier : VrfTable) (entry : Members) (head : VrfHead) : Type 0 where

@@ -47,7 +47,8 @@ counts_spare m new spare is = record {
   bytes = (let same = ap (λ (n : Moving). bytes_in n.flying) is in omega (arith, same));
 }
 
-pub counts_judged : (m new : Moving) (packet copies bytes : ℕ) (verdict : Verdict) → new ≡ record m { verdicts = slice_set m.verdicts packet verdict } → CountsOn m new 0 copies bytes
+pub counts_judged : (m new : Moving) (packet copies bytes : ℕ) (verdict : Verdict) → new ≡ record m { verdicts = slice_set m.verdicts packet verdict } →
+    CountsOn m new 0 copies bytes
 counts_judged m new packet copies bytes verdict is = record {
   channels = ap (λ (n : Moving). n.channels) is;
   failed = ap (λ (n : Moving). n.failed) is;
@@ -67,7 +68,8 @@ counts_delivered m new packet bytes verdict packet_bytes is = record {
 }
 
 pub counts_sent : (m new : Moving) (packet spare : ℕ) (verdict : Verdict) (item : Item Flown) →
-    new ≡ record m { flying = m.flying ++ item ∷ []; spare = spare; verdicts = slice_set m.verdicts packet verdict } → CountsOn m new 0 0 (length item.item.frame.packet)
+    new ≡ record m { flying = m.flying ++ item ∷ []; spare = spare; verdicts = slice_set m.verdicts packet verdict } →
+        CountsOn m new 0 0 (length item.item.frame.packet)
 counts_sent m new packet spare verdict item is = record {
   channels = ap (λ (n : Moving). n.channels) is;
   failed = ap (λ (n : Moving). n.failed) is;
@@ -87,8 +89,10 @@ counts_more m new spare verdict path is = record {
 }
 
 -- what is taken is as many bytes less
-pub counts_taken : (m left : Moving) (channel place : ℕ) (item : Item Flown) → IsFlight m.channels m.flying → Some item ≡ slice_get (on_channel channel m.flying) place →
-    left ≡ record m { flying = without (Some item) m.flying; spare = left.spare } → CountsOn m left 0 0 0 × (bytes_in left.flying + length item.item.frame.packet ≡ bytes_in m.flying)
+pub counts_taken : (m left : Moving) (channel place : ℕ) (item : Item Flown) → IsFlight m.channels m.flying →
+    Some item ≡ slice_get (on_channel channel m.flying) place →
+    left ≡ record m { flying = without (Some item) m.flying; spare = left.spare } →
+        CountsOn m left 0 0 0 × (bytes_in left.flying + length item.item.frame.packet ≡ bytes_in m.flying)
 counts_taken m left channel place item flight found is =
     let same = ap (λ (n : Moving). bytes_in n.flying) is in
     let less = bytes_left channel place m.flying item flight.ascending found in (
@@ -103,7 +107,8 @@ counts_taken m left channel place item flight found is =
     )
 
 -- so where it flies on, no more bytes fly than before
-pub counts_back : (m left there new : Moving) (paths : List Visits) (size : ℕ) → CountsOn m left 0 0 0 → bytes_in left.flying + size ≡ bytes_in m.flying → there ≡ record left { paths = paths } →
+pub counts_back : (m left there new : Moving) (paths : List Visits) (size : ℕ) → CountsOn m left 0 0 0 → bytes_in left.flying + size ≡ bytes_in m.flying →
+    there ≡ record left { paths = paths } →
     CountsOn there new 0 1 size → CountsOn m new 0 1 0
 counts_back m left there new paths size taken less visits goes = record {
   channels = goes.channels ∙ ap (λ (n : Moving). n.channels) visits ∙ taken.channels;

@@ -11,7 +11,7 @@ use Rattle.mn_flight.proofs.Members.{IsIn, in_of_place, contains_of_in, from_fil
 use Rattle.mn_transit.specs.declared.flown.Flown.{Flown}
 use Rattle.mn_transit.specs.Visits.{Visits, path_of}
 use Rattle.mn_transit.specs.Moving.{HoldsHops}
-use Rattle.mn_transit.proofs.Taking.{on_it, others, same_gone}
+use Rattle.mn_flight.proofs.OnChannels.{on_it, others, same_gone}
 
 -- of different packets, the earlier first
 abbrev pub Apart : Item Flown → Item Flown → Type 0
@@ -54,15 +54,18 @@ abbrev pub HasWay : List Visits → Item Flown → Type 0
 HasWay paths item = HoldsHops (path_of paths item.item.packet).room item.item.frame
 
 -- to visit one node more is the business of no other packet
-pub way_visited : (paths : List Visits) (packet : ℕ) (path : Visits) (xs : List (Item Flown)) → All (HasWay paths) xs → All (λ (other : Item Flown). other.item.packet ≢ packet) xs →
+pub way_visited : (paths : List Visits) (packet : ℕ) (path : Visits) (xs : List (Item Flown)) → All (HasWay paths) xs →
+    All (λ (other : Item Flown). other.item.packet ≢ packet) xs →
     All (HasWay (slice_set paths packet path)) xs
 way_visited paths packet path xs have apart k d p =
     let item = get_or xs k d in
-    let same : path_of (slice_set paths packet path) item.item.packet ≡ path_of paths item.item.packet = get_or-set_other paths packet item.item.packet path _ (apart k d p) in
+    let same : path_of (slice_set paths packet path) item.item.packet ≡ path_of paths item.item.packet =
+        get_or-set_other paths packet item.item.packet path _ (apart k d p) in
     subst (λ (v : Visits). HoldsHops v.room item.item.frame) (sym same) (have k d p)
 
 -- nor is one packet more
-pub way_more : (paths : List Visits) (path : Visits) (packets : ℕ) (xs : List (Item Flown)) → All (HasWay paths) xs → All (λ (item : Item Flown). item.item.packet < packets) xs → length paths ≡ packets →
+pub way_more : (paths : List Visits) (path : Visits) (packets : ℕ) (xs : List (Item Flown)) → All (HasWay paths) xs →
+    All (λ (item : Item Flown). item.item.packet < packets) xs → length paths ≡ packets →
     All (HasWay (paths ++ path ∷ [])) xs
 way_more paths path packets xs have injected each k d p =
     let item = get_or xs k d in
@@ -71,7 +74,8 @@ way_more paths path packets xs have injected each k d p =
     subst (λ (v : Visits). HoldsHops v.room item.item.frame) (sym same) (have k d p)
 
 -- a packet that wasn't injected yet doesn't fly
-pub apart_new : (packet : ℕ) (xs : List (Item Flown)) → All (λ (item : Item Flown). item.item.packet < packet) xs → All (λ (other : Item Flown). other.item.packet ≢ packet) xs
+pub apart_new : (packet : ℕ) (xs : List (Item Flown)) → All (λ (item : Item Flown). item.item.packet < packet) xs →
+    All (λ (other : Item Flown). other.item.packet ≢ packet) xs
 apart_new packet xs injected k d p e = let low = injected k d p in none _ low e
   where
     none : (n : ℕ) → n < packet → n ≡ packet → ⊥

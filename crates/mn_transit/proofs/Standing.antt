@@ -17,7 +17,8 @@ use Rattle.mn_transit.specs.declared.flown.Flown.{Flown}
 use Rattle.mn_transit.specs.Visits.{Visits, path_of, further}
 use Rattle.mn_transit.specs.Moving.{Moving}
 use Rattle.mn_transit.specs.Stands.{IsFlown, AreFlown, StandsFor}
-use Rattle.mn_transit.proofs.Taking.{without_at, one_channel, left_on, left_off, one_more_on, one_more_off}
+use Rattle.mn_flight.proofs.OnChannels.{without_at, left_on, left_off, one_more_on, one_more_off}
+use Rattle.mn_ledger.proofs.Directions.{one_channel}
 
 -- 1. Two lists in step
 
@@ -30,14 +31,16 @@ flown_at t g to (x ∷ xs) [] n item are h = absurd are
 flown_at t g to (x ∷ xs) (k ∷ ks) zero item are h = (k, refl, subst (λ (i : Item Flown). IsFlown t g to i.item k) (let e : x ≡ item = cc in e) are.0)
 flown_at t g to (x ∷ xs) (k ∷ ks) (suc n) item are h = flown_at t g to xs ks n item are.1 h
 
-flown_without : (t : Network) (g : Labelling) (to : ℕ) (items : List (Item Flown)) (tokens : List Token) (n : ℕ) → AreFlown t g to items tokens → AreFlown t g to (without_at n items) (without_place n tokens)
+flown_without : (t : Network) (g : Labelling) (to : ℕ) (items : List (Item Flown)) (tokens : List Token) (n : ℕ) → AreFlown t g to items tokens →
+    AreFlown t g to (without_at n items) (without_place n tokens)
 flown_without t g to [] [] n are = are
 flown_without t g to [] (k ∷ ks) n are = absurd are
 flown_without t g to (x ∷ xs) [] n are = absurd are
 flown_without t g to (x ∷ xs) (k ∷ ks) zero are = are.1
 flown_without t g to (x ∷ xs) (k ∷ ks) (suc n) are = (are.0, flown_without t g to xs ks n are.1)
 
-flown_more : (t : Network) (g : Labelling) (to : ℕ) (items : List (Item Flown)) (tokens : List Token) (item : Item Flown) (token : Token) → AreFlown t g to items tokens → IsFlown t g to item.item token → AreFlown t g to (items ++ item ∷ []) (tokens ++ token ∷ [])
+flown_more : (t : Network) (g : Labelling) (to : ℕ) (items : List (Item Flown)) (tokens : List Token) (item : Item Flown) (token : Token) →
+    AreFlown t g to items tokens → IsFlown t g to item.item token → AreFlown t g to (items ++ item ∷ []) (tokens ++ token ∷ [])
 flown_more t g to [] [] item token are is = (is, tt)
 flown_more t g to [] (k ∷ ks) item token are is = absurd are
 flown_more t g to (x ∷ xs) [] item token are is = absurd are
@@ -46,10 +49,12 @@ flown_more t g to (x ∷ xs) (k ∷ ks) item token are is = (are.0, flown_more t
 -- 2. Each way of moving
 
 -- nothing was delivered yet
-pub stands_begun : (t : Network) (g : Labelling) (m new : Moving) (k : Packets) → new ≡ record m { delivered = None } → StandsFor t g m k → StandsFor t g new (before_step k)
+pub stands_begun : (t : Network) (g : Labelling) (m new : Moving) (k : Packets) → new ≡ record m { delivered = None } → StandsFor t g m k →
+    StandsFor t g new (before_step k)
 stands_begun t g m new k is stands =
     subst (λ n. StandsFor t g n (before_step k)) (sym is)
-    (let begun : StandsFor t g (record m { delivered = None }) (before_step k) = record { verdicts = stands.verdicts; paths = stands.paths; copies = stands.copies; delivered = refl; frames = stands.frames } in begun)
+    (let begun : StandsFor t g (record m { delivered = None }) (before_step k) =
+        record { verdicts = stands.verdicts; paths = stands.paths; copies = stands.copies; delivered = refl; frames = stands.frames } in begun)
 
 -- a frame is taken out of flight
 pub stands_taken : (t : Network) (g : Labelling) (m : Moving) (k : Packets) (l : ℕ) (dir : Dir) (n spare : ℕ) (item : Item Flown) →
@@ -63,12 +68,15 @@ stands_taken t g m k l dir n spare item flight stands h = record {
   frames = frames;
 }
   where
-    frames : (o : ℕ) (to : Dir) → AreFlown t g (receiver (wiring_of t) o to) (on_channel (channel o to) (without (Some item) m.flying)) (flying_on (taken k l dir n) o to)
+    frames : (o : ℕ) (to : Dir) →
+        AreFlown t g (receiver (wiring_of t) o to) (on_channel (channel o to) (without (Some item) m.flying)) (flying_on (taken k l dir n) o to)
     frames o to = elim (eqb_tells (channel o to) (channel l dir)) [
       | inl q ↦ (let one = one_channel o l to dir q.1 in
           rw (q.0, ap (λ c. on_channel c (without (Some item) m.flying)) q.1 ∙ left_on (channel l dir) m.flying n item flight.ascending h)
-          (subst (λ d. AreFlown t g (receiver (wiring_of t) d to) (without_at n (on_channel (channel l dir) m.flying)) (without_place n (flying_on k l dir))) (sym one.0)
-          (subst (λ d. AreFlown t g (receiver (wiring_of t) l d) (without_at n (on_channel (channel l dir) m.flying)) (without_place n (flying_on k l dir))) (sym one.1)
+          (subst (λ d. AreFlown t g (receiver (wiring_of t) d to) (without_at n (on_channel (channel l dir) m.flying))
+              (without_place n (flying_on k l dir))) (sym one.0)
+          (subst (λ d. AreFlown t g (receiver (wiring_of t) l d) (without_at n (on_channel (channel l dir) m.flying)) (without_place n (flying_on k l dir)))
+              (sym one.1)
           (flown_without t g (receiver (wiring_of t) l dir) _ _ n (stands.frames l dir)))))
       | inr q ↦ rw (q.0, left_off (channel l dir) (channel o to) m.flying n item flight.ascending h q.0) (stands.frames o to)
     ]
@@ -111,7 +119,8 @@ stands_judged t g m k packet verdict stands = record {
 -- a packet takes the last place of a direction
 pub stands_sent : (t : Network) (g : Labelling) (m : Moving) (k : Packets) (token : Token) (l : ℕ) (dir : Dir) (spare due number : ℕ) (flown : Flown) →
     StandsFor t g m k → IsFlown t g (receiver (wiring_of t) l dir) flown token →
-    StandsFor t g (record m { flying = m.flying ++ record { channel = channel l dir; due = due; number = number; item = flown } ∷ []; spare = spare; verdicts = slice_set m.verdicts token.packet (Flying (record { 0 = l }) dir) }) (sent k token l dir)
+    StandsFor t g (record m { flying = m.flying ++ record { channel = channel l dir; due = due; number = number; item = flown } ∷ []; spare =
+        spare; verdicts = slice_set m.verdicts token.packet (Flying (record { 0 = l }) dir) }) (sent k token l dir)
 stands_sent t g m k token l dir spare due number flown stands is = record {
   verdicts = ap (λ vs. slice_set vs token.packet (Flying (record { 0 = l }) dir)) stands.verdicts;
   paths = stands.paths;
@@ -123,14 +132,22 @@ stands_sent t g m k token l dir spare due number flown stands is = record {
     item : Item Flown
     item = record { channel = channel l dir; due = due; number = number; item = flown }
 
-    frames : (o : ℕ) (to : Dir) → AreFlown t g (receiver (wiring_of t) o to) (on_channel (channel o to) (m.flying ++ record { channel = channel l dir; due = due; number = number; item = flown } ∷ [])) (flying_on (sent k token l dir) o to)
+    frames : (o : ℕ) (to : Dir) →
+        AreFlown t g (receiver (wiring_of t) o to)
+        (on_channel (channel o to) (m.flying ++ record { channel = channel l dir; due = due; number = number; item = flown } ∷ []))
+        (flying_on (sent k token l dir) o to)
     frames o to = elim (eqb_tells (channel o to) (channel l dir)) [
       | inl q ↦ (let one = one_channel o l to dir q.1 in
-          rw (q.0, ap (λ c. on_channel c (m.flying ++ record { channel = channel l dir; due = due; number = number; item = flown } ∷ [])) q.1 ∙ one_more_on (channel l dir) m.flying (record { channel = channel l dir; due = due; number = number; item = flown }) (eq-eqb (channel l dir) (channel l dir) refl))
-          (subst (λ d. AreFlown t g (receiver (wiring_of t) d to) (on_channel (channel l dir) m.flying ++ record { channel = channel l dir; due = due; number = number; item = flown } ∷ []) (flying_on k l dir ++ token ∷ [])) (sym one.0)
-          (subst (λ d. AreFlown t g (receiver (wiring_of t) l d) (on_channel (channel l dir) m.flying ++ record { channel = channel l dir; due = due; number = number; item = flown } ∷ []) (flying_on k l dir ++ token ∷ [])) (sym one.1)
+          rw (q.0, ap (λ c. on_channel c (m.flying ++ record { channel = channel l dir; due = due; number = number; item = flown } ∷ [])) q.1
+              ∙ one_more_on (channel l dir) m.flying (record { channel = channel l dir; due = due; number = number; item = flown })
+              (eq-eqb (channel l dir) (channel l dir) refl))
+          (subst (λ d. AreFlown t g (receiver (wiring_of t) d to) (on_channel (channel l dir) m.flying ++ record { channel = channel l dir; due =
+              due; number = number; item = flown } ∷ []) (flying_on k l dir ++ token ∷ [])) (sym one.0)
+          (subst (λ d. AreFlown t g (receiver (wiring_of t) l d) (on_channel (channel l dir) m.flying ++ record { channel = channel l dir; due =
+              due; number = number; item = flown } ∷ []) (flying_on k l dir ++ token ∷ [])) (sym one.1)
           (flown_more t g (receiver (wiring_of t) l dir) _ _ _ token (stands.frames l dir) is))))
-      | inr q ↦ rw (q.0, one_more_off (channel o to) m.flying (record { channel = channel l dir; due = due; number = number; item = flown }) (other q.1)) (stands.frames o to)
+      | inr q ↦ rw (q.0, one_more_off (channel o to) m.flying (record { channel = channel l dir; due = due; number = number; item = flown }) (other q.1))
+          (stands.frames o to)
     ]
       where
         other : (channel o to ≢ channel l dir) → (channel l dir == channel o to) ≡ false

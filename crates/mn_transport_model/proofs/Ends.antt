@@ -1,13 +1,12 @@
 -- Both ends of a link act as its session opens or closes.
 use Rattle.std.proofs.Common.{ℕ, ◌≡◌, ◌≢◌, ◌<◌, ◌≤◌, inl, inr, true, false, List, [], ◌∷◌, ◌++◌, length, map, drop, arith, sym, ◌∙◌, ap, subst, Option}
 use Rattle.std.proofs.Common.{None, Some, append-nil, append_assoc}
-use Rattle.std.specs.Prelude.{◌==◌, ◌||◌, slice_get, slice_set}
+use Rattle.std.specs.Prelude.{slice_get, slice_set}
 use Rattle.std.specs.List.{flat_map}
 use Rattle.std.proofs.Math.ListN.{length-set}
 use Rattle.std.proofs.lemmas.Bool.Decides.{eqb_tells}
 use Rattle.std.proofs.lemmas.List.{length-append, map-append}
 use Rattle.std.proofs.lemmas.Option.{slice_get_within}
-use Rattle.mn_base.proofs.Bools.{other_test}
 use Rattle.mn_base.specs.Wiring.{Wiring, link, is_end, sender, receiver}
 use Rattle.mn_base.specs.declared.links.Dir.{Dir}
 use Rattle.mn_flight.specs.declared.Item.{Item}
@@ -41,6 +40,7 @@ use Rattle.mn_transport_model.proofs.Spelled.{FliesAs, none-of-mine}
 use Rattle.mn_transport_model.proofs.Channels.{cut-here, cut-off}
 use Rattle.mn_transport_model.proofs.Puts.{Puts, puts-act, puts-both, puts-none, each-own}
 use Rattle.mn_transport_model.proofs.Flown.{nodes-by, sessions-then, acts-flies}
+use Rattle.mn_slice.proofs.Nodes.{off_end as end-of}
 
 -- 1. A life begins or ends
 
@@ -73,9 +73,6 @@ heard-within t w s lawful turn k dir h =
     let ends = dir_ends (wiring_of t) k dir (lawful.ends_differ k h) in
     subst (λ far. w.sessions.heard k (receiver (wiring_of t) k dir) ≤ length (w.sessions.said k far)) ends.1
     (turn.turn.ldp k (receiver (wiring_of t) k dir) h ends.0).heard
-
-end-of : (w : Wiring) (l n : ℕ) → n ≢ (link w l).a.0 → n ≢ (link w l).b.0 → is_end w l n ≡ false
-end-of w l n d e = ap (λ b. b || ((link w l).b.0 == n)) (other_test (link w l).a.0 n (λ q. d (sym q))) ∙ other_test (link w l).b.0 n (λ q. e (sym q))
 
 -- 2. Both ends act
 

@@ -20,7 +20,6 @@ pub mod Puts
 pub mod Events
 pub mod Ends
 pub mod Goes
-pub mod Taking
 pub mod Heard
 pub mod One
 pub mod Noticed

@@ -34,7 +34,7 @@ use Rattle.mn_ledger.proofs.GoingBy.{pair_here, pair_off}
 use Rattle.mn_slice.specs.Slice.{node_at, event_of, acting, hears_next}
 use Rattle.mn_slice.specs.Steps.{node_says}
 use Rattle.mn_frames.specs.Given.{given}
-use Rattle.mn_timetable.proofs.Taking.{one_channel}
+use Rattle.mn_ledger.proofs.Directions.{one_channel}
 use Rattle.mn_timetable.proofs.OtherKeys.{pair_one}
 use Rattle.mn_transport_model.specs.declared.notice.Notice.{Notice}
 use Rattle.mn_transport_model.specs.Carried.{Carried}
@@ -44,7 +44,7 @@ use Rattle.mn_transport_model.specs.Doing.{LearnsNext, HearsNext, noticed, taken
 use Rattle.mn_transport_model.specs.Stands.{IsNode, StandsFor}
 use Rattle.mn_transport_model.specs.Steps.{IsTurn}
 use Rattle.mn_transport_model.proofs.Lists.{Each, each-set}
-use Rattle.mn_transport_model.proofs.Taking.{without_at, left_on, left_off}
+use Rattle.mn_flight.proofs.OnChannels.{without_at, left_on, left_off}
 use Rattle.mn_transport_model.proofs.Nodes.{node-then, node-still}
 use Rattle.mn_transport_model.proofs.Own.{AllOwn, IsHere, own-event}
 use Rattle.mn_transport_model.proofs.Puts.{Puts, puts-act, each-own}

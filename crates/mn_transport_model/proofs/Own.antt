@@ -1,16 +1,17 @@
 -- What a node says in an event it says on its own links, in sessions that live.
-use Rattle.std.proofs.Common.{ℕ, ◌≡◌, ◌≢◌, ◌+◌, ◌<◌, inl, inr, Bool, true, false, List, [], ◌∷◌, ◌++◌, length, refl, arith, sym, ◌∙◌, ap, Option, None, Some}
-use Rattle.std.specs.Prelude.{◌==◌, ◌&&◌, nat_le, if◌then◌else◌, ⊤}
+use Rattle.std.proofs.Common.{ℕ, ◌≡◌, ◌≢◌, ◌+◌, ◌<◌, inl, inr, Bool, true, false, List, [], ◌∷◌, ◌++◌, length, refl, sym, ◌∙◌, ap, Option, None, Some}
+use Rattle.std.specs.Prelude.{◌&&◌, nat_le, if◌then◌else◌, ⊤}
 use Rattle.std.specs.List.{flat_map}
 use Rattle.std.proofs.lemmas.List.{get_or-set_same}
 use Rattle.mn_base.proofs.Bools.{clash}
-use Rattle.mn_base.proofs.Members.{In, in_flat_map, in_filter, in_range}
-use Rattle.mn_base.specs.Wiring.{Wiring, nodes_of, links_of, links_at, joining, is_end, across}
+use Rattle.mn_base.proofs.Members.{In}
+use Rattle.mn_base.specs.Wiring.{Wiring, is_end}
 use Rattle.mn_node.specs.Ldp.{Message, Initialization, Said, Knowledge, is_operational, said_on, mention, mentioned_on, mentioned_from, offered}
 use Rattle.mn_node.specs.Ldp.{by_neighbour, news}
 use Rattle.mn_node.specs.Node.{Session, Node, session_at, hearing_in, knowledge_in}
 use Rattle.mn_node.specs.Machine.{Event, Learns, Opens, Closes, Hears, speaks_first, changed, answer_in, said}
 use Rattle.mn_node.proofs.Opening.{hearing-in}
+use Rattle.mn_laws.proofs.Channels.{neighbour-links}
 
 -- said by the node, on a link of its, in a session that lives
 pub record IsOwn (w : Wiring) (n : Node) (me : ℕ) (x : Said) : Type 0 where
@@ -61,13 +62,6 @@ own-from w before n me ls at fec (was ∷ weres) [] = tt
 own-from w before n me ls at fec (was ∷ weres) (is ∷ ares) =
     own-append w n me (flat_map (mentioned_on before (knowledge_in n) me fec was is) ls) (mentioned_from before (knowledge_in n) me ls (fec + 1) weres ares)
     (own-links w before n me fec was is ls at) (own-from w before n me ls at (fec + 1) weres ares)
-
-neighbour-links : (w : Wiring) (n l : ℕ) → In (by_neighbour w n) l → (l < length w.ends) × (is_end w l n ≡ true)
-neighbour-links w n l i =
-    let m = in_flat_map (joining w n) (nodes_of w) l i in
-    let f = in_filter (λ k. across w k n == m.0) (links_at w n) l m.2 in
-    let g = in_filter (λ k. is_end w k n) (links_of w) l f.0 in
-    (omega (arith, (in_range 0 (length w.ends) l g.0).1), g.1)
 
 own-news : (w : Wiring) (before : Knowledge) (n : Node) (me : ℕ) → AllOwn w n me (news w before (knowledge_in n) me)
 unfolding news

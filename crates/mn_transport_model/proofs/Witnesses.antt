@@ -33,12 +33,14 @@ may-be-detached t s there = record {
   named = λ l end message c. nothing_said t message c;
 }
 
-pub may-be-attached : (t : Network) → IsLawful t → (tick : ℕ) (s : SiteNo) → s.0 < length t.sites → IsTurn t (world_of t (pushed [] tick (step.Detach s))) (step.Attach s)
+pub may-be-attached : (t : Network) → IsLawful t →
+    (tick : ℕ) (s : SiteNo) → s.0 < length t.sites → IsTurn t (world_of t (pushed [] tick (step.Detach s))) (step.Attach s)
 unfolding sessions_after
 may-be-attached t lawful tick s there = record {
   fitting = less_is s.0 (length t.sites) there;
   changes = let one = same_test s.0 in rw one refl;
   there = refl;
-  turn = goes_step t (loopbacks_apart t lawful) lawful.joins_nodes lawful.ends_differ (start t) no_packets (step.Detach s) (less_is s.0 (length t.sites) there) refl (begins t);
+  turn = goes_step t (loopbacks_apart t lawful) lawful.joins_nodes lawful.ends_differ (start t) no_packets (step.Detach s)
+      (less_is s.0 (length t.sites) there) refl (begins t);
   named = λ l end message c. nothing_said t message c;
 }

@@ -1,5 +1,6 @@
 -- Extended communities, and the targets among them.
-use Rattle.std.proofs.Common.{◌≡◌, ◌==◌, ◌≤◌, ◌<◌, ◌-◌, ◌*◌, ◌/◌, ◌%◌, ◌^◌, ℕ, suc, Bool, true, false, List, [], ◌∷◌, ◌++◌, length, take, drop, Ok, Err, refl, ap, sym, ◌∙◌, append_assoc, arith, if◌then◌else◌}
+use Rattle.std.proofs.Common.{◌≡◌, ◌==◌, ◌≤◌, ◌<◌, ◌-◌, ◌*◌, ◌/◌, ◌%◌, ◌^◌, ℕ, suc, Bool, true, false, List, [], ◌∷◌, ◌++◌, length, take, drop, Ok, Err}
+use Rattle.std.proofs.Common.{refl, ap, sym, ◌∙◌, append_assoc, arith, if◌then◌else◌}
 use Rattle.std.specs.Prelude.{filter, cond}
 use Rattle.std.specs.List.{AllByRecursion, flat_map}
 use Rattle.std.proofs.lemmas.List.{append-nil, length-drop, take_rest}
@@ -24,7 +25,8 @@ communities_of-first _ long = absurd (omega arith)
 
 -- what are communities is read as these
 
-pub communities_again : (communities : List Rt) → AllByRecursion (λ (community : Rt). community.0 < 2 ^ 64) communities → communities_of (flat_map community_bytes communities) ≡ communities
+pub communities_again : (communities : List Rt) → AllByRecursion (λ (community : Rt). community.0 < 2 ^ 64) communities →
+    communities_of (flat_map community_bytes communities) ≡ communities
 unfolding communities_of
 communities_again [] fit = refl
 communities_again (one ∷ more) fit =
@@ -42,7 +44,9 @@ pub targets_are_read : (bytes : List ℕ) (targets : List Rt) → AreTargets byt
 targets_are_read bytes targets is =
     let size : length bytes ≡ 8 * length is.communities = ap length is.whole ∙ length-communities is.communities in
     let whole : (length bytes % 8 == 0) ≡ true = grind (arith, nat_tests) in
-    let read : filter is_target (communities_of bytes) ≡ targets = ap (λ (xs : List ℕ). filter is_target (communities_of xs)) is.whole ∙ ap (λ (cs : List Rt). filter is_target cs) (communities_again is.communities is.fit) ∙ sym is.targets_are in
+    let read : filter is_target (communities_of bytes) ≡ targets =
+        ap (λ (xs : List ℕ). filter is_target (communities_of xs)) is.whole
+        ∙ ap (λ (cs : List Rt). filter is_target cs) (communities_again is.communities is.fit) ∙ sym is.targets_are in
     ap (λ (b : Bool). cond b (Ok (filter is_target (communities_of bytes))) (Err Short)) whole ∙ ap (λ (ts : List Rt). Ok ts) read
 
 -- what is read are communities
@@ -80,7 +84,8 @@ read_are_targets bytes targets is e =
 
 all_targets : (targets : List Rt) → AllTargets targets → targets ≡ filter is_target targets
 all_targets [] all = refl
-all_targets (one ∷ more) all = ap (λ (ts : List Rt). one ∷ ts) (all_targets more all.1) ∙ ap (λ (b : Bool). cond b (one ∷ filter is_target more) (filter is_target more)) (sym all.0)
+all_targets (one ∷ more) all =
+    ap (λ (ts : List Rt). one ∷ ts) (all_targets more all.1) ∙ ap (λ (b : Bool). cond b (one ∷ filter is_target more) (filter is_target more)) (sym all.0)
 
 target_fits : (n : ℕ) → has_rt_form n ≡ true → n < 2 ^ 64
 target_fits n form = let h : n / 2 ^ 48 ≤ 0x0102 = grind (arith, nat_tests) in omega arith
@@ -101,7 +106,8 @@ none_behind : (found : List Rt) → found ≡ found ++ filter is_target (communi
 unfolding communities_of
 none_behind found = sym (append-nil found)
 
-pub all_found : (bytes rest : List ℕ) (found : List Rt) → length bytes % 8 ≡ 0 → (length rest == 0) ≡ true → found ++ filter is_target (communities_of rest) ≡ filter is_target (communities_of bytes) → targets_of bytes ≡ Ok found
+pub all_found : (bytes rest : List ℕ) (found : List Rt) → length bytes % 8 ≡ 0 →
+    (length rest == 0) ≡ true → found ++ filter is_target (communities_of rest) ≡ filter is_target (communities_of bytes) → targets_of bytes ≡ Ok found
 all_found bytes (b ∷ rest) found whole end is = absurd (let e : suc (length rest) ≡ 0 = grind (arith, nat_tests, end) in omega arith)
 all_found bytes [] found whole end is =
     let test : (length bytes % 8 == 0) ≡ true = grind (arith, nat_tests) in
@@ -118,23 +124,28 @@ left_whole rest whole some =
     let left : length (take (length rest - 8) (drop 8 rest)) ≡ length rest - 8 = ap length (take_rest rest 8) ∙ length-drop 8 rest in
     omega arith
 
-with_first : (found more : List Rt) (one : Rt) (test : Bool) (new : List Rt) → new ≡ cond test (found ++ one ∷ []) found → new ++ more ≡ found ++ cond test (one ∷ more) more
+with_first : (found more : List Rt) (one : Rt) (test : Bool) (new : List Rt) → new ≡ cond test (found ++ one ∷ []) found →
+    new ++ more ≡ found ++ cond test (one ∷ more) more
 with_first found more one true new e = ap (λ (ts : List Rt). ts ++ more) e ∙ append_assoc found (one ∷ []) more
 with_first found more one false new e = ap (λ (ts : List Rt). ts ++ more) e
 
-pub one_more : (all : List Rt) (rest : List ℕ) (found new : List Rt) (n : ℕ) (test : Bool) → length rest % 8 ≡ 0 → (length rest == 0) ≡ false → n ≡ big_number 8 rest → test ≡ has_rt_form n → new ≡ cond test (found ++ community n ∷ []) found → found ++ filter is_target (communities_of rest) ≡ all → new ++ filter is_target (communities_of (take (length rest - 8) (drop 8 rest))) ≡ all
+pub one_more : (all : List Rt) (rest : List ℕ) (found new : List Rt) (n : ℕ) (test : Bool) → length rest % 8 ≡ 0 →
+    (length rest == 0) ≡ false → n ≡ big_number 8 rest → test ≡ has_rt_form n → new ≡ cond test (found ++ community n ∷ []) found →
+    found ++ filter is_target (communities_of rest) ≡ all → new ++ filter is_target (communities_of (take (length rest - 8) (drop 8 rest))) ≡ all
 one_more all rest found new n test whole some number form new_is is =
     let more : 8 ≤ length rest = (let s : length rest ≡ 0 → ⊥ = grind (arith, nat_tests) in omega arith) in
     let behind = filter is_target (communities_of (drop 8 rest)) in
     let first : filter is_target (communities_of rest) ≡ cond (has_rt_form n) (community n ∷ behind) behind =
-    ap (λ (cs : List Rt). filter is_target cs) (communities_of-first rest more) ∙ ap (λ (k : ℕ). cond (has_rt_form k) (community k ∷ behind) behind) (sym number) in
+    ap (λ (cs : List Rt). filter is_target cs) (communities_of-first rest more)
+        ∙ ap (λ (k : ℕ). cond (has_rt_form k) (community k ∷ behind) behind) (sym number) in
     ap (λ (xs : List ℕ). new ++ filter is_target (communities_of xs)) (take_rest rest 8)
     ∙ with_first found behind (community n) test new new_is
     ∙ ap (λ (b : Bool). found ++ cond b (community n ∷ behind) behind) form
     ∙ ap (λ (ts : List Rt). found ++ ts) (sym first)
     ∙ is
 
-pub targets_only : (bytes : List ℕ) (found : List Rt) → targets_of bytes ≡ Ok found → (targets : List Rt) → AreTargets bytes targets → Ok targets ≡ targets_of bytes
+pub targets_only : (bytes : List ℕ) (found : List Rt) → targets_of bytes ≡ Ok found →
+    (targets : List Rt) → AreTargets bytes targets → Ok targets ≡ targets_of bytes
 targets_only bytes found e targets is = sym (targets_are_read bytes targets is)
 
 pub on_ok : {X : Type 0} (b : Bool) (new old x : X) → b ≡ true → new ≡ (if b then x else old) → new ≡ x

@@ -14,7 +14,7 @@ abbrev pub chosen : ℕ → Option (AddressBlock × Source) → AddressBlock × 
 chosen address None route = if contains route.0 address then Some route else None
 chosen address (Some best) route = if contains route.0 address && nat_lt best.0.length route.0.length then Some route else Some best
 
-Route : Type 0
+pub Route : Type 0
 Route = AddressBlock × Source
 
 -- the first of the longest

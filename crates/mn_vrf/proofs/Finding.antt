@@ -8,10 +8,9 @@ use Rattle.std.specs.Map.{keys_of}
 use Rattle.std.proofs.lemmas.List.{map-append}
 use Rattle.std.proofs.lemmas.List.Elements.{filter-append}
 use Rattle.std.proofs.lemmas.List.Sums.{fold-append}
-use Rattle.std.proofs.lemmas.Bool.Decides.{nat_tests}
 use Rattle.std.proofs.lemmas.Option.{same_Some}
 use Rattle.mn_base.specs.Ordered.{Ascends, one_at}
-use Rattle.mn_base.proofs.Bools.{no, two_ways, or_off}
+use Rattle.mn_base.proofs.Bools.{no, two_ways, or_off, less_itself}
 use Rattle.mn_base.proofs.Members.{In}
 use Rattle.mn_prefix.specs.Prefix.{AddressBlock, IsPrefix, same_prefix, prefix_before, contains}
 use Rattle.mn_prefix.specs.Table.{IsTable, IsLongestMatch, value_at, first_of, longest_match}
@@ -275,9 +274,6 @@ pub head_some : (table : Table) (ks : List AddressBlock) (k : ℕ) (p : AddressB
 head_some table ks k p kept h = ap (λ rs. slice_get rs k) (heads_are table ks kept) ∙ top_some table ks k p (filled_from table ks ks kept (λ k i. i)) h
 
 -- 4. The longest match
-not_below : (n : ℕ) → nat_lt n n ≡ false
-not_below n = grind (arith, nat_tests)
-
 -- a later route of a prefix is never chosen
 chosen_again : (address : ℕ) (best : Option (AddressBlock × Source)) (k : AddressBlock) (s t : Source) →
     chosen address (chosen address best (k, s)) (k, t) ≡ chosen address best (k, s)
@@ -286,7 +282,7 @@ chosen_again address None k s t = split (contains k address) refl
     split : (c : Bool) → contains k address ≡ c → chosen address (if c then Some (k, s) else None) (k, t) ≡ (if c then Some (k, s) else None)
     split true e =
         ap (λ b. if b && nat_lt k.length k.length then Some (k, t) else Some (k, s)) e
-        ∙ ap (λ b. if b then Some (k, t) else Some (k, s)) (not_below k.length)
+        ∙ ap (λ b. if b then Some (k, t) else Some (k, s)) (less_itself k.length)
     split false e = ap (λ b. if b then Some (k, t) else None) e
 chosen_again address (Some best) k s t = split (contains k address) (nat_lt best.0.length k.length) refl refl
   where
@@ -294,7 +290,7 @@ chosen_again address (Some best) k s t = split (contains k address) (nat_lt best
         chosen address (if c && l then Some (k, s) else Some best) (k, t) ≡ (if c && l then Some (k, s) else Some best)
     split true true e f =
         ap (λ b. if b && nat_lt k.length k.length then Some (k, t) else Some (k, s)) e
-        ∙ ap (λ b. if b then Some (k, t) else Some (k, s)) (not_below k.length)
+        ∙ ap (λ b. if b then Some (k, t) else Some (k, s)) (less_itself k.length)
     split true false e f = ap (λ b. if b && nat_lt best.0.length k.length then Some (k, t) else Some best) e ∙ ap (λ b. if b then Some (k, t) else Some best) f
     split false l e f = ap (λ b. if b && nat_lt best.0.length k.length then Some (k, t) else Some best) e
 

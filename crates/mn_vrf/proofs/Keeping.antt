@@ -11,7 +11,7 @@ use Rattle.mn_base.specs.Ordered.{Ascends, first_by, with_one, without_one}
 use Rattle.mn_base.proofs.Bools.{no, two_ways, or_ways, or_left, or_right, and_on, test_same}
 use Rattle.mn_base.proofs.Orders.{first_tells, first_less, first_same, first_neither}
 use Rattle.mn_base.proofs.Places.{ascends_append}
-use Rattle.mn_base.proofs.Members.{In, in_map, map_in, in_flat_map, flat_map_in, in_filter, filter_in}
+use Rattle.mn_base.proofs.Members.{In, in_map, map_in, in_flat_map, flat_map_in, in_filter, filter_in, all_in as in_all}
 use Rattle.mn_base.proofs.Kept.{with_in, in_with_new, in_with, with_is, without_is}
 use Rattle.mn_prefix.specs.Prefix.{AddressBlock, same_prefix, by_address_then_length, prefix_before}
 use Rattle.mn_prefix.specs.Table.{value_at, ChangesOnly}
@@ -22,13 +22,9 @@ use Rattle.mn_vrf.specs.Kept.{those, routes_at, in_order, AreSources, IsKept}
 use Rattle.mn_vrf.proofs.Orders.{route_order}
 
 -- 1. Members of lists
-all_in : {A : Type 0} (P : A → Type 0) (xs : List A) → ((x : A) → In xs x → P x) → AllByRecursion P xs
+pub all_in : {A : Type 0} (P : A → Type 0) (xs : List A) → ((x : A) → In xs x → P x) → AllByRecursion P xs
 all_in P [] h = tt
 all_in P (x ∷ xs) h = (h x (inl refl), all_in P xs (λ y i. h y (inr i)))
-
-in_all : {A : Type 0} (P : A → Type 0) (xs : List A) (x : A) → AllByRecursion P xs → In xs x → P x
-in_all P [] x h i = absurd i
-in_all P (y ∷ ys) x h i = elim i [ inl e ↦ subst P e h.0 | inr j ↦ in_all P ys x h.1 j ]
 
 pub any_in : (p : AddressBlock) (ks : List AddressBlock) → list_any (same_prefix p) ks ≡ true → In ks p
 any_in p [] h = absurd (no h)

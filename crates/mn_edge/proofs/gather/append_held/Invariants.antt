@@ -6,7 +6,8 @@ use Rattle.mn_edge.proofs.gather.append_held.Given as goal
 
 abbrev pub invariant-loop-file : goal.invariant-loop-file
 invariant-loop-file g l = record {
-  kept : (contents : ℕ → List ℕ) → HoldsOn (texts l.names) contents l.held (g.S.Shelf.files l.fn.shelf) → HoldsOn (texts l.names) contents (emptied l.file l.held) (g.S.Shelf.files l.shelf);
+  kept : (contents : ℕ → List ℕ) → HoldsOn (texts l.names) contents l.held (g.S.Shelf.files l.fn.shelf) →
+      HoldsOn (texts l.names) contents (emptied l.file l.held) (g.S.Shelf.files l.shelf);
   framed : Framed (texts l.names) (g.S.Shelf.files l.fn.shelf) (g.S.Shelf.files l.shelf);
   untouched : held_bytes l.held ≡ 0 → l.shelf ≡ l.fn.shelf;
   reads : g.S.Shelf.read_faults l.shelf ≡ g.S.Shelf.read_faults l.fn.shelf;

@@ -7,7 +7,8 @@ pub returns-in-Ok : goal.returns-in-Ok
 returns-in-Ok c = last_found c.args.due c.args.ticks.now c.in-Ok.i _ c.in-Ok.ensures c.args.head.ptr c.requires
 
 pub returns-in-Err-eq0 : goal.returns-in-Err-eq0
-returns-in-Err-eq0 c = last_first c.args.due c.args.ticks.now c.in-Err-eq0.field-0 (tick_at 0 c.args.head.ptr) c.in-Err-eq0.ensures c.args.head.ptr c.in-Err-eq0.field-0-test
+returns-in-Err-eq0 c =
+    last_first c.args.due c.args.ticks.now c.in-Err-eq0.field-0 (tick_at 0 c.args.head.ptr) c.in-Err-eq0.ensures c.args.head.ptr c.in-Err-eq0.field-0-test
 
 pub returns-in-Err : goal.returns-in-Err
 returns-in-Err c =

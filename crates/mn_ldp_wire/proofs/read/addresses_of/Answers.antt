@@ -10,4 +10,5 @@ addresses-preserved c =
     c.addresses.invariant
 
 pub returns : goal.returns
-returns c = ap (λ xs. Ok xs) (four_end _ c.addresses.rest.now c.addresses.addresses.items c.in_default.ensures.cases c.addresses.invariant ∙ sym c.from_vec.ensures)
+returns c =
+    ap (λ xs. Ok xs) (four_end _ c.addresses.rest.now c.addresses.addresses.items c.in_default.ensures.cases c.addresses.invariant ∙ sym c.from_vec.ensures)

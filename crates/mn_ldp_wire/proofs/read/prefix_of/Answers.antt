@@ -3,7 +3,9 @@ use Rattle.std.proofs.lemmas.List.{take_rest}
 use Rattle.byteorder.specs.Endian.{big_number}
 use Rattle.mn_prefix.specs.Octets.{octets}
 use Rattle.mn_ldp_wire.proofs.Prefixes.{prefix_none, octets_all, not_an_element, an_element}
-use Rattle.mn_ldp_wire.proofs.read.prefix_of.Goals.{then-value-lt-ELEMENT_HEADER-via-then-value-lt-ELEMENT_HEADER, then-value-lt-ELEMENT_HEADER-via-else-value-lt-ELEMENT_HEADER+then-value-ne-PREFIX_ELEMENT, then-value-lt-ELEMENT_HEADER-via-else-value-lt-ELEMENT_HEADER+else-value-ne-PREFIX_ELEMENT+then-read_u16-ne-IPV4}
+use Rattle.mn_ldp_wire.proofs.read.prefix_of.Goals.{then-value-lt-ELEMENT_HEADER-via-then-value-lt-ELEMENT_HEADER}
+use Rattle.mn_ldp_wire.proofs.read.prefix_of.Goals.{then-value-lt-ELEMENT_HEADER-via-else-value-lt-ELEMENT_HEADER+then-value-ne-PREFIX_ELEMENT}
+use Rattle.mn_ldp_wire.proofs.read.prefix_of.Goals.{then-value-lt-ELEMENT_HEADER-via-else-value-lt-ELEMENT_HEADER+else-value-ne-PREFIX_ELEMENT+then-read_u16-ne-IPV4}
 use Rattle.mn_ldp_wire.proofs.read.prefix_of.Goals as goal
 
 pub returns-then-value-lt-ELEMENT_HEADER : goal.returns-then-value-lt-ELEMENT_HEADER
@@ -16,7 +18,9 @@ returns-then-value-lt-ELEMENT_HEADER c = sym (prefix_none c.args.value.now (λ e
 
 pub returns-in_err-prefix : goal.returns-in_err-prefix
 returns-in_err-prefix c =
-    c.from_residual.ensures ∙ sym (not_an_element c.args.value.now _ c.address_of.result _ (octets_all c.args.value.now) c.address_of.ensures refl c.address_of.type_inv c.in_err-prefix.ensures.value)
+    c.from_residual.ensures
+        ∙ sym (not_an_element c.args.value.now _ c.address_of.result _
+        (octets_all c.args.value.now) c.address_of.ensures refl c.address_of.type_inv c.in_err-prefix.ensures.value)
 
 pub returns : goal.returns
 returns c =

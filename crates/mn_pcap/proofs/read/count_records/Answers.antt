@@ -14,8 +14,11 @@ records-preserved c =
       done ++ c.in-Ok-record_at.place ∷ [],
       omega arith,
       omega (arith, c.in-Ok-record_at.ensures.further),
-      continues_by c.in-Ok.form.big c.args.bytes.now done _ c.records.at _ c.in-Ok-record_at.place (sym c.record_at.ensures.place ∙ c.in-Ok-record_at.is) c.end_of-at.ensures refl c.records.invariant.3,
+      continues_by c.in-Ok.form.big c.args.bytes.now done _ c.records.at _ c.in-Ok-record_at.place
+          (sym c.record_at.ensures.place ∙ c.in-Ok-record_at.is) c.end_of-at.ensures refl c.records.invariant.3,
     )
 
 pub returns : goal.returns
-returns c = sym (counted c.args.bytes.now c.in-Ok.form c.records.invariant.0 c.records.at c.in_default-record_at.field-0 (sym c.read_header.ensures ∙ c.in-Ok.is) (sym c.record_at.ensures.place ∙ c.in_default-record_at.is) c.records.invariant.3 ∙ c.records.invariant.1)
+returns c =
+    sym (counted c.args.bytes.now c.in-Ok.form c.records.invariant.0 c.records.at c.in_default-record_at.field-0 (sym c.read_header.ensures ∙ c.in-Ok.is)
+    (sym c.record_at.ensures.place ∙ c.in_default-record_at.is) c.records.invariant.3 ∙ c.records.invariant.1)

@@ -7,7 +7,8 @@ use Rattle.mn_pe.proofs.changes.del_in.Goals as goal
 
 -- no VRF has the number: nothing is changed
 pub returns-in-None-clause-ok : goal.returns-in-None-clause-ok
-returns-in-None-clause-ok c = sym (absent_telling c.args.number.0 (without_static (record { prefix = c.args.prefix; site = c.args.site.0 })) c.args.vrfs.now.items
+returns-in-None-clause-ok c =
+    sym (absent_telling c.args.number.0 (without_static (record { prefix = c.args.prefix; site = c.args.site.0 })) c.args.vrfs.now.items
     (subst (IsAbsent c.args.number.0) c.deref.ensures.value c.in-None.ensures))
 
 pub returns-in-None-clause-refusal : goal.returns-in-None-clause-refusal

@@ -3,7 +3,8 @@ use Rattle.mn_topo.specs.Steps.{fits}
 use Rattle.mn_ledger.specs.Ledger.{injects}
 use Rattle.mn_course.specs.Coming.{delivery}
 use Rattle.mn_course.specs.Course.{inputs_of}
-use Rattle.mn_sched.proofs.Telling.{leaves, made_last, last_fits, err_then, set_on, stood, same_journal, takes_no_input, one_arrives, after_one, opens_then, one_paced}
+use Rattle.mn_sched.proofs.Telling.{leaves, made_last, last_fits, err_then, set_on, stood, same_journal, takes_no_input, one_arrives, after_one, opens_then}
+use Rattle.mn_sched.proofs.Telling.{one_paced}
 use Rattle.mn_sched.proofs.line.deliver_one.Goals as goal
 
 pub finish-played-requires : goal.finish-played-requires
@@ -39,7 +40,8 @@ returns-clause-course g c = λ all told.
     (c.step-stepped.ensures.answer inputs (c.set_clock.ensures.stands inputs before)) in
     rw c.arrived_by.ensures
     (one_arrives c.args.arrivals c.args.item c.args.net.now c.set_clock.new.net c.step-stepped.new.self c.delivery-step.result c.step-stepped.result
-    c.finish-played.result c.set_clock.ensures.past c.delivery-step.ensures answer c.step-stepped.ensures.longer (leaves _ _ _ c.step-stepped.ensures.left c.step-stepped.ensures.for_good)
+    c.finish-played.result c.set_clock.ensures.past c.delivery-step.ensures answer c.step-stepped.ensures.longer
+        (leaves _ _ _ c.step-stepped.ensures.left c.step-stepped.ensures.for_good)
     c.finish-played.ensures.ended)
 
 pub returns-clause-after : goal.returns-clause-after

@@ -6,6 +6,7 @@ use Rattle.mn_topo.proofs.links.read_links.Given as goal
 
 abbrev pub invariant-loop-value : goal.invariant-loop-value
 invariant-loop-value l = record {
-  rest : links_from l.nodes.names (tables_of (items_view (drop l.value-index l.values))) l.links ≡ links_from l.nodes.names (tables_of (items_view l.values)) [];
+  rest : links_from l.nodes.names (tables_of (items_view (drop l.value-index l.values))) l.links ≡ links_from l.nodes.names
+      (tables_of (items_view l.values)) [];
   count : length l.links ≤ l.value-index;
 }

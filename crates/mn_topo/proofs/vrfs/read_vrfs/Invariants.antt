@@ -7,6 +7,7 @@ use Rattle.mn_topo.proofs.vrfs.read_vrfs.Given as goal
 
 abbrev pub invariant-loop-value : goal.invariant-loop-value
 invariant-loop-value l = record {
-  rest : vrfs_from l.nodes.names (tables_of (items_view (drop l.value-index l.values))) l.vrfs ≡ vrfs_from l.nodes.names (tables_of (items_view l.values)) no_vrfs;
+  rest : vrfs_from l.nodes.names (tables_of (items_view (drop l.value-index l.values))) l.vrfs ≡ vrfs_from l.nodes.names
+      (tables_of (items_view l.values)) no_vrfs;
   count : length l.vrfs.names ≤ l.value-index;
 }

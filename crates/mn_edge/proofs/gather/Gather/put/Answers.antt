@@ -27,7 +27,8 @@ loop-rest-init g c = record {
   files = refl;
   done = [];
   piece = refl;
-  kept = λ contents holds. subst (λ k. HoldsOn (texts c.args.names.now) k c.args.self.now (g.S.Shelf.files c.args.shelf.now)) (sym (grown_none contents c.args.file)) holds;
+  kept = λ contents holds. subst (λ k. HoldsOn (texts c.args.names.now) k c.args.self.now (g.S.Shelf.files c.args.shelf.now))
+      (sym (grown_none contents c.args.file)) holds;
   framed = framed_same _ _;
   shelf = λ h. refl;
   held = λ h. refl;
@@ -56,10 +57,14 @@ returns-in_err-end-clause-part g c = on_err c.from_residual-in_err-end.result _ 
     let front = c.split_at.result.0.now in
     let here : c.args.file < length c.loop-rest.self = rw i.files c.requires.file in
     let held : HoldsOn names (grown contents c.args.file (i.done ++ front)) c.hold.new.self (g.S.Shelf.files c.loop-rest.shelf) =
-    rw (c.in_ok-hold.ensures.ok, ← grown_twice contents c.args.file i.done front) (more_held names (grown contents c.args.file i.done) c.loop-rest.self c.args.file front _ here (i.kept contents holds)) in
-    let all : (i.done ++ front) ++ c.split_at.result.1.now ≡ c.args.piece.now = append_assoc i.done front c.split_at.result.1.now ∙ ap (λ l. i.done ++ l) ((λ i. c.split_at.ensures.front i ++ c.split_at.ensures.back i) ∙ take-append-drop _ c.loop-rest.rest.now) ∙ i.piece in
+    rw (c.in_ok-hold.ensures.ok, ← grown_twice contents c.args.file i.done front)
+        (more_held names (grown contents c.args.file i.done) c.loop-rest.self c.args.file front _ here (i.kept contents holds)) in
+    let all : (i.done ++ front) ++ c.split_at.result.1.now ≡ c.args.piece.now =
+        append_assoc i.done front c.split_at.result.1.now
+        ∙ ap (λ l. i.done ++ l) ((λ i. c.split_at.ensures.front i ++ c.split_at.ensures.back i) ∙ take-append-drop _ c.loop-rest.rest.now) ∙ i.piece in
     subst (λ p. BeginsOn names (grown contents c.args.file p) (g.S.Shelf.files c.end.new.shelf)) all
-    (grown_part contents c.args.file (i.done ++ front) c.split_at.result.1.now _ _ (c.in_err-end.ensures.part (grown contents c.args.file (i.done ++ front)) held)))
+    (grown_part contents c.args.file (i.done ++ front) c.split_at.result.1.now _ _
+        (c.in_err-end.ensures.part (grown contents c.args.file (i.done ++ front)) held)))
 
 pub returns-in_err-end-clause-framed : goal.returns-in_err-end-clause-framed
 returns-in_err-end-clause-framed g c = framed_both _ _ _ _ c.loop-rest.invariant.framed c.in_err-end.ensures.framed
@@ -69,7 +74,9 @@ returns-in_err-end-clause-room g c =
     let none = ap held_bytes c.in_err-end.ensures.ended ∙ none_held-bytes c.hold.new.self in omega (arith, none)
 
 pub returns-in_err-end-clause-dropped : goal.returns-in_err-end-clause-dropped
-returns-in_err-end-clause-dropped g c = on_err c.from_residual-in_err-end.result _ (c.in_err-end.ensures.ended ∙ none_held-same _ _ (ap length c.in_ok-hold.ensures.ok ∙ files_same _ _ _ ∙ c.loop-rest.invariant.files))
+returns-in_err-end-clause-dropped g c =
+    on_err c.from_residual-in_err-end.result _
+    (c.in_err-end.ensures.ended ∙ none_held-same _ _ (ap length c.in_ok-hold.ensures.ok ∙ files_same _ _ _ ∙ c.loop-rest.invariant.files))
 
 pub loop-rest-smaller : goal.loop-rest-smaller
 loop-rest-smaller g c =
@@ -85,16 +92,19 @@ loop-rest-preserved g c =
     let names = texts c.args.names.now in
     let front = c.split_at.result.0.now in
     let here : c.args.file < length c.loop-rest.self = rw i.files c.requires.file in
-    let rejoined : front ++ c.split_at.result.1.now ≡ c.loop-rest.rest.now = (λ i. c.split_at.ensures.front i ++ c.split_at.ensures.back i) ∙ take-append-drop _ c.loop-rest.rest.now in
+    let rejoined : front ++ c.split_at.result.1.now ≡ c.loop-rest.rest.now =
+        (λ i. c.split_at.ensures.front i ++ c.split_at.ensures.back i) ∙ take-append-drop _ c.loop-rest.rest.now in
     let full : (held_bytes c.args.self.now + length c.args.piece.now ≤ 65536) → ⊥ = λ h.
-    let room = c.room.ensures in let same = ap held_bytes c.self.view_is in let test = c.loop-rest-test.true in let a = ap held_bytes (i.held h) in let b = ap length (i.rest h) in omega (arith, room, same, test, a, b, h) in
+    let room = c.room.ensures in let same = ap held_bytes c.self.view_is in let test = c.loop-rest-test.true in let a = ap held_bytes (i.held h) in let b =
+        ap length (i.rest h) in omega (arith, room, same, test, a, b, h) in
     record {
       files = ap length c.in_ok-end.ensures.ended ∙ none_held-files _ ∙ ap length c.in_ok-hold.ensures.ok ∙ files_same _ _ _ ∙ i.files;
       done = i.done ++ front;
       piece = append_assoc i.done front c.split_at.result.1.now ∙ ap (λ l. i.done ++ l) rejoined ∙ i.piece;
       kept = λ contents holds.
           let held : HoldsOn names (grown contents c.args.file (i.done ++ front)) c.hold.new.self (g.S.Shelf.files c.loop-rest.shelf) =
-          rw (c.in_ok-hold.ensures.ok, ← grown_twice contents c.args.file i.done front) (more_held names (grown contents c.args.file i.done) c.loop-rest.self c.args.file front _ here (i.kept contents holds)) in
+          rw (c.in_ok-hold.ensures.ok, ← grown_twice contents c.args.file i.done front)
+              (more_held names (grown contents c.args.file i.done) c.loop-rest.self c.args.file front _ here (i.kept contents holds)) in
           c.in_ok-end.ensures.kept (grown contents c.args.file (i.done ++ front)) held;
       framed = framed_both _ _ _ _ i.framed c.in_ok-end.ensures.framed;
       shelf = λ h. absurd (full h);
@@ -109,7 +119,8 @@ returns-clause-grown g c = ok_then c.hold-2.result _ _ c.hold-2.ensures.ok (λ o
     let i = c.loop-rest.invariant in
     let names = texts c.args.names.now in
     let here : c.args.file < length c.loop-rest.self = rw i.files c.requires.file in
-    rw (ok, ← i.piece, ← grown_twice contents c.args.file i.done c.loop-rest.rest.now) (more_held names (grown contents c.args.file i.done) c.loop-rest.self c.args.file c.loop-rest.rest.now _ here (i.kept contents holds)))
+    rw (ok, ← i.piece, ← grown_twice contents c.args.file i.done c.loop-rest.rest.now)
+        (more_held names (grown contents c.args.file i.done) c.loop-rest.self c.args.file c.loop-rest.rest.now _ here (i.kept contents holds)))
 
 pub returns-clause-part : goal.returns-clause-part
 returns-clause-part g c = on_err c.hold-2.result _ (λ contents holds.
@@ -122,7 +133,8 @@ returns-clause-room g c =
     let i = c.loop-rest.invariant in
     let here : c.args.file < length c.loop-rest.self = rw i.files c.requires.file in
     either c.hold-2.result _ _ _ c.hold-2.ensures.ok c.hold-2.ensures.err
-    (λ ok. let more = ap held_bytes ok ∙ bytes_more c.loop-rest.self c.args.file c.loop-rest.rest.now here in let room = c.room.ensures in let same = ap held_bytes c.self.view_is in let test = c.loop-rest-test.false in omega (arith, more, room, same, test))
+    (λ ok. let more = ap held_bytes ok ∙ bytes_more c.loop-rest.self c.args.file c.loop-rest.rest.now here in let room = c.room.ensures in let same =
+        ap held_bytes c.self.view_is in let test = c.loop-rest-test.false in omega (arith, more, room, same, test))
     (λ err. let none = ap held_bytes err ∙ none_held-bytes c.loop-rest.self in omega (arith, none))
 
 pub returns-clause-dropped : goal.returns-clause-dropped

@@ -8,7 +8,8 @@ invariant-loop-rest g l = record {
   files : length l.self ≡ length l.fn.self;
   done : List ℕ;
   piece : done ++ l.rest ≡ l.piece;
-  kept : (contents : ℕ → List ℕ) → HoldsOn (texts l.names) contents l.fn.self (g.S.Shelf.files l.fn.shelf) → HoldsOn (texts l.names) (grown contents l.file done) l.self (g.S.Shelf.files l.shelf);
+  kept : (contents : ℕ → List ℕ) → HoldsOn (texts l.names) contents l.fn.self (g.S.Shelf.files l.fn.shelf) →
+      HoldsOn (texts l.names) (grown contents l.file done) l.self (g.S.Shelf.files l.shelf);
   framed : Framed (texts l.names) (g.S.Shelf.files l.fn.shelf) (g.S.Shelf.files l.shelf);
   shelf : held_bytes l.fn.self + length l.piece ≤ 65536 → l.shelf ≡ l.fn.shelf;
   held : held_bytes l.fn.self + length l.piece ≤ 65536 → l.self ≡ l.fn.self;

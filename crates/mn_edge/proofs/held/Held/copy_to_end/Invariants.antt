@@ -9,7 +9,8 @@ invariant-loop-number l =
     record {
       within : l.at ≤ length l.buf;
       there : l.number ≤ length segments;
-      copied : waiting bytes segments (length segments) l.number ++ drop l.at l.buf ≡ waiting bytes segments (length segments) (get_or l.self-inside.last.items l.file 0);
+      copied : waiting bytes segments (length segments) l.number ++ drop l.at l.buf ≡ waiting bytes segments (length segments)
+          (get_or l.self-inside.last.items l.file 0);
     }
 
 abbrev pub decreases-loop-number : goal.decreases-loop-number

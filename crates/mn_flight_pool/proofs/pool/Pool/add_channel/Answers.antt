@@ -9,9 +9,11 @@ returns-clause-whole g c =
     let heads : c.push.new.self.items ≡ c.args.self.now.heads.items ++ c.in_ok-first.first ∷ [] = (c.in_ok-push.ensures).items in
     let counts : c.push-2.new.self.items ≡ c.args.self.now.counts.items ++ 0 ∷ [] = (c.in_ok-push-2.ensures).items in
     record {
-      held = channel_held c.args.self.now c.requires.whole c.in_ok-first.first c.add.new.self added fresh c.requires.count c.lone.new.self c.lone.ensures c.push.new.self.items heads;
+      held = channel_held c.args.self.now c.requires.whole c.in_ok-first.first c.add.new.self added fresh c.requires.count c.lone.new.self c.lone.ensures
+          c.push.new.self.items heads;
       counted =
-          channel_counted c.args.self.now c.requires.whole c.in_ok-first.first c.add.new.self added fresh c.requires.count c.lone.new.self c.lone.ensures c.push-2.new.self.items (length c.push.new.self.items) counts
+          channel_counted c.args.self.now c.requires.whole c.in_ok-first.first c.add.new.self added fresh c.requires.count c.lone.new.self c.lone.ensures
+              c.push-2.new.self.items (length c.push.new.self.items) counts
           (ap (λ l. length l) heads ∙ length-append c.args.self.now.heads.items (c.in_ok-first.first ∷ []));
       by_due = channel_by_due c.args.self.now c.requires.whole c.in_ok-first.first c.add.new.self added fresh c.requires.count c.lone.new.self c.lone.ensures;
       room = c.requires.whole.room;

@@ -8,10 +8,12 @@ pub returns-then-top-le1-clause-cases : goal.returns-then-top-le1-clause-cases
 returns-then-top-le1-clause-cases c = sym (expired c.args.self.now c.args.frame.now c.top-top.result c.top-top.ensures.top c.if-top-le1.true)
 
 pub returns-in-None-clause-cases : goal.returns-in-None-clause-cases
-returns-in-None-clause-cases c = sym (alive c.args.self.now c.args.frame.now c.top-top.result None c.top-top.ensures.top (omega arith) (sym c.in-None.ensures.used))
+returns-in-None-clause-cases c =
+    sym (alive c.args.self.now c.args.frame.now c.top-top.result None c.top-top.ensures.top (omega arith) (sym c.in-None.ensures.used))
 
 pub returns-in-Some-Ended-clause-cases : goal.returns-in-Some-Ended-clause-cases
-returns-in-Some-Ended-clause-cases c = sym (alive c.args.self.now c.args.frame.now c.top-top.result (Some Ended) c.top-top.ensures.top (omega arith) (cc (c.in-Some-Ended.ensures.used)))
+returns-in-Some-Ended-clause-cases c =
+    sym (alive c.args.self.now c.args.frame.now c.top-top.result (Some Ended) c.top-top.ensures.top (omega arith) (cc (c.in-Some-Ended.ensures.used)))
 
 pub returns-in-Some-Fec-clause-cases : goal.returns-in-Some-Fec-clause-cases
 returns-in-Some-Fec-clause-cases c =

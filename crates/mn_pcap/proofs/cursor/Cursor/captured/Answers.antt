@@ -9,5 +9,7 @@ returns c =
       some = omega arith;
       within = omega arith;
       fed = omega arith;
-      follows = λ bytes done f. let m = captured_more c.args.self.now bytes c.args.rest.now done c.min-taken.result c.args.form c.args.place c.args.left f c.requires.stage (omega arith) (omega arith) in c.go_on-place.ensures.follows _ done m.1 m.0 f.whole;
+      follows = λ bytes done f. let m =
+          captured_more c.args.self.now bytes c.args.rest.now done c.min-taken.result c.args.form c.args.place c.args.left f c.requires.stage (omega arith)
+          (omega arith) in c.go_on-place.ensures.follows _ done m.1 m.0 f.whole;
     }

@@ -17,7 +17,10 @@ returns-in-Ok c =
       some = omega arith;
       within = omega arith;
       fed = omega arith;
-      follows = λ bytes done f. file_read c.args.self.now _ bytes c.args.rest.now done c.fill-taken.result c.as_slice.result.now c.in-Ok.form f c.requires.stage (omega arith) (c.as_slice.ensures.held ∙ c.fill-taken.ensures.filled) c.as_slice.ensures.size (sym c.read_header.ensures ∙ c.in-Ok.is) refl c.clear.ensures refl refl refl;
+      follows =
+          λ bytes done f. file_read c.args.self.now _ bytes c.args.rest.now done c.fill-taken.result c.as_slice.result.now c.in-Ok.form f c.requires.stage
+          (omega arith) (c.as_slice.ensures.held ∙ c.fill-taken.ensures.filled) c.as_slice.ensures.size
+          (sym c.read_header.ensures ∙ c.in-Ok.is) refl c.clear.ensures refl refl refl;
     }
 
 pub returns-in-Err : goal.returns-in-Err
@@ -27,7 +30,10 @@ returns-in-Err c =
       some = omega arith;
       within = omega arith;
       fed = omega arith;
-      follows = λ bytes done f. file_refused c.args.self.now _ bytes c.args.rest.now done c.fill-taken.result c.as_slice.result.now c.in-Err.bad f c.requires.stage (c.as_slice.ensures.held ∙ c.fill-taken.ensures.filled) (sym c.read_header.ensures ∙ c.in-Err.is) (sym c.lasts.ensures ∙ c.if-lasts.true) refl refl;
+      follows =
+          λ bytes done f. file_refused c.args.self.now _ bytes c.args.rest.now done c.fill-taken.result c.as_slice.result.now c.in-Err.bad f
+          c.requires.stage (c.as_slice.ensures.held ∙ c.fill-taken.ensures.filled) (sym c.read_header.ensures ∙ c.in-Err.is)
+          (sym c.lasts.ensures ∙ c.if-lasts.true) refl refl;
     }
 
 pub returns-else-lasts : goal.returns-else-lasts
@@ -37,5 +43,8 @@ returns-else-lasts c =
       some = omega arith;
       within = omega arith;
       fed = omega arith;
-      follows = λ bytes done f. file_goes_on c.args.self.now _ bytes c.args.rest.now done c.fill-taken.result c.in-Err.bad f c.requires.stage (omega arith) c.fill-taken.ensures.filled (ap header_of (sym c.as_slice.ensures.held) ∙ sym c.read_header.ensures ∙ c.in-Err.is) (sym c.lasts.ensures ∙ c.if-lasts.false) c.requires.stage refl refl refl;
+      follows =
+          λ bytes done f. file_goes_on c.args.self.now _ bytes c.args.rest.now done c.fill-taken.result c.in-Err.bad f c.requires.stage
+          (omega arith) c.fill-taken.ensures.filled (ap header_of (sym c.as_slice.ensures.held) ∙ sym c.read_header.ensures ∙ c.in-Err.is)
+          (sym c.lasts.ensures ∙ c.if-lasts.false) c.requires.stage refl refl refl;
     }

@@ -11,7 +11,9 @@ returns-then-header-lt-RECORD_HEADER c =
       some = omega arith;
       within = omega arith;
       fed = omega arith;
-      follows = λ bytes done f. header_more c.args.self.now _ bytes c.args.rest.now done c.fill-taken.result c.args.form f c.requires.stage (omega arith) c.fill-taken.ensures.filled (let l = ap length c.as_slice-header.ensures.held in omega arith) c.requires.stage refl refl refl;
+      follows =
+          λ bytes done f. header_more c.args.self.now _ bytes c.args.rest.now done c.fill-taken.result c.args.form f c.requires.stage
+          (omega arith) c.fill-taken.ensures.filled (let l = ap length c.as_slice-header.ensures.held in omega arith) c.requires.stage refl refl refl;
     }
 
 pub returns-then-length-gt-SNAPLEN : goal.returns-then-length-gt-SNAPLEN
@@ -21,7 +23,14 @@ returns-then-length-gt-SNAPLEN c =
       some = omega arith;
       within = omega arith;
       fed = omega arith;
-      follows = λ bytes done f. header_refused_there c.args.self.now _ bytes c.args.rest.now done c.fill-taken.result c.args.form c.as_slice-header.result.now c.read_u32-length.result f c.requires.stage (c.as_slice-header.ensures.held ∙ c.fill-taken.ensures.filled) (let l = ap length (c.as_slice-header.ensures.held ∙ c.fill-taken.ensures.filled) in let a = length-append c.args.self.now.head (take c.fill-taken.result c.args.rest.now) in let t = length-take-le c.fill-taken.result c.args.rest.now (omega arith) in omega arith) (c.read_u32-length.ensures ∙ ap (λ (xs : List ℕ). number c.args.form.big 4 xs) (take_rest c.as_slice-header.result.now 8)) (omega arith) refl refl;
+      follows =
+          λ bytes done f. header_refused_there c.args.self.now _ bytes c.args.rest.now done c.fill-taken.result c.args.form c.as_slice-header.result.now
+          c.read_u32-length.result f c.requires.stage (c.as_slice-header.ensures.held ∙ c.fill-taken.ensures.filled) (let l =
+          ap length (c.as_slice-header.ensures.held ∙ c.fill-taken.ensures.filled) in let a =
+          length-append c.args.self.now.head (take c.fill-taken.result c.args.rest.now) in let t =
+          length-take-le c.fill-taken.result c.args.rest.now (omega arith) in
+          omega arith) (c.read_u32-length.ensures ∙ ap (λ (xs : List ℕ). number c.args.form.big 4 xs) (take_rest c.as_slice-header.result.now 8))
+          (omega arith) refl refl;
     }
 
 pub returns : goal.returns
@@ -31,5 +40,12 @@ returns c =
       some = omega arith;
       within = omega arith;
       fed = omega arith;
-      follows = λ bytes done f. let m = header_done c.args.self.now bytes c.args.rest.now done c.fill-taken.result c.args.form c.as_slice-header.result.now c.read_u32-length.result f c.requires.stage (omega arith) (c.as_slice-header.ensures.held ∙ c.fill-taken.ensures.filled) (let l = ap length (c.as_slice-header.ensures.held ∙ c.fill-taken.ensures.filled) in let a = length-append c.args.self.now.head (take c.fill-taken.result c.args.rest.now) in let t = length-take-le c.fill-taken.result c.args.rest.now (omega arith) in omega arith) (c.read_u32-length.ensures ∙ ap (λ (xs : List ℕ). number c.args.form.big 4 xs) (take_rest c.as_slice-header.result.now 8)) (omega arith) in c.go_on-place.ensures.follows _ done m.1 m.0 f.whole;
+      follows = λ bytes done f. let m =
+          header_done c.args.self.now bytes c.args.rest.now done c.fill-taken.result c.args.form c.as_slice-header.result.now c.read_u32-length.result f
+          c.requires.stage (omega arith) (c.as_slice-header.ensures.held ∙ c.fill-taken.ensures.filled) (let l =
+          ap length (c.as_slice-header.ensures.held ∙ c.fill-taken.ensures.filled) in let a =
+          length-append c.args.self.now.head (take c.fill-taken.result c.args.rest.now) in let t =
+          length-take-le c.fill-taken.result c.args.rest.now (omega arith) in
+          omega arith) (c.read_u32-length.ensures ∙ ap (λ (xs : List ℕ). number c.args.form.big 4 xs) (take_rest c.as_slice-header.result.now 8))
+          (omega arith) in c.go_on-place.ensures.follows _ done m.1 m.0 f.whole;
     }

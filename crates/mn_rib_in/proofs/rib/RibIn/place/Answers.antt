@@ -13,7 +13,8 @@ loop-low-preserved-then-stands_before c =
     record {
       order = grind (arith, c.loop-low-test.true);
       within = known.within;
-      below = lower_half c.args.self.now c.args.rd c.args.prefix middle (subst (Ascends heard_before) c.self.view_is c.self.invariant) there c.index.result.now (rw (← c.self.view_is) c.index.ensures)
+      below = lower_half c.args.self.now c.args.rd c.args.prefix middle
+          (subst (Ascends heard_before) c.self.view_is c.self.invariant) there c.index.result.now (rw (← c.self.view_is) c.index.ensures)
           (sym c.stands_before.ensures ∙ c.if-stands_before.true);
       above = known.above;
     }
@@ -28,6 +29,7 @@ loop-low-preserved c =
       order = grind (arith, c.loop-low-test.true);
       within = grind (arith, c.loop-low-test.true, known.within);
       below = known.below;
-      above = upper_half c.args.self.now c.args.rd c.args.prefix middle (subst (Ascends heard_before) c.self.view_is c.self.invariant) there c.index.result.now (rw (← c.self.view_is) c.index.ensures)
+      above = upper_half c.args.self.now c.args.rd c.args.prefix middle
+          (subst (Ascends heard_before) c.self.view_is c.self.invariant) there c.index.result.now (rw (← c.self.view_is) c.index.ensures)
           (sym c.stands_before.ensures ∙ c.if-stands_before.false);
     }

@@ -9,7 +9,8 @@ abbrev pub invariant-loop-way : goal.invariant-loop-way
 invariant-loop-way l = record {
   there : All (λ way. way.0.to < length l.self.settled.items) (heap_items l.self.queue);
   settled : l.self.settled.items ≡ l.fn.self.settled.items;
-  search : (learned : Learned) (root limit : ℕ) → IsSearch learned root NoneOpen limit (state_of l.fn.self) → IsSearch learned root NoneOpen limit (state_of l.self);
+  search : (learned : Learned) (root limit : ℕ) → IsSearch learned root NoneOpen limit (state_of l.fn.self) →
+      IsSearch learned root NoneOpen limit (state_of l.self);
 }
 
 abbrev pub decreases-loop-way : goal.decreases-loop-way

@@ -19,11 +19,17 @@ written c = c.set_ttl_behind.ensures.ttl ∙ ap (λ (xs : List ℕ). take (place
 same_length : (c : goal.After-self-1) → length c.set_ttl_behind.new.bytes ≡ length c.self.inside.bytes.items
 same_length c = c.set_ttl_behind.auto.bytes ∙ ap (λ (xs : List ℕ). length xs) c.deref_mut.ensures.value
 
-all : (c : goal.After-self-1) → take c.self.inside.bytes.len (c.set_ttl_behind.new.bytes ++ drop (length c.set_ttl_behind.new.bytes) c.self.inside.bytes.items) ≡ c.set_ttl_behind.new.bytes
+all : (c : goal.After-self-1) →
+    take c.self.inside.bytes.len (c.set_ttl_behind.new.bytes ++ drop (length c.set_ttl_behind.new.bytes) c.self.inside.bytes.items) ≡
+    c.set_ttl_behind.new.bytes
 all c = all-written c.self.inside.bytes.len c.set_ttl_behind.new.bytes c.self.inside.bytes.items (c.set_ttl_behind.auto.bytes ∙ c.deref_mut.ensures.len)
 
-repacked : (c : goal.After-self-1) → kept c.self.inside.room c.self.inside.depth c.set_ttl_behind.new.bytes ≡ record (kept c.self.inside.room c.self.inside.depth c.self.inside.bytes.items) { packet = with_ttl (packet c) c.args.ttl }
-repacked c = kept-repacked c.self.inside.room c.self.inside.depth c.self.inside.bytes.items c.set_ttl_behind.new.bytes (with_ttl (packet c) c.args.ttl) c.self.invariant.there (written c)
+repacked : (c : goal.After-self-1) →
+    kept c.self.inside.room c.self.inside.depth c.set_ttl_behind.new.bytes ≡ record
+    (kept c.self.inside.room c.self.inside.depth c.self.inside.bytes.items) { packet = with_ttl (packet c) c.args.ttl }
+repacked c =
+    kept-repacked c.self.inside.room c.self.inside.depth c.self.inside.bytes.items c.set_ttl_behind.new.bytes
+    (with_ttl (packet c) c.args.ttl) c.self.invariant.there (written c)
 
 still : (c : goal.After-self-1) → IsTrue (is_packet (with_ttl (packet c) c.args.ttl))
 still c =
@@ -33,10 +39,14 @@ still c =
 pub invariant_of-self : goal.invariant_of-self
 invariant_of-self c =
     subst (λ (xs : List ℕ). IsKept c.self.inside.room c.self.inside.depth xs) (sym (all c))
-    (IsKept-repacked c.self.inside.room c.self.inside.depth c.self.inside.bytes.items c.set_ttl_behind.new.bytes (with_ttl (packet c) c.args.ttl) c.self.invariant (same_length c) (written c) (still c))
+    (IsKept-repacked c.self.inside.room c.self.inside.depth c.self.inside.bytes.items c.set_ttl_behind.new.bytes
+        (with_ttl (packet c) c.args.ttl) c.self.invariant (same_length c) (written c) (still c))
 
 -- the packet after the call
-new_packet : (c : goal.After-self-1) → (kept c.self.inside.room c.self.inside.depth (take c.self.inside.bytes.len (c.set_ttl_behind.new.bytes ++ drop (length c.set_ttl_behind.new.bytes) c.self.inside.bytes.items))).packet ≡ with_ttl (packet c) c.args.ttl
+new_packet : (c : goal.After-self-1) →
+    (kept c.self.inside.room c.self.inside.depth
+    (take c.self.inside.bytes.len (c.set_ttl_behind.new.bytes ++ drop (length c.set_ttl_behind.new.bytes) c.self.inside.bytes.items))).packet ≡ with_ttl
+    (packet c) c.args.ttl
 new_packet c = ap (λ (xs : List ℕ). (kept c.self.inside.room c.self.inside.depth xs).packet) (all c) ∙ ap (λ (f : Labelled). f.packet) (repacked c)
 
 pub returns-clause-packet : goal.returns-clause-packet

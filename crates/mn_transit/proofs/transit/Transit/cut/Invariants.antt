@@ -14,7 +14,8 @@ invariant-frames l = record {
   at : l.at ≡ channel l.fn.link.0 l.fn.dir;
   node : l.from.0 ≡ sender (wiring_of l.topology) l.fn.link.0 l.fn.dir;
   topology : l.topology ≡ l.fn.topology;
-  cuts : (given : Labelling) (packets : Packets) → StandsFor l.fn.topology given l.fn.self packets → CutsTo l.fn.topology given l.self packets l.fn.link.0 l.fn.dir;
+  cuts : (given : Labelling) (packets : Packets) → StandsFor l.fn.topology given l.fn.self packets →
+      CutsTo l.fn.topology given l.self packets l.fn.link.0 l.fn.dir;
   left : off_channel l.at l.self.flying ≡ off_channel l.at l.fn.self.flying;
   counts : CountsOn l.fn.self l.self 0 0 0;
 }

@@ -15,7 +15,10 @@ invariant_of-self c =
     record {
       flight = c.push.ensures.flight;
       entries = rw pushed (All-push (λ (item : Item Flown). 0 < length item.item.frame.entries) _ _ c.self.invariant.entries c.requires.entry);
-      injected = rw pushed (All-push (λ (item : Item Flown). item.item.packet < length c.self.inside.verdicts.items) _ _ c.self.invariant.injected (rw (← c.self.view_is) at c.requires.packet));
+      injected =
+          rw pushed
+          (All-push (λ (item : Item Flown). item.item.packet < length c.self.inside.verdicts.items) _ _ c.self.invariant.injected
+          (rw (← c.self.view_is) at c.requires.packet));
       once = rw pushed (all_pairs_push Apart _ _ c.self.invariant.once (rw (← c.self.view_is) at c.requires.apart));
       room = rw pushed (All-push (HasWay c.self.inside.paths.items) _ _ c.self.invariant.room (rw (← c.self.view_is) at c.requires.hops));
       paths = c.self.invariant.paths;

@@ -14,8 +14,11 @@ overflow_sub-self c =
 pub invariant_of-self-2 : goal.invariant_of-self-2
 invariant_of-self-2 c = record {
   flight = c.take.ensures.flight;
-  entries = rw c.in-Some.ensures.items (holds_left (λ (item : Item Flown). 0 < length item.item.frame.entries) _ (Some c.in-Some.taken) c.self.invariant.entries);
-  injected = rw c.in-Some.ensures.items (holds_left (λ (item : Item Flown). item.item.packet < length c.self.inside.verdicts.items) _ (Some c.in-Some.taken) c.self.invariant.injected);
+  entries =
+      rw c.in-Some.ensures.items (holds_left (λ (item : Item Flown). 0 < length item.item.frame.entries) _ (Some c.in-Some.taken) c.self.invariant.entries);
+  injected =
+      rw c.in-Some.ensures.items
+      (holds_left (λ (item : Item Flown). item.item.packet < length c.self.inside.verdicts.items) _ (Some c.in-Some.taken) c.self.invariant.injected);
   once = rw c.in-Some.ensures.items (once_left _ (Some c.in-Some.taken) c.self.invariant.once);
   room = rw c.in-Some.ensures.items (holds_left (HasWay c.self.inside.paths.items) _ (Some c.in-Some.taken) c.self.invariant.room);
   paths = c.self.invariant.paths;
@@ -25,13 +28,17 @@ invariant_of-self-2 c = record {
 }
 
 pub returns-clause-room : goal.returns-clause-room
-returns-clause-room c = room_left _ _ _ _ _ (Some c.in-Some.taken) _ _ c.self.invariant.flight c.in-Some.ensures.value c.in-Some.ensures.items c.take.ensures.spare
+returns-clause-room c =
+    room_left _ _ _ _ _ (Some c.in-Some.taken) _ _ c.self.invariant.flight c.in-Some.ensures.value c.in-Some.ensures.items c.take.ensures.spare
 
 pub returns-clause-injected : goal.returns-clause-injected
-returns-clause-injected c = holds_taken (λ (item : Item Flown). item.item.packet < length c.self.inside.verdicts.items) _ _ _ (Some c.in-Some.taken) c.in-Some.ensures.value c.self.invariant.injected
+returns-clause-injected c =
+    holds_taken (λ (item : Item Flown). item.item.packet < length c.self.inside.verdicts.items) _ _ _
+    (Some c.in-Some.taken) c.in-Some.ensures.value c.self.invariant.injected
 
 pub returns-clause-entry : goal.returns-clause-entry
-returns-clause-entry c = holds_taken (λ (item : Item Flown). 0 < length item.item.frame.entries) _ _ _ (Some c.in-Some.taken) c.in-Some.ensures.value c.self.invariant.entries
+returns-clause-entry c =
+    holds_taken (λ (item : Item Flown). 0 < length item.item.frame.entries) _ _ _ (Some c.in-Some.taken) c.in-Some.ensures.value c.self.invariant.entries
 
 pub returns-clause-apart : goal.returns-clause-apart
 returns-clause-apart c = rw c.in-Some.ensures.items (apart_left _ _ _ c.in-Some.taken c.self.invariant.once c.in-Some.ensures.value)

@@ -1,5 +1,0 @@
-use Rattle.mn_prefix.specs.Places.{IsBestPlace}
-use Rattle.mn_prefix.proofs.pairs.longest_place.Given as goal
-
-abbrev pub invariant-loop-i : goal.invariant-loop-i
-invariant-loop-i g l = IsBestPlace l.address l.pairs l.i l.best

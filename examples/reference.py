@@ -1,0 +1,1410 @@
+#!/usr/bin/env python3
+"""Works out what `mplsnet run` leaves and reports for any topology, script and capture, without the program.
+
+It is a second telling of the rules of docs/FORMATS.md (texts, bytes) and docs/LEDGER.md (who says what, and when),
+written from these and not from the program's source. It goes by the definitions and not by speed: routes are chosen
+from the whole list, least walks are found anew, what a neighbour said last is looked up in all that it said. The
+sections are: texts, topology, script, capture; IPv4; the network and its steps; a script's course; labels and bytes;
+the report; files.
+"""
+
+import argparse
+import re
+import struct
+import sys
+from dataclasses import dataclass, field
+from pathlib import Path
+
+try:
+    import tomllib
+except ImportError:
+    sys.exit("reference.py: needs Python 3.11 or later (for tomllib)")
+
+HELP = """\
+Writes every file of the run and its report, as report.txt, into FOLDER, which is made where it isn't there. With
+--compare nothing is written: the files of FOLDER, report.txt among them, are compared with those that are due, and
+the first difference is told. A refused input leaves report.txt alone, with the line of the refusal.
+
+Not covered: the words of the command line, faults of reading and writing, want of memory, and what TOML 1.1 has
+beyond 1.0. It is for small networks: thousands of steps take seconds, and millions hours.
+
+status: 0 written, or nothing differs; 1 something differs, or a file can't be read or written; 2 wrong words
+"""
+
+ROUTES, TARGETS, EDGES, LABELS = 65_536, 16, 64, 1_048_560
+MESSAGES, PACKET_BYTES, STEPS = 2_000_000, 268_435_456, 4_000_000
+LENGTHS = {"node": 256, "link": 1024, "vrf": 512, "site": 4096}
+
+
+class Refused(Exception):
+    """An input is refused; the text is the line that is put."""
+
+
+class JournalFull(Exception):
+    """A step that nothing else refuses meets a full journal."""
+
+
+# Texts
+
+
+def number(word, least, most):
+    """The number that a word says, None where it isn't one or is out of range."""
+    if re.fullmatch("0|[1-9][0-9]*", word) and len(word) < 20 and least <= int(word) <= most:
+        return int(word)
+    return None
+
+
+def address(word):
+    parts = [number(part, 0, 255) for part in word.split(".")]
+    return None if len(parts) != 4 or None in parts else int.from_bytes(bytes(parts), "big")
+
+
+def prefix(word):
+    """An address and a length; bits past the length are zero."""
+    first, slash, last = word.partition("/")
+    at, length = address(first), number(last, 0, 32)
+    if not slash or at is None or length is None or at & (1 << 32 - length) - 1:
+        return None
+    return at, length
+
+
+def pair(word, kinds):
+    """The eight bytes of AS:N or ADDRESS:N, of the first or the second of the kinds."""
+    first, colon, last = word.partition(":")
+    asn, at = number(first, 0, 65_535), address(first)
+    if asn is not None and (n := number(last, 0, 2**32 - 1)) is not None:
+        return struct.pack(">HHI", kinds[0], asn, n)
+    if at is not None and (n := number(last, 0, 65_535)) is not None:
+        return struct.pack(">HIH", kinds[1], at, n)
+    return None
+
+
+def distinguisher(word):
+    return pair(word, (0x0000, 0x0001))
+
+
+def target(word):
+    return pair(word, (0x0002, 0x0102))
+
+
+def address_text(at):
+    return ".".join(str(byte) for byte in at.to_bytes(4, "big"))
+
+
+def prefix_text(of):
+    return f"{address_text(of[0])}/{of[1]}"
+
+
+def target_text(of):
+    if of[:2] == b"\0\2":
+        return f"{int.from_bytes(of[2:4], 'big')}:{int.from_bytes(of[4:], 'big')}"
+    return f"{address_text(int.from_bytes(of[2:6], 'big'))}:{int.from_bytes(of[6:], 'big')}"
+
+
+def contains(of, at):
+    return at >> 32 - of[1] == of[0] >> 32 - of[1]
+
+
+def is_unicast(at):
+    """Outside 0.0.0.0/8, 127.0.0.0/8, 224.0.0.0/4 and 240.0.0.0/4."""
+    return at >> 24 not in (0, 127) and at >> 28 not in (14, 15)
+
+
+# Topology
+
+
+@dataclass
+class Node:
+    name: str
+    loopback: int
+
+
+@dataclass
+class Link:
+    a: int
+    b: int
+    cost: int
+    delay: int
+    loss: int
+
+    def other(self, end):
+        return self.a + self.b - end
+
+
+@dataclass
+class Vrf:
+    name: str
+    node: int
+    rd: bytes
+    imports: list
+    exports: list
+
+
+@dataclass
+class Site:
+    name: str
+    vrf: int
+    prefixes: list
+
+
+@dataclass
+class Topology:
+    asn: int = 65_000
+    notice_delay: int = 1
+    bgp_delay: int = 1
+    nodes: list = field(default_factory=list)
+    links: list = field(default_factory=list)
+    vrfs: list = field(default_factory=list)
+    sites: list = field(default_factory=list)
+
+    def named(self, kind, name):
+        """The number of the node, VRF or site of this name, None where there is none."""
+        things = {"node": self.nodes, "vrf": self.vrfs, "site": self.sites}[kind]
+        return next((no for no, thing in enumerate(things) if thing.name == name), None)
+
+    def link_between(self, a, b):
+        return next((no for no, link in enumerate(self.links) if {link.a, link.b} == {a, b} and a != b), None)
+
+    def edges(self):
+        return sorted({vrf.node for vrf in self.vrfs})
+
+    def edge_of(self, site):
+        return self.vrfs[self.sites[site].vrf].node
+
+    def neighbours(self, node):
+        """Of each neighbour, by number, the link to it."""
+        ends = [(link.other(node), no) for no, link in enumerate(self.links) if node in (link.a, link.b)]
+        return sorted(ends)
+
+
+TEXT, INTEGER, TEXTS, TABLES = "text", "integer", "texts", "tables"
+KEYS = {
+    "top": {"as": INTEGER, "notice_delay": INTEGER, "bgp_delay": INTEGER} | dict.fromkeys(LENGTHS, TABLES),
+    "node": {"name": TEXT, "loopback": TEXT},
+    "link": {"a": TEXT, "b": TEXT, "cost": INTEGER, "delay": INTEGER, "loss": INTEGER},
+    "vrf": {"name": TEXT, "node": TEXT, "rd": TEXT, "import": TEXTS, "export": TEXTS},
+    "site": {"name": TEXT, "vrf": TEXT, "prefixes": TEXTS},
+}
+REQUIRED = {
+    "node": ["name", "loopback"],
+    "link": ["a", "b"],
+    "vrf": ["name", "node", "rd"],
+    "site": ["name", "vrf"],
+}
+
+
+def is_of_kind(value, kind):
+    if kind == INTEGER:
+        return type(value) is int
+    if kind == TEXT:
+        return isinstance(value, str)
+    return isinstance(value, list) and all(isinstance(one, str if kind == TEXTS else dict) for one in value)
+
+
+def refuse(rule, place):
+    raise Refused(f"topology refused {rule} at {place}")
+
+
+def is_in_64_bits(value):
+    if isinstance(value, dict):
+        value = list(value.values())
+    if isinstance(value, list):
+        return all(map(is_in_64_bits, value))
+    return type(value) is not int or -(2**63) <= value < 2**63
+
+
+def read_topology(bytes_):
+    if len(bytes_) > 1_048_576:
+        raise Refused("too large topology bytes")
+    try:
+        top = tomllib.loads(bytes_.decode())
+    except (UnicodeDecodeError, tomllib.TOMLDecodeError, RecursionError):
+        refuse("T1 NotToml", "top")
+    if not is_in_64_bits(top):
+        refuse("T1 NotToml", "top")
+    check_top(top)
+    topology = Topology(top.get("as", 65_000), top.get("notice_delay", 1), top.get("bgp_delay", 1))
+    readers = {"node": read_node, "link": read_link, "vrf": read_vrf, "site": read_site}
+    for kind, read in readers.items():
+        for index, table in enumerate(top.get(kind, [])):
+            place = f"{kind} {index}"
+            check_keys(table, kind, place)
+            read(topology, table, lambda rule: refuse(rule, place))
+    return topology
+
+
+def check_top(top):
+    if not top.keys() <= KEYS["top"].keys():
+        refuse("T2 UnknownKey", "top")
+    ranges = {"as": 65_535, "notice_delay": 1000, "bgp_delay": 1000}
+    kinds_fit = all(is_of_kind(value, KEYS["top"][key]) for key, value in top.items())
+    if not kinds_fit or not all(1 <= top.get(key, 1) <= most for key, most in ranges.items()):
+        refuse("T4 WrongKind", "top")
+    if any(len(top.get(key, [])) > most for key, most in LENGTHS.items()):
+        refuse("T16 TooMany", "top")
+
+
+def check_keys(table, kind, place):
+    if not table.keys() <= KEYS[kind].keys():
+        refuse("T2 UnknownKey", place)
+    if not table.keys() >= set(REQUIRED[kind]):
+        refuse("T3 MissingKey", place)
+    if not all(is_of_kind(value, KEYS[kind][key]) for key, value in table.items()):
+        refuse("T4 WrongKind", place)
+
+
+def check_name(topology, kind, name, refused):
+    if not re.fullmatch("[A-Za-z0-9._-]{1,32}", name):
+        refused("T5 BadName")
+    if topology.named(kind, name) is not None:
+        refused("T6 TwiceNamed")
+
+
+def read_node(topology, table, refused):
+    loopback = address(table["loopback"])
+    if loopback is None or not is_unicast(loopback):
+        refused("T4 WrongKind")
+    check_name(topology, "node", table["name"], refused)
+    if loopback in (node.loopback for node in topology.nodes):
+        refused("T10 TwiceLoopback")
+    topology.nodes.append(Node(table["name"], loopback))
+
+
+def read_link(topology, table, refused):
+    a, b = (topology.named("node", table[end]) for end in "ab")
+    link = Link(a, b, table.get("cost", 10), table.get("delay", 1), table.get("loss", 0))
+    if a is None or b is None:
+        refused("T7 NoSuchName")
+    if a == b:
+        refused("T8 SelfLink")
+    if topology.link_between(a, b) is not None:
+        refused("T9 TwiceLinked")
+    if not 1 <= link.cost <= 65_535:
+        refused("T11 BadCost")
+    if not 1 <= link.delay <= 1000 or not 0 <= link.loss <= 65_535:
+        refused("T12 BadDelay")
+    topology.links.append(link)
+
+
+def read_vrf(topology, table, refused):
+    check_name(topology, "vrf", table["name"], refused)
+    node, rd = topology.named("node", table["node"]), distinguisher(table["rd"])
+    if node is None:
+        refused("T7 NoSuchName")
+    if rd is not None and rd in (vrf.rd for vrf in topology.vrfs):
+        refused("T13 TwiceRd")
+    imports, exports = ([target(text) for text in table.get(key, [])] for key in ("import", "export"))
+    for targets in (imports, exports):
+        if rd is None or None in targets or len(set(targets)) < len(targets) or len(targets) > TARGETS:
+            refused("T14 BadTarget")
+    if len({*topology.edges(), node}) > EDGES:
+        refused("T16 TooMany")
+    topology.vrfs.append(Vrf(table["name"], node, rd, imports, exports))
+
+
+def read_site(topology, table, refused):
+    prefixes = [prefix(text) for text in table.get("prefixes", [])]
+    if None in prefixes:
+        refused("T4 WrongKind")
+    check_name(topology, "site", table["name"], refused)
+    vrf = topology.named("vrf", table["vrf"])
+    if vrf is None:
+        refused("T7 NoSuchName")
+    taken = [of for site in topology.sites if site.vrf == vrf for of in site.prefixes]
+    if len({*taken, *prefixes}) < len(taken) + len(prefixes):
+        refused("T15 PrefixTaken")
+    if sum(len(site.prefixes) for site in topology.sites) + len(prefixes) > ROUTES:
+        refused("T16 TooMany")
+    topology.sites.append(Site(table["name"], vrf, prefixes))
+
+
+# Script: a command is a tuple, the words that say what it is and then its numbers
+
+PLACE, RECORD, TICKS, BOUND = (0, 2**32 - 1), (1, 2**32 - 1), (0, 1_000_000), (0, 4_000_000)
+FORMS = {
+    "link up": ["node", "node"],
+    "link down": ["node", "node"],
+    "learn": ["node", "node", "node"],
+    "ldp on": ["node", "node"],
+    "ldp off": ["node", "node"],
+    "hear ldp": ["node", "node"],
+    "hear bgp": ["node", "node"],
+    "bgp up": ["node", "node"],
+    "bgp down": ["node", "node"],
+    "route add": ["site", prefix],
+    "route del": ["site", prefix],
+    "import add": ["vrf", target],
+    "import del": ["vrf", target],
+    "export add": ["vrf", target],
+    "export del": ["vrf", target],
+    "site up": ["site"],
+    "site down": ["site"],
+    "inject": ["site", RECORD],
+    "carry": ["node", "node", PLACE],
+    "lose": ["node", "node", PLACE],
+    "run": [TICKS],
+    "drain": [BOUND],
+    "flush": [],
+    "show links": [],
+    "show tree": ["node"],
+    "show ldp": [],
+    "show bgp": [],
+    "show vrf": ["vrf"],
+    "show flight": [],
+}
+
+
+def lines_of(bytes_):
+    """The lines as texts of one letter a byte; a CR right before an LF isn't part of its line."""
+    lines = bytes_.decode("latin-1").split("\n")
+    last = lines.pop()
+    return [line.removesuffix("\r") for line in lines] + [last] * (last != "")
+
+
+def words_of(line):
+    words = [word for word in re.split("[ \t]+", line) if word]
+    comment = next((at for at, word in enumerate(words) if word.startswith("#")), len(words))
+    return words[:comment]
+
+
+def read_script(topology, bytes_):
+    """The commands, each with the number of its line."""
+    if len(bytes_) > 67_108_864:
+        raise Refused("too large script bytes")
+    lines = lines_of(bytes_)
+    if len(lines) > 3_000_000:
+        raise Refused("too large script lines")
+    commands = []
+    for at, line in enumerate(lines, 1):
+        words = words_of(line)
+        if words:
+            commands.append((at, read_line(topology, words, at)))
+    return commands
+
+
+def read_line(topology, words, line):
+    def refused(rule):
+        raise Refused(f"script refused {rule} at line {line}")
+
+    firsts = {form.split()[0] for form in FORMS}
+    if words[0] not in firsts:
+        refused("S1 UnknownWord")
+    verb, given = words[0], words[1:]
+    if verb not in FORMS:
+        if not given:
+            refused("S2 WrongCount")
+        verb, given = f"{verb} {given[0]}", given[1:]
+        if verb not in FORMS:
+            refused("S1 UnknownWord")
+    form = FORMS[verb]
+    if len(given) != len(form) and (verb, given) != ("drain", []):
+        refused("S2 WrongCount")
+    values = [read_word(topology, word, kind) for word, kind in zip(given, form)]
+    if any(value is None and not isinstance(kind, str) for value, kind in zip(values, form)):
+        refused("S3 BadNumber")
+    if None in values:
+        refused("S4 NoSuchName")
+    return command_of(topology, verb, values, refused)
+
+
+def read_word(topology, word, kind):
+    if isinstance(kind, str):
+        return topology.named(kind, word)
+    return number(word, *kind) if isinstance(kind, tuple) else kind(word)
+
+
+def command_of(topology, verb, values, refused):
+    """The command, with a link in place of its ends, and before it or after it the node that is meant."""
+    if verb in ("bgp up", "bgp down", "hear bgp"):
+        if values[0] == values[1] or not {*values} <= {*topology.edges()}:
+            refused("S6 NotEdge")
+        return verb, *(values if verb == "hear bgp" else sorted(values))
+    if verb == "drain":
+        return verb, *(values or [None])
+    if verb not in ("link up", "link down", "learn", "ldp on", "ldp off", "hear ldp", "carry", "lose"):
+        return verb, *values
+    learner = [values.pop(0)] if verb == "learn" else []
+    link = topology.link_between(*values[:2])
+    if link is None:
+        refused("S5 NotLinked")
+    sender = values[:1] if verb in ("hear ldp", "carry", "lose") else []
+    return verb, *learner, link, *sender, *values[2:]
+
+
+# Capture
+
+
+def read_capture(bytes_):
+    """The packets of the records."""
+    if len(bytes_) > 67_108_864:
+        raise Refused("too large capture bytes")
+    refusal, link_type, records = scan(bytes_)
+    if len(records) > 100_000:
+        raise Refused("too large capture records")
+    if refusal:
+        raise Refused("capture refused {} at byte {}".format(*refusal))
+    return [packet_of(link_type, record) for record in records]
+
+
+def scan(bytes_):
+    """The first refusal and its byte, None where there is none; the link type; the whole records before the refusal."""
+    head = refusal_of_head(bytes_)
+    if head:
+        return head, None, []
+    order = byte_order(bytes_)
+    link_type, at, records = struct.unpack(order + "I", bytes_[20:24])[0] & 0xFFFF, 24, []
+    while at < len(bytes_):
+        if at + 16 > len(bytes_):
+            return ("CutShort", at), link_type, records
+        captured = struct.unpack(order + "I", bytes_[at + 8 : at + 12])[0]
+        if captured > 262_144:
+            return ("BadRecord", at), link_type, records
+        if at + 16 + captured > len(bytes_):
+            return ("CutShort", at), link_type, records
+        records.append(bytes_[at + 16 : at + 16 + captured])
+        at += 16 + captured
+    return None, link_type, records
+
+
+def byte_order(bytes_):
+    for order in "<>":
+        if struct.unpack(order + "I", bytes_[:4])[0] in (0xA1B2C3D4, 0xA1B23C4D):
+            return order
+    return None
+
+
+def refusal_of_head(bytes_):
+    if len(bytes_) < 4:
+        return "CutShort", 0
+    if bytes_[:4] == b"\x0a\x0d\x0d\x0a":
+        return "IsPcapng", 0
+    order = byte_order(bytes_)
+    if order is None:
+        return "BadMagic", 0
+    if len(bytes_) < 24:
+        return "CutShort", 0
+    if struct.unpack(order + "HH", bytes_[4:8]) != (2, 4):
+        return "BadVersion", 4
+    if struct.unpack(order + "I", bytes_[20:24])[0] & 0xFFFF not in (1, 101, 228):
+        return "BadLinkType", 20
+    return None
+
+
+def packet_of(link_type, record):
+    if link_type != 1:
+        return record
+    return record[14:] if record[12:14] == b"\x08\x00" else b""
+
+
+# IPv4
+
+
+def total_length(packet):
+    return int.from_bytes(packet[2:4], "big")
+
+
+def header_length(packet):
+    return 4 * (packet[0] & 15)
+
+
+def words_sum(header):
+    """The one's complement sum of the header's words of 16 bits."""
+    total = sum(struct.unpack(f">{len(header) // 2}H", header))
+    while total >> 16:
+        total = (total & 0xFFFF) + (total >> 16)
+    return total
+
+
+def fault_of(packet):
+    """The first rule on its form that drops the packet, None where it is good."""
+    if not packet or packet[0] >> 4 != 4:
+        return "NotIpv4"
+    if header_length(packet) < 20 or len(packet) >= 4 and total_length(packet) < header_length(packet):
+        return "Malformed"
+    if len(packet) < max(20, header_length(packet)) or len(packet) < total_length(packet):
+        return "Truncated"
+    if words_sum(packet[: header_length(packet)]) != 0xFFFF:
+        return "BadChecksum"
+    return None
+
+
+def aged(packet, by):
+    """The packet cut to its total length, with its TTL lowered and its checksum made anew."""
+    end = header_length(packet)
+    header = packet[:8] + bytes([packet[8] - by]) + packet[9:10] + b"\0\0" + packet[12:end]
+    checksum = (0xFFFF - words_sum(header)).to_bytes(2, "big")
+    return header[:10] + checksum + header[12:] + packet[end : total_length(packet)]
+
+
+# The network
+
+
+@dataclass
+class Route:
+    """What a VRF holds: own routes are preferred, then those of another VRF of the edge, then those of other edges."""
+
+    prefix: tuple
+    rank: tuple
+    edge: int
+    site: int
+    attachment: int
+
+
+@dataclass
+class Token:
+    """A packet on its way to an edge, and there to an attachment of a site; the TTL of its label, now and at its push."""
+
+    packet: int
+    edge: int
+    site: int
+    attachment: int
+    pushed: int
+    ttl: int
+    bytes: bytes
+
+
+@dataclass
+class Item:
+    """What is in flight on a channel: (link, node) of a notice, (sender, receiver) of a message of BGP, and (link,
+    sender) of a message of LDP or a frame; of a frame its token and its number among those sent in its direction."""
+
+    number: int
+    due: int
+    kind: str
+    channel: tuple
+    token: Token = None
+    nth: int = 0
+
+
+@dataclass
+class Packet:
+    """An injected packet, with the text of its verdict."""
+
+    line: int
+    site: int
+    record: int
+    path: list
+    verdict: str = ""
+
+
+class Network:
+    """The network as its steps have left it, and all that they made and wrote."""
+
+    def __init__(self, topology):
+        self.topology = topology
+        self.links, self.nodes = topology.links, range(len(topology.nodes))
+        self.edges = topology.edges()
+        self.neighbours = [topology.neighbours(node) for node in self.nodes]
+        self.tick, self.made, self.in_flight, self.journal = 0, 0, [], []
+
+        self.changes = [0 for _ in self.links]
+        self.learned = [[0 for _ in self.links] for _ in self.nodes]
+        self.costs = {}  # what costs_to found
+
+        ends = [(no, end) for no, link in enumerate(self.links) for end in (link.a, link.b)]
+        self.ldp_on = [True for _ in self.links]
+        self.said = {end: [] for end in ends}  # in the session's present life
+        self.heard = dict.fromkeys(ends, 0)  # of what the other end said in it
+        self.pdus = {end: b"" for end in ends}  # the bytes of all lives
+
+        pairs = [(edge, peer) for edge in self.edges for peer in self.edges if edge != peer]
+        self.has_bgp = dict.fromkeys(((a, b) for a, b in pairs if a < b), False)
+        self.told = {pair: [] for pair in pairs}
+        self.listened = dict.fromkeys(pairs, 0)
+        self.messages = {pair: b"" for pair in pairs}
+
+        self.imports = [set(vrf.imports) for vrf in topology.vrfs]
+        self.exports = [set(vrf.exports) for vrf in topology.vrfs]
+        self.statics = {(site.vrf, of): no for no, site in enumerate(topology.sites) for of in site.prefixes}
+        self.attachment = [1 for _ in topology.sites]  # the present one, None where the site is detached
+        self.attachments = [1 for _ in topology.sites]  # how many there were
+
+        self.given = [self.first_labels(node) for node in self.nodes]
+        self.packets, self.deliveries = [], []
+        self.frames = [[] for _ in self.links]  # all that were sent, each with its tick
+        self.sent = dict.fromkeys(ends, 0)
+
+    # Items
+
+    def make(self, kind, channel, delay, token=None, nth=0):
+        self.in_flight.append(Item(self.made, self.tick + delay, kind, channel, token, nth))
+        self.made += 1
+
+    def on(self, kind, channel):
+        """What is in flight on the channel, in order."""
+        return [item for item in self.in_flight if item.kind == kind and item.channel == channel]
+
+    def take(self, kind, channel, place=0):
+        item = self.on(kind, channel)[place]
+        self.in_flight.remove(item)
+        return item
+
+    # Views and least walks
+
+    def costs_to(self, view, to):
+        """Of each node from which a walk over the links of the view leads to this one, the least cost of any."""
+        if (view, to) not in self.costs:
+            costs, ways = {to: 0}, [(link.a, link.b, link.cost) for up, link in zip(view, self.links) if up]
+            for _ in self.nodes:  # a least walk passes no node twice
+                for x, y, cost in ways + [(y, x, cost) for x, y, cost in ways]:
+                    if y in costs:
+                        costs[x] = min(costs.get(x, cost + costs[y]), cost + costs[y])
+            self.costs[view, to] = costs
+        return self.costs[view, to]
+
+    def view(self, node):
+        """Which links are up for the node: those of which it has learned an odd number of changes."""
+        return tuple(count % 2 for count in self.learned[node])
+
+    def next_hop(self, node, to):
+        """The neighbour of least number on a least walk to another node, and the link to it."""
+        view = self.view(node)
+        costs = self.costs_to(view, to)
+        for neighbour, link in self.neighbours[node]:
+            if view[link] and neighbour in costs and self.links[link].cost + costs[neighbour] == costs[node]:
+                return neighbour, link
+        return None
+
+    # LDP: a message is its kind and, of a mapping, a withdraw and a release, the node whose FEC it is
+
+    def lives(self, link):
+        return self.changes[link] % 2 == 1 and self.ldp_on[link]
+
+    def is_active(self, link, end):
+        loopbacks = [self.topology.nodes[node].loopback for node in (end, self.links[link].other(end))]
+        return loopbacks[0] > loopbacks[1]
+
+    def ldp_state(self, link, end):
+        if not self.lives(link):
+            return "none"
+        first = "opensent" if self.is_active(link, end) else "initialized"
+        return (first, "openrec", "operational")[min(self.heard[link, end], 2)]
+
+    def operational(self, node):
+        return {link for _, link in self.neighbours[node] if self.ldp_state(link, node) == "operational"}
+
+    def usable_hop(self, node, to):
+        """The next hop and the link to it, where the node can send: where the last mention that it heard there maps."""
+        hop = self.next_hop(node, to)
+        if hop is None or self.ldp_state(hop[1], node) != "operational":
+            return None
+        neighbour, link = hop
+        heard = self.said[link, neighbour][: self.heard[link, node]]
+        mentions = [kind for kind, fec in heard if fec == to and kind != "release"]
+        return hop if mentions and mentions[-1] == "mapping" else None
+
+    def offers(self, node):
+        return {to for to in self.nodes if to == node or self.usable_hop(node, to)}
+
+    def say(self, link, end, kind, fec=None):
+        self.said[link, end].append((kind, fec))
+        self.pdus[link, end] += pdu(self, link, end, len(self.said[link, end]), kind, fec)
+        self.make("ldp", (link, end), self.links[link].delay)
+
+    def with_ldp_news(self, nodes, change):
+        """Does the change. These nodes, whose knowledge it may change, then say what has become of their offers."""
+        before = [(node, self.offers(node), self.operational(node)) for node in nodes]
+        change()
+        for node, offered, was_operational in before:
+            offers, operational = self.offers(node), self.operational(node)
+            for fec in self.nodes:
+                for _, link in self.neighbours[node]:
+                    was_told = fec in offered and link in was_operational
+                    if link in operational and was_told != (fec in offers):
+                        self.say(link, node, "mapping" if fec in offers else "withdraw", fec)
+
+    def change_session(self, link, change):
+        """Does a change by which the link's session may begin or end."""
+        ends = [self.links[link].a, self.links[link].b]
+
+        def change_and_begin_anew():
+            lived = self.lives(link)
+            change()
+            if self.lives(link) == lived:
+                return
+            for end in ends:
+                self.said[link, end], self.heard[link, end] = [], 0
+                self.in_flight = [item for item in self.in_flight if (item.kind, item.channel) != ("ldp", (link, end))]
+            for end in ends:
+                if self.lives(link) and self.is_active(link, end):
+                    self.say(link, end, "initialization")
+
+        self.with_ldp_news(ends, change_and_begin_anew)
+
+    # BGP: a message is its kind, the VRF and prefix that it is about, and what is announced of them
+
+    def pair(self, edge, peer):
+        return min(edge, peer), max(edge, peer)
+
+    def bgp_state(self, edge, peer):
+        if not self.has_bgp[self.pair(edge, peer)]:
+            return "idle"
+        return ("opensent", "openconfirm", "established")[min(self.listened[edge, peer], 2)]
+
+    def tell(self, edge, peer, kind, about=None, export=None):
+        self.told[edge, peer].append((kind, about, export))
+        self.messages[edge, peer] += bgp(self, edge, kind, about, export)
+        self.make("bgp", (edge, peer), self.topology.bgp_delay)
+
+    def exports_of(self, edge):
+        """By VRF and prefix what the edge exports: the site, its attachment and the targets."""
+        exports = {}
+        for (vrf, of), site in sorted(self.statics.items()):
+            is_exported = self.topology.vrfs[vrf].node == edge and self.exports[vrf]
+            if is_exported and self.attachment[site] is not None:
+                exports[vrf, of] = (site, self.attachment[site], sorted(self.exports[vrf]))
+        return exports
+
+    def with_bgp_news(self, edge, change):
+        """Does the change. The edge then tells each peer what came, changed and went of its exports."""
+        before = self.exports_of(edge)
+        change()
+        after = self.exports_of(edge)
+        for about in sorted({*before, *after}):
+            for peer in self.edges:
+                is_news = before.get(about) != after.get(about)
+                if is_news and peer != edge and self.bgp_state(edge, peer) == "established":
+                    self.tell(edge, peer, "announce" if about in after else "withdraw", about, after.get(about))
+
+    def believed(self, edge, peer):
+        """By VRF and prefix what the edge has heard announced last, and not withdrawn."""
+        exports = {}
+        for kind, about, export in self.told[peer, edge][: self.listened[edge, peer]]:
+            if kind == "announce":
+                exports[about] = export
+            elif kind == "withdraw":
+                exports.pop(about, None)
+        return exports
+
+    def held(self, vrf):
+        """The routes that the VRF holds."""
+        edge = self.topology.vrfs[vrf].node
+        routes = []
+        for (of_vrf, of), site in self.statics.items():
+            if of_vrf == vrf and self.attachment[site] is not None:
+                routes.append(Route(of, (0,), edge, site, self.attachment[site]))
+        offered = {other: self.believed(edge, other) for other in self.edges if other != edge}
+        offered[edge] = {about: export for about, export in self.exports_of(edge).items() if about[0] != vrf}
+        for other, exports in offered.items():
+            for (of_vrf, of), (site, attachment, targets) in exports.items():
+                far = (2, self.topology.nodes[other].loopback, self.topology.vrfs[of_vrf].rd)
+                if self.imports[vrf] & {*targets}:
+                    routes.append(Route(of, (1, of_vrf) if other == edge else far, other, site, attachment))
+        return routes
+
+    def best(self, vrf, at):
+        routes = [route for route in self.held(vrf) if contains(route.prefix, at)]
+        return min(routes, key=lambda route: (-route.prefix[1], route.rank), default=None)
+
+    # Labels
+
+    def first_labels(self, node):
+        sites = [no for no in range(len(self.topology.sites)) if self.topology.edge_of(no) == node]
+        return [("fec", to) for to in self.nodes if to != node] + [("site", site, 1) for site in sites]
+
+    def fec_label(self, node, to):
+        return 3 if node == to else 16 + self.given[node].index(("fec", to))
+
+    def site_label(self, edge, site, attachment):
+        return 16 + self.given[edge].index(("site", site, attachment))
+
+    # Packets
+
+    def enter(self, packet, bytes_):
+        """The packet's fate at the edge of its site."""
+        vrf = self.topology.sites[packet.site].vrf
+        edge, fault = self.topology.vrfs[vrf].node, fault_of(bytes_)
+        drop = f"at {self.topology.nodes[edge].name}"
+        if self.attachment[packet.site] is None:
+            return f"dropped SiteDown {drop}"
+        if fault:
+            return f"dropped {fault} {drop}"
+        if bytes_[8] <= 1:
+            return f"dropped TtlExpired {drop}"
+        to = int.from_bytes(bytes_[16:20], "big")
+        if not is_unicast(to):
+            return f"dropped NotUnicast {drop}"
+        route = self.best(vrf, to)
+        if route is None:
+            return f"dropped NoRoute {drop}"
+        left = aged(bytes_, 1)
+        if route.edge == edge:
+            return self.deliver(route.site, left)
+        number = self.packets.index(packet)
+        return self.hop(Token(number, route.edge, route.site, route.attachment, left[8], left[8], left), edge, "NoLsp")
+
+    def deliver(self, site, bytes_):
+        self.deliveries.append((self.tick, bytes_))
+        return f"delivered {self.topology.sites[site].name} ttl {bytes_[8]} copy {len(self.deliveries)}"
+
+    def hop(self, token, node, rule):
+        """The packet leaves the node towards its edge, or the rule drops it."""
+        hop = self.usable_hop(node, token.edge)
+        if hop is None:
+            return f"dropped {rule} at {self.topology.nodes[node].name}"
+        neighbour, link = hop
+        self.frames[link].append((self.tick, frame(self, token, neighbour)))
+        self.sent[link, node] += 1
+        self.make("frame", (link, node), self.links[link].delay, token, self.sent[link, node])
+        return f"flying {self.topology.nodes[node].name} {self.topology.nodes[neighbour].name}"
+
+    def arrive(self, token, node):
+        self.packets[token.packet].path.append(node)
+        if token.ttl == 1:
+            return f"dropped TtlExpired at {self.topology.nodes[node].name}"
+        token.ttl -= 1
+        if node != token.edge:
+            return self.hop(token, node, "NoEntry")
+        if self.attachment[token.site] != token.attachment:
+            return f"dropped SiteGone at {self.topology.nodes[node].name}"
+        return self.deliver(token.site, aged(token.bytes, token.pushed - token.ttl))
+
+    # Steps
+
+    def refusal(self, step, bytes_=b""):
+        """Why the step is refused, the first cause in their order; None where it is done."""
+        verb, *given = step
+        if self.is_so(verb, given):
+            return "Unchanged"
+        if self.is_empty(verb, given):
+            return "Empty"
+        if verb in ("route add", "route del"):
+            site, of = given
+            there = self.statics.get((self.topology.sites[site].vrf, of))
+            if verb == "route add" and there is not None:
+                return f"PrefixTaken {self.topology.sites[there].name}"
+            if verb == "route del" and there != site:
+                return "NoRouteThere"
+        if verb == "route add" and len(self.statics) >= ROUTES:
+            return "RoutesFull"
+        if verb in ("import add", "export add") and len(self.targets(verb)[given[0]]) >= TARGETS:
+            return "TargetsFull"
+        if verb == "site up" and len(self.given[self.topology.edge_of(given[0])]) >= LABELS:
+            return "LabelsSpent"
+        return "NetFull" if self.is_full(verb, bytes_) else None
+
+    def targets(self, verb):
+        return self.imports if verb.startswith("import") else self.exports
+
+    def is_so(self, verb, given):
+        """What the step asks for is so already."""
+        thing, _, wanted = verb.partition(" ")
+        if thing == "link":
+            so = self.changes[given[0]] % 2 == 1
+        elif thing == "ldp":
+            so = self.ldp_on[given[0]]
+        elif thing == "bgp":
+            so = self.has_bgp[tuple(given)]
+        elif thing == "site":
+            so = self.attachment[given[0]] is not None
+        elif thing in ("import", "export"):
+            so = given[1] in self.targets(verb)[given[0]]
+        else:
+            return False
+        return so == (wanted in ("up", "on", "add"))
+
+    def is_empty(self, verb, given):
+        """Nothing is there to be learned, heard, carried or lost."""
+        if verb == "learn":
+            node, link = given
+            return self.learned[node][link] == self.changes[link]
+        if verb == "hear ldp":
+            link, speaker = given
+            return self.heard[link, self.links[link].other(speaker)] == len(self.said[link, speaker])
+        if verb == "hear bgp":
+            teller, hearer = given
+            return self.listened[hearer, teller] == len(self.told[teller, hearer])
+        return verb in ("carry", "lose") and given[2] >= len(self.on("frame", (given[0], given[1])))
+
+    def is_full(self, verb, bytes_):
+        if verb in ("learn", "hear ldp", "hear bgp", "carry", "lose"):
+            return False
+        flying = [len(item.token.bytes) for item in self.in_flight if item.kind == "frame"]
+        too_long = verb == "inject" and sum(flying) + len(bytes_) > PACKET_BYTES
+        return len(self.in_flight) - len(flying) >= MESSAGES or too_long
+
+    def do(self, step, line=0, bytes_=b""):
+        """Does the step, or answers why it is refused."""
+        refusal = self.refusal(step, bytes_)
+        if refusal:
+            return refusal
+        if len(self.journal) >= STEPS:
+            raise JournalFull
+        self.journal.append((self.tick, step))
+        verb, *given = step
+        if verb == "inject":
+            self.inject(line, *given, bytes_)
+        else:
+            getattr(self, METHODS.get(verb) or verb.replace(" ", "_"))(*given)
+        return None
+
+    def change_link(self, link):
+        def change():
+            self.changes[link] += 1
+            for node in self.nodes:
+                self.make("notice", (link, node), self.topology.notice_delay)
+            for end in (self.links[link].a, self.links[link].b):
+                for _ in self.on("frame", (link, end)):
+                    self.end_frame("LinkCut", link, end, 0)
+
+        self.change_session(link, change)
+
+    def learn(self, node, link):
+        def change():
+            self.take("notice", (link, node))
+            self.learned[node][link] += 1
+
+        self.with_ldp_news([node], change)
+
+    def change_ldp(self, link):
+        def change():
+            self.ldp_on[link] = not self.ldp_on[link]
+
+        self.change_session(link, change)
+
+    def hear_ldp(self, link, speaker):
+        end = self.links[link].other(speaker)
+        kind, fec = self.said[link, speaker][self.heard[link, end]]
+        state = self.ldp_state(link, end)
+
+        def change():
+            self.take("ldp", (link, speaker))
+            self.heard[link, end] += 1
+            if kind == "initialization":
+                if state == "initialized":
+                    self.say(link, end, "initialization")
+                self.say(link, end, "keepalive")
+            elif kind == "keepalive" and state == "openrec":
+                self.say(link, end, "address")
+            elif kind == "withdraw":
+                self.say(link, end, "release", fec)
+
+        self.with_ldp_news([end], change)
+
+    def change_bgp(self, lesser, greater):
+        self.has_bgp[lesser, greater] = not self.has_bgp[lesser, greater]
+        for edge, peer in ((lesser, greater), (greater, lesser)):
+            self.told[edge, peer], self.listened[edge, peer] = [], 0
+            self.in_flight = [item for item in self.in_flight if (item.kind, item.channel) != ("bgp", (edge, peer))]
+        if self.has_bgp[lesser, greater]:
+            self.tell(lesser, greater, "open")
+            self.tell(greater, lesser, "open")
+
+    def hear_bgp(self, teller, hearer):
+        kind, _, _ = self.told[teller, hearer][self.listened[hearer, teller]]
+        state = self.bgp_state(hearer, teller)
+        self.take("bgp", (teller, hearer))
+        self.listened[hearer, teller] += 1
+        if kind == "open":
+            self.tell(hearer, teller, "keepalive")
+        elif kind == "keepalive" and state == "openconfirm":
+            for about, export in self.exports_of(hearer).items():
+                self.tell(hearer, teller, "announce", about, export)
+
+    def route_add(self, site, of):
+        def change():
+            self.statics[self.topology.sites[site].vrf, of] = site
+
+        self.with_bgp_news(self.topology.edge_of(site), change)
+
+    def route_del(self, site, of):
+        def change():
+            del self.statics[self.topology.sites[site].vrf, of]
+
+        self.with_bgp_news(self.topology.edge_of(site), change)
+
+    def change_import(self, vrf, of):
+        self.imports[vrf] ^= {of}
+
+    def change_export(self, vrf, of):
+        def change():
+            self.exports[vrf] ^= {of}
+
+        self.with_bgp_news(self.topology.vrfs[vrf].node, change)
+
+    def site_up(self, site):
+        edge = self.topology.edge_of(site)
+
+        def change():
+            self.attachments[site] += 1
+            self.attachment[site] = self.attachments[site]
+            self.given[edge].append(("site", site, self.attachment[site]))
+
+        self.with_bgp_news(edge, change)
+
+    def site_down(self, site):
+        def change():
+            self.attachment[site] = None
+
+        self.with_bgp_news(self.topology.edge_of(site), change)
+
+    def inject(self, line, site, record, bytes_):
+        packet = Packet(line, site, record, [self.topology.edge_of(site)])
+        self.packets.append(packet)
+        packet.verdict = self.enter(packet, bytes_)
+
+    def carry(self, link, sender, place):
+        token = self.take("frame", (link, sender), place).token
+        self.packets[token.packet].verdict = self.arrive(token, self.links[link].other(sender))
+
+    def lose(self, link, sender, place):
+        self.end_frame("Lost", link, sender, place)
+
+    def end_frame(self, rule, link, sender, place):
+        token = self.take("frame", (link, sender), place).token
+        self.packets[token.packet].verdict = f"dropped {rule} at {self.topology.nodes[sender].name}"
+
+
+METHODS = {
+    "link up": "change_link",
+    "link down": "change_link",
+    "ldp on": "change_ldp",
+    "ldp off": "change_ldp",
+    "bgp up": "change_bgp",
+    "bgp down": "change_bgp",
+    "import add": "change_import",
+    "import del": "change_import",
+    "export add": "change_export",
+    "export del": "change_export",
+}
+
+
+# A script's course
+
+
+def least(network, kinds):
+    """What is in flight of these kinds with the least due tick and, among these, the least number."""
+    items = [item for item in network.in_flight if item.kind in kinds]
+    return min(items, key=lambda item: (item.due, item.number), default=None)
+
+
+def deliver(network, item):
+    """Does the step that delivers the item; a frame is lost where its link loses it."""
+    place = network.on(item.kind, item.channel).index(item)
+    if item.kind == "notice":
+        link, node = item.channel
+        network.do(("learn", node, link))
+    elif item.kind == "frame":
+        link, sender = item.channel
+        loss = network.links[link].loss
+        network.do(("lose" if loss and item.nth % loss == 0 else "carry", link, sender, place))
+    else:
+        network.do((f"hear {item.kind}", *item.channel))
+
+
+def run(network, ticks):
+    end = network.tick + ticks
+    while (item := least(network, ("notice", "ldp", "bgp", "frame"))) and item.due <= end:
+        network.tick = max(network.tick, item.due)
+        deliver(network, item)
+    network.tick = end
+
+
+def drain(network, bound):
+    while bound != 0:
+        item = least(network, ("notice",)) or least(network, ("ldp", "bgp"))
+        if item is None:
+            break
+        deliver(network, item)
+        bound = bound and bound - 1
+
+
+def flush(network):
+    while item := least(network, ("frame",)):
+        network.tick = max(network.tick, item.due)
+        deliver(network, item)
+
+
+def play(network, commands, packets, notes):
+    """Runs the script; notes get the report's refused lines and tables. How many lines were refused."""
+    refused = 0
+    for line, (verb, *given) in commands:
+        if verb in ("run", "drain", "flush"):
+            {"run": run, "drain": drain, "flush": flush}[verb](network, *given)
+        elif verb.startswith("show "):
+            notes += TABLES_OF[verb](network, *given)
+        else:
+            if verb == "inject" and given[1] > len(packets):
+                refusal = "NoRecord"
+            else:
+                refusal = network.do((verb, *given), line, packets[given[1] - 1] if verb == "inject" else b"")
+            if refusal:
+                notes.append(f"line {line} refused {refusal}")
+                refused += 1
+    return refused
+
+
+# Bytes of frames, LDP and BGP
+
+
+def entry(label, bottom, ttl):
+    return struct.pack(">I", label << 12 | bottom << 8 | ttl)
+
+
+def frame(network, token, to):
+    """The frame that is sent to this node: towards another edge with its label on top, which its TTL then stands in."""
+    label = network.site_label(token.edge, token.site, token.attachment)
+    if to == token.edge:
+        return entry(label, True, token.ttl) + token.bytes
+    outer = entry(network.fec_label(to, token.edge), False, token.ttl)
+    return outer + entry(label, True, token.pushed) + token.bytes
+
+
+def tlv(kind, value):
+    return struct.pack(">HH", kind, len(value)) + value
+
+
+def pdu(network, link, end, id_, kind, fec):
+    """The PDU with this message; a release has the label of the node that withdrew."""
+    other = network.links[link].other(end)
+    own, others = (network.topology.nodes[node].loopback.to_bytes(4, "big") for node in (end, other))
+    if kind == "initialization":
+        type_, tlvs = 0x0200, tlv(0x0500, struct.pack(">HHBBH", 1, 0x00B4, 0, 0, 0x1000) + others + b"\0\0")
+    elif kind == "keepalive":
+        type_, tlvs = 0x0201, b""
+    elif kind == "address":
+        type_, tlvs = 0x0300, tlv(0x0101, b"\0\1" + own)
+    else:
+        type_ = {"mapping": 0x0400, "withdraw": 0x0402, "release": 0x0403}[kind]
+        label = network.fec_label(other if kind == "release" else end, fec)
+        element = b"\2\0\1\x20" + network.topology.nodes[fec].loopback.to_bytes(4, "big")
+        tlvs = tlv(0x0100, element) + tlv(0x0200, label.to_bytes(4, "big"))
+    message = struct.pack(">HHI", type_, 4 + len(tlvs), id_) + tlvs
+    return struct.pack(">HH", 1, 6 + len(message)) + own + b"\0\0" + message
+
+
+def bgp(network, edge, kind, about, export):
+    loopback = network.topology.nodes[edge].loopback.to_bytes(4, "big")
+    if kind == "open":
+        type_, body = 1, struct.pack(">BHH", 4, network.topology.asn, 0) + loopback + b"\x08\2\6\1\4\0\1\0\x80"
+    elif kind == "keepalive":
+        type_, body = 4, b""
+    elif kind == "announce":
+        site, attachment, targets = export
+        label = network.site_label(edge, site, attachment) << 4 | 1
+        reach = b"\0\1\x80\x0c" + bytes(8) + loopback + b"\0" + nlri(network, about, label.to_bytes(3, "big"))
+        attributes = bytes.fromhex("40010100 400200 40050400000064") + attribute(0x80, 14, reach)
+        type_, body = 2, update(attributes + attribute(0xC0, 16, b"".join(targets)))
+    else:
+        type_, body = 2, update(attribute(0x80, 15, b"\0\1\x80" + nlri(network, about, b"\x80\0\0")))
+    return b"\xff" * 16 + struct.pack(">HB", 19 + len(body), type_) + body
+
+
+def nlri(network, about, label):
+    vrf, (at, length) = about
+    return bytes([88 + length]) + label + network.topology.vrfs[vrf].rd + at.to_bytes(4, "big")[: (length + 7) // 8]
+
+
+def attribute(flags, type_, value):
+    return bytes([flags, type_, len(value)]) + value
+
+
+def update(attributes):
+    return struct.pack(">HH", 0, len(attributes)) + attributes
+
+
+def pcap(link_type, records):
+    bytes_ = struct.pack("<IHHiIII", 0xA1B2C3D4, 2, 4, 0, 0, 0x40000, link_type)
+    for tick, record in records:
+        bytes_ += struct.pack("<4I", tick // 1000, tick % 1000 * 1000, len(record), len(record)) + record
+    return bytes_
+
+
+# The report
+
+
+def links_table(network):
+    names = [node.name for node in network.topology.nodes]
+    return [
+        f"link {names[link.a]} {names[link.b]} {('down', 'up')[count % 2]} cost {link.cost} changes {count}"
+        for link, count in zip(network.links, network.changes)
+    ]
+
+
+def tree_table(network, node):
+    names = [node.name for node in network.topology.nodes]
+    lines = []
+    for to in network.nodes:
+        cost = network.costs_to(network.view(node), to).get(node)
+        if to != node and cost is None:
+            lines.append(f"tree {names[node]} to {names[to]} unreachable")
+        elif to != node:
+            lines.append(f"tree {names[node]} to {names[to]} cost {cost} next {names[network.next_hop(node, to)[0]]}")
+    return lines
+
+
+def ldp_table(network):
+    names = [node.name for node in network.topology.nodes]
+    return [
+        f"ldp {names[link.a]} {network.ldp_state(no, link.a)} {names[link.b]} {network.ldp_state(no, link.b)}"
+        for no, link in enumerate(network.links)
+    ]
+
+
+def bgp_table(network):
+    names = [node.name for node in network.topology.nodes]
+    return [
+        f"bgp {names[a]} {network.bgp_state(a, b)} {names[b]} {network.bgp_state(b, a)}" for a, b in network.has_bgp
+    ]
+
+
+def vrf_table(network, vrf):
+    topology, held, lines = network.topology, network.held(vrf), []
+    for of in sorted({route.prefix for route in held}):
+        best = min((route for route in held if route.prefix == of), key=lambda route: route.rank)
+        site = topology.sites[best.site]
+        if best.rank[0] == 0:
+            source = f"site {site.name}"
+        elif best.rank[0] == 1:
+            source = f"vrf {topology.vrfs[site.vrf].name} site {site.name}"
+        else:
+            label = network.site_label(best.edge, best.site, best.attachment)
+            source = f"edge {topology.nodes[best.edge].name} label {label}"
+        lines.append(f"route {topology.vrfs[vrf].name} {prefix_text(of)} {source}")
+    return lines
+
+
+def flight_table(network):
+    names = [node.name for node in network.topology.nodes]
+    kinds = [item.kind for item in network.in_flight]
+    lines = [f"notices {kinds.count('notice')}", f"messages {kinds.count('ldp') + kinds.count('bgp')}"]
+    for no, link in enumerate(network.links):
+        for end in (link.a, link.b):
+            if frames := network.on("frame", (no, end)):
+                lines.append(f"frames {names[end]} {names[link.other(end)]} {len(frames)}")
+    return lines
+
+
+TABLES_OF = {
+    "show links": links_table,
+    "show tree": tree_table,
+    "show ldp": ldp_table,
+    "show bgp": bgp_table,
+    "show vrf": vrf_table,
+    "show flight": flight_table,
+}
+
+
+def packet_lines(network, refused):
+    """A line for each packet, and the total."""
+    for number, packet in enumerate(network.packets, 1):
+        path = " ".join(network.topology.nodes[node].name for node in packet.path)
+        site = network.topology.sites[packet.site].name
+        yield f"packet {number} line {packet.line} site {site} record {packet.record} {packet.verdict} path {path}"
+    ends = [packet.verdict.split()[0] for packet in network.packets]
+    counts = " ".join(f"{end} {ends.count(end)}" for end in ("delivered", "dropped", "flying"))
+    yield f"total packets {len(ends)} {counts} steps {len(network.journal)} refused {refused} tick {network.tick}"
+
+
+# Files
+
+
+def step_words(topology, step):
+    """A step in the script's words."""
+    verb, *given = step
+    nodes, vrfs, sites = ([thing.name for thing in things] for things in (topology.nodes, topology.vrfs, topology.sites))
+    if verb in ("link up", "link down", "ldp on", "ldp off", "learn"):
+        link = topology.links[given.pop()]
+        return [verb, *(nodes[node] for node in given), nodes[link.a], nodes[link.b]]
+    if verb in ("hear ldp", "carry", "lose"):
+        link, sender, *place = given
+        return [verb, nodes[sender], nodes[topology.links[link].other(sender)], *map(str, place)]
+    if verb in ("bgp up", "bgp down", "hear bgp"):
+        return [verb, nodes[given[0]], nodes[given[1]]]
+    if verb in ("route add", "route del"):
+        return [verb, sites[given[0]], prefix_text(given[1])]
+    if verb in ("import add", "import del", "export add", "export del"):
+        return [verb, vrfs[given[0]], target_text(given[1])]
+    return [verb, sites[given[0]], *map(str, given[1:])]
+
+
+def label_lines(network):
+    topology = network.topology
+    for node in network.nodes:
+        for label, (kind, thing, *attachment) in enumerate(network.given[node], 16):
+            if kind == "fec":
+                what = f"fec {address_text(topology.nodes[thing].loopback)}/32"
+            else:
+                what = f"site {topology.sites[thing].name} {attachment[0]}"
+            yield f"{topology.nodes[node].name} {label} {what}"
+
+
+def text_of(lines):
+    return "".join(f"{line}\n" for line in lines).encode("latin-1")
+
+
+def files_of(network):
+    """By name, in the order of writing, the bytes of each file."""
+    names = [node.name for node in network.topology.nodes]
+    ends = [f"{names[end]}+{names[network.links[link].other(end)]}" for link, end in network.pdus]
+    journal = (" ".join([str(tick), *step_words(network.topology, step)]) for tick, step in network.journal)
+    files = {"journal.txt": text_of(journal), "labels.txt": text_of(label_lines(network))}
+    files["delivered.pcap"] = pcap(228, network.deliveries)
+    for name, frames in zip(ends[::2], network.frames):
+        files[f"{name}.pcap"] = pcap(9, [(tick, b"\x02\x81" + bytes_) for tick, bytes_ in frames])
+    files |= {f"{name}.ldp": bytes_ for name, bytes_ in zip(ends, network.pdus.values())}
+    return files | {f"{names[edge]}+{names[peer]}.bgp": bytes_ for (edge, peer), bytes_ in network.messages.items()}
+
+
+def run_of(topology_bytes, script_bytes, capture_bytes):
+    """The report and, by name, the files of a run; a refused input has a report alone."""
+    try:
+        topology = read_topology(topology_bytes)
+        commands = read_script(topology, script_bytes)
+        packets = read_capture(capture_bytes)
+    except Refused as refused:
+        return text_of([str(refused)]), {}
+    network, report = Network(topology), []
+    try:
+        refused = play(network, commands, packets, report)
+        report += packet_lines(network, refused)
+    except JournalFull:
+        report.append("too large steps")
+    return text_of(report), files_of(network)
+
+
+# The command line
+
+
+def difference(due, found):
+    """The first difference between what is due and what was found, by name; None where there is none."""
+    for name in sorted(due.keys() | found.keys()):
+        if name not in found:
+            return f"{name} isn't there"
+        if name not in due:
+            return f"{name} isn't a file of the run"
+        if due[name] != found[name] and name.endswith(".txt"):
+            lines = [bytes_.decode("latin-1").split("\n") for bytes_ in (due[name], found[name])]
+            at = next(at for at in range(max(map(len, lines))) if lines[0][at : at + 1] != lines[1][at : at + 1])
+            return "\n".join([f"{name} differs at line {at + 1}", *map(" ".join, (["due:"] + lines[0][at : at + 1], ["found:"] + lines[1][at : at + 1]))])
+        if due[name] != found[name]:
+            at = next(at for at in range(len(due[name]) + 1) if due[name][at : at + 1] != found[name][at : at + 1])
+            return f"{name} differs at byte {at}: due {due[name][at : at + 8].hex()}, found {found[name][at : at + 8].hex()}"
+    return None
+
+
+def main():
+    form = argparse.ArgumentParser(description=__doc__.split("\n\n")[0], epilog=HELP, formatter_class=argparse.RawDescriptionHelpFormatter)
+    for name in ("topology", "script", "capture", "folder"):
+        form.add_argument(name, metavar=name.upper(), type=Path)
+    form.add_argument("--compare", action="store_true", help="compare FOLDER with what is due, and write nothing")
+    words = form.parse_args()
+    try:
+        report, files = run_of(*(path.read_bytes() for path in (words.topology, words.script, words.capture)))
+        files["report.txt"] = report
+        if words.compare:
+            found = {path.name: path.read_bytes() for path in words.folder.iterdir() if path.is_file()}
+            differs = difference(files, found)
+            print(differs or f"{len(files)} files are as worked out here")
+            return 1 if differs else 0
+        words.folder.mkdir(parents=True, exist_ok=True)
+        for name, bytes_ in files.items():
+            (words.folder / name).write_bytes(bytes_)
+    except OSError as error:
+        print(f"reference.py: {error.filename}: {error.strerror}", file=sys.stderr)
+        return 1
+    return 0
+
+
+if __name__ == "__main__":
+    sys.exit(main())

@@ -1,0 +1,318 @@
+"""What the tools read: a topology, a report, and the folder of a run (docs/FORMATS.md has them all)."""
+
+import re
+import struct
+import sys
+from dataclasses import dataclass, field
+from pathlib import Path
+
+try:
+    import tomllib
+except ImportError:
+    sys.exit(f"{Path(sys.argv[0]).name}: needs Python 3.11 or later (for tomllib)")
+
+NAME = re.compile(r"[A-Za-z0-9._-]{1,32}\Z")
+
+
+class Fault(Exception):
+    """What is wrong, with the file and the place, and the status to end with."""
+
+    def __init__(self, text, status=1):
+        super().__init__(text)
+        self.status = status
+
+
+def bytes_of(path):
+    """The bytes of the file."""
+    try:
+        return Path(path).read_bytes()
+    except OSError as error:
+        raise Fault(f"{path}: {error.strerror}")
+
+
+def lines_of(path, what):
+    """The lines of a text of ASCII."""
+    try:
+        return bytes_of(path).decode("ascii").splitlines()
+    except UnicodeDecodeError:
+        raise Fault(f"{path}: not {what}: it has bytes that aren't ASCII")
+
+
+# The topology.
+
+
+def read_topology(path):
+    """The tables of the file, with what the tools need checked: names, and what they name."""
+    try:
+        with open(path, "rb") as file:
+            tables = tomllib.load(file)
+    except OSError as error:
+        raise Fault(f"{path}: {error.strerror}")
+    except (tomllib.TOMLDecodeError, UnicodeDecodeError) as error:
+        raise Fault(f"{path}: not TOML: {error}")
+    net = {kind: entries(path, tables, kind) for kind in ("node", "link", "vrf", "site")}
+    nodes = names(path, net, "node")
+    vrfs = names(path, net, "vrf")
+    names(path, net, "site")
+    for at, link in enumerate(net["link"]):
+        for end in ("a", "b"):
+            refer(path, "link", at, link, end, nodes)
+        if link["a"] == link["b"]:
+            raise Fault(f"{path}: link {at}: both ends are '{link['a']}'")
+    for at, vrf in enumerate(net["vrf"]):
+        refer(path, "vrf", at, vrf, "node", nodes)
+    for at, site in enumerate(net["site"]):
+        refer(path, "site", at, site, "vrf", vrfs)
+    return net
+
+
+def entries(path, tables, kind):
+    """The array of tables of this kind."""
+    found = tables.get(kind, [])
+    if not isinstance(found, list) or not all(isinstance(entry, dict) for entry in found):
+        raise Fault(f"{path}: '{kind}' isn't an array of tables: write [[{kind}]]")
+    return found
+
+
+def names(path, net, kind):
+    """The names of the entries, each of its form and standing once."""
+    seen = set()
+    for at, entry in enumerate(net[kind]):
+        name = text(path, kind, at, entry, "name")
+        if not NAME.match(name):
+            raise Fault(f"{path}: {kind} {at}: {name!r} is no name (1 to 32 letters, digits, '-', '.', '_')")
+        if name in seen:
+            raise Fault(f"{path}: {kind} {at}: an earlier {kind} is named '{name}'")
+        seen.add(name)
+    return seen
+
+
+def refer(path, kind, at, entry, key, known):
+    """The key names one of the known."""
+    name = text(path, kind, at, entry, key)
+    if name not in known:
+        raise Fault(f"{path}: {kind} {at}: {key} = {name!r} names nothing")
+
+
+def text(path, kind, at, entry, key):
+    """The text of the key."""
+    if key not in entry:
+        raise Fault(f"{path}: {kind} {at}: '{key}' is missing")
+    if not isinstance(entry[key], str):
+        raise Fault(f"{path}: {kind} {at}: '{key}' isn't a text")
+    return entry[key]
+
+
+# The report.
+
+
+class Way:
+    """What a report's line says of a packet: where it came in, its nodes, and how it ended."""
+
+    def __init__(self, site, end, words, nodes):
+        self.site, self.end, self.words, self.nodes = site, end, words, nodes
+
+
+def way_of(place, words):
+    """The way that the words of a line say."""
+    line = " ".join(words)
+    start = re.match(r"packet \d+ line \d+ site (\S+) record \d+ (.*)", line)
+    if start:
+        site, rest = start.groups()
+        for end, form in (
+            ("delivered", r"delivered (\S+) ttl (\d+) copy (\d+) path (.+)"),
+            ("dropped", r"dropped (\S+) at (\S+) path (.+)"),
+            ("flying", r"flying (\S+) (\S+) path (.+)"),
+        ):
+            found = re.fullmatch(form, rest)
+            if found:
+                *said, nodes = found.groups()
+                return Way(site, end, said, nodes.split())
+    raise Fault(f"{place}: not a packet's line: {line[:100]}")
+
+
+def read_report(path):
+    """The lines of a report, and the way of each packet in the order of sending."""
+    lines = lines_of(path, "a report")
+    ways = [way_of(f"{path}: line {number}", line.split()) for number, line in enumerate(lines, 1) if line.startswith("packet ")]
+    return lines, ways
+
+
+# The folder of a run.
+
+
+@dataclass(frozen=True)
+class Entry:
+    """An entry of a label stack."""
+
+    label: int
+    ttl: int
+    bottom: bool
+
+
+@dataclass(frozen=True)
+class Frame:
+    """A frame that was sent over a link: its tick, its label stack, top first, and the packet's bytes."""
+
+    tick: int
+    stack: tuple
+    packet: bytes
+
+    def bytes(self):
+        return b"".join(struct.pack(">I", one.label << 12 | one.bottom << 8 | one.ttl) for one in self.stack) + self.packet
+
+
+@dataclass
+class Run:
+    """What the folder has. A link is (A, B) in the topology's order of ends; a stream is of (speaker, hearer)."""
+
+    folder: Path
+    steps: list = field(default_factory=list)  # (tick, words)
+    nodes: list = field(default_factory=list)
+    loopbacks: dict = field(default_factory=dict)  # four bytes of each node
+    labels: dict = field(default_factory=dict)  # of each node: of each label its words, as ("fec", node) or ("site", site, attachment)
+    node_of: dict = field(default_factory=dict)  # of each site
+    links: list = field(default_factory=list)
+    frames: dict = field(default_factory=dict)  # of each link
+    ldp: dict = field(default_factory=dict)  # of each stream: the sessions' lives, each a list of messages
+    bgp: dict = field(default_factory=dict)
+    delivered: list = field(default_factory=list)  # (tick, packet)
+
+    def place(self, step):
+        """A step's place, for what is said of it."""
+        return f"{self.folder / 'journal.txt'}: line {step + 1}"
+
+
+JOURNAL = re.compile(
+    r"(0|[1-9]\d*) (link (?:up|down) \S+ \S+|learn \S+ \S+ \S+|ldp (?:on|off) \S+ \S+|hear (?:ldp|bgp) \S+ \S+|bgp (?:up|down) \S+ \S+"
+    r"|route (?:add|del) \S+ \S+|import (?:add|del) \S+ \S+|export (?:add|del) \S+ \S+|site (?:up|down) \S+|inject \S+ \d+|(?:carry|lose) \S+ \S+ \d+)"
+)
+
+
+def read_run(folder):
+    """The folder of a run, with the forms of its files checked."""
+    run = Run(Path(folder))
+    if not run.folder.is_dir():
+        raise Fault(f"{folder}: not a folder")
+    read_journal(run)
+    read_labels(run)
+    for file in sorted(run.folder.iterdir()):
+        ends = tuple(file.stem.split("+"))
+        if len(ends) != 2 or file.suffix not in (".pcap", ".ldp", ".bgp"):
+            continue
+        for name in ends:
+            if name not in run.nodes:
+                raise Fault(f"{file}: labels.txt has no node '{name}'")
+        if file.suffix == ".pcap":
+            run.links.append(ends)
+            run.frames[ends] = [frame_of(file, tick, record) for tick, record in records_of(file, 9)]
+        elif file.suffix == ".ldp":
+            run.ldp[ends] = ldp_lives(file)
+        else:
+            run.bgp[ends] = bgp_lives(file)
+    run.links.sort(key=lambda link: sorted(map(run.nodes.index, link)))
+    run.delivered = records_of(run.folder / "delivered.pcap", 228)
+    return run
+
+
+def read_journal(run):
+    """The steps, each with its tick."""
+    path, last = run.folder / "journal.txt", 0
+    for number, line in enumerate(lines_of(path, "a journal"), 1):
+        found = JOURNAL.fullmatch(line)
+        if not found or int(found[1]) < last:
+            raise Fault(f"{path}: line {number}: {'not a step' if not found else 'before the tick of the line above'}: {line[:100]}")
+        last = int(found[1])
+        run.steps.append((last, tuple(found[2].split())))
+
+
+def read_labels(run):
+    """The labels of each node, and from them the nodes in order, their addresses and the sites' nodes."""
+    path, given = run.folder / "labels.txt", {}
+    for number, line in enumerate(lines_of(path, "a list of labels"), 1):
+        found = re.fullmatch(r"(\S+) (\d+) (?:fec (\d+)\.(\d+)\.(\d+)\.(\d+)/32|site (\S+) (\d+))", line)
+        if not found:
+            raise Fault(f"{path}: line {number}: not a label: {line[:100]}")
+        node, label, *address, site, attachment = found.groups()
+        if site is None:
+            given.setdefault(node, {})[int(label)] = bytes(map(int, address))
+        else:
+            given.setdefault(node, {})[int(label)] = ("site", site, int(attachment))
+            run.node_of[site] = node
+    run.nodes = list(given)
+    # A node's labels of FECs are those of the other nodes in order.
+    others = {node: [to for to in labels.values() if isinstance(to, bytes)] for node, labels in given.items()}
+    if len(run.nodes) > 1:
+        first, *rest = run.nodes
+        run.loopbacks = {first: (others[rest[0]] or [b""])[0], **dict(zip(rest, others[first]))}
+    for node, addresses in others.items():
+        if addresses != [run.loopbacks.get(other) for other in run.nodes if other != node]:
+            raise Fault(f"{path}: {node} hasn't a label for each other node, in order")
+    named = {address: node for node, address in run.loopbacks.items()}
+    run.labels = {
+        node: {label: ("fec", named[to]) if isinstance(to, bytes) else to for label, to in labels.items()} for node, labels in given.items()
+    }
+
+
+def records_of(path, link_type):
+    """The records of a capture that the program wrote, each with its tick."""
+    content = bytes_of(path)
+    if content[:24] != struct.pack("<IHHiIII", 0xA1B2C3D4, 2, 4, 0, 0, 0x40000, link_type):
+        raise Fault(f"{path}: doesn't begin as a capture of link type {link_type} that mplsnet wrote")
+    records, at = [], 24
+    while at < len(content):
+        if len(content) - at < 16:
+            raise Fault(f"{path}: byte {at}: the record is cut short")
+        seconds, rest, size, _ = struct.unpack_from("<4I", content, at)
+        if len(content) - at - 16 < size:
+            raise Fault(f"{path}: byte {at}: the record is cut short")
+        records.append((seconds * 1000 + rest // 1000, content[at + 16 : at + 16 + size]))
+        at += 16 + size
+    return records
+
+
+def frame_of(path, tick, record):
+    """A record of a link as a frame: 02 81, the label stack and the packet."""
+    stack, at = [], 2
+    while not stack or not stack[-1].bottom:
+        if record[:2] != b"\x02\x81" or len(record) - at < 4:
+            raise Fault(f"{path}: a record of tick {tick} isn't an MPLS frame over PPP")
+        (word,) = struct.unpack_from(">I", record, at)
+        stack.append(Entry(word >> 12, word & 255, bool(word >> 8 & 1)))
+        at += 4
+    return Frame(tick, tuple(stack), record[at:])
+
+
+def ldp_lives(path):
+    """The PDUs that one end said, by lives of the session: in each the messages are numbered from 1."""
+    content, lives, at = bytes_of(path), [], 0
+    while at < len(content):
+        size = 4 + int.from_bytes(content[at + 2 : at + 4], "big")
+        pdu = content[at : at + size]
+        if len(pdu) < max(size, 18) or pdu[:2] != b"\0\1":
+            raise Fault(f"{path}: byte {at}: not an LDP PDU")
+        number = int.from_bytes(pdu[14:18], "big")
+        if number == 1:
+            lives.append([])
+        if number != (len(lives[-1]) + 1 if lives else 1):
+            raise Fault(f"{path}: byte {at}: message {number} doesn't follow the one before it")
+        lives[-1].append(pdu)
+        at += size
+    return lives
+
+
+def bgp_lives(path):
+    """The messages that one edge told another, by lives of the session: each begins with an OPEN."""
+    content, lives, at = bytes_of(path), [], 0
+    while at < len(content):
+        size = int.from_bytes(content[at + 16 : at + 18], "big")
+        message = content[at : at + size]
+        if not 19 <= size == len(message) or message[:16] != b"\xff" * 16:
+            raise Fault(f"{path}: byte {at}: not a BGP message")
+        if message[18] == 1:
+            lives.append([])
+        elif not lives:
+            raise Fault(f"{path}: byte {at}: no OPEN stands before this message")
+        lives[-1].append(message)
+        at += size
+    return lives

@@ -1,0 +1,326 @@
+"""The journal of a run beside its other files: which message each step hears, and which frame it sends.
+
+Nothing of the protocols is done anew. What a step hears is the next message of the stream; which frame an `inject` or
+a `carry` sends is looked up in the links' captures, by its tick, its packet and its labels, and by the packet's path
+where the report is there. A step that fits several frames is decided by the steps after it.
+"""
+
+from dataclasses import dataclass, field
+
+from mplsnet_files import Fault
+
+MOST_TRIES = 200_000
+
+
+# Sessions.
+
+
+@dataclass(eq=False)
+class Session:
+    """One life of a session. The end of greater address opens it: it says the first message, as RFC 5036 has it."""
+
+    protocol: str
+    opener: str
+    other: str
+    begun: int  # the step that begins it
+    ended: int | None = None
+    said: dict = field(default_factory=dict)  # of each end the messages that it said
+    heard: dict = field(default_factory=dict)  # of each speaker how many of its messages were heard
+
+    def peer(self, end):
+        return self.other if end == self.opener else self.opener
+
+
+def sessions_of(run):
+    """All sessions in the order of their beginnings, and of each step what it does to them.
+
+    A step has a list of ("begins", session), ("ends", session) and ("hears", session, speaker, message).
+    """
+    sessions, living, talk = [], {}, {}
+    up, off = set(), set()
+
+    def begin(at, protocol, a, b):
+        if a not in run.loopbacks or b not in run.loopbacks:
+            raise Fault(f"{run.place(at)}: labels.txt has no node '{a if a not in run.loopbacks else b}'")
+        other, opener = sorted((a, b), key=run.loopbacks.get)
+        session = Session(protocol, opener, other, at, heard={a: 0, b: 0})
+        sessions.append(session)
+        living[protocol, frozenset((a, b))] = session
+        talk.setdefault(at, []).append(("begins", session))
+
+    def end(at, protocol, a, b):
+        session = living.pop((protocol, frozenset((a, b))), None)
+        if session:
+            session.ended = at
+            talk.setdefault(at, []).append(("ends", session))
+
+    for at, (_, words) in enumerate(run.steps):
+        kind, *rest = words
+        pair = frozenset(rest[-2:])
+        if kind == "link":
+            if rest[0] == "down":
+                up.discard(pair)
+                end(at, "ldp", *rest[1:])
+            else:
+                up.add(pair)
+                if pair not in off:
+                    begin(at, "ldp", *rest[1:])
+        elif kind == "ldp":
+            if rest[0] == "off":
+                off.add(pair)
+                end(at, "ldp", *rest[1:])
+            else:
+                off.discard(pair)
+                if pair in up:
+                    begin(at, "ldp", *rest[1:])
+        elif kind == "bgp":
+            (begin if rest[0] == "up" else end)(at, "bgp", *rest[1:])
+        elif kind == "hear":
+            session = living.get((rest[0], pair))
+            if not session:
+                raise Fault(f"{run.place(at)}: hears where no session lives")
+            speaker = rest[1]
+            talk.setdefault(at, []).append(("hears", session, speaker, session.heard[speaker]))
+            session.heard[speaker] += 1
+    hand_out(run, sessions)
+    return sessions, talk
+
+
+def hand_out(run, sessions):
+    """Gives each session the messages of its life.
+
+    By LDP the end that doesn't open a session says nothing before it hears, so that end's stream has a life for each
+    session in which it heard. By BGP both ends tell an OPEN as the session begins.
+    """
+    for streams, protocol in ((run.ldp, "ldp"), (run.bgp, "bgp")):
+        for (speaker, hearer), lives in streams.items():
+            ours = [s for s in sessions if s.protocol == protocol and {s.opener, s.other} == {speaker, hearer}]
+            speaking = [s for s in ours if protocol == "bgp" or s.opener == speaker or s.heard[s.opener]]
+            file = run.folder / f"{speaker}+{hearer}.{protocol}"
+            if len(speaking) != len(lives):
+                raise Fault(f"{file}: has {len(lives)} sessions, and by the journal there are {len(speaking)}")
+            for session in ours:
+                session.said[speaker] = []
+            for session, life in zip(speaking, lives):
+                session.said[speaker] = life
+    for session in sessions:
+        for speaker, count in session.heard.items():
+            if count > len(session.said.setdefault(speaker, [])):
+                file = run.folder / f"{speaker}+{session.peer(speaker)}.{session.protocol}"
+                raise Fault(f"{file}: a session has {len(session.said[speaker])} messages, and by the journal {count} were heard")
+
+
+# Frames.
+
+
+@dataclass(eq=False)
+class Flight:
+    """A frame on its way: the packet's number from 1, how many nodes the packet was at, and the packet's edge."""
+
+    packet: int
+    nodes: int
+    sender: str
+    receiver: str
+    edge: str
+    frame: object
+
+
+@dataclass
+class Move:
+    """A step that moves packets, and what it did.
+
+    `took` are the flights that end by it, and `sent` is the one that begins; `end` is how the packet ends otherwise:
+    ("delivered", copy from 1), ("dropped",) or, for those of a link that goes down and a frame that is lost, ("lost",).
+    """
+
+    step: int
+    tick: int
+    words: tuple
+    packet: int | None = None
+    took: list = field(default_factory=list)
+    sent: Flight | None = None
+    end: tuple | None = None
+
+
+class Frames:
+    """Finds the frame that each step sends, over the links' captures in order."""
+
+    def __init__(self, run, ways=None):
+        self.run, self.ways = run, ways
+        self.link_of = {pair: link for link in run.links for pair in (link, link[::-1])}
+        self.neighbours = {node: [] for node in run.nodes}
+        for a, b in run.links:
+            self.neighbours[a].append(b)
+            self.neighbours[b].append(a)
+        self.next = {link: 0 for link in run.links}
+        self.delivered = 0
+        self.flying = {pair: [] for pair in self.link_of}
+        self.moves, packets = [], 0
+        for step, (tick, words) in enumerate(run.steps):
+            if words[0] in ("inject", "carry", "lose") or words[:2] == ("link", "down"):
+                packets += words[0] == "inject"
+                self.moves.append(Move(step, tick, words, packets if words[0] == "inject" else None))
+        if ways is not None and len(ways) != packets:
+            raise Fault(f"the report has {len(ways)} packets, and by the journal {packets} were sent")
+
+    def found(self):
+        """All moves, each with what it did: the first way through the journal that uses every frame and delivery."""
+        trail, tries, farthest = [iter(self.choices(0))], 0, 0  # of each step so far the choices that weren't tried yet
+        while trail and tries < MOST_TRIES:
+            at = len(trail) - 1
+            choice = next(trail[-1], None)
+            if choice is None:
+                tries += 1
+                trail.pop()
+                if trail:
+                    self.undo(self.moves[at - 1])
+                continue
+            if at == len(self.moves):
+                return self.moves
+            self.do(self.moves[at], choice)
+            trail.append(iter(self.choices(at + 1)))
+            farthest = max(farthest, at + 1)
+        place = self.run.place(self.moves[farthest].step) + ": this step" if farthest < len(self.moves) else f"{self.run.folder}: the journal's end"
+        advice = "" if self.ways is not None else " (the report would help)"
+        raise Fault(f"{place} fits no frame of the links' captures{advice}")
+
+    def is_used_before(self, tick):
+        """Each frame and delivery of a tick before this one has its step."""
+        waiting = [self.run.frames[link][at].tick for link, at in self.next.items() if at < len(self.run.frames[link])]
+        waiting += [when for when, _ in self.run.delivered[self.delivered : self.delivered + 1]]
+        return not waiting or tick is not None and min(waiting) >= tick
+
+    # What a step may have done: ("send", node, node), ("deliver",), ("drop",) or ("lose",).
+
+    def choices(self, at):
+        if at == len(self.moves):
+            return [("end",)] if self.is_used_before(None) else []
+        move = self.moves[at]
+        kind, *rest = move.words
+        if (at == 0 or self.moves[at - 1].tick < move.tick) and not self.is_used_before(move.tick):
+            return []
+        if kind == "link":
+            cut = self.flying.get((rest[1], rest[2]), []) + self.flying.get((rest[2], rest[1]), [])
+            return [("lose",)] if all(self.ends_as(flight, "LinkCut") for flight in cut) else []
+        if kind == "inject":
+            node = self.run.node_of.get(rest[0])
+            return self.onward(move, node, None) if node and self.was_at(move.packet, 0, node) else []
+        flights, place = self.flying.get((rest[0], rest[1]), []), int(rest[2])
+        if place >= len(flights):
+            return []
+        flight = flights[place]
+        if kind == "lose":
+            return [("lose",)] if self.ends_as(flight, "Lost") else []
+        return self.onward(move, rest[1], flight) if self.was_at(flight.packet, flight.nodes, rest[1]) else []
+
+    def was_at(self, packet, place, node):
+        """The packet's path may have the node at the place."""
+        if self.ways is None:
+            return True
+        nodes = self.ways[packet - 1].nodes
+        return place < len(nodes) and nodes[place] == node
+
+    def ends_as(self, flight, rule):
+        """The flight's packet may have been dropped by the rule as it flew."""
+        if self.ways is None:
+            return True
+        way = self.ways[flight.packet - 1]
+        return way.end == "dropped" and way.words[0] == rule and len(way.nodes) == flight.nodes
+
+    def onward(self, move, node, flight):
+        """What may become of a packet at the node; it came there by the flight, or is new."""
+        packet, been = (flight.packet, flight.nodes + 1) if flight else (move.packet, 1)
+        receivers, may_end = self.neighbours[node], ["deliver", "drop"]
+        if self.ways is not None:
+            way = self.ways[packet - 1]
+            if been < len(way.nodes):
+                receivers, may_end = [way.nodes[been]], []
+            elif way.end == "flying":
+                receivers, may_end = [way.words[1]], []
+            elif way.end == "delivered":
+                receivers, may_end = [], ["deliver"] if int(way.words[2]) == self.delivered + 1 else []
+            elif way.words[0] in ("Lost", "LinkCut"):
+                may_end = []
+            else:
+                receivers, may_end = [], ["drop"]
+        sent = [("send", node, to) for to in receivers if self.sends(move.tick, node, to, flight)]
+        if "deliver" in may_end and not self.delivers(move.tick, flight):
+            may_end.remove("deliver")
+        return sent + [(end,) for end in may_end]
+
+    def next_frame(self, sender, receiver):
+        link = self.link_of.get((sender, receiver))
+        frames = self.run.frames[link] if link else []
+        return frames[self.next[link]] if link and self.next[link] < len(frames) else None
+
+    def edge_of(self, frame, receiver):
+        """The edge to which a frame goes if this node receives it, by the labels that were given; none if it can't."""
+        *top, bottom = frame.stack
+        if len(top) > 1:
+            return None
+        kind, edge = self.run.labels[receiver].get(top[0].label, (None, None))[:2] if top else ("fec", receiver)
+        if kind != "fec" or self.run.labels[edge].get(bottom.label, ("",))[0] != "site":
+            return None
+        return edge
+
+    def sends(self, tick, sender, receiver, flight):
+        """The next frame of the link may go from the one to the other now, as what was received by the flight."""
+        frame = self.next_frame(sender, receiver)
+        if frame is None or frame.tick != tick:
+            return False
+        edge = self.edge_of(frame, receiver)
+        if edge is None or flight is None:
+            return edge is not None
+        before = flight.frame
+        if len(before.stack) < 2 or frame.packet != before.packet or frame.stack[0].ttl != before.stack[0].ttl - 1:
+            return False
+        bottoms = (frame.stack[-1], before.stack[-1])
+        return edge == flight.edge and (bottoms[0] == bottoms[1] if len(frame.stack) > 1 else bottoms[0].label == bottoms[1].label)
+
+    def delivers(self, tick, flight):
+        """The next delivery may be now, of the packet that the flight brought."""
+        if self.delivered == len(self.run.delivered):
+            return False
+        when, packet = self.run.delivered[self.delivered]
+        if when != tick or flight is None:
+            return when == tick
+        came = flight.frame.packet
+        same = all(packet[part] == came[part] for part in (slice(0, 8), slice(9, 10), slice(12, None)))
+        return len(flight.frame.stack) == 1 and flight.edge == flight.receiver and same
+
+    def do(self, move, choice):
+        """Does what was chosen for the step."""
+        kind, *rest = move.words
+        if kind == "link":
+            for pair in ((rest[1], rest[2]), (rest[2], rest[1])):
+                move.took += self.flying.get(pair, [])
+                self.flying[pair] = []
+        elif kind != "inject":
+            move.took = [self.flying[rest[0], rest[1]].pop(int(rest[2]))]
+        if choice[0] == "send":
+            _, sender, receiver = choice
+            frame = self.next_frame(sender, receiver)
+            packet, been = (move.took[0].packet, move.took[0].nodes + 1) if move.took else (move.packet, 1)
+            move.sent = Flight(packet, been, sender, receiver, self.edge_of(frame, receiver), frame)
+            self.next[self.link_of[sender, receiver]] += 1
+            self.flying[sender, receiver].append(move.sent)
+        elif choice[0] == "deliver":
+            self.delivered += 1
+            move.end = ("delivered", self.delivered)
+        else:
+            move.end = ("lost",) if choice[0] == "lose" else ("dropped",)
+
+    def undo(self, move):
+        """Undoes what was done last, for this step."""
+        kind, *rest = move.words
+        if move.sent:
+            self.flying[move.sent.sender, move.sent.receiver].pop()
+            self.next[self.link_of[move.sent.sender, move.sent.receiver]] -= 1
+        elif move.end[0] == "delivered":
+            self.delivered -= 1
+        if kind == "link":
+            for flight in move.took:
+                self.flying[flight.sender, flight.receiver].append(flight)
+        elif move.took:
+            self.flying[rest[0], rest[1]].insert(int(rest[2]), move.took[0])
+        move.took, move.sent, move.end = [], None, None
