@@ -1,8 +1,9 @@
 """The index names what is there; a wrong name, a row that is cut and a rule without a row are told with their place.
 
-And docs/FORMATS.md shows a whole run as it stands in examples/two-links.
+And docs/FORMATS.md shows a whole run as it stands in examples/two-links, docs/ARCHITECTURE.md every crate in its order.
 """
 
+import re
 import shutil
 import subprocess
 import sys
@@ -62,6 +63,13 @@ class Formats(unittest.TestCase):
         formats = (ROOT / "docs/FORMATS.md").read_text()
         for name in ["topology.toml", "script.txt", "expected/report.txt"]:
             self.assertIn(f"\n{(ROOT / 'examples/two-links' / name).read_text()}```", formats)
+
+
+class Architecture(unittest.TestCase):
+    def test_has_every_crate_in_its_order(self):
+        crates = re.findall(r"^(\w+)[^:#]*:", (ROOT / "crates.txt").read_text(), re.M)
+        drawn = (ROOT / "docs/ARCHITECTURE.md").read_text().split("\n## All crates")[1].split("```")[1]
+        self.assertEqual(crates, re.findall(r"^ (mn_\w+|mplsnet)", drawn, re.M))
 
 
 if __name__ == "__main__":
