@@ -369,7 +369,7 @@ class Network:
         left = aged(bytes_, 1)
         if route.edge == edge:
             return self.deliver(route.site, left)
-        number = self.packets.index(packet)
+        number = len(self.packets) - 1
         return self.hop(Token(number, route.edge, route.site, route.attachment, left[8], left[8], left), edge, "NoLsp")
 
     def deliver(self, site, bytes_):

@@ -19,10 +19,10 @@ ADDRESSES += ["127.0.0.1", "224.0.0.5", "0.1.2.3", "255.255.255.255", "128.1.1.1
 TARGETS = ["65000:1", "65000:2", "0:0", "65535:4294967295", "10.0.0.1:7", "10.0.0.1:65535", "1:7", "255.255.255.255:0"]
 NAMES = ["pe1", "p", "pe2", "a", "b", "A", "n-1", "n_2", "n.pcap", "up", "x" * 32, "9", ".", "drain", "p2", "ldp"]
 VERBS = {
-    "link up": 12, "link down": 3, "learn": 10, "ldp on": 4, "ldp off": 3, "hear ldp": 12, "hear bgp": 8, "bgp up": 8, "bgp down": 1,
-    "route add": 5, "route del": 4, "import add": 3, "import del": 1, "export add": 3, "export del": 1, "site up": 6, "site down": 2,
-    "inject": 24, "carry": 12, "lose": 3, "run": 8, "drain": 10, "flush": 3, "show links": 2, "show tree": 3, "show ldp": 3, "show bgp": 2,
-    "show vrf": 4, "show flight": 4,
+    "link up": 24, "link down": 2, "learn": 12, "ldp on": 12, "ldp off": 1, "hear ldp": 20, "hear bgp": 20, "bgp up": 24, "bgp down": 1,
+    "route add": 6, "route del": 2, "import add": 6, "import del": 1, "export add": 6, "export del": 1, "site up": 12, "site down": 2,
+    "inject": 40, "carry": 40, "lose": 4, "run": 8, "drain": 14, "flush": 6, "show links": 2, "show tree": 3, "show ldp": 3,
+    "show bgp": 2, "show vrf": 5, "show flight": 4,
 }  # fmt: skip
 
 
@@ -53,12 +53,12 @@ def some(rng, table, chance, **more):
 def random_topology(rng):
     names = rng.sample(NAMES, 16)
     loopbacks = rng.sample(["192.0.2.1", "192.0.2.2", "10.0.0.9", "1.0.0.1", "223.255.255.255", "128.0.0.1", "126.9.9.9"], 7)
-    count = rng.choice([1, 2, 3, 3, 4, 4, 5, 6])
+    count = rng.choice([1, 2, 2, 3, 3, 3, 4, 4, 4, 5, 5, 5, 6, 6])
     nodes = [{"name": name, "loopback": loopback} for name, loopback in zip(names[:count], loopbacks)]
     pairs = [(a["name"], b["name"]) for i, a in enumerate(nodes) for b in nodes[i + 1 :]]
     rng.shuffle(pairs)
     links = []
-    for a, b in pairs[: rng.randint(min(count - 1, len(pairs)), min(len(pairs), count + 2))]:
+    for a, b in pairs[: max(count - 1, 0) + rng.choice([0, 0, 0, 1, 2, 3])]:
         ends = {"a": a, "b": b} if rng.random() < 0.6 else {"a": b, "b": a}
         link = some(rng, ends, 0.4, cost=lambda: rng.choice([1, 2, 3, 10, 20, 65535]), delay=lambda: rng.choice([1, 2, 3, 7, 1000]))
         links.append(some(rng, link, 0.2, loss=lambda: rng.choice([0, 1, 2, 3, 65535])))
@@ -68,14 +68,14 @@ def random_topology(rng):
     rds = rng.sample(["65000:1", "65000:2", "1.2.3.4:5", "0:0", "65535:4294967295", "1:1", "192.0.2.1:1"], 7)
     targets = rng.sample(TARGETS, rng.choice([1, 1, 1, 2, 3]))
     vrfs = []
-    edges = rng.sample(nodes, count) if rng.random() < 0.8 else [rng.choice(nodes)]
-    for at, (name, rd) in enumerate(list(zip(rng.sample(NAMES, 16), rds))[: rng.choice([0, 1, 2, 2, 3, 3, 4, 5, 5])]):
+    edges = rng.sample(nodes, count) if rng.random() < 0.92 else [rng.choice(nodes)]
+    for at, (name, rd) in enumerate(list(zip(rng.sample(NAMES, 16), rds))[: rng.choice([0, 1, 2, 2, 2, 3, 3, 3, 4, 4, 5, 6])]):
         vrf = {"name": name, "node": edges[at % len(edges)]["name"], "rd": rd}
-        vrfs.append(some(rng, vrf, 0.85, **{key: lambda: rng.sample(targets, rng.randint(rng.random() < 0.8, min(2, len(targets)))) for key in ("import", "export")}))
-    own_prefixes = rng.random() < 0.6
+        vrfs.append(some(rng, vrf, 0.93, **{key: lambda: rng.sample(targets, rng.randint(rng.random() < 0.8, min(2, len(targets)))) for key in ("import", "export")}))
+    own_prefixes = rng.random() < 0.7
     sites, free = [], {vrf["name"]: rng.sample(PREFIXES, len(PREFIXES)) for vrf in vrfs}
-    for name in rng.sample(NAMES, 16)[: rng.choice([0, 1, 2, 3, 4, 5, 6, 7, 8]) if vrfs else 0]:
-        vrf = rng.choice(vrfs)["name"]
+    for name in rng.sample(NAMES, 16)[: rng.choice([0, 1, 4, 4, 5, 6, 7, 8]) if vrfs else 0]:
+        vrf = vrfs[len(sites) % len(vrfs) if own_prefixes else rng.randrange(len(vrfs))]["name"]
         prefixes = [free[vrf].pop() for _ in range(min(rng.choice([0, 1, 1, 2, 3]), len(free[vrf])))]
         prefixes = [f"10.{len(sites) + 2}.0.0/16"] if own_prefixes else prefixes
         sites.append({"name": name, "vrf": vrf} | ({"prefixes": prefixes} if prefixes or rng.random() < 0.5 else {}))
@@ -188,8 +188,25 @@ def bring_up(rng, top):
     return lines + [rng.choice([["drain"], ["drain"], ["drain", "1000"], ["drain", "25"], ["run", "20"]])]
 
 
+def leaves_its_edge(network, site, packet):
+    """The packet would leave its edge over a link."""
+    vrf = network.topology.sites[site].vrf
+    edge = network.topology.vrfs[vrf].node
+    if network.attachment[site] is None or reference.fault_of(packet) or packet[8] < 2:
+        return False
+    route = network.best(vrf, int.from_bytes(packet[16:20], "big"))
+    return route is not None and route.edge != edge and network.usable_hop(edge, route.edge) is not None
+
+
 def random_line(rng, verb, top, packets, network):
     words = words_for(rng, verb, top, len(packets), network)
+    if verb == "inject" and rng.random() < 0.85:
+        pairs = [(site, k) for site in range(len(top["site"])) for k in range(len(packets))]
+        pairs = [(site, k) for site, k in pairs if leaves_its_edge(network, site, packets[k])]
+        if not pairs and rng.random() < 0.5:
+            return ["drain"]
+        site, k = rng.choice(pairs or [(0, 0)])
+        words = [top["site"][site]["name"], str(k + 1)]
     if "bgp" in verb and "show" not in verb and len({*words}) < 2:
         words = rng.sample(sorted({vrf["node"] for vrf in top["vrf"]}), 2)
     return [*verb.split(), *words]
@@ -211,7 +228,7 @@ def random_lines(rng, top, packets, network):
     weights = [VERBS[verb] for verb in verbs]
     if rng.random() < 0.5:  # here little arrives by itself
         weights = [weight // 4 if verb in ("run", "drain", "flush") else weight for verb, weight in zip(verbs, weights)]
-    for words in bring_up(rng, top) if rng.random() < 0.7 else []:
+    for words in bring_up(rng, top) if rng.random() < 0.85 else []:
         is_refused(network, words, packets)
         yield words
     for _ in range(rng.choice([0, 3, 10, 20, 40, 80])):
@@ -239,15 +256,15 @@ def checksum(header):
 
 
 def random_packet(rng, top):
-    prefixes = [of for site in top["site"] for of in site.get("prefixes", [])]
-    to = bytes(map(int, rng.choice([of.split("/")[0] for of in prefixes] * 8 + ADDRESSES).split(".")))
+    prefixes = [of for site in top["site"] for of in site.get("prefixes", [])] * 3
+    to = bytes(map(int, rng.choice([of.split("/")[0] for of in prefixes] * 4 + ADDRESSES).split(".")))
     words = rng.choice([0, 0, 0, 0, 1, 10])
     body = rng.randbytes(rng.choice([0, 1, 8, 8, 8, 100]))
     ttl = rng.choice([64, 64, 64, 64, 255, rng.randrange(2), 2, 3, 4, 5, 6])
     total = 20 + 4 * words + len(body)
     header = struct.pack(">BBHHHBBH4s4s", 0x45 + words, 0, total, rng.randrange(65536), 0, ttl, 17, 0, bytes([10, 1, 0, 1]), to) + rng.randbytes(4 * words)
     packet = bytearray(header[:10] + struct.pack(">H", checksum(header)) + header[12:] + body)
-    if rng.random() < 0.15:
+    if rng.random() < 0.1:
         return spoiled(rng, packet)
     return bytes(packet) + rng.randbytes(rng.choice([0, 0, 0, 5]))
 
@@ -276,11 +293,11 @@ def spoiled(rng, packet):
 
 def random_capture(rng, top):
     order, magic, link_type = rng.choice("<<>"), rng.choice([0xA1B2C3D4, 0xA1B2C3D4, 0xA1B23C4D]), rng.choice([228, 228, 101, 1])
-    packets = [random_packet(rng, top) for _ in range(rng.choice([0, 1, 3, 6, 10]))]
+    packets = [random_packet(rng, top) for _ in range(rng.choice([0, 1, 3, 6, 10, 10]))]
     bytes_ = struct.pack(order + "IHHiIII", magic, 2, 4, rng.randrange(9), 0, rng.choice([0, 0x40000]), link_type | rng.choice([0, 0, 0x10000]))
     for packet in packets:
         if link_type == 1:
-            packet = rng.randbytes(12) + rng.choice([b"\x08\0"] * 5 + [b"\x81\0", b"\x86\xdd"]) + packet
+            packet = rng.randbytes(12) + rng.choice([b"\x08\0"] * 18 + [b"\x81\0", b"\x86\xdd"]) + packet
             packet = packet[: rng.randrange(16)] if rng.random() < 0.05 else packet
         bytes_ += struct.pack(order + "4I", rng.randrange(2**32), rng.randrange(2**32), len(packet), rng.choice([len(packet), 0, 2**32 - 1])) + packet
     if rng.random() < 0.05:
