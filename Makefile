@@ -2,11 +2,12 @@
 # make build     proves and builds the program, and prints where it is
 # make demo      runs an example (EXAMPLE=first; two-links where none is named), and says whether what ran was the proved build
 # make examples  runs all examples and compares everything they write with what is expected (EXAMPLES="loss ring" for some)
+# make runs      compares the built program, and examples/reference.py, with the stored runs in runs/, in seconds
 # make tools     tests the tools, the schema, the man page and the completions, and has tshark decode the examples' runs, in seconds
 # make index     shows that all that docs/INDEX.md names is there, and that it has every rule, in a second
 # make clean     removes what was built
 
-.PHONY: test build demo examples tools index clean
+.PHONY: test build demo examples runs tools index clean
 
 PROGRAM = crates/mplsnet/out/mplsnet
 
@@ -21,6 +22,9 @@ demo:
 
 examples:
 	@sh scripts/examples $(EXAMPLES)
+
+runs:
+	@python3 -B scripts/compare
 
 tools:
 	@python3 -B -m unittest discover -q -s tools/tests
