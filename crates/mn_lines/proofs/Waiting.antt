@@ -4,11 +4,6 @@ use Rattle.std.proofs.lemmas.List.{take-append-drop}
 use Rattle.std.specs.Option.{ForSome}
 use Rattle.mn_lines.specs.Putting.{Puts, PutsPart}
 
--- a piece waits behind the others
-pub holds : (piece waits : List ℕ) (written : Option (List ℕ)) → Puts piece waits (waits ++ piece) written written
-holds piece waits written = λ before so_far on.
-    record { part = on.part; told = on.told; whole = sym (append_assoc on.part waits piece) ∙ ap (λ l. l ++ piece) on.whole }
-
 -- the sink took all that waits and a text
 pub all_put : (text waits piece : List ℕ) (written now : Option (List ℕ)) → piece ≡ waits ++ text → ForSome written (λ t. now ≡ Some (t ++ piece)) → Puts text waits [] written now
 all_put text waits piece written now is put = λ before so_far on.
