@@ -22,8 +22,9 @@ Writes every file of the run and its report, as report.txt, into FOLDER, which i
 --compare nothing is written: the files of FOLDER, report.txt among them, are compared with those that are due, and
 the first difference is told. A refused input leaves report.txt alone, with the line of the refusal.
 
-Not covered: the words of the command line, faults of reading and writing, want of memory, and what TOML 1.1 has
-beyond 1.0. It is for small networks: a thousand steps take a second or less, and a million hours.
+Not covered: the words of the command line, faults of reading and writing, want of memory; and of TOML what 1.1 has
+beyond 1.0, the limit of 80 on nesting, numbers like 1e309, and a byte order mark. It is for small networks: a
+thousand steps take a second or two, and a million hours.
 
 status: 0 written, or nothing differs; 1 something differs, or a file can't be read or written; 2 wrong words
 """
