@@ -20,7 +20,7 @@ use Rattle.mn_drain.proofs.Sums.{total-below, total-add, total-none, total-most,
 use Rattle.mn_drain.proofs.NewsWeight.{differ, one_fec, news-weighs, speaks-once}
 use Rattle.mn_settled.proofs.Ways.{same-map}
 use Rattle.mn_drain.proofs.Hearing.{same-says}
-use Rattle.mn_drain.proofs.Flying.{where-most}
+use Rattle.mn_drain.proofs.Weights.{where-most}
 
 abbrev one : Message → ℕ
 one message = 1

@@ -25,12 +25,11 @@ use Rattle.mn_ledger.specs.Packets.{Token, Packets, channel}
 use Rattle.mn_ledger.specs.Ledger.{injects, packets_of}
 use Rattle.mn_ledger.specs.Verdicts.{one_if, injections, times_in, times_by, verdict_on, AreInOnePlace}
 use Rattle.mn_ledger.proofs.Members.{In}
-use Rattle.mn_ledger.proofs.OnePlace.{in_one_place, not_one}
+use Rattle.mn_ledger.proofs.OnePlace.{in_one_place, not_one, one_same}
 use Rattle.mn_laws.specs.Accounts.{world_at, packets_at, Sending, IsSent, IsBoundFor, path_of, IsItsPath, is_flying, IsPassedOn, FellAtEntry, FellInFlight}
 use Rattle.mn_laws.proofs.At.{bytes_of, packets_step, injections_step}
 use Rattle.mn_laws.proofs.Elsewhere.{Same}
 use Rattle.mn_laws.proofs.Moving.{Leaves, same_step}
-use Rattle.mn_ledger.proofs.Ended.{one_same}
 
 -- 1. What is known
 
