@@ -44,7 +44,7 @@ _mplsnet() {
     local word=${COMP_WORDS[COMP_CWORD]}
     COMPREPLY=()
     case $COMP_CWORD:${COMP_WORDS[1]} in
-        1:*) _mplsnet_words 'run check' "$word" ;;
+        1:*) _mplsnet_words 'run check generate' "$word" ;;
         2:run | 2:check) _mplsnet_files "$word" .toml ;;
         3:run) _mplsnet_files "$word" ;;
         4:run) _mplsnet_files "$word" .pcap ;;

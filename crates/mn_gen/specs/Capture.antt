@@ -17,5 +17,5 @@ packet_to edge =
 abbrev pub record_to : ℕ → List ℕ
 record_to edge = record_of 0 (packet_to edge)
 
-abbrev pub capture_bytes : ℕ → List ℕ
+unfoldable pub capture_bytes : ℕ → List ℕ
 capture_bytes number = header 228 ++ flat_map record_to (edges number)

@@ -39,5 +39,5 @@ links_up number = flat_map (ring_up number) (nodes number) ++ flat_map (chord_up
 abbrev pub brought_up : ℕ → List ℕ
 brought_up number = links_up number ++ (flat_map (sessions_up (edges number)) (edges number) ++ codes "drain 4000000\n")
 
-abbrev pub script_text : ℕ → List ℕ
+unfoldable pub script_text : ℕ → List ℕ
 script_text number = brought_up number ++ (flat_map (sending number) (range_with_len 0 turns) ++ codes "flush\n")

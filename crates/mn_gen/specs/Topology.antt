@@ -10,7 +10,8 @@ node_text node = text (codes "[[node]]\nname = \"n" ∷ decimal node ∷ codes "
 
 unfoldable pub link_text : ℕ → ℕ → ℕ → ℕ → List ℕ
 link_text a b cost delay =
-    text (codes "[[link]]\na = \"n" ∷ decimal a ∷ codes "\"\nb = \"n" ∷ decimal b ∷ codes "\"\ncost = " ∷ decimal cost ∷ codes "\ndelay = " ∷ decimal delay ∷ codes "\n" ∷ [])
+    text (codes "[[link]]\na = \"n" ∷ decimal a ∷ codes "\"\nb = \"n" ∷ decimal b ∷ codes "\"\ncost = " ∷ decimal cost ∷ codes "\ndelay = " ∷ decimal delay
+    ∷ codes "\n" ∷ [])
 
 -- a link of the ring, and a chord
 abbrev pub ring_text : ℕ → ℕ → List ℕ
@@ -31,11 +32,14 @@ vrfs_text edge = vrf_text (codes "red") edge 1 ++ vrf_text (codes "blue") edge 2
 -- a site of an edge, with the edge's prefix
 unfoldable pub site_text : List ℕ → List ℕ → ℕ → List ℕ
 site_text letter colour edge =
-    text (codes "[[site]]\nname = \"" ∷ letter ∷ decimal edge ∷ codes "\"\nvrf = \"" ∷ colour ∷ decimal edge ∷ codes "\"\nprefixes = [\"10." ∷ decimal edge ∷ codes ".0.0/16\"]\n" ∷ [])
+    text (codes
+    "[[site]]\nname = \"" ∷ letter ∷ decimal edge ∷ codes "\"\nvrf = \"" ∷ colour ∷ decimal edge ∷ codes "\"\nprefixes = [\"10." ∷ decimal edge ∷ codes ".0.0/16\"]\n" ∷ [])
 
 abbrev pub sites_text : ℕ → List ℕ
 sites_text edge = site_text (codes "r") (codes "red") edge ++ site_text (codes "b") (codes "blue") edge
 
-abbrev pub topology_text : ℕ → List ℕ
+unfoldable pub topology_text : ℕ → List ℕ
 topology_text number =
-    flat_map node_text (nodes number) ++ (flat_map (ring_text number) (nodes number) ++ (flat_map (chord_text number) (chords number) ++ (flat_map vrfs_text (edges number) ++ flat_map sites_text (edges number))))
+    flat_map node_text (nodes number) ++
+    (flat_map (ring_text number) (nodes number) ++
+    (flat_map (chord_text number) (chords number) ++ (flat_map vrfs_text (edges number) ++ flat_map sites_text (edges number))))

@@ -70,6 +70,7 @@ fn put_packets(out: &mut Vec<u8>, edges: &[u32]) -> Result<(), AllocError>
 }
 
 /// The capture of a number, 0 to 99: at tick 0 one packet to the prefix of each edge, which any site may send.
+#[tactic(auto, unfolding(crate::specs::Capture::capture_bytes))]
 pub fn capture_bytes(alloc: Global, number: u32) -> Result<Vec<u8>, AllocError>
     requires { number ≤ 99 }
     ensures { IfOk result (λ bytes. bytes.items ≡ capture_bytes number) }

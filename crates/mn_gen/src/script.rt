@@ -147,6 +147,7 @@ fn brought_up(alloc: Global, number: u32) -> Result<Vec<u8>, AllocError>
 
 /// The script of a number, 0 to 99: every link up, a session for each pair of edges, all settled by a drain, a thousand packets, and a
 /// flush.
+#[tactic(auto, unfolding(crate::specs::Script::script_text))]
 pub fn script_text(alloc: Global, number: u32) -> Result<Vec<u8>, AllocError>
     requires { number ≤ 99 }
     ensures { IfOk result (λ text. text.items ≡ script_text number) }

@@ -104,6 +104,7 @@ fn put_sites(alloc: Global, out: &mut Vec<u8>, edges: &[u32]) -> Result<(), Allo
 
 /// The topology of a number, 0 to 99: a ring of `8 + number` nodes with chords, and on each fourth node a VRF of each VPN with
 /// one site.
+#[tactic(auto, unfolding(crate::specs::Topology::topology_text))]
 pub fn topology_text(alloc: Global, number: u32) -> Result<Vec<u8>, AllocError>
     requires { number ≤ 99 }
     ensures { IfOk result (λ text. text.items ≡ topology_text number) }

@@ -1,11 +1,12 @@
 -- How a run ends: its files, and its report.
-use Rattle.std.proofs.Common.{◌≡◌, ℕ, Bool, true, false, cond, List, [], ◌∷◌, ◌++◌, map, length, append_assoc, append-nil, Option, Some, Ok, Err, Result, OnOk, OnErr, inl, inr, refl, sym, ◌∙◌, ap, subst}
+use Rattle.std.proofs.Common.{◌≡◌, ◌<◌, ℕ, suc, arith, Bool, true, false, cond, List, [], ◌∷◌, ◌++◌, map, length, append_assoc, append-nil, Option, Some}
+use Rattle.std.proofs.Common.{None, Ok, Err, Result, OnOk, OnErr, inl, inr, refl, sym, ◌∙◌, ap, subst}
 use Rattle.std.specs.Prelude.{◌⊎◌, codes}
-use Rattle.mn_edge.specs.Files.{Files}
-use Rattle.mn_edge.specs.Kept.{HoldsOn, BeginsOn, Framed}
-use Rattle.mn_edge.specs.KeptLaws.{begins_on_more}
-use Rattle.mn_edge.specs.Laid.{named, part_written}
-use Rattle.mn_edge.specs.Written.{laid, IsPart, PartWritten}
+use Rattle.mn_edge.specs.Files.{Files, file}
+use Rattle.mn_edge.specs.Kept.{name_of, HoldsOn, BeginsOn, Framed}
+use Rattle.mn_edge.specs.KeptLaws.{same_some, begins_on_more}
+use Rattle.mn_edge.specs.Laid.{named, names-named, all_laid, part_written}
+use Rattle.mn_edge.specs.Written.{laid, IsPrefix, IsPart, PartWritten}
 use Rattle.mn_topo.specs.Network.{Network}
 use Rattle.mn_topo.specs.declared.steps.JournalEntry.{JournalEntry}
 use Rattle.mn_script.specs.declared.command.Line.{Line}
@@ -28,8 +29,13 @@ use Rattle.mn_perform.specs.declared.desk.Desk.{Desk}
 use Rattle.mn_perform.specs.declared.ended.Ended.{Ended}
 use Rattle.mn_perform.specs.declared.ended.Ended.TheVariants as ended
 use Rattle.mn_perform.specs.declared.ended.Fault.{Fault}
+use Rattle.mn_perform.specs.declared.ended.Fault.TheVariants as fault
+use Rattle.mn_perform.specs.Faults.{SinkBlamed}
+use Rattle.mn_perform.specs.Fails.{fault_of}
+use Rattle.mn_edge.specs.declared.device.DeviceBad.{DeviceBad}
+use Rattle.mn_edge.specs.declared.device.DeviceBad.TheVariants as bad
 use Rattle.mn_perform.specs.Running.{Stands, notes_text, Keeps, Breaks, Went, is_stopped}
-use Rattle.mn_perform.specs.Whole.{last_text, whole_files, RunEnds, RunFiles, RunText, IsLate}
+use Rattle.mn_perform.specs.Whole.{last_text, whole_files, AllBegun, BegunAtRead, RunEnds, RunFiles, RunText, IsLate}
 
 -- 1. Parts
 
@@ -42,19 +48,22 @@ pub whole_part : (fs : List (List ℕ × List ℕ)) (m : Files) (after : Option 
 whole_part fs m after e = record { stands = fs; is_part = all_part fs; after_is = e }
 
 -- files that hold, or begin, what is written as steps are done begin their whole
-pub begins_whole : (t : Network) (all : List (List ℕ)) (entries : List JournalEntry) (names : List (List ℕ)) (files : Option Files) → BeginsOn names (contents_at t all entries) files
+pub begins_whole : (t : Network) (all : List (List ℕ)) (entries : List JournalEntry) (names : List (List ℕ)) (files : Option Files) →
+    BeginsOn names (contents_at t all entries) files
     → BeginsOn names (whole_at t all entries) files
 begins_whole t all entries names files h =
     begins_on_more names (contents_at t all entries) (whole_at t all entries) files (λ k. (tail_of t entries (file_at t k), refl)) h
 
 -- the report begins with its notes
-pub notes_begin : (t : Network) (all : List (List ℕ)) (run : Expansion) (before : List ℕ) (written : Option (List ℕ)) → PartPut (notes_text t all run) before written
+pub notes_begin : (t : Network) (all : List (List ℕ)) (run : Expansion) (before : List ℕ) (written : Option (List ℕ)) →
+    PartPut (notes_text t all run) before written
     → PartPut (report t all run) before written
 notes_begin t all run before written p =
     let rest : List ℕ = cond run.is_stopped (codes "too large steps\n") (ended_text t run (packets_of t run.past.entries (inputs_of all run.past.entries))) in
     (p.0, (p.1.0 ++ rest, sym (append_assoc p.0 p.1.0 rest) ∙ ap (λ l. l ++ rest) p.1.1), p.2)
 
-module _ (t : Network) (all : List (List ℕ)) (begun : Option (List ℕ)) (lines : List Line) (how : Ended) (net : NetNow) (books : BooksNow) (desk : Desk) (files : Option Files)
+module _ (t : Network) (all : List (List ℕ)) (begun : Option (List ℕ)) (lines : List Line) (how : Ended) (net : NetNow) (books : BooksNow) (desk : Desk)
+    (files : Option Files)
     (written : Option (List ℕ)) (went : Went t all begun (expanded t all lines) net books desk files written (Ok how)) where
   abbrev run : Expansion
   run = expanded t all lines
@@ -75,7 +84,8 @@ module _ (t : Network) (all : List (List ℕ)) (begun : Option (List ℕ)) (line
       ap (λ n. named books.names (whole_at n all net.journal)) keeps.topology_is ∙ ap (λ e. named books.names (whole_at t all e)) keeps.journal
       ∙ ap (λ n. named n (whole_at t all run.past.entries)) same
 
-  pub run_files : (names : List (List ℕ)) (base : Files) (after : Option Files) (result : Result Ended Fault) → books.names ≡ names → Framed names (Some base) files
+  pub run_files : (names : List (List ℕ)) (base : Files) (after : Option Files) (result : Result Ended Fault) → books.names ≡ names →
+      Framed names (Some base) files
       → OnOk result ((base : Files) (all : List (List ℕ)) → Framed books.names (Some base) files → Stands all net books files →
       after ≡ Some (laid (named books.names (whole_at net.topology all net.journal)) base))
       → OnErr result ((base : Files) (all : List (List ℕ)) → Framed books.names (Some base) files → Stands all net books files →
@@ -132,18 +142,23 @@ module _ (t : Network) (all : List (List ℕ)) (begun : Option (List ℕ)) (line
       → OnOk result ((all : List (List ℕ)) (before notes : List ℕ) → Stands all net books files → PutOn before notes desk.page written →
       after ≡ Some (before ++ (notes ++ last_text net desk how (packets_of net.topology net.journal (inputs_of all net.journal)))))
       → OnErr result ((all : List (List ℕ)) (before notes : List ℕ) → Stands all net books files → PutOn before notes desk.page written →
-      PartPut (notes ++ last_text net desk how (packets_of net.topology net.journal (inputs_of all net.journal))) before after) → RunText t all lines before after result
+      PartPut (notes ++ last_text net desk how (packets_of net.topology net.journal (inputs_of all net.journal))) before after) →
+      RunText t all lines before after result
   run_text before after (Ok x) is put part = put all before (notes_text t all run) stands (keeps.text before is) ∙ ap (λ l. Some (before ++ l)) report_is
-  run_text before after (Err fault) is put part = subst (λ l. PartPut l before after) report_is (part all before (notes_text t all run) stands (keeps.text before is))
+  run_text before after (Err fault) is put part =
+      subst (λ l. PartPut l before after) report_is (part all before (notes_text t all run) stands (keeps.text before is))
 
   -- 4. The end comes late
 
-  pub run_late : (names : List (List ℕ)) (base : Files) (before : List ℕ) (after : Option Files) (after_text : Option (List ℕ)) (result : Result Ended Fault) → books.names ≡ names
+  pub run_late : (names : List (List ℕ)) (base : Files) (before : List ℕ) (after : Option Files) (after_text : Option (List ℕ))
+      (result : Result Ended Fault) → books.names ≡ names
       → Framed names (Some base) files → begun ≡ Some before
       → OnOk result ((base : Files) (all : List (List ℕ)) → Framed books.names (Some base) files → Stands all net books files →
       after ≡ Some (laid (named books.names (whole_at net.topology all net.journal)) base))
-      → OnErr result ((base : Files) (all : List (List ℕ)) (before notes : List ℕ) → Framed books.names (Some base) files → Stands all net books files → PutOn before notes desk.page written →
-      (after ≡ Some (laid (named books.names (whole_at net.topology all net.journal)) base)) ⊎ PartPut notes before after_text) → IsLate t all lines names base after before after_text
+      → OnErr result ((base : Files) (all : List (List ℕ)) (before notes : List ℕ) → Framed books.names (Some base) files → Stands all net books files →
+      PutOn before notes desk.page written →
+      (after ≡ Some (laid (named books.names (whole_at net.topology all net.journal)) base)) ⊎ PartPut notes before after_text) →
+      IsLate t all lines names base after before after_text
   run_late names base before after after_text (Ok x) same framed is whole late =
       inl (whole base all (subst (λ n. Framed n (Some base) files) (sym same) framed) stands ∙ ap (λ f. Some (laid f base)) (files_are names same))
   run_late names base before after after_text (Err fault) same framed is whole late =
@@ -152,22 +167,90 @@ module _ (t : Network) (all : List (List ℕ)) (begun : Option (List ℕ)) (line
         | inr p ↦ inr p
       ]
 
-pub run_ends : (t : Network) (all : List (List ℕ)) (begun : Option (List ℕ)) (lines : List Line) (how : Ended) (net : NetNow) (books : BooksNow) (desk : Desk) (files : Option Files)
-    (written : Option (List ℕ)) (result : Result Ended Fault) → Went t all begun (expanded t all lines) net books desk files written (Ok how) → OnOk result (result ≡ Ok how)
+pub run_ends : (t : Network) (all : List (List ℕ)) (begun : Option (List ℕ)) (lines : List Line) (how : Ended) (net : NetNow) (books : BooksNow)
+    (desk : Desk) (files : Option Files)
+    (written : Option (List ℕ)) (result : Result Ended Fault) → Went t all begun (expanded t all lines) net books desk files written (Ok how) →
+    OnOk result (result ≡ Ok how)
     → RunEnds t all lines result
-run_ends t all begun lines how net books desk files written (Ok x) went same = went.1 ∙ ap is_stopped (let e : Ok x ≡ Ok how = same in let f : x ≡ how = cc in sym f)
+run_ends t all begun lines how net books desk files written (Ok x) went same =
+    went.1 ∙ ap is_stopped (let e : Ok x ≡ Ok how = same in let f : x ≡ how = cc in sym f)
 run_ends t all begun lines how net books desk files written (Err fault) went same = tt
 
 -- 5. A run that was cut off among its lines
 
-pub broken_files : (t : Network) (all : List (List ℕ)) (begun : Option (List ℕ)) (lines : List Line) (found names : List (List ℕ)) (base : Files) (files : Option Files) (written : Option (List ℕ))
-    → found ≡ names → Breaks t all begun (expanded t all lines) found files written → Framed names (Some base) files → PartWritten (whole_files t all lines names) base files
+pub broken_files : (t : Network) (all : List (List ℕ)) (begun : Option (List ℕ)) (lines : List Line) (found names : List (List ℕ)) (base : Files)
+    (files : Option Files) (written : Option (List ℕ))
+    → found ≡ names → Breaks t all begun (expanded t all lines) found files written → Framed names (Some base) files →
+    PartWritten (whole_files t all lines names) base files
 broken_files t all begun lines found names base files written same breaks framed =
     part_written names (whole_at t all (expanded t all lines).past.entries) base files framed
-    (begins_whole t all (expanded t all lines).past.entries names files (subst (λ n. BeginsOn n (contents_at t all (expanded t all lines).past.entries) files) same breaks.begins))
+    (begins_whole t all (expanded t all lines).past.entries names files
+    (subst (λ n. BeginsOn n (contents_at t all (expanded t all lines).past.entries) files) same breaks.begins))
+
+abbrev or_nothing : Option (List ℕ) → List ℕ
+or_nothing None = []
+or_nothing (Some bytes) = bytes
+
+parts : (names : List (List ℕ)) (some contents : ℕ → List ℕ) →
+    ((k : ℕ) → k < length names → IsPrefix (some k) (contents k)) → IsPart (named names some) (named names contents)
+parts [] some contents h = tt
+parts (name ∷ names) some contents h =
+    (refl, h 0 (omega arith), parts names (λ k. some (suc k)) (λ k. contents (suc k)) (λ k within. h (suc k) (omega (arith, within))))
+
+-- files of which each holds a first part were all begun
+all_begun : (names : List (List ℕ)) (contents : ℕ → List ℕ) (m : Files) (after : Option Files) → Framed names (Some m) after → BeginsOn names contents after
+    → AllBegun (named names contents) m after
+all_begun names contents m after framed begins =
+    let front : ℕ → List ℕ = λ k. or_nothing (file begins.now (name_of names k)) in
+    let x = framed.others m refl in
+    record {
+      stands = named names front;
+      names = names-named names front ∙ sym (names-named names contents);
+      is_part = parts names front contents (λ k within.
+          let b = begins.begins k within in subst (λ l. IsPrefix l (contents k)) (sym (ap or_nothing b.there)) b.part);
+      after_is = x.1 ∙ ap Some (all_laid names front m x.0
+          (λ k within.
+          let b = begins.begins k within in
+          ap (λ f. file f (name_of names k)) (same_some x.0 begins.now after x.1 begins.told) ∙ b.there ∙ ap Some (sym (ap or_nothing b.there)))
+          x.2);
+    }
+
+-- a run whose read failed among its lines had begun its files
+pub broken_begun : (t : Network) (all : List (List ℕ)) (begun : Option (List ℕ)) (lines : List Line) (found names : List (List ℕ)) (base : Files)
+    (files : Option Files)
+    (written : Option (List ℕ)) (why : Fault) → found ≡ names → Breaks t all begun (expanded t all lines) found files written → Framed names (Some base) files
+    → BegunAtRead {T = Ended} (whole_files t all lines names) base files (Err why)
+broken_begun t all begun lines found names base files written fault.Read same breaks framed =
+    all_begun names (whole_at t all (expanded t all lines).past.entries) base files framed
+    (begins_whole t all (expanded t all lines).past.entries names files
+    (subst (λ n. BeginsOn n (contents_at t all (expanded t all lines).past.entries) files) same breaks.begins))
+broken_begun t all begun lines found names base files written fault.Write same breaks framed = tt
+broken_begun t all begun lines found names base files written fault.NoMemory same breaks framed = tt
+
+-- no read failed
+pub no_read : {T : Type 0} (files : List (List ℕ × List ℕ)) (m : Files) (after : Option Files) (result : Result T Fault) →
+    (result ≡ Err fault.Read → ⊥) → BegunAtRead files m after result
+no_read files m after (Ok x) h = tt
+no_read files m after (Err fault.Read) h = absurd (h refl)
+no_read files m after (Err fault.Write) h = tt
+no_read files m after (Err fault.NoMemory) h = tt
+
+same_fault : (a b : Fault) → ◌≡◌ {A = Result Ended Fault} (Err a) (Err b) → a ≡ b
+same_fault a b e = cc
+
+-- what failed was a call on the sink, or a write
+pub sink_reads_none : (old new : ℕ) (why : Fault) → SinkBlamed {T = Unit {0}} old new (Err why) → ◌≡◌ {A = Result Ended Fault} (Err why) (Err fault.Read) → ⊥
+sink_reads_none old new fault.Read h e = h
+sink_reads_none old new fault.Write h e = let same : fault.Write ≡ fault.Read = same_fault fault.Write fault.Read e in cc
+sink_reads_none old new fault.NoMemory h e = let same : fault.NoMemory ≡ fault.Read = same_fault fault.NoMemory fault.Read e in cc
+
+pub write_reads_none : (why : DeviceBad) (found : Fault) → found ≡ fault_of why → ◌≡◌ {A = Result Ended Fault} (Err found) (Err fault.Read) → ⊥
+write_reads_none bad.Failed found is e = let same : fault.Write ≡ fault.Read = sym is ∙ same_fault found fault.Read e in cc
+write_reads_none bad.NoMemory found is e = let same : fault.NoMemory ≡ fault.Read = sym is ∙ same_fault found fault.Read e in cc
 
 -- a net that keeps a run stands, with its files
-pub stands_at : (t : Network) (all : List (List ℕ)) (begun : Option (List ℕ)) (run : Expansion) (net : NetNow) (books : BooksNow) (desk : Desk) (files : Option Files) (written : Option (List ℕ))
+pub stands_at : (t : Network) (all : List (List ℕ)) (begun : Option (List ℕ)) (run : Expansion) (net : NetNow) (books : BooksNow) (desk : Desk)
+    (files : Option Files) (written : Option (List ℕ))
     → Keeps t all begun run net books desk files written → Stands all net books files
 stands_at t all begun run net books desk files written keeps = record {
   stands = keeps.stands;

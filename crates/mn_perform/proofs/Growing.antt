@@ -40,7 +40,8 @@ module _ (t : Network) (capture : List (List ℕ)) where
   stepped_more past (Inject s number) = injected_more past (Inject s number) (record_of capture number)
   stepped_more past s = tried_more past s (refusal_now t capture past s [])
 
-  until_more : (past later : Past) (end : ℕ) (how : Ending) → IsFirstPart past.entries later.entries → IsFirstPart past.entries (until end later how).past.entries
+  until_more : (past later : Past) (end : ℕ) (how : Ending) → IsFirstPart past.entries later.entries →
+      IsFirstPart past.entries (until end later how).past.entries
   until_more past later end ending.All h = h
   until_more past later end (ending.Refused why) h = h
   until_more past later end ending.NoRecord h = h
@@ -75,7 +76,8 @@ grows_on a b c h g = record {
   notes = (h.notes.0 ++ g.notes.0, sym (append_assoc a.notes h.notes.0 g.notes.0) ∙ ap (λ l. l ++ g.notes.0) h.notes.1 ∙ g.notes.1);
 }
 
-after_more : (before : Expansion) (line : Line) (past : Past) (how : Ending) → IsFirstPart before.past.entries past.entries → Grows before (after_line before line past how)
+after_more : (before : Expansion) (line : Line) (past : Past) (how : Ending) → IsFirstPart before.past.entries past.entries →
+    Grows before (after_line before line past how)
 after_more before line past ending.All h = record { entries = h; notes = (_, refl) }
 after_more before line past (ending.Refused why) h = record { entries = h; notes = (_, refl) }
 after_more before line past ending.NoRecord h = record { entries = h; notes = (_, refl) }
@@ -98,7 +100,8 @@ script_grows t capture now (line ∷ lines) =
 
 -- 3. Contents
 
-moments_more : (before entries rest : List JournalEntry) → moments_from before (entries ++ rest) ≡ moments_from before entries ++ moments_from (before ++ entries) rest
+moments_more : (before entries rest : List JournalEntry) →
+    moments_from before (entries ++ rest) ≡ moments_from before entries ++ moments_from (before ++ entries) rest
 moments_more before [] rest = ap (λ b. moments_from b rest) (sym (append-nil before))
 moments_more before (entry ∷ entries) rest =
     ap (λ moments. record { before = before; entry = entry } ∷ moments)
@@ -111,12 +114,14 @@ contents_more t capture entries rest out =
     let each : Moment → List ℕ = adds t capture out in (
       flat_map each (moments_from entries rest),
       append_assoc (head_of out) (flat_map each (moments_of entries)) (flat_map each (moments_from entries rest))
-          ∙ ap (λ l. head_of out ++ l) (sym (flat_map-append each (moments_of entries) (moments_from entries rest)) ∙ ap (flat_map each) (sym (moments_more [] entries rest))),
+          ∙ ap (λ l. head_of out ++ l) (sym (flat_map-append each (moments_of entries) (moments_from entries rest))
+          ∙ ap (flat_map each) (sym (moments_more [] entries rest))),
     )
 
 pub contents_first : (t : Network) (capture : List (List ℕ)) (front entries : List JournalEntry) (out : OutputFile) → IsFirstPart front entries →
     IsPrefix (contents t capture front out) (contents t capture entries out)
-contents_first t capture front entries out h = subst (λ es. IsPrefix (contents t capture front out) (contents t capture es out)) h.1 (contents_more t capture front h.0 out)
+contents_first t capture front entries out h =
+    subst (λ es. IsPrefix (contents t capture front out) (contents t capture es out)) h.1 (contents_more t capture front h.0 out)
 
 -- 4. Texts
 

@@ -1,5 +1,6 @@
 -- The files of a run, laid over those of before.
-use Rattle.std.proofs.Common.{◌≡◌, ℕ, zero, suc, ◌<◌, Bool, true, false, ◌&&◌, nat_lt, nat_eq, ◌==◌, List, [], ◌∷◌, ◌++◌, map, length, length-append, append_assoc, take, Option, Some, None, refl, sym, ◌∙◌, ap, subst, arith}
+use Rattle.std.proofs.Common.{◌≡◌, ℕ, zero, suc, ◌<◌, Bool, true, false, ◌&&◌, nat_lt, nat_eq, ◌==◌, List, [], ◌∷◌, ◌++◌, map, length, length-append}
+use Rattle.std.proofs.Common.{append_assoc, take, Option, Some, None, refl, sym, ◌∙◌, ap, subst, arith}
 use Rattle.std.specs.Prelude.{slice_index_or, ◌||◌}
 use Rattle.std.proofs.lemmas.Bool.Decides.{nat_tests}
 use lib.Pointwise.{pointwise}
@@ -28,15 +29,19 @@ pub named_output : (folder : List ℕ) (t : Network) (all : List (List ℕ)) (en
 named_output folder t all entries = named_each (file_name folder t) (whole t all entries) (files_of t) Journal
 
 -- files that begin as a first part of the journal makes them
-pub cut_off : (folder : List ℕ) (t : Network) (all : List (List ℕ)) (front entries : List JournalEntry) (names : List (List ℕ)) (m : Files) (after : Option Files) →
+pub cut_off : (folder : List ℕ) (t : Network) (all : List (List ℕ)) (front entries : List JournalEntry) (names : List (List ℕ)) (m : Files)
+    (after : Option Files) →
     names ≡ map (file_name folder t) (files_of t) → IsFirstPart front entries → Framed names (Some m) after → BeginsOn names (contents_at t all front) after
     → PartWritten (output folder t all entries) m after
 cut_off folder t all front entries names m after are first framed begins =
     subst (λ f. PartWritten f m after) (ap (λ n. named n (whole_at t all entries)) are ∙ named_output folder t all entries)
     (part_written names (whole_at t all entries) m after framed
     (begins_on_more names (contents_at t all front) (whole_at t all entries) after
-    (λ k. let c = contents_first t all front entries (slice_index_or (files_of t) k Journal) first in
-    (c.0 ++ tail_of t entries (slice_index_or (files_of t) k Journal), more (contents t all front (slice_index_or (files_of t) k Journal)) c.0 (tail_of t entries (slice_index_or (files_of t) k Journal)) c.1)) begins))
+    (λ k. let c = contents_first t all front entries (slice_index_or (files_of t) k Journal) first in (
+      c.0 ++ tail_of t entries (slice_index_or (files_of t) k Journal),
+      more (contents t all front (slice_index_or (files_of t) k Journal)) c.0
+          (tail_of t entries (slice_index_or (files_of t) k Journal)) c.1,
+    )) begins))
   where
     more : (a b c : List ℕ) {d : List ℕ} → (a ++ b) ≡ d → (a ++ (b ++ c)) ≡ d ++ c
     more a b c e = sym (append_assoc a b c) ∙ ap (λ l. l ++ c) e
@@ -67,13 +72,17 @@ inside folder base =
     ∙ ap (λ b. b && (slice_index_or (folder ++ 47 ∷ base) (length folder) 0 == 47)) (front_same folder (47 ∷ base))
     ∙ ap (λ n. n == 47) (slash_there folder base)
 
-pub outside : (folder : List ℕ) (t : Network) (files : List OutputFile) (name : List ℕ) → is_inside name folder ≡ false → is_known (map (file_name folder t) files) name ≡ false
+pub outside : (folder : List ℕ) (t : Network) (files : List OutputFile) (name : List ℕ) → is_inside name folder ≡ false →
+    is_known (map (file_name folder t) files) name ≡ false
 outside folder t [] name h = refl
-outside folder t (f ∷ fs) name h = ap (λ b. b || is_known (map (file_name folder t) fs) name) (by (same_name name (file_name folder t f)) refl) ∙ outside folder t fs name h
+outside folder t (f ∷ fs) name h =
+    ap (λ b. b || is_known (map (file_name folder t) fs) name) (by (same_name name (file_name folder t f)) refl) ∙ outside folder t fs name h
   where
     by : (b : Bool) → same_name name (file_name folder t f) ≡ b → same_name name (file_name folder t f) ≡ false
     by false e = e
-    by true e = absurd (let x : false ≡ true = sym h ∙ ap (λ n. is_inside n folder) (same_name-eq name (file_name folder t f) e) ∙ inside folder (base_name t f) in cc)
+    by true e =
+        absurd (let x : false ≡ true = sym h ∙ ap (λ n. is_inside n folder) (same_name-eq name (file_name folder t f) e) ∙ inside folder (base_name t f) in
+        cc)
 
 -- 3. The packets of the capture's file, which no file of the run is
 

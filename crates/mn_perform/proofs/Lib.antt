@@ -5,3 +5,5 @@ pub mod Script
 pub mod Laying
 pub mod Ending
 pub mod Whole
+pub mod Records
+pub mod Totals

@@ -1,5 +1,6 @@
 -- What a line makes of a run part way.
-use Rattle.std.proofs.Common.{◌≡◌, ℕ, ◌+◌, Bool, true, false, List, [], ◌∷◌, ◌++◌, map, length, filter, append_assoc, append-nil, length-append, Option, Some, None, Ok, Err, refl, sym, ◌∙◌, ap, subst, arith}
+use Rattle.std.proofs.Common.{◌≡◌, ℕ, ◌+◌, Bool, true, false, List, [], ◌∷◌, ◌++◌, map, length, filter, append_assoc, append-nil, length-append, Option}
+use Rattle.std.proofs.Common.{Some, None, Ok, Err, refl, sym, ◌∙◌, ap, subst, arith}
 use Rattle.std.specs.List.{flat_map}
 use Rattle.std.proofs.lemmas.List.Concat.{flat_map-append}
 use Rattle.std.proofs.lemmas.List.Elements.{filter-append}
@@ -43,12 +44,13 @@ notes_by line All = []
 notes_by line (Refused cause) = Refusal line.number cause ∷ []
 notes_by line NoRecord = Missing line.number ∷ []
 
-notes_say : (t : Network) (all : List (List ℕ)) (line : Line) (played : Played) → flat_map (note_text t all) (notes_by line played) ≡ line_text t line.number played
+notes_say : (t : Network) (all : List (List ℕ)) (line : Line) (played : Played) →
+    flat_map (note_text t all) (notes_by line played) ≡ line_text t line.number played
 notes_say t all line All = refl
 notes_say t all line (Refused cause) = append-nil _
 notes_say t all line NoRecord = append-nil _
 
-notes_count : (line : Line) (played : Played) → count is_refusal (notes_by line played) ≡ refusals_by played
+pub notes_count : (line : Line) (played : Played) → count is_refusal (notes_by line played) ≡ refusals_by played
 notes_count line All = refl
 notes_count line (Refused cause) = refl
 notes_count line NoRecord = refl
@@ -74,11 +76,14 @@ EndsSo All how = how ≡ ending.All
 EndsSo (Refused cause) how = how ≡ ending.Refused cause
 EndsSo NoRecord how = how ≡ ending.NoRecord
 
-after_played : (run : Expansion) (line : Line) (past : Past) (played : Played) (how : Ending) → is_show line.command ≡ false → (course : Course) → course.past ≡ past
-    → course.ending ≡ how → EndsSo played how → after_line run line course.past course.ending ≡ then_run run past (notes_by line played) (sendings_by line played)
+after_played : (run : Expansion) (line : Line) (past : Past) (played : Played) (how : Ending) → is_show line.command ≡ false →
+    (course : Course) → course.past ≡ past
+    → course.ending ≡ how → EndsSo played how →
+    after_line run line course.past course.ending ≡ then_run run past (notes_by line played) (sendings_by line played)
 after_played run line past All how shows course p e h =
     ap (λ x. after_line run line x course.ending) p ∙ ap (after_line run line past) (e ∙ h)
-    ∙ ap (λ n. record run { past = past; notes = run.notes ++ n; sendings = run.sendings ++ sending_by line.number line.command }) (no_table past line.command shows)
+    ∙ ap (λ n. record run { past = past; notes = run.notes ++ n; sendings = run.sendings ++ sending_by line.number line.command })
+    (no_table past line.command shows)
 after_played run line past (Refused cause) how shows course p e h =
     ap (λ x. after_line run line x course.ending) p ∙ ap (after_line run line past) (e ∙ h)
     ∙ ap (λ s. record run { past = past; notes = run.notes ++ Refusal line.number cause ∷ []; sendings = s }) (sym (append-nil run.sendings))
@@ -87,13 +92,16 @@ after_played run line past NoRecord how shows course p e h =
     ∙ ap (λ s. record run { past = past; notes = run.notes ++ Missing line.number ∷ []; sendings = s }) (sym (append-nil run.sendings))
 
 -- the clock and the journal of a net that keeps a running run
-pub past_is : (t : Network) (all : List (List ℕ)) (begun : Option (List ℕ)) (run : Expansion) (net : NetNow) (books : BooksNow) (desk : Desk) (files : Option Files) (written : Option (List ℕ)) →
+pub past_is : (t : Network) (all : List (List ℕ)) (begun : Option (List ℕ)) (run : Expansion) (net : NetNow) (books : BooksNow) (desk : Desk)
+    (files : Option Files) (written : Option (List ℕ)) →
     run.is_stopped ≡ false → Keeps t all begun run net books desk files written → past_of net ≡ run.past
 past_is t all begun run net books desk files written running keeps =
     ap (λ c. record { clock = c; entries = net.journal }) (keeps.clock running) ∙ ap (λ e. record { clock = run.past.clock; entries = e }) keeps.journal
 
-played_is : (t : Network) (all : List (List ℕ)) (run : Expansion) (line : Line) (old new : NetNow) (played_so : Played) → is_show line.command ≡ false → past_of old ≡ run.past →
-    Takes (played t all (past_of old) line.command) new (Ok played_so) → with_line t all run line ≡ then_run run (past_of new) (notes_by line played_so) (sendings_by line played_so)
+pub played_is : (t : Network) (all : List (List ℕ)) (run : Expansion) (line : Line) (old new : NetNow) (played_so : Played) → is_show line.command ≡ false →
+    past_of old ≡ run.past →
+    Takes (played t all (past_of old) line.command) new (Ok played_so) →
+    with_line t all run line ≡ then_run run (past_of new) (notes_by line played_so) (sendings_by line played_so)
 played_is t all run line old new All shows past takes =
     let course : Course = played t all run.past line.command in
     let takes_now : Takes course new (Ok All) = subst (λ p. Takes (played t all p line.command) new (Ok All)) past takes in
@@ -118,14 +126,17 @@ line_past before line past (ending.Refused why) = refl
 line_past before line past ending.NoRecord = refl
 line_past before line past ending.TooManySteps = refl
 
-module _ (t : Network) (all : List (List ℕ)) (begun : Option (List ℕ)) (run : Expansion) (line : Line) (old new : NetNow) (books_old books : BooksNow) (desk desk_new : Desk)
-    (files files_new : Option Files) (written written_new : Option (List ℕ)) (running : run.is_stopped ≡ false) (keeps : Keeps t all begun run old books_old desk files written) where
+module _ (t : Network) (all : List (List ℕ)) (begun : Option (List ℕ)) (run : Expansion) (line : Line) (old new : NetNow) (books_old books : BooksNow)
+    (desk desk_new : Desk)
+    (files files_new : Option Files) (written written_new : Option (List ℕ)) (running : run.is_stopped ≡ false)
+    (keeps : Keeps t all begun run old books_old desk files written) where
   past : past_of old ≡ run.past
   past = past_is t all begun run old books_old desk files written running keeps
 
   -- 3. A line that was played
 
-  pub line_noted : (played_so : Played) → is_show line.command ≡ false → Takes (played t all (past_of old) line.command) new (Ok played_so) → new.topology ≡ old.topology
+  pub line_noted : (played_so : Played) → is_show line.command ≡ false → Takes (played t all (past_of old) line.command) new (Ok played_so) →
+      new.topology ≡ old.topology
       → RecordedAfter all books new files_new (Ok played_so) → Notes t line played_so desk desk_new written written_new
       → Went t all begun (with_line t all run line) new books desk_new files_new written_new (Ok ended.All)
   line_noted played_so shows takes topology after notes =
@@ -143,14 +154,16 @@ module _ (t : Network) (all : List (List ℕ)) (begun : Option (List ℕ)) (run 
               ∙ sym (count_more run.notes (notes_by line played_so) ∙ ap (λ n. count is_refusal run.notes + n) (notes_count line played_so));
           text = λ before is.
               subst (λ x. PutOn before x desk_new.page written_new)
-              (sym (text_more t all run (past_of new) (notes_by line played_so) (sendings_by line played_so) ∙ ap (λ l. notes_text t all run ++ l) (notes_say t all line played_so)))
+              (sym (text_more t all run (past_of new) (notes_by line played_so) (sendings_by line played_so)
+              ∙ ap (λ l. notes_text t all run ++ l) (notes_say t all line played_so)))
               (notes.text before (notes_text t all run) (keeps.text before is));
         },
         running,
       )
 
   -- played, and cut off as it was noted
-  pub line_cut : (fault : Fault) (played_so : Played) → is_show line.command ≡ false → Takes (played t all (past_of old) line.command) new (Ok played_so) → new.topology ≡ old.topology
+  pub line_cut : (fault : Fault) (played_so : Played) → is_show line.command ≡ false → Takes (played t all (past_of old) line.command) new (Ok played_so) →
+      new.topology ≡ old.topology
       → RecordedAfter all books new files_new (Ok played_so) → PutsPart (line_text t line.number played_so) desk.page written written_new
       → Went t all begun (with_line t all run line) new books desk_new files_new written_new (Err fault)
   line_cut fault played_so shows takes topology after part =
@@ -161,13 +174,15 @@ module _ (t : Network) (all : List (List ℕ)) (begun : Option (List ℕ)) (run 
         begins = begins_on _ _ _ _ (subst (λ n. HoldsOn books.names (contents_at n all new.journal) books.held files_new) topology_is after.1);
         text = λ before is.
             subst (λ x. PartPut x before written_new)
-            (sym (text_more t all run (past_of new) (notes_by line played_so) (sendings_by line played_so) ∙ ap (λ l. notes_text t all run ++ l) (notes_say t all line played_so)))
+            (sym (text_more t all run (past_of new) (notes_by line played_so) (sendings_by line played_so)
+            ∙ ap (λ l. notes_text t all run ++ l) (notes_say t all line played_so)))
             (part before (notes_text t all run) (keeps.text before is));
       })
 
   -- 4. A line that a full journal stopped
 
-  pub line_stopped : Takes (played t all (past_of old) line.command) new (Err TooManySteps) → new.topology ≡ old.topology → RecordedAfter {T = Played} all books new files_new (Err TooManySteps)
+  pub line_stopped : Takes (played t all (past_of old) line.command) new (Err TooManySteps) → new.topology ≡ old.topology →
+      RecordedAfter {T = Played} all books new files_new (Err TooManySteps)
       → Went t all begun (with_line t all run line) new books desk files_new written (Ok ended.TooManySteps)
   line_stopped takes topology after =
       let course : Course = played t all run.past line.command in
@@ -200,7 +215,8 @@ module _ (t : Network) (all : List (List ℕ)) (begun : Option (List ℕ)) (run 
       → Went t all begun (with_line t all run line) new books desk_new files_new written (Err fault)
   line_broken fault first topology begins =
       let course : Course = played t all run.past line.command in
-      let first_now : IsFirstPart new.journal course.past.entries = subst (λ p. IsFirstPart new.journal (played t all p line.command).past.entries) past first in
+      let first_now : IsFirstPart new.journal course.past.entries =
+      subst (λ p. IsFirstPart new.journal (played t all p line.command).past.entries) past first in
       let entries : IsFirstPart new.journal (with_line t all run line).past.entries =
       subst (λ (p : Past). IsFirstPart new.journal p.entries) (sym (line_past run line course.past course.ending)) first_now in
       record {
@@ -211,8 +227,10 @@ module _ (t : Network) (all : List (List ℕ)) (begun : Option (List ℕ)) (run 
 
 -- 6. A table
 
-module _ (t : Network) (all : List (List ℕ)) (begun : Option (List ℕ)) (run : Expansion) (number : ℕ) (table : show.Show) (net : NetNow) (books : BooksNow) (desk desk_new : Desk)
-    (files : Option Files) (written written_new : Option (List ℕ)) (running : run.is_stopped ≡ false) (keeps : Keeps t all begun run net books desk files written) where
+module _ (t : Network) (all : List (List ℕ)) (begun : Option (List ℕ)) (run : Expansion) (number : ℕ) (table : show.Show) (net : NetNow) (books : BooksNow)
+    (desk desk_new : Desk)
+    (files : Option Files) (written written_new : Option (List ℕ)) (running : run.is_stopped ≡ false)
+    (keeps : Keeps t all begun run net books desk files written) where
   abbrev showing : Line
   showing = record { number = number; command = Show table }
 
@@ -221,7 +239,8 @@ module _ (t : Network) (all : List (List ℕ)) (begun : Option (List ℕ)) (run 
       flat_map-append (note_text t all) run.notes (Table table run.past ∷ [])
       ∙ ap (λ l. notes_text t all run ++ l)
       (append-nil (table_text t run.past.entries (inputs_of all run.past.entries) table)
-      ∙ ap (λ e. table_text t e (inputs_of all e) table) (sym keeps.journal) ∙ ap (λ n. table_text n net.journal (inputs_of all net.journal) table) (sym keeps.topology_is))
+      ∙ ap (λ e. table_text t e (inputs_of all e) table) (sym keeps.journal)
+      ∙ ap (λ n. table_text n net.journal (inputs_of all net.journal) table) (sym keeps.topology_is))
 
   pub table_put : Puts (table_text net.topology net.journal (inputs_of all net.journal) table) desk.page desk_new.page written written_new
       → desk_new.sendings ≡ desk.sendings → desk_new.refused ≡ desk.refused
@@ -234,7 +253,9 @@ module _ (t : Network) (all : List (List ℕ)) (begun : Option (List ℕ)) (run 
       stands = keeps.stands;
       holds = keeps.holds;
       sendings = ap (λ s. map sending_of s.items) sendings ∙ keeps.sendings ∙ sym (append-nil run.sendings);
-      refused = refused ∙ keeps.refused ∙ sym (count_more run.notes (Table table run.past ∷ []) ∙ let e : count is_refusal run.notes + 0 ≡ count is_refusal run.notes = omega arith in e);
+      refused =
+          refused ∙ keeps.refused
+          ∙ sym (count_more run.notes (Table table run.past ∷ []) ∙ let e : count is_refusal run.notes + 0 ≡ count is_refusal run.notes = omega arith in e);
       text = λ before is. subst (λ x. PutOn before x desk_new.page written_new) (sym says) (puts before (notes_text t all run) (keeps.text before is));
     },
     running,

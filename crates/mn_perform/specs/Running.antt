@@ -75,8 +75,10 @@ abbrev pub is_stopped : Ended → Bool
 is_stopped ended.All = false
 is_stopped ended.TooManySteps = true
 
-abbrev pub Went : Network → List (List ℕ) → Option (List ℕ) → Expansion → NetNow → BooksNow → Desk → Option Files → Option (List ℕ) → Result Ended Fault → Type 0
-Went topology all begun run net books desk files written (Ok how) = Keeps topology all begun run net books desk files written × (run.is_stopped ≡ is_stopped how)
+abbrev pub Went : Network → List (List ℕ) → Option (List ℕ) → Expansion → NetNow → BooksNow → Desk → Option Files → Option (List ℕ) → Result Ended Fault →
+    Type 0
+Went topology all begun run net books desk files written (Ok how) =
+    Keeps topology all begun run net books desk files written × (run.is_stopped ≡ is_stopped how)
 Went topology all begun run net books desk files written (Err fault) = Breaks topology all begun run books.names files written
 
 -- 3. At a line of a script

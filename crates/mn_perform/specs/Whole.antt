@@ -2,7 +2,7 @@
 use Rattle.std.specs.Prelude.{◌≡◌, ◌⊎◌, ℕ, Bool, cond, List, ◌++◌, map, Option, Some, Result, Ok, Err, codes, ⊤}
 use Rattle.std.specs.Option.{ForSome}
 use Rattle.mn_edge.specs.Files.{Files, file}
-use Rattle.mn_edge.specs.Written.{laid, PartWritten}
+use Rattle.mn_edge.specs.Written.{laid, IsPart, PartWritten}
 use Rattle.mn_topo.specs.Network.{Network}
 use Rattle.mn_script.specs.declared.command.Line.{Line}
 use Rattle.mn_ledger.specs.Packets.{Packets}
@@ -20,12 +20,14 @@ use Rattle.mn_perform.specs.Running.{is_stopped, notes_text}
 use Rattle.mn_perform.specs.declared.desk.Desk.{Desk}
 use Rattle.mn_perform.specs.declared.ended.Ended.{Ended}
 use Rattle.mn_perform.specs.declared.ended.Fault.{Fault}
+use Rattle.mn_perform.specs.declared.ended.Fault.TheVariants.{Read}
 
 -- what is put once no line follows
 abbrev pub last_text : NetNow → Desk → Ended → Packets → List ℕ
 last_text net desk how packets =
     cond (is_stopped how) (codes "too large steps\n")
-    (packet_lines net.topology 1 (map sending_of desk.sendings.items) packets.verdicts packets.paths ++ total_line (totals_by net desk.refused packets.verdicts))
+    (packet_lines net.topology 1 (map sending_of desk.sendings.items) packets.verdicts packets.paths ++ total_line
+    (totals_by net desk.refused packets.verdicts))
 
 -- where the shelf tells the capture's file, what is answered of the run is this
 abbrev pub ForRun : (RunAnswer → Files → Type 0) → List ℕ → Network → List Line → CaptureView → Option Files → Type 0
@@ -36,6 +38,18 @@ ForRun P folder topology lines capture files =
 abbrev pub FilesOf : RunAnswer → Files → Option Files → Result Ended Fault → Type 0
 FilesOf answer m after (Ok how) = after ≡ Some (laid answer.files m)
 FilesOf answer m after (Err fault) = PartWritten answer.files m after
+
+-- each of the files was begun: it has a first part of its bytes, and no other file has changed
+pub record AllBegun (files : List (List ℕ × List ℕ)) (m : Files) (after : Option Files) : Type 0 where
+  pub stands : List (List ℕ × List ℕ)
+  pub names : map (λ f. f.0) stands ≡ map (λ f. f.0) files
+  pub is_part : IsPart stands files
+  pub after_is : after ≡ Some (laid stands m)
+
+-- a read fails only once every file was begun
+abbrev pub BegunAtRead : {T : Type 0} → List (List ℕ × List ℕ) → Files → Option Files → Result T Fault → Type 0
+BegunAtRead files m after (Err Read) = AllBegun files m after
+BegunAtRead files m after result = ⊤
 
 -- what was put is the run's report; after a fault a first part of it
 abbrev pub TextOf : RunAnswer → List ℕ → Option (List ℕ) → Result Ended Fault → Type 0
@@ -51,7 +65,8 @@ EndsAs answer (Err fault) = ⊤
 abbrev pub TellsLate : List ℕ → Network → List Line → CaptureView → RunAnswer → Files → Option Files → List ℕ → Option (List ℕ) → Type 0
 TellsLate folder topology lines capture answer m after before written =
     (after ≡ Some (laid answer.files m))
-    ⊎ ForSome (file m capture.name) (λ bytes. PartPut (notes_text topology (packets_in capture bytes) (expanded topology (packets_in capture bytes) lines)) before written)
+    ⊎ ForSome (file m capture.name)
+    (λ bytes. PartPut (notes_text topology (packets_in capture bytes) (expanded topology (packets_in capture bytes) lines)) before written)
 
 -- the same of a run by the packets of its capture and the names of its files
 abbrev pub RunEnds : Network → List (List ℕ) → List Line → Result Ended Fault → Type 0

@@ -7,12 +7,17 @@
 //! - `lines`: the lines of a script, one after another
 //! - `desk`: what is kept for the report
 //! - `ended`: how a run ends
+//! - `total`, `memory`: a run over a capture in memory, of which only the total is told
 #![tactic(auto)]
 
 mod desk;
 mod ended;
 mod lines;
+mod memory;
 mod run;
+mod total;
 
 pub use ended::{Ended, Fault};
+pub use memory::MemoryCapture;
 pub use run::perform;
+pub use total::tally;

@@ -1,5 +1,5 @@
 //! A whole run.
-ghost use Rattle.std.specs.Prelude.{◌≡◌, ◌⊎◌, ◌≤◌, ◌++◌, [], false, List, ℕ, length, Some, Ok, OnOk, OnErr};
+ghost use Rattle.std.specs.Prelude.{◌≡◌, ◌≢◌, ◌⊎◌, ◌≤◌, ◌++◌, [], false, List, ℕ, length, Some, Ok, Err, OnOk, OnErr};
 ghost use Rattle.std.specs.Option.{ForSome};
 ghost use Rattle.mn_edge.specs.Files.{Files};
 ghost use Rattle.mn_edge.specs.Kept.{Framed};
@@ -16,7 +16,7 @@ ghost use Rattle.mn_perform.specs.Inside.{is_inside};
 ghost use Rattle.mn_record.specs.Recorded.{IsFor, told_packets};
 ghost use Rattle.mn_course.specs.Expansion.{start_of};
 ghost use Rattle.mn_perform.specs.Running.{Keeps, Stands, notes_text};
-ghost use Rattle.mn_perform.specs.Whole.{last_text, RunEnds, RunFiles, RunText, IsLate, ForRun, FilesOf, TextOf, EndsAs, TellsLate};
+ghost use Rattle.mn_perform.specs.Whole.{last_text, whole_files, BegunAtRead, RunEnds, RunFiles, RunText, IsLate, ForRun, FilesOf, TextOf, EndsAs, TellsLate};
 
 use crate::desk::Desk;
 use crate::ended::{Ended, Fault};
@@ -51,6 +51,7 @@ fn finish<S: Shelf, O: Sink>(
     ensures late { OnErr result ((base : Files) (all : List (List ℕ)) (before notes : List ℕ) → Framed books.old.names (Some base) (S.files shelf.old) →
         Stands all net.now books.old (S.files shelf.old) → PutOn before notes desk.old.page (O.written out.old) →
         (S.files shelf.new ≡ Some (laid (named books.old.names (whole_at net.now.topology all net.now.journal)) base)) ⊎ PartPut notes before (O.written out.new)) }
+    ensures unread { result ≢ Err Fault.Read }
     ensures cause { Blamed (S.read_faults shelf.old, S.write_faults shelf.old, O.faults out.old)
         (S.read_faults shelf.new, S.write_faults shelf.new, O.faults out.new) result }
 {
@@ -88,6 +89,8 @@ fn run<S: Shelf, O: Sink>(
         RunText net.old.topology all lines.now before (O.written out.new) result)) }
     ensures late { ForSome (told_packets (S.files shelf.old) books.old.names capture.now) (λ all. (base : Files) → Framed books.old.names (Some base) (S.files shelf.old) →
         ForSome (O.written out.old) (λ before. IsLate net.old.topology all lines.now books.old.names base (S.files shelf.new) before (O.written out.new))) }
+    ensures begun { ForSome (told_packets (S.files shelf.old) books.old.names capture.now) (λ all. (base : Files) → Framed books.old.names (Some base) (S.files shelf.old) →
+        BegunAtRead (whole_files net.old.topology all lines.now books.old.names) base (S.files shelf.new) result) }
     ensures cause { Blamed (S.read_faults shelf.old, S.write_faults shelf.old, O.faults out.old)
         (S.read_faults shelf.new, S.write_faults shelf.new, O.faults out.new) result }
 {
@@ -121,6 +124,8 @@ pub fn perform<S: Shelf, O: Sink>(
     // Nothing of packets and total is put but where every file is whole.
     ensures late { ForRun (λ answer m. ForSome (O.written out.old) (λ before. TellsLate folder.now topology lines.now capture.now answer m (S.files shelf.new) before (O.written out.new)))
         folder.now topology lines.now capture.now (S.files shelf.old) }
+    // A read fails only once every file was begun.
+    ensures begun { ForRun (λ answer m. BegunAtRead answer.files m (S.files shelf.new) result) folder.now topology lines.now capture.now (S.files shelf.old) }
     ensures cause { Blamed (S.read_faults shelf.old, S.write_faults shelf.old, O.faults out.old)
         (S.read_faults shelf.new, S.write_faults shelf.new, O.faults out.new) result }
 {

@@ -1,5 +1,6 @@
 -- What is left where a call is cut off.
-use Rattle.std.proofs.Common.{◌≡◌, ◌<◌, ◌+◌, ℕ, zero, suc, length, get_or, String, string_bytes, arith, List, [], ◌∷◌, ◌++◌, take, drop, Option, Some, None, refl, sym, ◌∙◌, ap, append_assoc, inl, inr, IsSomeAnd, Bool, true, subst}
+use Rattle.std.proofs.Common.{◌≡◌, ◌≤◌, ◌<◌, ◌+◌, ℕ, zero, suc, length, get_or, String, string_bytes, arith, List, [], ◌∷◌, ◌++◌, take, drop, Option, Some}
+use Rattle.std.proofs.Common.{None, refl, sym, ◌∙◌, ap, append_assoc, inl, inr, IsSomeAnd, Bool, true, subst}
 use Rattle.std.specs.declared.alloc.Global.{Global}
 use Rattle.std.proofs.lemmas.List.{take-append-drop, append-nil, take_more, map-append}
 use Rattle.std.proofs.lemmas.Grind.{flat_map-append}
@@ -9,15 +10,17 @@ use Rattle.mn_run.specs.declared.outcome.Outcome.{Outcome}
 use Rattle.mn_run.specs.declared.outcome.Outcome.TheVariants.{Done, Usage, ReadFault, WriteFault, NoMemory, BadTopology, BadScript, BadCapture, TooLarge}
 use Rattle.mn_lines.specs.Putting.{PartPut}
 use Rattle.mn_run.specs.Answer.{Answer, refusal}
-use Rattle.mn_run.specs.Endings.{PartText, PartFiles, OutcomeIs, FilesAre, IsLate, CausedBy, Completes, Counts, UsageIff}
+use Rattle.mn_run.specs.Endings.{PartText, PartFiles, OutcomeIs, FilesAre, IsLate, IsUnread, CausedBy, Completes, Counts, UsageIff}
 
 -- the first bytes of the next piece
-pub part_put : (done piece rest t : List ℕ) (n : ℕ) (after : Option (List ℕ)) → after ≡ Some ((t ++ done) ++ take n piece) → PartPut (done ++ (piece ++ rest)) t after
+pub part_put : (done piece rest t : List ℕ) (n : ℕ) (after : Option (List ℕ)) → after ≡ Some ((t ++ done) ++ take n piece) →
+    PartPut (done ++ (piece ++ rest)) t after
 part_put done piece rest t n after e = (
   done ++ take n piece,
   (
     drop n piece ++ rest,
-    append_assoc done (take n piece) (drop n piece ++ rest) ∙ ap (λ l. done ++ l) (sym (append_assoc (take n piece) (drop n piece) rest) ∙ ap (λ l. l ++ rest) (take-append-drop n piece)),
+    append_assoc done (take n piece) (drop n piece ++ rest)
+        ∙ ap (λ l. done ++ l) (sym (append_assoc (take n piece) (drop n piece) rest) ∙ ap (λ l. l ++ rest) (take-append-drop n piece)),
   ),
   e ∙ ap Some (append_assoc t done (take n piece)),
 )
@@ -100,10 +103,26 @@ files_untouched a m after (BadScript rule line) none same = same ∙ ap (λ f. S
 files_untouched a m after (BadCapture rule place) none same = same ∙ ap (λ f. Some (laid f m)) (sym none)
 files_untouched a m after (TooLarge which limit) none same = same ∙ ap (λ f. Some (laid f m)) (sym none)
 
-pub whole_untouched : (a : Answer) (m : Files) (after : Option Files) (before : List ℕ) (written : Option (List ℕ)) → a.files ≡ [] → after ≡ Some m → IsLate (Some a) m after before written
+pub whole_untouched : (a : Answer) (m : Files) (after : Option Files) (before : List ℕ) (written : Option (List ℕ)) → a.files ≡ [] → after ≡ Some m →
+    IsLate (Some a) m after before written
 whole_untouched a m after before written none same = inl (same ∙ ap (λ f. Some (laid f m)) (sym none))
 
 -- nothing was put
-pub nothing_put : (a : Option Answer) (m : Files) (after : Option Files) (before : List ℕ) (written : Option (List ℕ)) → written ≡ Some before → IsLate a m after before written
+pub nothing_put : (a : Option Answer) (m : Files) (after : Option Files) (before : List ℕ) (written : Option (List ℕ)) → written ≡ Some before →
+    IsLate a m after before written
 nothing_put None m after before written is = tt
 nothing_put (Some x) m after before written is = inr ([], (x.early, refl), is ∙ ap Some (sym (append-nil before)))
+
+-- no read fails in a call on the sink alone
+pub sink_unread : (a : Option Answer) (m : Files) (after : Option Files) (before : List ℕ) (written : Option (List ℕ)) (old new : ℕ) (o : Outcome) →
+    CausedBy (0, 0, old) (0, 0, new) o
+    → IsUnread a m after before written o
+sink_unread a m after before written old new ReadFault h = absurd (let e : 1 ≤ 0 = h.0.1 in omega (arith, e))
+sink_unread a m after before written old new Done h = tt
+sink_unread a m after before written old new Usage h = tt
+sink_unread a m after before written old new WriteFault h = tt
+sink_unread a m after before written old new NoMemory h = tt
+sink_unread a m after before written old new (BadTopology rule place) h = tt
+sink_unread a m after before written old new (BadScript rule line) h = tt
+sink_unread a m after before written old new (BadCapture rule place) h = tt
+sink_unread a m after before written old new (TooLarge which limit) h = tt

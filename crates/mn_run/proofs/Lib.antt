@@ -3,3 +3,4 @@ pub mod Ending
 pub mod Loading
 pub mod Accounting
 pub mod Playing
+pub mod Generating

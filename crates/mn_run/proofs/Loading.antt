@@ -1,6 +1,6 @@
 -- The answer, input by input.
-use Rattle.std.proofs.Common.{◌≡◌, ℕ, ◌<◌, true, List, length, get_or, [], ◌==◌, String, Global, string_bytes, Option, Some, Result, Ok, Err, sym, ◌∙◌, ap, subst, arith}
-use Rattle.std.proofs.lemmas.Bool.Decides.{nat_tests}
+use Rattle.std.proofs.Common.{◌≡◌, ℕ, ◌<◌, true, List, length, get_or, [], String, Global, string_bytes, Option, Some, Result, Ok, Err, sym, ◌∙◌, ap, subst}
+use Rattle.std.proofs.Common.{arith}
 use Rattle.std.proofs.lemmas.List.{get_or-map, length-map}
 use Rattle.mn_base.proofs.Bools.{and_left}
 use Rattle.mn_edge.specs.Written.{texts}
@@ -12,13 +12,11 @@ use Rattle.mn_run.specs.declared.load.Inputs.{Inputs}
 use Rattle.mn_run.specs.declared.outcome.Outcome.{Outcome}
 use Rattle.mn_run.specs.Answer.{run_done, answer_over, run_over, run_answer}
 use Rattle.mn_run.specs.Jobs.{TopologyIs, OverIs, LoadedIs, AreOver, AreRead}
-use Rattle.mn_run.proofs.Accounting.{is_two}
+use Rattle.mn_run.proofs.Accounting.{is_two, is_five}
 
-pub word_at : (words : List (String Global)) (i : ℕ) (s : String Global) (name : List ℕ) → i < length words → s ≡ get_or words i s → name ≡ string_bytes s → word (texts words) i ≡ name
+pub word_at : (words : List (String Global)) (i : ℕ) (s : String Global) (name : List ℕ) → i < length words → s ≡ get_or words i s → name ≡ string_bytes s →
+    word (texts words) i ≡ name
 word_at words i s name within is text = get_or-map string_bytes words i s [] within ∙ ap string_bytes (sym is) ∙ sym text
-
-is_five : (n : ℕ) → (n == 5) ≡ true → n ≡ 5
-is_five n h = grind (arith, nat_tests)
 
 -- a run has five words
 pub run_len : (words : List (String Global)) → is_run (texts words) ≡ true → length words ≡ 5
@@ -29,7 +27,8 @@ pub check_len : (words : List (String Global)) → is_check (texts words) ≡ tr
 check_len words h = rw length-map at (is_two (length (texts words)) (and_left _ _ h))
 
 -- a topology, and what was read over it
-pub loaded : (t : Network) (topology script capture : List ℕ) (files : Files) (l : Result Inputs Outcome) → TopologyIs (file files topology) (Ok t) → OverIs t script capture files l
+pub loaded : (t : Network) (topology script capture : List ℕ) (files : Files) (l : Result Inputs Outcome) → TopologyIs (file files topology) (Ok t) →
+    OverIs t script capture files l
     → LoadedIs topology script capture files l
 loaded t topology script capture files (Ok inputs) read over = record {
   over = subst (λ x. AreOver x script capture files inputs) (sym over.over) over;

@@ -1,5 +1,5 @@
 -- The end of a played script as the end of the call.
-use Rattle.std.proofs.Common.{◌≡◌, ℕ, true, false, cond, List, ◌++◌, Option, Some, Ok, Err, Result, inl, inr, refl, sym, ◌∙◌, ap}
+use Rattle.std.proofs.Common.{◌≡◌, ℕ, true, false, cond, List, [], ◌∷◌, ◌++◌, Option, Some, Ok, Err, Result, inl, inr, refl, sym, ◌∙◌, ap}
 use Rattle.std.specs.Prelude.{◌⊎◌}
 use Rattle.mn_edge.specs.Files.{Files, file}
 use Rattle.mn_topo.specs.Network.{Network}
@@ -11,16 +11,20 @@ use Rattle.mn_perform.specs.declared.ended.Ended.TheVariants as ended
 use Rattle.mn_perform.specs.declared.ended.Fault.{Fault}
 use Rattle.mn_perform.specs.declared.ended.Fault.TheVariants as fault
 use Rattle.mn_perform.specs.Faults.{Counts, Blamed}
-use Rattle.mn_perform.specs.Whole.{EndsAs, FilesOf, TextOf, TellsLate}
+use Rattle.mn_perform.specs.Whole.{EndsAs, FilesOf, BegunAtRead, TextOf, TellsLate}
 use Rattle.mn_run.specs.declared.outcome.Outcome.{Outcome}
 use Rattle.mn_run.specs.declared.outcome.Outcome.TheVariants.{Done, Usage, TooLarge}
 use Rattle.mn_run.specs.declared.outcome.Limit.TheVariants.{Steps}
 use Rattle.mn_run.specs.Answer.{run_done}
-use Rattle.mn_run.specs.Endings.{OutcomeIs, FilesAre, TextIs, CausedBy, IsLate}
+use Rattle.mn_run.specs.Endings.{OutcomeIs, FilesAre, TextIs, CausedBy, IsLate, IsUnread}
 use Rattle.mn_run.specs.Jobs.{outcome_of}
 
+not_nil : {A : Type 0} (x : A) (xs : List A) → x ∷ xs ≡ [] → ⊥
+not_nil x xs e = cc
+
 module _ (folder : List ℕ) (t : Network) (lines : List Line) (packets : List (List ℕ)) where
-  pub ends : (result : Result Ended Fault) → EndsAs (output.run_answer folder t lines packets) result → OutcomeIs (Some (run_done folder t lines packets)) (outcome_of result)
+  pub ends : (result : Result Ended Fault) → EndsAs (output.run_answer folder t lines packets) result →
+      OutcomeIs (Some (run_done folder t lines packets)) (outcome_of result)
   unfolding run_done
   ends (Ok ended.All) h = ap (λ b. cond b (TooLarge Steps 4000000) Done) h
   ends (Ok ended.TooManySteps) h = ap (λ b. cond b (TooLarge Steps 4000000) Done) h
@@ -46,6 +50,16 @@ module _ (folder : List ℕ) (t : Network) (lines : List Line) (packets : List (
   tells before after (Err fault.Write) h = h
   tells before after (Err fault.NoMemory) h = h
 
+  pub unread : (m : Files) (after : Option Files) (before : List ℕ) (written : Option (List ℕ)) (result : Result Ended Fault)
+      → BegunAtRead (output.run_answer folder t lines packets).files m after result →
+      IsUnread (Some (run_done folder t lines packets)) m after before written (outcome_of result)
+  unfolding run_done
+  unread m after before written (Ok ended.All) h = tt
+  unread m after before written (Ok ended.TooManySteps) h = tt
+  unread m after before written (Err fault.Read) h = inr (λ e. not_nil _ _ e, h)
+  unread m after before written (Err fault.Write) h = tt
+  unread m after before written (Err fault.NoMemory) h = tt
+
 pub blames : (old new : Counts) (result : Result Ended Fault) → Blamed old new result → CausedBy old new (outcome_of result)
 blames old new (Ok ended.All) h = h
 blames old new (Ok ended.TooManySteps) h = h
@@ -60,7 +74,8 @@ no_usage (Err fault.Read) h = cc
 no_usage (Err fault.Write) h = cc
 no_usage (Err fault.NoMemory) h = cc
 
-pub late : (folder : List ℕ) (t : Network) (lines : List Line) (capture : CaptureView) (m : Files) (bytes : List ℕ) (after : Option Files) (before : List ℕ) (written : Option (List ℕ))
+pub late : (folder : List ℕ) (t : Network) (lines : List Line) (capture : CaptureView) (m : Files) (bytes : List ℕ) (after : Option Files) (before : List ℕ)
+    (written : Option (List ℕ))
     → file m capture.name ≡ Some bytes → TellsLate folder t lines capture (output.run_answer folder t lines (packets_in capture bytes)) m after before written
     → IsLate (Some (run_done folder t lines (packets_in capture bytes))) m after before written
 unfolding run_done

@@ -1,11 +1,12 @@
 -- How a call may end, beside the answer that is to be given.
-use Rattle.std.specs.Prelude.{◌≡◌, ◌⊎◌, ◌≤◌, ℕ, Bool, true, false, List, ◌++◌, Option, Some, MatchOption, IsSomeAnd, ⊤}
+use Rattle.std.specs.Prelude.{◌≡◌, ◌≢◌, ◌⊎◌, ◌≤◌, ℕ, Bool, true, false, List, [], ◌++◌, Option, Some, MatchOption, IsSomeAnd, ⊤}
 use Rattle.mn_run.specs.declared.outcome.Outcome.{Outcome}
 use Rattle.mn_run.specs.declared.outcome.Outcome.TheVariants.{Usage, ReadFault, WriteFault, NoMemory}
 use Rattle.mn_edge.specs.Files.{Files}
 use Rattle.mn_edge.specs.Faults.{Rose}
 use Rattle.mn_edge.specs.Written.{laid, IsPrefix, PartWritten}
 use Rattle.mn_lines.specs.Putting.{PartPut}
+use Rattle.mn_perform.specs.Whole.{AllBegun}
 use Rattle.mn_run.specs.Answer.{Answer}
 
 -- the call was cut off: the answer's files stand in part, or nothing was begun where there is no answer
@@ -40,6 +41,12 @@ TextIs answer before after outcome = IsSomeAnd answer (λ a. after ≡ Some (bef
 -- more than the early part of the text was put only where every file is whole
 abbrev pub IsLate : Option Answer → Files → Option Files → List ℕ → Option (List ℕ) → Type 0
 IsLate answer files after before written = MatchOption answer ⊤ (λ a. (after ≡ Some (laid a.files files)) ⊎ PartPut a.early before written)
+
+-- where an input could not be read no file was begun and nothing was put; a read that failed later found every file of the run begun
+abbrev pub IsUnread : Option Answer → Files → Option Files → List ℕ → Option (List ℕ) → Outcome → Type 0
+IsUnread answer files after before written ReadFault =
+    ((after ≡ Some files) × (written ≡ Some before)) ⊎ IsSomeAnd answer (λ a. (a.files ≢ []) × AllBegun a.files files after)
+IsUnread answer files after before written outcome = ⊤
 
 -- the counts of faults: of the shelf's reads, of its writes, of the sink
 abbrev pub Counts : Type 0

@@ -14,17 +14,23 @@ use Rattle.mn_course.specs.Course.{inputs_of}
 use Rattle.mn_course.specs.Expansion.{Expansion, expanded}
 use Rattle.mn_course.specs.Lawful.{IsLawfulRun}
 use Rattle.mn_output.specs.Contents.{output}
-use Rattle.mn_output.specs.Report.{report}
+use Rattle.mn_output.specs.Report.{totals_of, report}
+use Rattle.mn_ledger.specs.Ledger.{packets_of}
+use Rattle.mn_lines.specs.Lines.{total_line}
+use Rattle.mn_gen.specs.Topology.{topology_text}
+use Rattle.mn_gen.specs.Script.{script_text}
+use Rattle.mn_gen.specs.Capture.{capture_bytes}
 use Rattle.mn_run.specs.declared.outcome.Outcome.{Outcome}
 use Rattle.mn_run.specs.declared.outcome.Outcome.TheVariants.{Done}
-use Rattle.mn_run.specs.Words.{word, is_run, is_check}
-use Rattle.mn_run.specs.Answer.{check_line}
+use Rattle.mn_run.specs.Words.{word, is_run, is_check, generator_number}
+use Rattle.mn_run.specs.Answer.{check_line, generated_line}
 
 -- the script makes a journal of lawful steps, and every packet that it sends is accounted for: it reached only the site of the
 -- best route that its VRF held as it was sent, unchanged but for TTL and checksum, or it fell to the first rule that applied, or
 -- it is on its way; in a settled, connected network it arrives; what was put is the report of that journal, the files are its
 -- own, and no other file changed
-pub record KeepsItsPromise (topology_name script_name capture_name folder : List ℕ) (files : Files) (before : List ℕ) (after : Option Files) (written : Option (List ℕ)) : Type 0 where
+pub record KeepsItsPromise (topology_name script_name capture_name folder : List ℕ) (files : Files) (before : List ℕ) (after : Option Files)
+    (written : Option (List ℕ)) : Type 0 where
   pub topology : Network
   pub script : List Line
   pub packets : List (List ℕ)
@@ -46,14 +52,36 @@ pub record TellsTopology (words : List (List ℕ)) (files : Files) (before : Lis
   pub lines : written ≡ Some (before ++ check_line topology)
   pub same : after ≡ Some files
 
+-- the inputs that the generator makes of the number are accepted; their journal is lawful and accounts for every packet that the
+-- script sends; what was put is the number, and what all came to
+pub record TellsTotal (number : ℕ) (before : List ℕ) (written : Option (List ℕ)) : Type 0 where
+  pub topology : Network
+  pub script : List Line
+  pub packets : List (List ℕ)
+  pub run : Expansion
+  pub topology_read : topology_of (topology_text number) ≡ Ok topology
+  pub script_read : script_of topology (script_text number) ≡ Ok script
+  pub capture_read : pcap.packets_of (capture_bytes number) ≡ Ok packets
+  pub played : run ≡ expanded topology packets script
+  pub lawful : IsLawfulRun topology packets run
+  pub accounts : Accounts topology run.past.entries (inputs_of packets run.past.entries)
+  pub arrives : ItArrives topology run.past.entries (inputs_of packets run.past.entries)
+  pub lines : written ≡ Some
+      (before ++ (generated_line number ++ total_line (totals_of run (packets_of topology run.past.entries (inputs_of packets run.past.entries)).verdicts)))
+
+abbrev pub IsGenerated : ℕ → List ℕ → Option (List ℕ) → Outcome → Type 0
+IsGenerated number before written Done = TellsTotal number before written
+IsGenerated number before written outcome = ⊤
+
 -- where all was done, a run over the files of these names keeps its promise
 abbrev pub IsKept : List ℕ → List ℕ → List ℕ → List ℕ → Files → List ℕ → Option Files → Option (List ℕ) → Outcome → Type 0
 IsKept topology script capture folder files before after written Done = KeepsItsPromise topology script capture folder files before after written
 IsKept topology script capture folder files before after written outcome = ⊤
 
--- where all was done, a run keeps its promise and a check tells the topology
+-- where all was done, a run keeps its promise, a check tells the topology, and the generator's run tells the total and changes no file
 abbrev pub HeadlineIs : List (List ℕ) → Files → List ℕ → Option Files → Option (List ℕ) → Outcome → Type 0
 HeadlineIs words files before after written Done =
     (is_run words ≡ true → KeepsItsPromise (word words 1) (word words 2) (word words 3) (word words 4) files before after written)
     × (is_check words ≡ true → TellsTopology words files before after written)
+    × ((number : ℕ) → generator_number words ≡ Some number → TellsTotal number before written × (after ≡ Some files))
 HeadlineIs words files before after written outcome = ⊤

@@ -17,7 +17,13 @@ use Rattle.mn_run.specs.declared.load.Inputs.{Inputs}
 use Rattle.mn_run.specs.declared.outcome.Limit.TheVariants.{Steps}
 use Rattle.mn_run.specs.declared.outcome.Outcome.{Outcome}
 use Rattle.mn_run.specs.declared.outcome.Outcome.TheVariants.{Done, Usage, ReadFault, WriteFault, NoMemory, BadTopology, BadScript, BadCapture, TooLarge}
-use Rattle.mn_run.specs.Answer.{Answer, refusal, run_done, answer_over, run_over, with_topology, with_script, with_capture}
+use Rattle.mn_gen.specs.Topology.{topology_text}
+use Rattle.mn_gen.specs.Script.{script_text}
+use Rattle.mn_gen.specs.Capture.{capture_bytes}
+use Rattle.mn_perform.specs.Memory.{MemoryView, packets_at}
+use Rattle.mn_run.specs.declared.generate.Made.{Made}
+use Rattle.mn_run.specs.Answer.{Answer, refusal, run_done, answer_over, run_over, with_topology, with_script, with_capture, with_capture_bytes}
+use Rattle.mn_run.specs.Answer.{generated_done, generated_over, generated}
 
 -- an outcome that refuses the words or an input
 abbrev pub IsRefusal : Outcome → Type 0
@@ -53,7 +59,8 @@ TopologyIs input (Err outcome) = (next : Network → Option Answer) → with_top
 -- the same of a script
 abbrev pub ScriptIs : Network → Option (List ℕ) → Result (Vec Line Global) Outcome → Type 0
 ScriptIs topology input (Ok script) =
-    (option_map (script_of topology) input ≡ Some (Ok script.items)) × ((next : List Line → Option Answer) → with_script topology input next ≡ next script.items)
+    (option_map (script_of topology) input ≡ Some (Ok script.items))
+    × ((next : List Line → Option Answer) → with_script topology input next ≡ next script.items)
 ScriptIs topology input (Err outcome) = (next : List Line → Option Answer) → with_script topology input next ≡ Some (refusal outcome)
 
 -- its lines fit the topology, and are few, also where the shelf tells no content
@@ -64,8 +71,15 @@ ScriptFits topology (Err outcome) = ⊤
 -- the same of a capture, by the places of its records
 abbrev pub CaptureIs : Option (List ℕ) → Result CaptureView Outcome → Type 0
 CaptureIs input (Ok capture) =
-    (bytes : List ℕ) × (input ≡ Some bytes) × (pcap.packets_of bytes ≡ Ok (packets_in capture bytes)) × ((next : List (List ℕ) → Option Answer) → with_capture input next ≡ next (packets_in capture bytes))
+    (bytes : List ℕ) × (input ≡ Some bytes) × (pcap.packets_of bytes ≡ Ok (packets_in capture bytes)) × ((next : List (List ℕ) → Option Answer) →
+    with_capture input next ≡ next (packets_in capture bytes))
 CaptureIs input (Err outcome) = (next : List (List ℕ) → Option Answer) → with_capture input next ≡ Some (refusal outcome)
+
+-- the same of a capture in memory
+abbrev pub HeldIs : List ℕ → Result MemoryView Outcome → Type 0
+HeldIs bytes (Ok capture) =
+    (pcap.packets_of bytes ≡ Ok (packets_at capture)) × ((next : List (List ℕ) → Option Answer) → with_capture_bytes bytes next ≡ next (packets_at capture))
+HeldIs bytes (Err outcome) = (next : List (List ℕ) → Option Answer) → with_capture_bytes bytes next ≡ Some (refusal outcome)
 
 abbrev pub CaptureOf : List ℕ → Result CaptureView Outcome → Type 0
 CaptureOf name (Ok capture) = capture.name ≡ name
@@ -78,7 +92,8 @@ pub record AreOver (topology : Network) (script capture : List ℕ) (files : Fil
   pub over : inputs.topology ≡ topology
   pub script_read : option_map (script_of topology) (file files script) ≡ Some (Ok inputs.lines.items)
   pub capture_read : option_map pcap.packets_of (file files capture) ≡ Some (Ok (packets_in inputs.capture bytes))
-  pub answer : (folder : List ℕ) → answer_over folder files script capture topology ≡ Some (run_done folder topology inputs.lines.items (packets_in inputs.capture bytes))
+  pub answer : (folder : List ℕ) →
+      answer_over folder files script capture topology ≡ Some (run_done folder topology inputs.lines.items (packets_in inputs.capture bytes))
 
 pub record AreRead (topology script capture : List ℕ) (files : Files) (inputs : Inputs) : Type 0 where
   pub over : AreOver inputs.topology script capture files inputs
@@ -97,6 +112,30 @@ LoadedIs topology script capture files (Err outcome) = (folder : List ℕ) → r
 abbrev pub InputsFit : List ℕ → Result Inputs Outcome → Type 0
 InputsFit name (Ok inputs) = AllFit inputs.topology inputs.lines.items × (length inputs.lines.items ≤ 3000000) × (inputs.capture.name ≡ name)
 InputsFit name (Err outcome) = ⊤
+
+-- script and capture of the generator's number over a topology, and all three inputs: they were read, and the answer is that of
+-- their run
+pub record AreMadeOver (number : ℕ) (topology : Network) (made : Made) : Type 0 where
+  pub over : made.topology ≡ topology
+  pub script_read : script_of topology (script_text number) ≡ Ok made.lines.items
+  pub capture_read : pcap.packets_of (capture_bytes number) ≡ Ok (packets_at made.capture)
+  pub answer : generated_over number topology ≡ Some (generated_done number topology made.lines.items (packets_at made.capture))
+  pub fit : AllFit topology made.lines.items
+  pub few : length made.lines.items ≤ 3000000
+
+pub record AreMade (number : ℕ) (made : Made) : Type 0 where
+  pub over : AreMadeOver number made.topology made
+  pub topology_read : topology_of (topology_text number) ≡ Ok made.topology
+  pub answer : generated number ≡ Some (generated_done number made.topology made.lines.items (packets_at made.capture))
+
+-- or one was refused, and that is the answer
+abbrev pub MadeOverIs : ℕ → Network → Result Made Outcome → Type 0
+MadeOverIs number topology (Ok made) = AreMadeOver number topology made
+MadeOverIs number topology (Err outcome) = generated_over number topology ≡ Some (refusal outcome)
+
+abbrev pub MadeIs : ℕ → Result Made Outcome → Type 0
+MadeIs number (Ok made) = AreMade number made
+MadeIs number (Err outcome) = generated number ≡ Some (refusal outcome)
 
 -- how a call ends that played a script
 abbrev pub outcome_of : Result Ended Fault → Outcome

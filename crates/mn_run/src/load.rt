@@ -5,26 +5,15 @@ ghost use Rattle.mn_edge.specs.Faults.{Counted};
 ghost use Rattle.mn_edge.specs.Files.{file};
 
 use crate::outcome::{Limit, Outcome};
+use crate::parse::{
+    MOST_CAPTURE_BYTES, MOST_CAPTURE_RECORDS, MOST_SCRIPT_BYTES, MOST_TOPOLOGY_BYTES, parse_script,
+    parse_topology, too_large,
+};
 use mn_capture::{Capture, Scanned, scan};
 use mn_edge::{Content, DeviceBad, Shelf, read_all};
-use mn_script::{Line, ScriptBad, count_lines, read_script};
-use mn_topo::{TopoBad, Topology, read_topology};
+use mn_script::Line;
+use mn_topo::Topology;
 use std::alloc::Global;
-
-/// The most bytes of a topology: 1 MiB.
-const MOST_TOPOLOGY_BYTES: u64 = 1 << 20;
-
-/// The most bytes of a script: 64 MiB.
-const MOST_SCRIPT_BYTES: u64 = 1 << 26;
-
-/// The most lines of a script.
-const MOST_SCRIPT_LINES: u64 = 3_000_000;
-
-/// The most bytes of a capture: 64 MiB.
-const MOST_CAPTURE_BYTES: u64 = 1 << 26;
-
-/// The most whole records of a capture.
-const MOST_CAPTURE_RECORDS: u64 = 100_000;
 
 /// The inputs of a run.
 #[derive(Drop)]
@@ -35,12 +24,6 @@ pub(crate) struct Inputs {
 }
 
 ghost use Rattle.mn_run.specs.Jobs.{IsSound, TopologyIs, ScriptIs, ScriptFits, CaptureIs, CaptureOf, OverIs, LoadedIs, InputsFit};
-
-fn too_large(which: Limit, limit: u64) -> Outcome
-    ensures { result ≡ Outcome.TooLarge which limit }
-{
-    Outcome::TooLarge { which, limit }
-}
 
 /// Reads a topology, or its refusal.
 pub(crate) fn load_topology<S: Shelf>(
@@ -56,10 +39,9 @@ pub(crate) fn load_topology<S: Shelf>(
 {
     match read_all(alloc, shelf, name, MOST_TOPOLOGY_BYTES)? {
         Content::TooLarge => Ok(Err(too_large(Limit::TopologyBytes, MOST_TOPOLOGY_BYTES))),
-        Content::Whole(bytes) => match read_topology(alloc, &bytes) {
-            Ok(topology) => Ok(Ok(topology)),
-            Err(TopoBad::Refused { rule, place }) => Ok(Err(Outcome::BadTopology { rule, place })),
-            Err(TopoBad::NoMemory) => Err(DeviceBad::NoMemory),
+        Content::Whole(bytes) => match parse_topology(alloc, &bytes) {
+            Ok(found) => Ok(found),
+            Err(_) => Err(DeviceBad::NoMemory),
         },
     }
 }
@@ -80,19 +62,10 @@ fn load_script<S: Shelf>(
 {
     match read_all(alloc, shelf, name, MOST_SCRIPT_BYTES)? {
         Content::TooLarge => Ok(Err(too_large(Limit::ScriptBytes, MOST_SCRIPT_BYTES))),
-        Content::Whole(bytes) => {
-            if count_lines(&bytes) > MOST_SCRIPT_LINES {
-                return Ok(Err(too_large(Limit::ScriptLines, MOST_SCRIPT_LINES)));
-            }
-            match read_script(alloc, topology, &bytes) {
-                Ok(lines) => Ok(Ok(lines)),
-                Err(ScriptBad::Refused { rule, line }) => Ok(Err(Outcome::BadScript {
-                    rule,
-                    line,
-                })),
-                Err(ScriptBad::NoMemory) => Err(DeviceBad::NoMemory),
-            }
-        }
+        Content::Whole(bytes) => match parse_script(alloc, topology, &bytes) {
+            Ok(found) => Ok(found),
+            Err(_) => Err(DeviceBad::NoMemory),
+        },
     }
 }
 

@@ -1,23 +1,24 @@
 //! The one call that does all that the program does.
-ghost use Rattle.std.specs.Prelude.{◌≡◌, ◌≢◌, ◌++◌, ◌≤◌, true, false, length, IfOk, Some, OnOk, OnErr};
+ghost use Rattle.std.specs.Prelude.{◌≡◌, ◌≢◌, ℕ, ◌++◌, ◌≤◌, true, false, length, is_some, IfOk, Some, OnOk, OnErr};
 ghost use Rattle.std.specs.Option.{ForSome};
 ghost use Rattle.mn_edge.specs.Faults.{Counted};
 ghost use Rattle.mn_edge.specs.Written.{texts};
 ghost use Rattle.mn_lines.specs.Putting.{PartPut};
 ghost use Rattle.mn_perform.specs.Inside.{is_inside};
 ghost use Rattle.mn_script.specs.Script.{AllFit};
-ghost use Rattle.mn_run.specs.Words.{is_run, is_check, is_command};
-ghost use Rattle.mn_run.specs.Answer.{answer_of, run_answer, run_over, check_answer, checked, refusal};
-ghost use Rattle.mn_run.specs.Endings.{OutcomeIs, FilesAre, TextIs, CausedBy, UsageIff, Completes, IsLate};
-ghost use Rattle.mn_run.specs.Headline.{IsKept, HeadlineIs};
+ghost use Rattle.mn_run.specs.Words.{is_run, is_check, is_command, generator_number};
+ghost use Rattle.mn_run.specs.Answer.{answer_of, run_answer, run_over, check_answer, checked, generate_answer, refusal};
+ghost use Rattle.mn_run.specs.Endings.{OutcomeIs, FilesAre, TextIs, CausedBy, UsageIff, Completes, IsLate, IsUnread};
+ghost use Rattle.mn_run.specs.Headline.{IsKept, IsGenerated, HeadlineIs};
 ghost use Rattle.mn_run.specs.Words.{word};
 ghost use Rattle.mn_run.specs.Jobs.{IsRefusal, ForDone, outcome_of};
 
 use crate::check::check_line;
+use crate::generate::generate;
 use crate::load::{Inputs, load, load_topology};
 use crate::outcome::{Limit, Outcome};
 use crate::refusals::refusal_line;
-use crate::words::{is_check, is_run};
+use crate::words::{generator_number, is_check, is_run};
 use mn_edge::{DeviceBad, Shelf, Sink};
 use mn_perform::{Ended, Fault, perform};
 use mn_topo::Topology;
@@ -43,6 +44,10 @@ pub fn command<S: Shelf, O: Sink>(
     // Nothing is told of a packet, and no total, but where every file is whole.
     ensures late { ForSome (S.files shelf.old) (λ files. ForSome (O.written out.old) (λ before.
         IsLate (answer_of (texts words.now) files) files (S.files shelf.new) before (O.written out.new))) }
+    // Where an input couldn't be read, no file was begun and nothing was put; a fetch of a packet fails only once every
+    // file was begun.
+    ensures unread { ForSome (S.files shelf.old) (λ files. ForSome (O.written out.old) (λ before.
+        IsUnread (answer_of (texts words.now) files) files (S.files shelf.new) before (O.written out.new) result)) }
     // A fault comes only where its count rose; every other count is as before, and no count falls.
     ensures cause { CausedBy (S.read_faults shelf.old, S.write_faults shelf.old, O.faults out.old)
         (S.read_faults shelf.new, S.write_faults shelf.new, O.faults out.new) result }
@@ -54,7 +59,8 @@ pub fn command<S: Shelf, O: Sink>(
         (S.read_faults shelf.new, S.write_faults shelf.new, O.faults out.new) result) }
     // Where all was done by `run`, each packet that was sent has one line and is accounted for: it reached only the
     // site of the best route that its VRF held, unchanged but for TTL and checksum, or it fell to the first rule that
-    // applies, or it is on its way. By `check`, the topology is lawful and its line tells how much it has.
+    // applies, or it is on its way. By `check`, the topology is lawful and its line tells how much it has. By `generate`,
+    // the same holds of the packets of its run, and what was put is its number and their total.
     ensures headline { ForSome (S.files shelf.old) (λ files. ForSome (O.written out.old) (λ before.
         HeadlineIs (texts words.now) files before (S.files shelf.new) (O.written out.new) result)) }
 {
@@ -69,8 +75,12 @@ fn answer<S: Shelf, O: Sink>(alloc: Global, words: &[String], shelf: &mut S, out
     ensures kept { is_run (texts words.now) ≡ true → ForSome (S.files shelf.old) (λ files. ForSome (O.written out.old) (λ before.
         IsKept (word (texts words.now) 1) (word (texts words.now) 2) (word (texts words.now) 3) (word (texts words.now) 4) files before
         (S.files shelf.new) (O.written out.new) result)) }
+    ensures told { (number : ℕ) → generator_number (texts words.now) ≡ Some number → ForSome (O.written out.old) (λ before.
+        IsGenerated number before (O.written out.new) result) }
     ensures late { ForSome (S.files shelf.old) (λ files. ForSome (O.written out.old) (λ before.
         IsLate (answer_of (texts words.now) files) files (S.files shelf.new) before (O.written out.new))) }
+    ensures unread { ForSome (S.files shelf.old) (λ files. ForSome (O.written out.old) (λ before.
+        IsUnread (answer_of (texts words.now) files) files (S.files shelf.new) before (O.written out.new) result)) }
     ensures cause { CausedBy (S.read_faults shelf.old, S.write_faults shelf.old, O.faults out.old)
         (S.read_faults shelf.new, S.write_faults shelf.new, O.faults out.new) result }
     ensures usage { UsageIff (is_command (texts words.now)) result }
@@ -80,7 +90,23 @@ fn answer<S: Shelf, O: Sink>(alloc: Global, words: &[String], shelf: &mut S, out
     } else if is_check(words) {
         check(alloc, words, shelf, out)
     } else {
-        refuse(alloc, out, Outcome::Usage)
+        generate_or_refuse(alloc, words, out)
+    }
+}
+
+/// Plays what the generator makes, by the words `generate NUMBER`; other words are no command line.
+fn generate_or_refuse<O: Sink>(alloc: Global, words: &[String], out: &mut O) -> Outcome
+    ensures outcome { OutcomeIs (generate_answer (generator_number (texts words.now))) result }
+    ensures text { ForSome (O.written out.old) (λ before.
+        TextIs (generate_answer (generator_number (texts words.now))) before (O.written out.new) result) }
+    ensures cause { CausedBy (0, 0, O.faults out.old) (0, 0, O.faults out.new) result }
+    ensures usage { UsageIff (is_some (generator_number (texts words.now))) result }
+    ensures told { (number : ℕ) → generator_number (texts words.now) ≡ Some number → ForSome (O.written out.old) (λ before.
+        IsGenerated number before (O.written out.new) result) }
+{
+    match generator_number(words) {
+        Some(number) => generate(alloc, number, out),
+        None => refuse(alloc, out, Outcome::Usage),
     }
 }
 
@@ -96,6 +122,8 @@ fn run<S: Shelf, O: Sink>(alloc: Global, words: &[String], shelf: &mut S, out: &
         (S.files shelf.new) (O.written out.new) result)) }
     ensures late { ForSome (S.files shelf.old) (λ files. ForSome (O.written out.old) (λ before.
         IsLate (run_answer (texts words.now) files) files (S.files shelf.new) before (O.written out.new))) }
+    ensures unread { ForSome (S.files shelf.old) (λ files. ForSome (O.written out.old) (λ before.
+        IsUnread (run_answer (texts words.now) files) files (S.files shelf.new) before (O.written out.new) result)) }
     ensures cause { CausedBy (S.read_faults shelf.old, S.write_faults shelf.old, O.faults out.old)
         (S.read_faults shelf.new, S.write_faults shelf.new, O.faults out.new) result }
     ensures usage { result ≢ Outcome.Usage }
@@ -130,6 +158,8 @@ fn run_over<S: Shelf, O: Sink>(
         IsKept topology.now script.now capture.now folder.now files before (S.files shelf.new) (O.written out.new) result)) }
     ensures late { ForSome (S.files shelf.old) (λ files. ForSome (O.written out.old) (λ before.
         IsLate (run_over topology.now script.now capture.now folder.now files) files (S.files shelf.new) before (O.written out.new))) }
+    ensures unread { ForSome (S.files shelf.old) (λ files. ForSome (O.written out.old) (λ before.
+        IsUnread (run_over topology.now script.now capture.now folder.now files) files (S.files shelf.new) before (O.written out.new) result)) }
     ensures cause { CausedBy (S.read_faults shelf.old, S.write_faults shelf.old, O.faults out.old)
         (S.read_faults shelf.new, S.write_faults shelf.new, O.faults out.new) result }
     ensures usage { result ≢ Outcome.Usage }
@@ -146,7 +176,7 @@ fn run_over<S: Shelf, O: Sink>(
 }
 
 /// How a call ends that played a script.
-fn outcome_of(ended: Result<Ended, Fault>) -> Outcome
+pub(crate) fn outcome_of(ended: Result<Ended, Fault>) -> Outcome
     ensures { result ≡ outcome_of ended }
 {
     match ended {
@@ -178,6 +208,8 @@ fn play<S: Shelf, O: Sink>(
         folder.now inputs.topology inputs.lines.items inputs.capture (S.files shelf.old) }
     ensures late { ForDone (λ answer m. ForSome (O.written out.old) (λ before. IsLate answer m (S.files shelf.new) before (O.written out.new)))
         folder.now inputs.topology inputs.lines.items inputs.capture (S.files shelf.old) }
+    ensures unread { ForDone (λ answer m. ForSome (O.written out.old) (λ before. IsUnread answer m (S.files shelf.new) before (O.written out.new) result))
+        folder.now inputs.topology inputs.lines.items inputs.capture (S.files shelf.old) }
     ensures cause { CausedBy (S.read_faults shelf.old, S.write_faults shelf.old, O.faults out.old)
         (S.read_faults shelf.new, S.write_faults shelf.new, O.faults out.new) result }
     ensures usage { result ≢ Outcome.Usage }
@@ -208,6 +240,8 @@ fn check<S: Shelf, O: Sink>(alloc: Global, words: &[String], shelf: &mut S, out:
     ensures files { ForSome (S.files shelf.old) (λ files. FilesAre (check_answer (texts words.now) files) files (S.files shelf.new) result) }
     ensures late { ForSome (S.files shelf.old) (λ files. ForSome (O.written out.old) (λ before.
         IsLate (check_answer (texts words.now) files) files (S.files shelf.new) before (O.written out.new))) }
+    ensures unread { ForSome (S.files shelf.old) (λ files. ForSome (O.written out.old) (λ before.
+        IsUnread (check_answer (texts words.now) files) files (S.files shelf.new) before (O.written out.new) result)) }
     ensures cause { CausedBy (S.read_faults shelf.old, S.write_faults shelf.old, O.faults out.old)
         (S.read_faults shelf.new, S.write_faults shelf.new, O.faults out.new) result }
     ensures usage { result ≢ Outcome.Usage }
@@ -238,7 +272,7 @@ fn tell<O: Sink>(alloc: Global, topology: &Topology, out: &mut O) -> Outcome
 }
 
 /// Puts the line of a refusal.
-fn refuse<O: Sink>(alloc: Global, out: &mut O, outcome: Outcome) -> Outcome
+pub(crate) fn refuse<O: Sink>(alloc: Global, out: &mut O, outcome: Outcome) -> Outcome
     requires { IsRefusal outcome }
     ensures outcome { OutcomeIs (Some (refusal outcome)) result }
     ensures text { ForSome (O.written out.old) (λ before. TextIs (Some (refusal outcome)) before (O.written out.new) result) }

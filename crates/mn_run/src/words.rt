@@ -1,8 +1,13 @@
 //! The words of the command line.
-ghost use Rattle.std.specs.Prelude.{◌≡◌};
+ghost use Rattle.std.specs.Prelude.{◌≡◌, ◌≤◌, IfSome};
 ghost use Rattle.mn_edge.specs.Written.{texts};
 ghost use Rattle.mn_perform.specs.Inside.{is_inside};
-ghost use Rattle.mn_run.specs.Words.{is_run, is_check, is_command};
+ghost use Rattle.mn_run.specs.Words.{is_run, is_check, generator_number};
+
+use mn_text::number_up_to;
+
+/// The greatest number of the generator.
+const MOST_NUMBER: u64 = 99;
 
 /// Whether the words are `run TOPOLOGY SCRIPT CAPTURE FOLDER`, and no input lies in the folder that is written.
 pub(crate) fn is_run(words: &[String]) -> bool
@@ -30,11 +35,21 @@ pub(crate) fn is_check(words: &[String]) -> bool
     command.as_str() == "check"
 }
 
-/// Whether the words are a command line of the program.
-pub(crate) fn is_command(words: &[String]) -> bool
-    ensures { result ≡ is_command (texts words.now) }
+/// The number of `generate NUMBER`, from 0 to 99.
+pub(crate) fn generator_number(words: &[String]) -> Option<u32>
+    ensures number { result ≡ generator_number (texts words.now) }
+    ensures small { IfSome result (λ number. number ≤ 99) }
 {
-    is_run(words) || is_check(words)
+    let [command, number] = words else {
+        return None;
+    };
+    if command.as_str() != "generate" {
+        return None;
+    }
+    match number_up_to(number.as_bytes(), MOST_NUMBER) {
+        Some(number) => Some(number as u32),
+        None => None,
+    }
 }
 
 /// Whether the name begins with the folder's and `/`.

@@ -272,7 +272,10 @@ fn other_words_are_usage(rt: HostRuntime) -> Result<(), Fail> {
     assert!(rt; is_usage(alloc, &["run", "out/t", "s", "c", "out"])?);
     assert!(rt; is_usage(alloc, &["check"])?);
     assert!(rt; is_usage(alloc, &["check", "t", "t"])?);
-    assert!(rt; is_usage(alloc, &["generate", "0"])?);
+    assert!(rt; is_usage(alloc, &["generate"])?);
+    assert!(rt; is_usage(alloc, &["generate", "00"])?);
+    assert!(rt; is_usage(alloc, &["generate", "100"])?);
+    assert!(rt; is_usage(alloc, &["generate", "0", "0"])?);
     Ok(())
 }
 

@@ -38,12 +38,14 @@ play_line-requires-clause-stands g c = λ all told.
 pub returns-in-Ok-TooManySteps-clause-framed : goal.returns-in-Ok-TooManySteps-clause-framed
 returns-in-Ok-TooManySteps-clause-framed g c =
     let l = c.loop-line in
-    framed_both _ _ _ _ l.invariant.framed (subst (λ n. Framed n (g.S.Shelf.files l.shelf) (g.S.Shelf.files c.play_line.new.shelf)) l.invariant.names c.play_line.ensures.framed)
+    framed_both _ _ _ _ l.invariant.framed
+    (subst (λ n. Framed n (g.S.Shelf.files l.shelf) (g.S.Shelf.files c.play_line.new.shelf)) l.invariant.names c.play_line.ensures.framed)
 
 pub returns-in-Err-clause-framed : goal.returns-in-Err-clause-framed
 returns-in-Err-clause-framed g c =
     let l = c.loop-line in
-    framed_both _ _ _ _ l.invariant.framed (subst (λ n. Framed n (g.S.Shelf.files l.shelf) (g.S.Shelf.files c.play_line.new.shelf)) l.invariant.names c.play_line.ensures.framed)
+    framed_both _ _ _ _ l.invariant.framed
+    (subst (λ n. Framed n (g.S.Shelf.files l.shelf) (g.S.Shelf.files c.play_line.new.shelf)) l.invariant.names c.play_line.ensures.framed)
 
 pub returns-in-Ok-TooManySteps-clause-went : goal.returns-in-Ok-TooManySteps-clause-went
 returns-in-Ok-TooManySteps-clause-went g c = λ all told.
@@ -51,7 +53,8 @@ returns-in-Ok-TooManySteps-clause-went g c = λ all told.
     let at = l.invariant.at all told in
     let told_now = ap (λ n. told_packets (g.S.Shelf.files l.shelf) n c.args.capture.now) l.invariant.names ∙ l.invariant.told ∙ told in
     stops _ _ _ c.args.lines.now l.line-index c.line-item.result c.loop-line-test.true c.line-item.is at.run at.running at.rest _ _ _ _ _
-    (line_went _ _ _ _ at.run c.line-item.result _ _ _ _ _ c.play_line.new.net c.play_line.new.books c.play_line.new.desk (g.S.Shelf.files c.play_line.new.shelf)
+    (line_went _ _ _ _ at.run c.line-item.result _ _ _ _ _ c.play_line.new.net c.play_line.new.books c.play_line.new.desk
+    (g.S.Shelf.files c.play_line.new.shelf)
     (g.O.Sink.written c.play_line.new.out) (Ok TooManySteps) l.invariant.topology
     (rw c.in-Ok-TooManySteps.field-0-is at (c.in-Ok-TooManySteps.ensures.went all told_now)) at.running at.keeps)
 
@@ -60,9 +63,11 @@ returns-in-Err-clause-went g c = λ all told.
     let l = c.loop-line in
     let at = l.invariant.at all told in
     let told_now = ap (λ n. told_packets (g.S.Shelf.files l.shelf) n c.args.capture.now) l.invariant.names ∙ l.invariant.told ∙ told in
-    breaks _ _ _ c.args.lines.now l.line-index c.line-item.result c.loop-line-test.true c.line-item.is at.run at.running at.rest c.play_line.new.net c.play_line.new.books c.play_line.new.desk _ _
+    breaks _ _ _ c.args.lines.now l.line-index c.line-item.result c.loop-line-test.true c.line-item.is at.run at.running at.rest c.play_line.new.net
+    c.play_line.new.books c.play_line.new.desk _ _
     c.in-Err.fault
-    (line_went _ _ _ _ at.run c.line-item.result _ _ _ _ _ c.play_line.new.net c.play_line.new.books c.play_line.new.desk _ _ (Err c.in-Err.fault) l.invariant.topology
+    (line_went _ _ _ _ at.run c.line-item.result _ _ _ _ _ c.play_line.new.net c.play_line.new.books c.play_line.new.desk _ _
+    (Err c.in-Err.fault) l.invariant.topology
     (c.in-Err.ensures.went all told_now) at.running at.keeps)
 
 pub loop-line-preserved : goal.loop-line-preserved
@@ -76,7 +81,9 @@ loop-line-preserved g c =
       topology = c.play_line.ensures.topology ∙ l.invariant.topology;
       framed = framed_both _ _ _ _ l.invariant.framed
           (subst (λ n. Framed n (g.S.Shelf.files l.shelf) (g.S.Shelf.files c.play_line.new.shelf)) l.invariant.names c.play_line.ensures.framed);
-      told = subst (λ n. told_packets (g.S.Shelf.files c.play_line.new.shelf) n c.args.capture.now ≡ told_packets (g.S.Shelf.files l.shelf) n c.args.capture.now) l.invariant.names
+      told = subst
+          (λ n. told_packets (g.S.Shelf.files c.play_line.new.shelf) n c.args.capture.now ≡ told_packets (g.S.Shelf.files l.shelf) n c.args.capture.now)
+          l.invariant.names
           c.play_line.ensures.told ∙ l.invariant.told;
       clock = omega (arith, paced.0, paced.1, l.invariant.clock);
       refused = omega (arith, done.refused, l.invariant.refused);
@@ -84,7 +91,8 @@ loop-line-preserved g c =
           let at = l.invariant.at all told in
           let told_now = ap (λ n. told_packets (g.S.Shelf.files l.shelf) n c.args.capture.now) l.invariant.names ∙ l.invariant.told ∙ told in
           goes_on _ _ _ c.args.lines.now l.line-index c.line-item.result c.loop-line-test.true c.line-item.is at.run at.running at.rest _ _ _ _ _
-          (line_went _ _ _ _ at.run c.line-item.result _ _ _ _ _ c.play_line.new.net c.play_line.new.books c.play_line.new.desk (g.S.Shelf.files c.play_line.new.shelf)
+          (line_went _ _ _ _ at.run c.line-item.result _ _ _ _ _ c.play_line.new.net c.play_line.new.books c.play_line.new.desk
+          (g.S.Shelf.files c.play_line.new.shelf)
           (g.O.Sink.written c.play_line.new.out) (Ok All) l.invariant.topology (rw c.in-Ok-All.field-0-is at (done.went all told_now)) at.running at.keeps);
       reads = done.cause.0 ∙ l.invariant.reads;
       writes = done.cause.1 ∙ l.invariant.writes;
@@ -94,7 +102,8 @@ loop-line-preserved g c =
 pub returns-clause-went : goal.returns-clause-went
 returns-clause-went g c = λ all told.
     let l = c.loop-line in
-    all_gone _ _ _ c.args.lines.now l.line-index _ _ _ _ _ (let e : l.line-index ≡ length c.args.lines.now = omega (arith, l.auto.line-index-end, c.loop-line-test.false) in e)
+    all_gone _ _ _ c.args.lines.now l.line-index _ _ _ _ _ (let e : l.line-index ≡ length c.args.lines.now =
+    omega (arith, l.auto.line-index-end, c.loop-line-test.false) in e)
     (l.invariant.at all told)
 
 pub play_line-requires-clause-files : goal.play_line-requires-clause-files

@@ -8,29 +8,36 @@ record_line-requires-clause-together g c = λ all told. let s = c.requires.stand
 pub returns-in-Ok-note-clause-went : goal.returns-in-Ok-note-clause-went
 returns-in-Ok-note-clause-went g c = λ all told begun run running keeps.
     line_noted _ _ _ _ c.args.line.now _ c.record_line.new.net _ c.record_line.new.books _ c.note.new.self _ _ _ _ running keeps c.in-Ok.played c.requires.shows
-    (c.in-Ok.ensures.course all told) c.record_line.ensures.topology (c.in-Ok.ensures.after all told) (rw c.record_line.ensures.topology at (rw c.topology.ensures at c.in-Ok-note.ensures.noted))
+    (c.in-Ok.ensures.course all told) c.record_line.ensures.topology (c.in-Ok.ensures.after all told)
+    (rw c.record_line.ensures.topology at (rw c.topology.ensures at c.in-Ok-note.ensures.noted))
 
 pub returns-in-Err-clause-went : goal.returns-in-Err-clause-went
 returns-in-Err-clause-went g c = λ all told begun run running keeps.
-    line_cut _ _ _ _ c.args.line.now _ c.record_line.new.net _ c.record_line.new.books _ c.args.desk.now _ _ _ _ running keeps c.in-Err.fault c.in-Ok.played c.requires.shows
-    (c.in-Ok.ensures.course all told) c.record_line.ensures.topology (c.in-Ok.ensures.after all told) (rw c.record_line.ensures.topology at (rw c.topology.ensures at c.in-Err.ensures.part))
+    line_cut _ _ _ _ c.args.line.now _ c.record_line.new.net _ c.record_line.new.books _ c.args.desk.now _ _ _ _ running keeps c.in-Err.fault c.in-Ok.played
+    c.requires.shows
+    (c.in-Ok.ensures.course all told) c.record_line.ensures.topology (c.in-Ok.ensures.after all told)
+    (rw c.record_line.ensures.topology at (rw c.topology.ensures at c.in-Err.ensures.part))
 
 pub returns-in-Err-TooManySteps-clause-went : goal.returns-in-Err-TooManySteps-clause-went
 returns-in-Err-TooManySteps-clause-went g c = λ all told begun run running keeps.
-    line_stopped _ _ _ _ c.args.line.now _ c.record_line.new.net _ c.record_line.new.books _ c.args.desk.now _ _ _ (g.O.Sink.written c.args.out.now) running keeps (rw c.in-Err-TooManySteps.field-0-is at (c.in-Err-TooManySteps.ensures.course all told))
+    line_stopped _ _ _ _ c.args.line.now _ c.record_line.new.net _ c.record_line.new.books _ c.args.desk.now _ _ _
+    (g.O.Sink.written c.args.out.now) running keeps (rw c.in-Err-TooManySteps.field-0-is at (c.in-Err-TooManySteps.ensures.course all told))
     c.record_line.ensures.topology (rw c.in-Err-TooManySteps.field-0-is at (c.in-Err-TooManySteps.ensures.after all told))
 
 pub returns-in-Err-Read-clause-went : goal.returns-in-Err-Read-clause-went
 returns-in-Err-Read-clause-went g c = λ all told begun run running keeps.
-    line_broken _ _ _ _ c.args.line.now _ c.record_line.new.net _ c.record_line.new.books _ c.args.desk.now _ _ _ (g.O.Sink.written c.args.out.now) running keeps Read (rw c.in-Err-Read.field-0-is at (c.in-Err-Read.ensures.course all told))
+    line_broken _ _ _ _ c.args.line.now _ c.record_line.new.net _ c.record_line.new.books _ c.args.desk.now _ _ _
+    (g.O.Sink.written c.args.out.now) running keeps Read (rw c.in-Err-Read.field-0-is at (c.in-Err-Read.ensures.course all told))
     c.record_line.ensures.topology (rw c.in-Err-Read.field-0-is at (c.in-Err-Read.ensures.after all told))
 
 pub returns-in-Err-Write-clause-went : goal.returns-in-Err-Write-clause-went
 returns-in-Err-Write-clause-went g c = λ all told begun run running keeps.
-    line_broken _ _ _ _ c.args.line.now _ c.record_line.new.net _ c.record_line.new.books _ c.args.desk.now _ _ _ (g.O.Sink.written c.args.out.now) running keeps Write (rw c.in-Err-Write.field-0-is at (c.in-Err-Write.ensures.course all told))
+    line_broken _ _ _ _ c.args.line.now _ c.record_line.new.net _ c.record_line.new.books _ c.args.desk.now _ _ _
+    (g.O.Sink.written c.args.out.now) running keeps Write (rw c.in-Err-Write.field-0-is at (c.in-Err-Write.ensures.course all told))
     c.record_line.ensures.topology (rw c.in-Err-Write.field-0-is at (c.in-Err-Write.ensures.after all told))
 
 pub returns-in-Err-NoMemory-clause-went : goal.returns-in-Err-NoMemory-clause-went
 returns-in-Err-NoMemory-clause-went g c = λ all told begun run running keeps.
-    line_broken _ _ _ _ c.args.line.now _ c.record_line.new.net _ c.record_line.new.books _ c.args.desk.now _ _ _ (g.O.Sink.written c.args.out.now) running keeps NoMemory (rw c.in-Err-NoMemory.field-0-is at (c.in-Err-NoMemory.ensures.course all told))
+    line_broken _ _ _ _ c.args.line.now _ c.record_line.new.net _ c.record_line.new.books _ c.args.desk.now _ _ _
+    (g.O.Sink.written c.args.out.now) running keeps NoMemory (rw c.in-Err-NoMemory.field-0-is at (c.in-Err-NoMemory.ensures.course all told))
     c.record_line.ensures.topology (rw c.in-Err-NoMemory.field-0-is at (c.in-Err-NoMemory.ensures.after all told))

@@ -1,32 +1,40 @@
-use Rattle.std.proofs.Common.{◌≡◌, Some, [], inr, sym, ◌∙◌, ap, subst}
+use Rattle.std.proofs.Common.{◌≡◌, Some, Err, [], inr, sym, ◌∙◌, ap, subst}
 use Rattle.mn_edge.specs.Kept.{Framed}
 use Rattle.mn_script.specs.Script.{AllFit}
 use Rattle.mn_course.specs.Expansion.{expanded}
 use Rattle.mn_capture.specs.Packets.{packets_in}
-use Rattle.mn_perform.proofs.Whole.{told, put_nothing, unplayed_files, unplayed_late, played_ends, played_files, played_text, played_late, at_start, told_before}
-use Rattle.mn_perform.specs.Whole.{RunEnds, RunFiles, RunText, IsLate}
+use Rattle.mn_perform.proofs.Whole.{told, put_nothing, unplayed_files, unplayed_late, played_ends, played_files, played_text, played_late, played_begun}
+use Rattle.mn_perform.proofs.Whole.{written_failed, at_start, told_before}
+use Rattle.mn_perform.specs.Whole.{BegunAtRead, RunEnds, RunFiles, RunText, IsLate, whole_files}
+use Rattle.mn_output.specs.Report.{run_answer}
+use Rattle.mn_perform.specs.declared.ended.Ended.{Ended}
 use Rattle.mn_perform.specs.declared.ended.Fault.TheVariants.{NoMemory}
 use Rattle.mn_perform.proofs.run.perform.Goals as goal
 
 pub returns-in-Err-clause-files : goal.returns-in-Err-clause-files
 returns-in-Err-clause-files g c = λ m is bytes there.
-    c.in-Err.ensures.part m is (packets_in c.args.capture.now bytes) (expanded c.args.topology (packets_in c.args.capture.now bytes) c.args.lines.now).past.entries
+    c.in-Err.ensures.part m is (packets_in c.args.capture.now bytes)
+    (expanded c.args.topology (packets_in c.args.capture.now bytes) c.args.lines.now).past.entries
 
 pub returns-in-Err-clause-late : goal.returns-in-Err-clause-late
 returns-in-Err-clause-late g c = λ m is bytes there before begun. inr (λ other found. put_nothing _ before _ begun)
 
 pub returns-in_default-clause-files : goal.returns-in_default-clause-files
 returns-in_default-clause-files g c = λ m is bytes there.
-    unplayed_files c.args.folder.now c.args.topology c.args.lines.now c.args.capture.now m bytes c.in-Ok.books.names _ there c.requires.apart c.in-Ok.ensures.names
-    (subst (λ o. Framed c.in-Ok.books.names o (g.S.Shelf.files c.open.new.shelf)) is c.in-Ok.ensures.framed) _ NoMemory (c.in-Ok.ensures.held m is (packets_in c.args.capture.now bytes))
+    unplayed_files c.args.folder.now c.args.topology c.args.lines.now c.args.capture.now m bytes c.in-Ok.books.names _ there c.requires.apart
+    c.in-Ok.ensures.names
+    (subst (λ o. Framed c.in-Ok.books.names o (g.S.Shelf.files c.open.new.shelf)) is c.in-Ok.ensures.framed) _ NoMemory
+    (c.in-Ok.ensures.held m is (packets_in c.args.capture.now bytes))
 
 pub returns-in_default-clause-late : goal.returns-in_default-clause-late
 returns-in_default-clause-late g c = λ m is bytes there before begun. inr (λ other found. put_nothing _ before _ begun)
 
 pub returns-in_default-new-clause-files : goal.returns-in_default-new-clause-files
 returns-in_default-new-clause-files g c = λ m is bytes there.
-    unplayed_files c.args.folder.now c.args.topology c.args.lines.now c.args.capture.now m bytes c.in-Ok.books.names _ there c.requires.apart c.in-Ok.ensures.names
-    (subst (λ o. Framed c.in-Ok.books.names o (g.S.Shelf.files c.open.new.shelf)) is c.in-Ok.ensures.framed) _ NoMemory (c.in-Ok.ensures.held m is (packets_in c.args.capture.now bytes))
+    unplayed_files c.args.folder.now c.args.topology c.args.lines.now c.args.capture.now m bytes c.in-Ok.books.names _ there c.requires.apart
+    c.in-Ok.ensures.names
+    (subst (λ o. Framed c.in-Ok.books.names o (g.S.Shelf.files c.open.new.shelf)) is c.in-Ok.ensures.framed) _ NoMemory
+    (c.in-Ok.ensures.held m is (packets_in c.args.capture.now bytes))
 
 pub returns-in_default-new-clause-late : goal.returns-in_default-new-clause-late
 returns-in_default-new-clause-late g c = λ m is bytes there before begun. inr (λ other found. put_nothing _ before _ begun)
@@ -36,40 +44,76 @@ run-requires-clause-fit g c = subst (λ t. AllFit t c.args.lines.now) (sym c.in-
 
 pub run-requires-clause-start : goal.run-requires-clause-start
 run-requires-clause-start g c = λ all told.
-    let before = told_before c.in-Ok.books.names c.args.capture.now (g.S.Shelf.files c.args.shelf.now) (g.S.Shelf.files c.open.new.shelf) all c.in-Ok.ensures.framed told in
-    at_start c.args.topology all _ c.in-Ok-new-2.net c.in-Ok.books c.in-Ok-new.desk _ c.in-Ok-new-2.ensures.topology c.in-Ok-new-2.ensures.journal c.in-Ok-new-2.ensures.tick
+    let before =
+    told_before c.in-Ok.books.names c.args.capture.now (g.S.Shelf.files c.args.shelf.now)
+    (g.S.Shelf.files c.open.new.shelf) all c.in-Ok.ensures.framed told in
+    at_start c.args.topology all _ c.in-Ok-new-2.net c.in-Ok.books c.in-Ok-new.desk _ c.in-Ok-new-2.ensures.topology c.in-Ok-new-2.ensures.journal
+    c.in-Ok-new-2.ensures.tick
     c.in-Ok-new-2.ensures.stands (c.in-Ok.ensures.held before.0 before.1 all) c.in-Ok-new.ensures.page c.in-Ok-new.ensures.sendings c.in-Ok-new.ensures.refused
 
 pub returns-clause-ended : goal.returns-clause-ended
 returns-clause-ended g c = λ m is bytes there.
     let framed = subst (λ o. Framed c.in-Ok.books.names o (g.S.Shelf.files c.open.new.shelf)) is c.in-Ok.ensures.framed in
-    let told_so = told c.args.folder.now c.args.topology c.args.lines.now c.args.capture.now m bytes c.in-Ok.books.names _ there c.requires.apart c.in-Ok.ensures.names framed in
-    played_ends c.args.folder.now c.args.topology c.args.lines.now c.args.capture.now m bytes c.in-Ok.books.names _ there c.requires.apart c.in-Ok.ensures.names framed c.run.result
+    let told_so =
+    told c.args.folder.now c.args.topology c.args.lines.now c.args.capture.now m bytes c.in-Ok.books.names _ there c.requires.apart
+    c.in-Ok.ensures.names framed in
+    played_ends c.args.folder.now c.args.topology c.args.lines.now c.args.capture.now m bytes c.in-Ok.books.names _ there c.requires.apart
+    c.in-Ok.ensures.names framed c.run.result
     (subst (λ t. RunEnds t (packets_in c.args.capture.now bytes) c.args.lines.now c.run.result) c.in-Ok-new-2.ensures.topology (c.run.ensures.ended _ told_so))
 
 pub returns-clause-files : goal.returns-clause-files
 returns-clause-files g c = λ m is bytes there.
     let framed = subst (λ o. Framed c.in-Ok.books.names o (g.S.Shelf.files c.open.new.shelf)) is c.in-Ok.ensures.framed in
-    let told_so = told c.args.folder.now c.args.topology c.args.lines.now c.args.capture.now m bytes c.in-Ok.books.names _ there c.requires.apart c.in-Ok.ensures.names framed in
-    played_files c.args.folder.now c.args.topology c.args.lines.now c.args.capture.now m bytes c.in-Ok.books.names _ there c.requires.apart c.in-Ok.ensures.names framed
+    let told_so =
+    told c.args.folder.now c.args.topology c.args.lines.now c.args.capture.now m bytes c.in-Ok.books.names _ there c.requires.apart
+    c.in-Ok.ensures.names framed in
+    played_files c.args.folder.now c.args.topology c.args.lines.now c.args.capture.now m bytes c.in-Ok.books.names _ there c.requires.apart
+    c.in-Ok.ensures.names framed
     (g.S.Shelf.files c.run.new.shelf) c.run.result
-    (subst (λ t. RunFiles t (packets_in c.args.capture.now bytes) c.args.lines.now c.in-Ok.books.names m (g.S.Shelf.files c.run.new.shelf) c.run.result) c.in-Ok-new-2.ensures.topology
+    (subst (λ t. RunFiles t (packets_in c.args.capture.now bytes) c.args.lines.now c.in-Ok.books.names m (g.S.Shelf.files c.run.new.shelf) c.run.result)
+    c.in-Ok-new-2.ensures.topology
     (c.run.ensures.files _ told_so m framed))
 
 pub returns-clause-text : goal.returns-clause-text
 returns-clause-text g c = λ m is bytes there before begun.
     let framed = subst (λ o. Framed c.in-Ok.books.names o (g.S.Shelf.files c.open.new.shelf)) is c.in-Ok.ensures.framed in
-    let told_so = told c.args.folder.now c.args.topology c.args.lines.now c.args.capture.now m bytes c.in-Ok.books.names _ there c.requires.apart c.in-Ok.ensures.names framed in
-    played_text c.args.folder.now c.args.topology c.args.lines.now c.args.capture.now m bytes c.in-Ok.books.names _ there c.requires.apart c.in-Ok.ensures.names framed before
+    let told_so =
+    told c.args.folder.now c.args.topology c.args.lines.now c.args.capture.now m bytes c.in-Ok.books.names _ there c.requires.apart
+    c.in-Ok.ensures.names framed in
+    played_text c.args.folder.now c.args.topology c.args.lines.now c.args.capture.now m bytes c.in-Ok.books.names _ there c.requires.apart
+    c.in-Ok.ensures.names framed before
     (g.O.Sink.written c.run.new.out) c.run.result
-    (subst (λ t. RunText t (packets_in c.args.capture.now bytes) c.args.lines.now before (g.O.Sink.written c.run.new.out) c.run.result) c.in-Ok-new-2.ensures.topology
+    (subst (λ t. RunText t (packets_in c.args.capture.now bytes) c.args.lines.now before (g.O.Sink.written c.run.new.out) c.run.result)
+    c.in-Ok-new-2.ensures.topology
     (c.run.ensures.text _ told_so before begun))
 
 pub returns-clause-late : goal.returns-clause-late
 returns-clause-late g c = λ m is bytes there before begun.
     let framed = subst (λ o. Framed c.in-Ok.books.names o (g.S.Shelf.files c.open.new.shelf)) is c.in-Ok.ensures.framed in
-    let told_so = told c.args.folder.now c.args.topology c.args.lines.now c.args.capture.now m bytes c.in-Ok.books.names _ there c.requires.apart c.in-Ok.ensures.names framed in
-    played_late c.args.folder.now c.args.topology c.args.lines.now c.args.capture.now m bytes c.in-Ok.books.names _ there c.requires.apart c.in-Ok.ensures.names framed
+    let told_so =
+    told c.args.folder.now c.args.topology c.args.lines.now c.args.capture.now m bytes c.in-Ok.books.names _ there c.requires.apart
+    c.in-Ok.ensures.names framed in
+    played_late c.args.folder.now c.args.topology c.args.lines.now c.args.capture.now m bytes c.in-Ok.books.names _ there c.requires.apart
+    c.in-Ok.ensures.names framed
     (g.S.Shelf.files c.run.new.shelf) before (g.O.Sink.written c.run.new.out)
-    (subst (λ t. IsLate t (packets_in c.args.capture.now bytes) c.args.lines.now c.in-Ok.books.names m (g.S.Shelf.files c.run.new.shelf) before (g.O.Sink.written c.run.new.out))
+    (subst (λ t. IsLate t (packets_in c.args.capture.now bytes) c.args.lines.now c.in-Ok.books.names m (g.S.Shelf.files c.run.new.shelf) before
+    (g.O.Sink.written c.run.new.out))
     c.in-Ok-new-2.ensures.topology (c.run.ensures.late _ told_so m framed before begun))
+
+pub returns-in-Err-clause-begun : goal.returns-in-Err-clause-begun
+returns-in-Err-clause-begun g c = λ m is bytes there.
+    subst (λ why. BegunAtRead {T = Ended} (run_answer c.args.folder.now c.args.topology c.args.lines.now (packets_in c.args.capture.now bytes)).files m
+    (g.S.Shelf.files c.open.new.shelf) (Err why)) (sym c.from.ensures) (written_failed _ m _ c.in-Err.bad)
+
+pub returns-clause-begun : goal.returns-clause-begun
+returns-clause-begun g c = λ m is bytes there.
+    let framed = subst (λ o. Framed c.in-Ok.books.names o (g.S.Shelf.files c.open.new.shelf)) is c.in-Ok.ensures.framed in
+    let told_so =
+    told c.args.folder.now c.args.topology c.args.lines.now c.args.capture.now m bytes c.in-Ok.books.names _ there c.requires.apart
+    c.in-Ok.ensures.names framed in
+    played_begun c.args.folder.now c.args.topology c.args.lines.now c.args.capture.now m bytes c.in-Ok.books.names _ there c.requires.apart
+    c.in-Ok.ensures.names framed
+    (g.S.Shelf.files c.run.new.shelf) c.run.result
+    (subst (λ t. BegunAtRead (whole_files t (packets_in c.args.capture.now bytes) c.args.lines.now c.in-Ok.books.names) m
+    (g.S.Shelf.files c.run.new.shelf) c.run.result)
+    c.in-Ok-new-2.ensures.topology (c.run.ensures.begun _ told_so m framed))

@@ -2,7 +2,7 @@ use Rattle.std.proofs.Common.{sym, ap, ◌∙◌, subst}
 use Rattle.mn_course.specs.Expansion.{expanded}
 use Rattle.mn_edge.specs.Kept.{Framed}
 use Rattle.mn_edge.specs.KeptLaws.{framed_both}
-use Rattle.mn_perform.proofs.Ending.{run_files, run_text, run_late, run_ends, broken_files, notes_begin}
+use Rattle.mn_perform.proofs.Ending.{run_files, run_text, run_late, run_ends, broken_files, broken_begun, no_read, notes_begin}
 use Rattle.mn_perform.proofs.run.run.Goals as goal
 
 pub returns-in-Ok-clause-files : goal.returns-in-Ok-clause-files
@@ -21,7 +21,18 @@ returns-in-Ok-clause-late g c = λ all told base framed before is.
 
 pub returns-in-Err-clause-files : goal.returns-in-Err-clause-files
 returns-in-Err-clause-files g c = λ all told base framed.
-    broken_files _ _ _ c.args.lines.now _ c.args.books.now.names base _ _ c.play_lines.ensures.names (c.in-Err.ensures.went all told) (framed_both _ _ _ _ framed c.play_lines.ensures.framed)
+    broken_files _ _ _ c.args.lines.now _ c.args.books.now.names base _ _ c.play_lines.ensures.names (c.in-Err.ensures.went all told)
+    (framed_both _ _ _ _ framed c.play_lines.ensures.framed)
 
 pub returns-in-Err-clause-text : goal.returns-in-Err-clause-text
-returns-in-Err-clause-text g c = λ all told before is. notes_begin c.args.net.now.topology all (expanded c.args.net.now.topology all c.args.lines.now) before _ ((c.in-Err.ensures.went all told).text before is)
+returns-in-Err-clause-text g c =
+    λ all told before is. notes_begin c.args.net.now.topology all (expanded c.args.net.now.topology all c.args.lines.now) before _
+    ((c.in-Err.ensures.went all told).text before is)
+
+pub returns-in-Ok-clause-begun : goal.returns-in-Ok-clause-begun
+returns-in-Ok-clause-begun g c = λ all told base framed. no_read _ base _ c.finish.result c.finish.ensures.unread
+
+pub returns-in-Err-clause-begun : goal.returns-in-Err-clause-begun
+returns-in-Err-clause-begun g c = λ all told base framed.
+    broken_begun _ _ _ c.args.lines.now _ c.args.books.now.names base _ _ c.in-Err.fault c.play_lines.ensures.names (c.in-Err.ensures.went all told)
+    (framed_both _ _ _ _ framed c.play_lines.ensures.framed)

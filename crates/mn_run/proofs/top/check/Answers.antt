@@ -1,11 +1,11 @@
-use Rattle.std.proofs.Common.{◌≡◌, Some, Ok, length, refl, sym, ◌∙◌, ap, subst, arith}
+use Rattle.std.proofs.Common.{◌≡◌, Some, Ok, inl, length, refl, sym, ◌∙◌, ap, subst, arith}
 use Rattle.mn_edge.specs.Files.{file}
 use Rattle.mn_edge.specs.Written.{texts}
 use Rattle.mn_run.specs.Words.{word}
 use Rattle.mn_run.specs.Answer.{with_topology, checked, check_answer}
 use Rattle.mn_run.specs.Endings.{OutcomeIs, FilesAre, TextIs}
 use Rattle.mn_run.specs.Jobs.{TopologyIs}
-use Rattle.mn_run.proofs.Ending.{files_untouched}
+use Rattle.mn_run.proofs.Ending.{files_untouched, sink_unread}
 use Rattle.mn_run.proofs.Loading.{word_at, check_len}
 use Rattle.mn_run.proofs.top.check.Goals as goal
 
@@ -42,3 +42,12 @@ returns-in-Ok-Ok-clause-files g c = λ m is.
     ap (λ n. with_topology (file m n) (λ t. Some (checked t))) name ∙ read.1 (λ t. Some (checked t)) in
     subst (λ a. FilesAre a m (g.S.Shelf.files c.load_topology.new.shelf) c.tell.result) (sym whole)
     (files_untouched (checked c.in-Ok-Ok.topology) m _ c.tell.result refl (c.load_topology.ensures.same ∙ is))
+
+pub returns-in-Ok-Ok-clause-unread : goal.returns-in-Ok-Ok-clause-unread
+returns-in-Ok-Ok-clause-unread g c = λ m is before begun. sink_unread _ m _ before _ _ _ c.tell.result c.tell.ensures.cause
+
+pub returns-in-Ok-Err-clause-unread : goal.returns-in-Ok-Err-clause-unread
+returns-in-Ok-Err-clause-unread g c = λ m is before begun. sink_unread _ m _ before _ _ _ c.refuse.result c.refuse.ensures.cause
+
+pub returns-in-Err-Failed-clause-unread : goal.returns-in-Err-Failed-clause-unread
+returns-in-Err-Failed-clause-unread g c = λ m is before begun. inl (c.load_topology.ensures.same ∙ is, begun)

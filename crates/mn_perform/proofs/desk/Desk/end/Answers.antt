@@ -14,4 +14,5 @@ returns-in-Ok-end-clause-put g c = λ inputs before notes stands on.
 
 pub returns-in-Err-end-clause-part : goal.returns-in-Err-end-clause-part
 returns-in-Err-end-clause-part g c = λ inputs before notes stands on.
-    subst (λ l. PartPut l before (g.O.Sink.written c.end.new.out)) (append-nil _) (c.in-Err-end.ensures.part before _ (c.in-Ok.ensures.put inputs stands before notes on))
+    subst (λ l. PartPut l before (g.O.Sink.written c.end.new.out)) (append-nil _)
+    (c.in-Err-end.ensures.part before _ (c.in-Ok.ensures.put inputs stands before notes on))

@@ -10,5 +10,6 @@ returns-in-Refused-clause-part g c =
 
 pub returns-in-NoRecord-clause-part : goal.returns-in-NoRecord-clause-part
 returns-in-NoRecord-clause-part g c =
-    subst (λ p. OnErr c.refuse-in-NoRecord.result (PutsPart (line_text c.args.topology.now c.args.line.now.number p) c.args.self.now.page (g.O.Sink.written c.args.out.now)
+    subst (λ p. OnErr c.refuse-in-NoRecord.result
+    (PutsPart (line_text c.args.topology.now c.args.line.now.number p) c.args.self.now.page (g.O.Sink.written c.args.out.now)
     (g.O.Sink.written c.refuse-in-NoRecord.new.out))) (sym c.in-NoRecord.is) c.refuse-in-NoRecord.ensures.part

@@ -1,0 +1,111 @@
+//! A capture in memory, and a watch that hands out its packets and keeps nothing.
+ghost use Rattle.std.specs.Prelude.{◌≡◌, ◌≢◌, ◌≤◌, true, length, Some, Ok, Err, IfOk, IfErr, refl, ⊤};
+ghost use Rattle.mn_pcap.specs.Reading.{packets_of, end_of};
+ghost use Rattle.mn_pcap.specs.declared.refusal.PcapBad.TheVariants.{NoMemory};
+ghost use Rattle.mn_sched.specs.Watching.{Found, is_record};
+ghost use Rattle.mn_perform.specs.Memory.{packets_at};
+ghost use Rattle.mn_perform.specs.MemoryLaws.{has_each};
+
+use mn_net::{Done, Net};
+use mn_pcap::{LinkKind, PcapBad, Place, packet_of, read_header, records};
+use mn_sched::{Watch, WatchBad};
+use std::alloc::Global;
+use std::marker::Model;
+
+/// A capture: its bytes, and where its records lie in them.
+#[derive(Drop)]
+pub struct MemoryCapture {
+    bytes: Vec<u8>,
+    link: LinkKind,
+    places: Vec<Place>,
+}
+
+impl Model for MemoryCapture {
+    ghost use Rattle.std.specs.Prelude.{All, ◌≤◌, length};
+    ghost use Rattle.mn_pcap.specs.Reading.{end_of};
+    ghost use Rattle.mn_perform.specs.Memory.{MemoryView};
+
+    ghost Value = { MemoryView };
+
+    ghost view = { λ c. record { bytes = c.bytes.items; link = c.link; places = c.places.items } };
+
+    ghost invariant = { λ c. All (λ place. end_of place ≤ length c.bytes.items) c.places.items };
+}
+
+impl MemoryCapture {
+    /// Reads the bytes of a capture, or refuses them by the first rule that is broken, at its byte.
+    pub fn read(alloc: Global, bytes: Vec<u8>) -> Result<MemoryCapture, PcapBad>
+        ensures packets { IfOk result (λ capture. packets_of bytes.items ≡ Ok (packets_at capture)) }
+        ensures refused { IfErr result (λ bad. bad ≢ NoMemory → packets_of bytes.items ≡ Err bad) }
+    {
+        let link = match read_header(&bytes) {
+            Ok(form) => form.link,
+            Err(bad) => return Err(bad),
+        };
+        match records(alloc, &bytes) {
+            Ok(places) => Ok(MemoryCapture {
+                bytes,
+                link,
+                places,
+            }),
+            Err(bad) => Err(bad),
+        }
+    }
+
+    /// The packet of a record, numbered from 1.
+    fn packet(&self, nth: u32) -> Option<&[u8]>
+        ensures { Found (Some (packets_at self.now)) (length self.now.places) nth result }
+    {
+        if !is_record(self.places.len(), nth) {
+            return None;
+        }
+        let place = self.places[nth as usize - 1];
+        let at = place.at as usize;
+        Some(packet_of(self.link, &self.bytes[at..at + place.length as usize]))
+    }
+}
+
+/// Records are numbered from 1.
+fn is_record(records: usize, nth: u32) -> bool
+    ensures { result ≡ is_record records nth }
+{
+    1 <= nth && nth as usize <= records
+}
+
+/// Hands out the packets of a capture in memory.
+#[derive(Drop)]
+pub(crate) struct InMemory<'a> {
+    pub capture: &'a MemoryCapture,
+}
+
+impl Watch for InMemory<'_> {
+    ghost records = { λ w. length w.capture.now.places };
+
+    ghost packets = { λ w. Some (packets_at w.capture.now) };
+
+    ghost reads = { λ w. 0 };
+
+    ghost writes = { λ w. 0 };
+
+    ghost stands = { λ w topology journal inputs. ⊤ };
+
+    ghost begins = { λ w topology journal inputs. ⊤ };
+
+    ghost goes_on = { λ old new. ⊤ };
+
+    fn packet(&mut self, nth: u32) -> Result<Option<&[u8]>, WatchBad> {
+        Ok(self.capture.packet(nth))
+    }
+
+    fn done(&mut self, net: &Net, made: Done) -> Result<(), WatchBad> {
+        Ok(())
+    }
+
+    ghost each_has_one = { λ w all is. has_each w.capture.now all is };
+
+    ghost stays = { λ w. tt };
+
+    ghost onward = { λ a b c ab bc. tt };
+
+    ghost begun = { λ w topology journal inputs stands. tt };
+}

@@ -1,0 +1,193 @@
+//! A run that writes no file, and of whose report only the total is put.
+ghost use Rattle.std.specs.Prelude.{◌≡◌, ◌-◌, ◌+◌, ◌<◌, ◌≤◌, ◌^◌, ◌++◌, true, false, [], List, ℕ, length, Some, IfOk, OnOk, OnErr};
+ghost use Rattle.std.specs.Option.{ForSome};
+ghost use Rattle.mn_script.specs.Lines.{command_fits};
+ghost use Rattle.mn_script.specs.Script.{AllFit};
+ghost use Rattle.mn_course.specs.Course.{inputs_of};
+ghost use Rattle.mn_course.specs.Expansion.{Expansion, with_line, expanded};
+ghost use Rattle.mn_lines.specs.Putting.{Puts, PutsPart};
+ghost use Rattle.mn_net_now.specs.Now.{StandsFor};
+ghost use Rattle.mn_topo.specs.Network.{Network};
+ghost use Rattle.mn_sched.specs.Playing.{is_show, IsPaced};
+ghost use Rattle.mn_perform.specs.Faults.{SinkBlamed};
+ghost use Rattle.mn_perform.specs.Memory.{packets_at};
+ghost use Rattle.mn_perform.specs.Running.{is_stopped};
+ghost use Rattle.mn_perform.specs.Total.{Plays, heading_of, PlayedTo, PutsWhole, total_text};
+
+use crate::desk::Desk;
+use crate::ended::{Ended, Fault};
+use crate::memory::{InMemory, MemoryCapture};
+use mn_edge::Sink;
+use mn_net::Net;
+use mn_sched::{Played, Stopped, play};
+use mn_script::{Command, Line};
+use mn_topo::Topology;
+use std::alloc::{AllocError, Global};
+
+/// Plays a line that isn't a table, and counts it where it is refused.
+fn play_steps(
+    net: &mut Net,
+    line: &Line,
+    capture: &MemoryCapture,
+    refused: &mut u32,
+) -> Result<Ended, AllocError>
+    requires fits { command_fits net.old.topology line.now.command ≡ true }
+    requires shows { is_show line.now.command ≡ false }
+    requires early { net.old.tick ≤ 2 ^ 61 }
+    requires few { refused.old < 2 ^ 32 - 1 }
+    requires stands { StandsFor net.old (inputs_of (packets_at capture.now) net.old.journal) }
+    ensures topology { net.new.topology ≡ net.old.topology }
+    ensures clock { IfOk result (λ how. how ≡ Ended.All → IsPaced 1000000 net.old net.new) }
+    ensures refused { refused.new ≤ refused.old + 1 }
+    ensures played { IfOk result (λ how. (run : Expansion) → run.is_stopped ≡ false →
+        Plays net.old.topology (packets_at capture.now) run net.old refused.old →
+        PlayedTo net.old.topology (packets_at capture.now) (with_line net.old.topology (packets_at capture.now) run line.now) net.new refused.new how) }
+{
+    let mut watch = InMemory { capture };
+    match play(net, &line.command, &mut watch) {
+        Ok(Played::All) => Ok(Ended::All),
+        Ok(Played::Refused(_)) => {
+            *refused += 1;
+            Ok(Ended::All)
+        }
+        Ok(Played::NoRecord) => {
+            *refused += 1;
+            Ok(Ended::All)
+        }
+        Err(Stopped::TooManySteps) => Ok(Ended::TooManySteps),
+        // The watch has no faults.
+        Err(Stopped::Read) => Err(AllocError),
+        Err(Stopped::Write) => Err(AllocError),
+        Err(Stopped::NoMemory) => Err(AllocError),
+    }
+}
+
+/// Plays a line, and counts it where it is refused. A table is passed over.
+fn play_line(
+    net: &mut Net,
+    line: &Line,
+    capture: &MemoryCapture,
+    refused: &mut u32,
+) -> Result<Ended, AllocError>
+    requires fits { command_fits net.old.topology line.now.command ≡ true }
+    requires early { net.old.tick ≤ 2 ^ 61 }
+    requires few { refused.old < 2 ^ 32 - 1 }
+    requires stands { StandsFor net.old (inputs_of (packets_at capture.now) net.old.journal) }
+    ensures topology { net.new.topology ≡ net.old.topology }
+    ensures clock { IfOk result (λ how. how ≡ Ended.All → IsPaced 1000000 net.old net.new) }
+    ensures refused { refused.new ≤ refused.old + 1 }
+    ensures played { IfOk result (λ how. (run : Expansion) → run.is_stopped ≡ false →
+        Plays net.old.topology (packets_at capture.now) run net.old refused.old →
+        PlayedTo net.old.topology (packets_at capture.now) (with_line net.old.topology (packets_at capture.now) run line.now) net.new refused.new how) }
+{
+    match line.command {
+        Command::Show(_) => Ok(Ended::All),
+        _ => play_steps(net, line, capture, refused),
+    }
+}
+
+/// Plays the lines of a script, until one meets a full journal, and counts those that are refused.
+fn play_lines(
+    net: &mut Net,
+    lines: &[Line],
+    capture: &MemoryCapture,
+    refused: &mut u32,
+) -> Result<Ended, AllocError>
+    requires fit { AllFit net.old.topology lines.now }
+    requires few { length lines.now ≤ 3000000 }
+    requires journal { net.old.journal ≡ [] }
+    requires tick { net.old.tick ≡ 0 }
+    requires stands { StandsFor net.old [] }
+    requires none { refused.old ≡ 0 }
+    ensures topology { net.new.topology ≡ net.old.topology }
+    ensures played { IfOk result (λ how. PlayedTo net.old.topology (packets_at capture.now)
+        (expanded net.old.topology (packets_at capture.now) lines.now) net.new refused.new how) }
+{
+    for line in lines {
+        if !net.works() {
+            return Err(AllocError);
+        }
+        net.laws();
+        match play_line(net, line, capture, refused) {
+            Ok(Ended::All) => {}
+            Ok(Ended::TooManySteps) => return Ok(Ended::TooManySteps),
+            Err(bad) => return Err(bad),
+        }
+    }
+    Ok(Ended::All)
+}
+
+/// A heading waits, unless the journal was full.
+fn head<O: Sink>(out: &mut O, desk: &mut Desk, how: Ended, heading: &[u8]) -> Result<(), Fault>
+    ensures put { OnOk result (Puts (heading_of how heading.now) desk.old.page desk.new.page (O.written out.old) (O.written out.new)) }
+    ensures part { OnErr result (PutsPart (heading_of how heading.now) desk.old.page (O.written out.old) (O.written out.new)) }
+    ensures sendings { desk.new.sendings ≡ desk.old.sendings }
+    ensures refused { desk.new.refused ≡ desk.old.refused }
+    ensures cause { SinkBlamed (O.faults out.old) (O.faults out.new) result }
+{
+    match how {
+        Ended::All => match desk.page.put(out, heading) {
+            Ok(()) => Ok(()),
+            Err(bad) => Err(Fault::from(bad)),
+        },
+        Ended::TooManySteps => Ok(()),
+    }
+}
+
+/// Puts what the lines came to, of which so many were refused.
+fn tell<O: Sink>(
+    alloc: Global,
+    out: &mut O,
+    net: &Net,
+    how: Ended,
+    heading: &[u8],
+    refused: u32,
+) -> Result<(), Fault>
+    ensures text { ForSome (O.written out.old) (λ before. (topology : Network) (all : List (List ℕ)) (run : Expansion) →
+        PlayedTo topology all run net.now refused how →
+        PutsWhole (total_text heading.now topology all run) before (O.written out.new) result) }
+    ensures cause { SinkBlamed (O.faults out.old) (O.faults out.new) result }
+{
+    let Ok(mut desk) = Desk::new(alloc) else {
+        return Err(Fault::NoMemory);
+    };
+    desk.refused = refused;
+    match head(out, &mut desk, how, heading) {
+        Ok(()) => desk.end(out, net, how),
+        Err(fault) => Err(fault),
+    }
+}
+
+/// Plays the lines of a script on the network of a topology, over a capture in memory. No file is written, and no
+/// table, no refused line and no packet is told: what is put, at the end, is a heading and the total, or that the
+/// journal was full.
+///
+/// After an error a first part of that was put.
+pub fn tally<O: Sink>(
+    alloc: Global,
+    out: &mut O,
+    topology: Topology,
+    lines: &[Line],
+    capture: &MemoryCapture,
+    heading: &[u8],
+) -> Result<Ended, Fault>
+    requires fit { AllFit topology lines.now }
+    requires few { length lines.now ≤ 3000000 }
+    ensures ended { IfOk result (λ how. (expanded topology (packets_at capture.now) lines.now).is_stopped ≡ is_stopped how) }
+    ensures text { ForSome (O.written out.old) (λ before. PutsWhole
+        (total_text heading.now topology (packets_at capture.now) (expanded topology (packets_at capture.now) lines.now)) before (O.written out.new) result) }
+    ensures cause { SinkBlamed (O.faults out.old) (O.faults out.new) result }
+{
+    let Ok(mut net) = Net::new(alloc, topology) else {
+        return Err(Fault::NoMemory);
+    };
+    let mut refused = 0;
+    let how = match play_lines(&mut net, lines, capture, &mut refused) {
+        Ok(how) => how,
+        Err(_) => return Err(Fault::NoMemory),
+    };
+    match tell(alloc, out, &net, how, heading, refused) {
+        Ok(()) => Ok(how),
+        Err(fault) => Err(fault),
+    }
+}

@@ -1,0 +1,225 @@
+-- What the generator makes, and the end of its run.
+use Rattle.std.proofs.Common.{◌≡◌, ◌≤◌, ◌++◌, ℕ, Bool, true, false, cond, nat_lt, if◌then◌else◌, ◌||◌, List, [], Option, Some, None, MatchOption, Result}
+use Rattle.std.proofs.Common.{Ok, Err, IfOk, Vec, Global, length, inl, inr, refl, sym, ◌∙◌, ap, subst}
+use Rattle.std.specs.Prelude.{is_some, option_map, ⊤}
+use Rattle.std.specs.Str.Lines.{lines}
+use Rattle.mn_edge.specs.Files.{Files}
+use Rattle.mn_edge.specs.Written.{laid}
+use Rattle.mn_topo.specs.Network.{Network}
+use Rattle.mn_topo.specs.Topology.{topology_of}
+use Rattle.mn_topo.specs.declared.refusal.TopoRule.{TopoRule}
+use Rattle.mn_topo.specs.declared.refusal.Place.{Place}
+use Rattle.mn_script.specs.declared.command.Line.{Line}
+use Rattle.mn_script.specs.declared.refusal.ScriptRule.{ScriptRule}
+use Rattle.mn_script.specs.Script.{script_of}
+use Rattle.mn_pcap.specs.Reading as pcap
+use Rattle.mn_pcap.specs.Reading.{count_of}
+use Rattle.mn_pcap.specs.declared.refusal.PcapBad.{PcapBad}
+use Rattle.mn_pcap.specs.declared.refusal.PcapBad.TheVariants as bad
+use Rattle.mn_course.specs.Expansion.{expanded}
+use Rattle.mn_gen.specs.Topology.{topology_text}
+use Rattle.mn_gen.specs.Script.{script_text}
+use Rattle.mn_gen.specs.Capture.{capture_bytes}
+use Rattle.mn_perform.specs.declared.ended.Ended.{Ended}
+use Rattle.mn_perform.specs.declared.ended.Ended.TheVariants as ended
+use Rattle.mn_perform.specs.declared.ended.Fault.{Fault}
+use Rattle.mn_perform.specs.declared.ended.Fault.TheVariants as fault
+use Rattle.mn_perform.specs.Faults.{SinkBlamed}
+use Rattle.mn_perform.specs.Memory.{MemoryView, packets_at}
+use Rattle.mn_perform.specs.Running.{is_stopped}
+use Rattle.mn_perform.specs.Total.{total_text, PutsWhole}
+use Rattle.mn_run.specs.declared.generate.Made.{Made}
+use Rattle.mn_run.specs.declared.outcome.Outcome.{Outcome}
+use Rattle.mn_run.specs.declared.outcome.Outcome.TheVariants.{Done, Usage, ReadFault, WriteFault, NoMemory, BadTopology, BadScript, BadCapture, TooLarge}
+use Rattle.mn_run.specs.declared.outcome.Limit.TheVariants.{TopologyBytes, ScriptBytes, ScriptLines, CaptureBytes, CaptureRecords, Steps}
+use Rattle.mn_run.specs.Words.{is_run, is_check, is_command, generator_number}
+use Rattle.mn_run.specs.Answer.{Answer, refusal, run_answer, check_answer, answer_of, generated_line, generated_done, generated_over, generated}
+use Rattle.mn_run.specs.Answer.{generate_answer}
+use Rattle.mn_run.specs.Answer.{if_lawful, with_topology_bytes, if_accepted, with_lines, with_script_bytes, if_captured, with_records, with_capture_bytes}
+use Rattle.mn_run.specs.Answer.{most_topology_bytes, most_script_bytes, most_script_lines, most_capture_bytes, most_capture_records}
+use Rattle.mn_run.specs.Endings.{OutcomeIs, FilesAre, TextIs, CausedBy, IsLate}
+use Rattle.mn_run.specs.Jobs.{TopologyIs, ScriptIs, ScriptFits, HeldIs, AreMadeOver, AreMade, MadeOverIs, MadeIs, outcome_of}
+use Rattle.mn_run.proofs.Ending.{files_untouched, whole_untouched, untouched_files}
+
+-- 1. Its inputs
+
+read_is : {A E : Type 0} (f : List ℕ → Result A E) (bytes : List ℕ) (x : A) → option_map f (Some bytes) ≡ Some (Ok x) → f bytes ≡ Ok x
+read_is f bytes x e = cc
+
+-- script and capture over a topology
+pub made_over : (number : ℕ) (t : Network) (lines : Vec Line Global) (capture : MemoryView) (script packed : List ℕ) → script ≡ script_text number →
+    packed ≡ capture_bytes number
+    → ScriptIs t (Some script) (Ok lines) → ScriptFits t (Ok lines) → HeldIs packed (Ok capture)
+    → AreMadeOver number t (record { topology = t; lines = lines; capture = capture })
+made_over number t lines capture script packed is packed_is read fits held =
+    let script_read = subst (λ b. ScriptIs t (Some b) (Ok lines)) is read in
+    let capture_read = subst (λ b. HeldIs b (Ok capture)) packed_is held in
+    record {
+      over = refl;
+      script_read = read_is (script_of t) (script_text number) lines.items script_read.0;
+      capture_read = capture_read.0;
+      answer = script_read.1 (λ script. with_capture_bytes (capture_bytes number) (λ packets. Some (generated_done number t script packets)))
+          ∙ capture_read.1 (λ packets. Some (generated_done number t lines.items packets));
+      fit = fits.0;
+      few = fits.1;
+    }
+
+-- the script was refused, or the capture
+pub script_refused : (number : ℕ) (t : Network) (outcome : Outcome) (script : List ℕ) → script ≡ script_text number → ScriptIs t (Some script) (Err outcome)
+    → MadeOverIs number t (Err outcome)
+script_refused number t outcome script is read =
+    subst (λ b. ScriptIs t (Some b) (Err outcome)) is read
+    (λ script. with_capture_bytes (capture_bytes number) (λ packets. Some (generated_done number t script packets)))
+
+pub capture_refused : (number : ℕ) (t : Network) (lines : Vec Line Global) (outcome : Outcome) (script packed : List ℕ) → script ≡ script_text number →
+    packed ≡ capture_bytes number
+    → ScriptIs t (Some script) (Ok lines) → HeldIs packed (Err outcome) → MadeOverIs number t (Err outcome)
+capture_refused number t lines outcome script packed is packed_is read held =
+    (subst (λ b. ScriptIs t (Some b) (Ok lines)) is read).1
+    (λ script. with_capture_bytes (capture_bytes number) (λ packets. Some (generated_done number t script packets)))
+    ∙ subst (λ b. HeldIs b (Err outcome)) packed_is held (λ packets. Some (generated_done number t lines.items packets))
+
+-- a topology, and what was made over it
+pub made : (number : ℕ) (t : Network) (l : Result Made Outcome) (bytes : List ℕ) → bytes ≡ topology_text number → TopologyIs (Some bytes) (Ok t) →
+    MadeOverIs number t l → MadeIs number l
+unfolding generated
+made number t (Ok m) bytes is read over =
+    let topology_read = subst (λ b. TopologyIs (Some b) (Ok t)) is read in
+    let same : topology_of (topology_text number) ≡ Ok t = read_is topology_of (topology_text number) t topology_read.0 in
+    record {
+      over = subst (λ x. AreMadeOver number x m) (sym over.over) over;
+      topology_read = same ∙ ap Ok (sym over.over);
+      answer = topology_read.1 (generated_over number) ∙ over.answer
+          ∙ ap (λ x. Some (generated_done number x m.lines.items (packets_at m.capture))) (sym over.over);
+    }
+made number t (Err outcome) bytes is read over = (subst (λ b. TopologyIs (Some b) (Ok t)) is read).1 (generated_over number) ∙ over
+
+pub topology_refused : (number : ℕ) (outcome : Outcome) (bytes : List ℕ) → bytes ≡ topology_text number → TopologyIs (Some bytes) (Err outcome) →
+    MadeIs number (Err outcome)
+unfolding generated
+topology_refused number outcome bytes is read = subst (λ b. TopologyIs (Some b) (Err outcome)) is read (generated_over number)
+
+-- 2. The end of its run
+
+module _ (number : ℕ) (t : Network) (lines : List Line) (packets : List (List ℕ)) where
+  pub ends : (result : Result Ended Fault) → IfOk result (λ how. (expanded t packets lines).is_stopped ≡ is_stopped how)
+      → OutcomeIs (Some (generated_done number t lines packets)) (outcome_of result)
+  unfolding generated_done
+  ends (Ok ended.All) h = ap (λ b. cond b (TooLarge Steps 4000000) Done) h
+  ends (Ok ended.TooManySteps) h = ap (λ b. cond b (TooLarge Steps 4000000) Done) h
+  ends (Err fault.Read) h = tt
+  ends (Err fault.Write) h = tt
+  ends (Err fault.NoMemory) h = tt
+
+  pub tells : (before : List ℕ) (after : Option (List ℕ)) (result : Result Ended Fault)
+      → PutsWhole (total_text (generated_line number) t packets (expanded t packets lines)) before after result
+      → TextIs (Some (generated_done number t lines packets)) before after (outcome_of result)
+  unfolding generated_done
+  tells before after (Ok ended.All) h = h
+  tells before after (Ok ended.TooManySteps) h = h
+  tells before after (Err fault.Read) h = h
+  tells before after (Err fault.Write) h = h
+  tells before after (Err fault.NoMemory) h = h
+
+pub sink_blames : (old new : ℕ) (result : Result Ended Fault) → SinkBlamed old new result → CausedBy (0, 0, old) (0, 0, new) (outcome_of result)
+sink_blames old new (Ok ended.All) h = (refl, refl, h)
+sink_blames old new (Ok ended.TooManySteps) h = (refl, refl, h)
+sink_blames old new (Err fault.Read) h = absurd h
+sink_blames old new (Err fault.Write) h = (refl, inr (h, refl))
+sink_blames old new (Err fault.NoMemory) h = (refl, refl, h)
+
+-- 3. It writes no file
+
+abbrev pub WritesNone : Option Answer → Type 0
+WritesNone answer = MatchOption answer ⊤ (λ a. a.files ≡ [])
+
+topology_writes : (found : Result Network (TopoRule × Place)) (next : Network → Option Answer) →
+    ((t : Network) → WritesNone (next t)) → WritesNone (if_lawful found next)
+topology_writes (Ok t) next h = h t
+topology_writes (Err refused) next h = refl
+
+topology_bytes_write : (b : Bool) (found : Result Network (TopoRule × Place)) (next : Network → Option Answer) → ((t : Network) → WritesNone (next t))
+    → WritesNone (if b then Some (refusal (TooLarge TopologyBytes most_topology_bytes)) else if_lawful found next)
+topology_bytes_write true found next h = refl
+topology_bytes_write false found next h = topology_writes found next h
+
+script_writes : (found : Result (List Line) (ScriptRule × ℕ)) (next : List Line → Option Answer) →
+    ((s : List Line) → WritesNone (next s)) → WritesNone (if_accepted found next)
+script_writes (Ok s) next h = h s
+script_writes (Err refused) next h = refl
+
+script_bytes_write : (b many : Bool) (found : Result (List Line) (ScriptRule × ℕ)) (next : List Line → Option Answer) → ((s : List Line) → WritesNone (next s))
+    → WritesNone
+    (if b then Some (refusal (TooLarge ScriptBytes most_script_bytes)) else if many then Some
+    (refusal (TooLarge ScriptLines most_script_lines)) else if_accepted found next)
+script_bytes_write true many found next h = refl
+script_bytes_write false true found next h = refl
+script_bytes_write false false found next h = script_writes found next h
+
+capture_writes : (found : Result (List (List ℕ)) PcapBad) (next : List (List ℕ) → Option Answer) →
+    ((p : List (List ℕ)) → WritesNone (next p)) → WritesNone (if_captured found next)
+capture_writes (Ok p) next h = h p
+capture_writes (Err (bad.Refused rule place)) next h = refl
+capture_writes (Err bad.NoMemory) next h = refl
+
+capture_bytes_write : (b many : Bool) (found : Result (List (List ℕ)) PcapBad) (next : List (List ℕ) → Option Answer) →
+    ((p : List (List ℕ)) → WritesNone (next p))
+    → WritesNone
+    (if b then Some (refusal (TooLarge CaptureBytes most_capture_bytes)) else if many then Some
+    (refusal (TooLarge CaptureRecords most_capture_records)) else if_captured found next)
+capture_bytes_write true many found next h = refl
+capture_bytes_write false true found next h = refl
+capture_bytes_write false false found next h = capture_writes found next h
+
+done_writes : (number : ℕ) (t : Network) (script : List Line) (packets : List (List ℕ)) → WritesNone (Some (generated_done number t script packets))
+unfolding generated_done
+done_writes number t script packets = refl
+
+generated_writes : (number : ℕ) → WritesNone (generated number)
+unfolding generated
+generated_writes number =
+    topology_bytes_write (nat_lt most_topology_bytes (length (topology_text number))) (topology_of (topology_text number)) (generated_over number)
+    (λ t. script_bytes_write (nat_lt most_script_bytes (length (script_text number))) (nat_lt most_script_lines (length (lines (script_text number))))
+    (script_of t (script_text number))
+    (λ script. with_capture_bytes (capture_bytes number) (λ packets. Some (generated_done number t script packets)))
+    (λ script. capture_bytes_write (nat_lt most_capture_bytes (length (capture_bytes number)))
+    (nat_lt most_capture_records (count_of (capture_bytes number))) (pcap.packets_of (capture_bytes number))
+    (λ packets. Some (generated_done number t script packets)) (done_writes number t script)))
+
+pub writes_none : (n : Option ℕ) → WritesNone (generate_answer n)
+writes_none None = refl
+writes_none (Some number) = generated_writes number
+
+pub files_stay : (a : Option Answer) (m : Files) (after : Option Files) (o : Outcome) → WritesNone a → OutcomeIs a o → after ≡ Some m → FilesAre a m after o
+files_stay (Some a) m after o none h same = files_untouched a m after o none same
+files_stay None m after ReadFault none h same = same
+files_stay None m after WriteFault none h same = same
+files_stay None m after NoMemory none h same = same
+files_stay None m after Done none h same = h
+files_stay None m after Usage none h same = h
+files_stay None m after (BadTopology rule place) none h same = h
+files_stay None m after (BadScript rule line) none h same = h
+files_stay None m after (BadCapture rule place) none h same = h
+files_stay None m after (TooLarge which limit) none h same = h
+
+pub late_stays : (a : Option Answer) (m : Files) (after : Option Files) (before : List ℕ) (written : Option (List ℕ)) → WritesNone a → after ≡ Some m →
+    IsLate a m after before written
+late_stays (Some a) m after before written none same = whole_untouched a m after before written none same
+late_stays None m after before written none same = tt
+
+-- 4. Words of a check, and of neither a run nor a check
+
+pub check_is : (words : List (List ℕ)) (files : Files) → is_run words ≡ false → is_check words ≡ true → answer_of words files ≡ check_answer words files
+check_is words files run check =
+    ap (λ b. if b then run_answer words files else if is_check words then check_answer words files else generate_answer (generator_number words)) run
+    ∙ ap (λ b. if b then check_answer words files else generate_answer (generator_number words)) check
+
+pub other_is : (words : List (List ℕ)) (files : Files) → is_run words ≡ false → is_check words ≡ false →
+    answer_of words files ≡ generate_answer (generator_number words)
+other_is words files run check =
+    ap (λ b. if b then run_answer words files else if is_check words then check_answer words files else generate_answer (generator_number words)) run
+    ∙ ap (λ b. if b then check_answer words files else generate_answer (generator_number words)) check
+
+pub command_is : (words : List (List ℕ)) → is_run words ≡ false → is_check words ≡ false → is_command words ≡ is_some (generator_number words)
+command_is words run check =
+    ap (λ b. b || (is_check words || is_some (generator_number words))) run ∙ ap (λ b. b || is_some (generator_number words)) check
