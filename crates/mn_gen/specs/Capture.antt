@@ -11,7 +11,8 @@ checksum_to edge = 0x66D0 - edge
 
 abbrev pub packet_to : ℕ → List ℕ
 packet_to edge =
-    0x45 ∷ 0 ∷ 0 ∷ 28 ∷ 0 ∷ 0 ∷ 0 ∷ 0 ∷ 64 ∷ 17 ∷ checksum_to edge / 256 ∷ checksum_to edge % 256 ∷ 10 ∷ 0 ∷ 0 ∷ 1 ∷ 10 ∷ edge ∷ 0 ∷ 1 ∷ 0 ∷ 53 ∷ 0 ∷ 53 ∷ 0 ∷ 8 ∷ 0 ∷ 0 ∷ []
+    0x45 ∷ 0 ∷ 0 ∷ 28 ∷ 0 ∷ 0 ∷ 0 ∷ 0 ∷ 64 ∷ 17 ∷ checksum_to edge / 256 ∷ checksum_to edge % 256 ∷ 10 ∷ 0 ∷ 0 ∷ 1 ∷ 10 ∷ edge ∷ 0 ∷ 1 ∷ 0 ∷ 53 ∷ 0 ∷ 53 ∷ 0
+    ∷ 8 ∷ 0 ∷ 0 ∷ []
 
 -- its record, at tick 0
 abbrev pub record_to : ℕ → List ℕ

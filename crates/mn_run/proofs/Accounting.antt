@@ -238,7 +238,8 @@ pub headline : (words : List (List ℕ)) (files : Files) (before : List ℕ) (af
     TextIs (answer_of words files) before written_now outcome
     → HeadlineIs words files before after written_now outcome
 headline words files before after written_now Done kept generated o f t =
-    let x = given (answer_of words files) (λ a. a.outcome ≡ Done) (λ a. after ≡ Some (laid a.files files)) (λ a. written_now ≡ Some (before ++ a.text)) o f t in (
+    let x = given (answer_of words files) (λ a. a.outcome ≡ Done) (λ a. after ≡ Some (laid a.files files))
+    (λ a. written_now ≡ Some (before ++ a.text)) o f t in (
       kept,
       λ check. told words files before after written_now x.0 check x.1 x.2 x.3 x.4,
       λ number is.
