@@ -1,499 +1,39 @@
 #!/usr/bin/env python3
 """Works out what `mplsnet run` leaves and reports for any topology, script and capture, without the program.
 
-It is a second telling of the rules of docs/FORMATS.md (texts, bytes) and docs/LEDGER.md (who says what, and when),
-written from these and not from the program's source. It goes by the definitions and not by speed: routes are chosen
-from the whole list, least walks are found anew, what a neighbour said last is looked up in all that it said. The
-sections are: texts, topology, script, capture; IPv4; the network and its steps; a script's course; labels and bytes;
-the report; files.
+It is a second telling of the rules of docs/FORMATS.md and docs/WIRE.md (texts, bytes) and docs/LEDGER.md (who says what, and when),
+written from these and not from the program's source. It goes by the definitions and not by speed: the best route is
+chosen from the whole list, what a neighbour mentioned last is looked up in all that it said, what comes next in all
+that is in flight. The inputs are read by reference_inputs.py; here are IPv4, the network and its steps, a script's
+course, the bytes of frames, LDP and BGP, the report, the files.
 """
 
 import argparse
-import re
 import struct
 import sys
-from dataclasses import dataclass, field
+from dataclasses import dataclass
 from pathlib import Path
 
-try:
-    import tomllib
-except ImportError:
-    sys.exit("reference.py: needs Python 3.11 or later (for tomllib)")
+from reference_inputs import ROUTES, TARGETS, Refused, address_text, contains, is_unicast, prefix_text, target_text
+from reference_inputs import read_capture, read_script, read_topology
 
 HELP = """\
 Writes every file of the run and its report, as report.txt, into FOLDER, which is made where it isn't there. With
 --compare nothing is written: the files of FOLDER, report.txt among them, are compared with those that are due, and
 the first difference is told. A refused input leaves report.txt alone, with the line of the refusal.
 
-Not covered: the words of the command line, faults of reading and writing, want of memory, and what TOML 1.1 has
-beyond 1.0. It is for small networks: thousands of steps take seconds, and millions hours.
+Not covered: the words of the command line, faults of reading and writing, want of memory; and of TOML what 1.1 has
+beyond 1.0, the limit of 80 on nesting, numbers like 1e309, and a byte order mark. It is for small networks: a
+thousand steps take a second or two, and a million hours.
 
 status: 0 written, or nothing differs; 1 something differs, or a file can't be read or written; 2 wrong words
 """
 
-ROUTES, TARGETS, EDGES, LABELS = 65_536, 16, 64, 1_048_560
-MESSAGES, PACKET_BYTES, STEPS = 2_000_000, 268_435_456, 4_000_000
-LENGTHS = {"node": 256, "link": 1024, "vrf": 512, "site": 4096}
-
-
-class Refused(Exception):
-    """An input is refused; the text is the line that is put."""
+LABELS, MESSAGES, PACKET_BYTES, STEPS = 1_048_560, 2_000_000, 268_435_456, 4_000_000
 
 
 class JournalFull(Exception):
     """A step that nothing else refuses meets a full journal."""
-
-
-# Texts
-
-
-def number(word, least, most):
-    """The number that a word says, None where it isn't one or is out of range."""
-    if re.fullmatch("0|[1-9][0-9]*", word) and len(word) < 20 and least <= int(word) <= most:
-        return int(word)
-    return None
-
-
-def address(word):
-    parts = [number(part, 0, 255) for part in word.split(".")]
-    return None if len(parts) != 4 or None in parts else int.from_bytes(bytes(parts), "big")
-
-
-def prefix(word):
-    """An address and a length; bits past the length are zero."""
-    first, slash, last = word.partition("/")
-    at, length = address(first), number(last, 0, 32)
-    if not slash or at is None or length is None or at & (1 << 32 - length) - 1:
-        return None
-    return at, length
-
-
-def pair(word, kinds):
-    """The eight bytes of AS:N or ADDRESS:N, of the first or the second of the kinds."""
-    first, colon, last = word.partition(":")
-    asn, at = number(first, 0, 65_535), address(first)
-    if asn is not None and (n := number(last, 0, 2**32 - 1)) is not None:
-        return struct.pack(">HHI", kinds[0], asn, n)
-    if at is not None and (n := number(last, 0, 65_535)) is not None:
-        return struct.pack(">HIH", kinds[1], at, n)
-    return None
-
-
-def distinguisher(word):
-    return pair(word, (0x0000, 0x0001))
-
-
-def target(word):
-    return pair(word, (0x0002, 0x0102))
-
-
-def address_text(at):
-    return ".".join(str(byte) for byte in at.to_bytes(4, "big"))
-
-
-def prefix_text(of):
-    return f"{address_text(of[0])}/{of[1]}"
-
-
-def target_text(of):
-    if of[:2] == b"\0\2":
-        return f"{int.from_bytes(of[2:4], 'big')}:{int.from_bytes(of[4:], 'big')}"
-    return f"{address_text(int.from_bytes(of[2:6], 'big'))}:{int.from_bytes(of[6:], 'big')}"
-
-
-def contains(of, at):
-    return at >> 32 - of[1] == of[0] >> 32 - of[1]
-
-
-def is_unicast(at):
-    """Outside 0.0.0.0/8, 127.0.0.0/8, 224.0.0.0/4 and 240.0.0.0/4."""
-    return at >> 24 not in (0, 127) and at >> 28 not in (14, 15)
-
-
-# Topology
-
-
-@dataclass
-class Node:
-    name: str
-    loopback: int
-
-
-@dataclass
-class Link:
-    a: int
-    b: int
-    cost: int
-    delay: int
-    loss: int
-
-    def other(self, end):
-        return self.a + self.b - end
-
-
-@dataclass
-class Vrf:
-    name: str
-    node: int
-    rd: bytes
-    imports: list
-    exports: list
-
-
-@dataclass
-class Site:
-    name: str
-    vrf: int
-    prefixes: list
-
-
-@dataclass
-class Topology:
-    asn: int = 65_000
-    notice_delay: int = 1
-    bgp_delay: int = 1
-    nodes: list = field(default_factory=list)
-    links: list = field(default_factory=list)
-    vrfs: list = field(default_factory=list)
-    sites: list = field(default_factory=list)
-
-    def named(self, kind, name):
-        """The number of the node, VRF or site of this name, None where there is none."""
-        things = {"node": self.nodes, "vrf": self.vrfs, "site": self.sites}[kind]
-        return next((no for no, thing in enumerate(things) if thing.name == name), None)
-
-    def link_between(self, a, b):
-        return next((no for no, link in enumerate(self.links) if {link.a, link.b} == {a, b} and a != b), None)
-
-    def edges(self):
-        return sorted({vrf.node for vrf in self.vrfs})
-
-    def edge_of(self, site):
-        return self.vrfs[self.sites[site].vrf].node
-
-    def neighbours(self, node):
-        """Of each neighbour, by number, the link to it."""
-        ends = [(link.other(node), no) for no, link in enumerate(self.links) if node in (link.a, link.b)]
-        return sorted(ends)
-
-
-TEXT, INTEGER, TEXTS, TABLES = "text", "integer", "texts", "tables"
-KEYS = {
-    "top": {"as": INTEGER, "notice_delay": INTEGER, "bgp_delay": INTEGER} | dict.fromkeys(LENGTHS, TABLES),
-    "node": {"name": TEXT, "loopback": TEXT},
-    "link": {"a": TEXT, "b": TEXT, "cost": INTEGER, "delay": INTEGER, "loss": INTEGER},
-    "vrf": {"name": TEXT, "node": TEXT, "rd": TEXT, "import": TEXTS, "export": TEXTS},
-    "site": {"name": TEXT, "vrf": TEXT, "prefixes": TEXTS},
-}
-REQUIRED = {
-    "node": ["name", "loopback"],
-    "link": ["a", "b"],
-    "vrf": ["name", "node", "rd"],
-    "site": ["name", "vrf"],
-}
-
-
-def is_of_kind(value, kind):
-    if kind == INTEGER:
-        return type(value) is int
-    if kind == TEXT:
-        return isinstance(value, str)
-    return isinstance(value, list) and all(isinstance(one, str if kind == TEXTS else dict) for one in value)
-
-
-def refuse(rule, place):
-    raise Refused(f"topology refused {rule} at {place}")
-
-
-def is_in_64_bits(value):
-    if isinstance(value, dict):
-        value = list(value.values())
-    if isinstance(value, list):
-        return all(map(is_in_64_bits, value))
-    return type(value) is not int or -(2**63) <= value < 2**63
-
-
-def read_topology(bytes_):
-    if len(bytes_) > 1_048_576:
-        raise Refused("too large topology bytes")
-    try:
-        top = tomllib.loads(bytes_.decode())
-    except (UnicodeDecodeError, tomllib.TOMLDecodeError, RecursionError):
-        refuse("T1 NotToml", "top")
-    if not is_in_64_bits(top):
-        refuse("T1 NotToml", "top")
-    check_top(top)
-    topology = Topology(top.get("as", 65_000), top.get("notice_delay", 1), top.get("bgp_delay", 1))
-    readers = {"node": read_node, "link": read_link, "vrf": read_vrf, "site": read_site}
-    for kind, read in readers.items():
-        for index, table in enumerate(top.get(kind, [])):
-            place = f"{kind} {index}"
-            check_keys(table, kind, place)
-            read(topology, table, lambda rule: refuse(rule, place))
-    return topology
-
-
-def check_top(top):
-    if not top.keys() <= KEYS["top"].keys():
-        refuse("T2 UnknownKey", "top")
-    ranges = {"as": 65_535, "notice_delay": 1000, "bgp_delay": 1000}
-    kinds_fit = all(is_of_kind(value, KEYS["top"][key]) for key, value in top.items())
-    if not kinds_fit or not all(1 <= top.get(key, 1) <= most for key, most in ranges.items()):
-        refuse("T4 WrongKind", "top")
-    if any(len(top.get(key, [])) > most for key, most in LENGTHS.items()):
-        refuse("T16 TooMany", "top")
-
-
-def check_keys(table, kind, place):
-    if not table.keys() <= KEYS[kind].keys():
-        refuse("T2 UnknownKey", place)
-    if not table.keys() >= set(REQUIRED[kind]):
-        refuse("T3 MissingKey", place)
-    if not all(is_of_kind(value, KEYS[kind][key]) for key, value in table.items()):
-        refuse("T4 WrongKind", place)
-
-
-def check_name(topology, kind, name, refused):
-    if not re.fullmatch("[A-Za-z0-9._-]{1,32}", name):
-        refused("T5 BadName")
-    if topology.named(kind, name) is not None:
-        refused("T6 TwiceNamed")
-
-
-def read_node(topology, table, refused):
-    loopback = address(table["loopback"])
-    if loopback is None or not is_unicast(loopback):
-        refused("T4 WrongKind")
-    check_name(topology, "node", table["name"], refused)
-    if loopback in (node.loopback for node in topology.nodes):
-        refused("T10 TwiceLoopback")
-    topology.nodes.append(Node(table["name"], loopback))
-
-
-def read_link(topology, table, refused):
-    a, b = (topology.named("node", table[end]) for end in "ab")
-    link = Link(a, b, table.get("cost", 10), table.get("delay", 1), table.get("loss", 0))
-    if a is None or b is None:
-        refused("T7 NoSuchName")
-    if a == b:
-        refused("T8 SelfLink")
-    if topology.link_between(a, b) is not None:
-        refused("T9 TwiceLinked")
-    if not 1 <= link.cost <= 65_535:
-        refused("T11 BadCost")
-    if not 1 <= link.delay <= 1000 or not 0 <= link.loss <= 65_535:
-        refused("T12 BadDelay")
-    topology.links.append(link)
-
-
-def read_vrf(topology, table, refused):
-    check_name(topology, "vrf", table["name"], refused)
-    node, rd = topology.named("node", table["node"]), distinguisher(table["rd"])
-    if node is None:
-        refused("T7 NoSuchName")
-    if rd is not None and rd in (vrf.rd for vrf in topology.vrfs):
-        refused("T13 TwiceRd")
-    imports, exports = ([target(text) for text in table.get(key, [])] for key in ("import", "export"))
-    for targets in (imports, exports):
-        if rd is None or None in targets or len(set(targets)) < len(targets) or len(targets) > TARGETS:
-            refused("T14 BadTarget")
-    if len({*topology.edges(), node}) > EDGES:
-        refused("T16 TooMany")
-    topology.vrfs.append(Vrf(table["name"], node, rd, imports, exports))
-
-
-def read_site(topology, table, refused):
-    prefixes = [prefix(text) for text in table.get("prefixes", [])]
-    if None in prefixes:
-        refused("T4 WrongKind")
-    check_name(topology, "site", table["name"], refused)
-    vrf = topology.named("vrf", table["vrf"])
-    if vrf is None:
-        refused("T7 NoSuchName")
-    taken = [of for site in topology.sites if site.vrf == vrf for of in site.prefixes]
-    if len({*taken, *prefixes}) < len(taken) + len(prefixes):
-        refused("T15 PrefixTaken")
-    if sum(len(site.prefixes) for site in topology.sites) + len(prefixes) > ROUTES:
-        refused("T16 TooMany")
-    topology.sites.append(Site(table["name"], vrf, prefixes))
-
-
-# Script: a command is a tuple, the words that say what it is and then its numbers
-
-PLACE, RECORD, TICKS, BOUND = (0, 2**32 - 1), (1, 2**32 - 1), (0, 1_000_000), (0, 4_000_000)
-FORMS = {
-    "link up": ["node", "node"],
-    "link down": ["node", "node"],
-    "learn": ["node", "node", "node"],
-    "ldp on": ["node", "node"],
-    "ldp off": ["node", "node"],
-    "hear ldp": ["node", "node"],
-    "hear bgp": ["node", "node"],
-    "bgp up": ["node", "node"],
-    "bgp down": ["node", "node"],
-    "route add": ["site", prefix],
-    "route del": ["site", prefix],
-    "import add": ["vrf", target],
-    "import del": ["vrf", target],
-    "export add": ["vrf", target],
-    "export del": ["vrf", target],
-    "site up": ["site"],
-    "site down": ["site"],
-    "inject": ["site", RECORD],
-    "carry": ["node", "node", PLACE],
-    "lose": ["node", "node", PLACE],
-    "run": [TICKS],
-    "drain": [BOUND],
-    "flush": [],
-    "show links": [],
-    "show tree": ["node"],
-    "show ldp": [],
-    "show bgp": [],
-    "show vrf": ["vrf"],
-    "show flight": [],
-}
-
-
-def lines_of(bytes_):
-    """The lines as texts of one letter a byte; a CR right before an LF isn't part of its line."""
-    lines = bytes_.decode("latin-1").split("\n")
-    last = lines.pop()
-    return [line.removesuffix("\r") for line in lines] + [last] * (last != "")
-
-
-def words_of(line):
-    words = [word for word in re.split("[ \t]+", line) if word]
-    comment = next((at for at, word in enumerate(words) if word.startswith("#")), len(words))
-    return words[:comment]
-
-
-def read_script(topology, bytes_):
-    """The commands, each with the number of its line."""
-    if len(bytes_) > 67_108_864:
-        raise Refused("too large script bytes")
-    lines = lines_of(bytes_)
-    if len(lines) > 3_000_000:
-        raise Refused("too large script lines")
-    commands = []
-    for at, line in enumerate(lines, 1):
-        words = words_of(line)
-        if words:
-            commands.append((at, read_line(topology, words, at)))
-    return commands
-
-
-def read_line(topology, words, line):
-    def refused(rule):
-        raise Refused(f"script refused {rule} at line {line}")
-
-    firsts = {form.split()[0] for form in FORMS}
-    if words[0] not in firsts:
-        refused("S1 UnknownWord")
-    verb, given = words[0], words[1:]
-    if verb not in FORMS:
-        if not given:
-            refused("S2 WrongCount")
-        verb, given = f"{verb} {given[0]}", given[1:]
-        if verb not in FORMS:
-            refused("S1 UnknownWord")
-    form = FORMS[verb]
-    if len(given) != len(form) and (verb, given) != ("drain", []):
-        refused("S2 WrongCount")
-    values = [read_word(topology, word, kind) for word, kind in zip(given, form)]
-    if any(value is None and not isinstance(kind, str) for value, kind in zip(values, form)):
-        refused("S3 BadNumber")
-    if None in values:
-        refused("S4 NoSuchName")
-    return command_of(topology, verb, values, refused)
-
-
-def read_word(topology, word, kind):
-    if isinstance(kind, str):
-        return topology.named(kind, word)
-    return number(word, *kind) if isinstance(kind, tuple) else kind(word)
-
-
-def command_of(topology, verb, values, refused):
-    """The command, with a link in place of its ends, and before it or after it the node that is meant."""
-    if verb in ("bgp up", "bgp down", "hear bgp"):
-        if values[0] == values[1] or not {*values} <= {*topology.edges()}:
-            refused("S6 NotEdge")
-        return verb, *(values if verb == "hear bgp" else sorted(values))
-    if verb == "drain":
-        return verb, *(values or [None])
-    if verb not in ("link up", "link down", "learn", "ldp on", "ldp off", "hear ldp", "carry", "lose"):
-        return verb, *values
-    learner = [values.pop(0)] if verb == "learn" else []
-    link = topology.link_between(*values[:2])
-    if link is None:
-        refused("S5 NotLinked")
-    sender = values[:1] if verb in ("hear ldp", "carry", "lose") else []
-    return verb, *learner, link, *sender, *values[2:]
-
-
-# Capture
-
-
-def read_capture(bytes_):
-    """The packets of the records."""
-    if len(bytes_) > 67_108_864:
-        raise Refused("too large capture bytes")
-    refusal, link_type, records = scan(bytes_)
-    if len(records) > 100_000:
-        raise Refused("too large capture records")
-    if refusal:
-        raise Refused("capture refused {} at byte {}".format(*refusal))
-    return [packet_of(link_type, record) for record in records]
-
-
-def scan(bytes_):
-    """The first refusal and its byte, None where there is none; the link type; the whole records before the refusal."""
-    head = refusal_of_head(bytes_)
-    if head:
-        return head, None, []
-    order = byte_order(bytes_)
-    link_type, at, records = struct.unpack(order + "I", bytes_[20:24])[0] & 0xFFFF, 24, []
-    while at < len(bytes_):
-        if at + 16 > len(bytes_):
-            return ("CutShort", at), link_type, records
-        captured = struct.unpack(order + "I", bytes_[at + 8 : at + 12])[0]
-        if captured > 262_144:
-            return ("BadRecord", at), link_type, records
-        if at + 16 + captured > len(bytes_):
-            return ("CutShort", at), link_type, records
-        records.append(bytes_[at + 16 : at + 16 + captured])
-        at += 16 + captured
-    return None, link_type, records
-
-
-def byte_order(bytes_):
-    for order in "<>":
-        if struct.unpack(order + "I", bytes_[:4])[0] in (0xA1B2C3D4, 0xA1B23C4D):
-            return order
-    return None
-
-
-def refusal_of_head(bytes_):
-    if len(bytes_) < 4:
-        return "CutShort", 0
-    if bytes_[:4] == b"\x0a\x0d\x0d\x0a":
-        return "IsPcapng", 0
-    order = byte_order(bytes_)
-    if order is None:
-        return "BadMagic", 0
-    if len(bytes_) < 24:
-        return "CutShort", 0
-    if struct.unpack(order + "HH", bytes_[4:8]) != (2, 4):
-        return "BadVersion", 4
-    if struct.unpack(order + "I", bytes_[20:24])[0] & 0xFFFF not in (1, 101, 228):
-        return "BadLinkType", 20
-    return None
-
-
-def packet_of(link_type, record):
-    if link_type != 1:
-        return record
-    return record[14:] if record[12:14] == b"\x08\x00" else b""
 
 
 # IPv4
@@ -552,7 +92,7 @@ class Route:
 
 @dataclass
 class Token:
-    """A packet on its way to an edge, and there to an attachment of a site; the TTL of its label, now and at its push."""
+    """A packet on its way to an attachment of a site at an edge; its label's TTL, at the push and now."""
 
     packet: int
     edge: int
@@ -830,7 +370,7 @@ class Network:
         left = aged(bytes_, 1)
         if route.edge == edge:
             return self.deliver(route.site, left)
-        number = self.packets.index(packet)
+        number = len(self.packets) - 1
         return self.hop(Token(number, route.edge, route.site, route.attachment, left[8], left[8], left), edge, "NoLsp")
 
     def deliver(self, site, bytes_):
@@ -1078,8 +618,8 @@ def least(network, kinds):
     return min(items, key=lambda item: (item.due, item.number), default=None)
 
 
-def deliver(network, item):
-    """Does the step that delivers the item; a frame is lost where its link loses it."""
+def let_arrive(network, item):
+    """Does the step by which the item arrives; a frame is lost where its link loses it."""
     place = network.on(item.kind, item.channel).index(item)
     if item.kind == "notice":
         link, node = item.channel
@@ -1096,7 +636,7 @@ def run(network, ticks):
     end = network.tick + ticks
     while (item := least(network, ("notice", "ldp", "bgp", "frame"))) and item.due <= end:
         network.tick = max(network.tick, item.due)
-        deliver(network, item)
+        let_arrive(network, item)
     network.tick = end
 
 
@@ -1105,14 +645,14 @@ def drain(network, bound):
         item = least(network, ("notice",)) or least(network, ("ldp", "bgp"))
         if item is None:
             break
-        deliver(network, item)
+        let_arrive(network, item)
         bound = bound and bound - 1
 
 
 def flush(network):
     while item := least(network, ("frame",)):
         network.tick = max(network.tick, item.due)
-        deliver(network, item)
+        let_arrive(network, item)
 
 
 def play(network, commands, packets, notes):
@@ -1302,7 +842,8 @@ def packet_lines(network, refused):
 def step_words(topology, step):
     """A step in the script's words."""
     verb, *given = step
-    nodes, vrfs, sites = ([thing.name for thing in things] for things in (topology.nodes, topology.vrfs, topology.sites))
+    kinds = topology.nodes, topology.vrfs, topology.sites
+    nodes, vrfs, sites = ([thing.name for thing in things] for things in kinds)
     if verb in ("link up", "link down", "ldp on", "ldp off", "learn"):
         link = topology.links[given.pop()]
         return [verb, *(nodes[node] for node in given), nodes[link.a], nodes[link.b]]
@@ -1366,35 +907,51 @@ def run_of(topology_bytes, script_bytes, capture_bytes):
 # The command line
 
 
+def first_unlike(due, found):
+    """The first place at which two lists, or bytes, differ."""
+    return next(at for at in range(len(due) + 1) if due[at : at + 1] != found[at : at + 1])
+
+
 def difference(due, found):
-    """The first difference between what is due and what was found, by name; None where there is none."""
+    """The first difference between the files that are due and those found; None where there is none."""
     for name in sorted(due.keys() | found.keys()):
         if name not in found:
             return f"{name} isn't there"
         if name not in due:
             return f"{name} isn't a file of the run"
-        if due[name] != found[name] and name.endswith(".txt"):
-            lines = [bytes_.decode("latin-1").split("\n") for bytes_ in (due[name], found[name])]
-            at = next(at for at in range(max(map(len, lines))) if lines[0][at : at + 1] != lines[1][at : at + 1])
-            return "\n".join([f"{name} differs at line {at + 1}", *map(" ".join, (["due:"] + lines[0][at : at + 1], ["found:"] + lines[1][at : at + 1]))])
-        if due[name] != found[name]:
-            at = next(at for at in range(len(due[name]) + 1) if due[name][at : at + 1] != found[name][at : at + 1])
-            return f"{name} differs at byte {at}: due {due[name][at : at + 8].hex()}, found {found[name][at : at + 8].hex()}"
+        if due[name] == found[name]:
+            continue
+        if not name.endswith(".txt"):
+            at = first_unlike(due[name], found[name])
+            parts = [bytes_[at : at + 8].hex() or "the end" for bytes_ in (due[name], found[name])]
+            return f"{name} at byte {at}: due is {parts[0]}, found {parts[1]}"
+        lines = [bytes_.decode("latin-1").split("\n") for bytes_ in (due[name], found[name])]
+        at = first_unlike(*lines)
+        parts = ["".join(some[at : at + 1]) or "no more" for some in lines]
+        return f"{name} at line {at + 1}: due is\n  {parts[0]}\nfound\n  {parts[1]}"
     return None
 
 
-def main():
-    form = argparse.ArgumentParser(description=__doc__.split("\n\n")[0], epilog=HELP, formatter_class=argparse.RawDescriptionHelpFormatter)
+def files_in(folder):
+    return {path.name: path.read_bytes() for path in folder.iterdir() if path.is_file()}
+
+
+def words_given():
+    about = __doc__.split("\n\n")[0]
+    form = argparse.ArgumentParser(description=about, epilog=HELP, formatter_class=argparse.RawDescriptionHelpFormatter)
     for name in ("topology", "script", "capture", "folder"):
         form.add_argument(name, metavar=name.upper(), type=Path)
     form.add_argument("--compare", action="store_true", help="compare FOLDER with what is due, and write nothing")
-    words = form.parse_args()
+    return form.parse_args()
+
+
+def main():
+    words = words_given()
     try:
         report, files = run_of(*(path.read_bytes() for path in (words.topology, words.script, words.capture)))
         files["report.txt"] = report
         if words.compare:
-            found = {path.name: path.read_bytes() for path in words.folder.iterdir() if path.is_file()}
-            differs = difference(files, found)
+            differs = difference(files, files_in(words.folder))
             print(differs or f"{len(files)} files are as worked out here")
             return 1 if differs else 0
         words.folder.mkdir(parents=True, exist_ok=True)

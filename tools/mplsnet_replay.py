@@ -5,11 +5,13 @@ a `carry` sends is looked up in the links' captures, by its tick, its packet and
 where the report is there. A step that fits several frames is decided by the steps after it.
 """
 
+from bisect import bisect_left, bisect_right
 from dataclasses import dataclass, field
 
 from mplsnet_files import Fault
 
 MOST_TRIES = 200_000
+AHEAD = 40  # how many later steps of a direction are looked at
 
 
 # Sessions.
@@ -162,6 +164,18 @@ class Frames:
                 self.moves.append(Move(step, tick, words, packets if words[0] == "inject" else None))
         if ways is not None and len(ways) != packets:
             raise Fault(f"the report has {len(ways)} packets, and by the journal {packets} were sent")
+        self.here = {node: [] for node in run.nodes}  # the moves by which a packet is at the node
+        self.takes = {pair: [] for pair in self.link_of}  # the moves that take a frame of the direction, and its place; none where all go
+        for at, move in enumerate(self.moves):
+            kind, *rest = move.words
+            if kind == "link":
+                for pair in ((rest[1], rest[2]), (rest[2], rest[1])):
+                    self.takes.get(pair, []).append((at, None))
+                continue
+            if kind != "inject":
+                self.takes.get((rest[0], rest[1]), []).append((at, int(rest[2])))
+            if kind != "lose":
+                self.here.get(run.node_of.get(rest[0]) if kind == "inject" else rest[1], []).append(at)
 
     def found(self):
         """All moves, each with what it did: the first way through the journal that uses every frame and delivery."""
@@ -204,14 +218,14 @@ class Frames:
             return [("lose",)] if all(self.ends_as(flight, "LinkCut") for flight in cut) else []
         if kind == "inject":
             node = self.run.node_of.get(rest[0])
-            return self.onward(move, node, None) if node and self.was_at(move.packet, 0, node) else []
+            return self.onward(at, node, None) if node and self.was_at(move.packet, 0, node) else []
         flights, place = self.flying.get((rest[0], rest[1]), []), int(rest[2])
         if place >= len(flights):
             return []
         flight = flights[place]
         if kind == "lose":
             return [("lose",)] if self.ends_as(flight, "Lost") else []
-        return self.onward(move, rest[1], flight) if self.was_at(flight.packet, flight.nodes, rest[1]) else []
+        return self.onward(at, rest[1], flight) if self.was_at(flight.packet, flight.nodes, rest[1]) else []
 
     def was_at(self, packet, place, node):
         """The packet's path may have the node at the place."""
@@ -227,8 +241,9 @@ class Frames:
         way = self.ways[flight.packet - 1]
         return way.end == "dropped" and way.words[0] == rule and len(way.nodes) == flight.nodes
 
-    def onward(self, move, node, flight):
+    def onward(self, at, node, flight):
         """What may become of a packet at the node; it came there by the flight, or is new."""
+        move = self.moves[at]
         packet, been = (flight.packet, flight.nodes + 1) if flight else (move.packet, 1)
         receivers, may_end = self.neighbours[node], ["deliver", "drop"]
         if self.ways is not None:
@@ -246,7 +261,24 @@ class Frames:
         sent = [("send", node, to) for to in receivers if self.sends(move.tick, node, to, flight)]
         if "deliver" in may_end and not self.delivers(move.tick, flight):
             may_end.remove("deliver")
-        return sent + [(end,) for end in may_end]
+        choices = sent + [(end,) for end in may_end]
+        return choices if self.ways is not None else [choice for choice in choices if self.is_in_time(at, node, choice)]
+
+    def is_in_time(self, at, node, choice):
+        """After the choice the node has still enough moves to send, in time, what is taken later from its directions."""
+        due = []
+        for other in self.neighbours[node]:
+            takes = self.takes[node, other]
+            flying, sent = len(self.flying[node, other]) + (choice == ("send", node, other)), 0
+            start = bisect_right(takes, (at, -1))
+            for taken, (later, place) in enumerate(takes[start : start + AHEAD]):
+                if place is None:
+                    break
+                due += [later] * (place + 1 + taken - flying - sent)
+                sent = max(sent, place + 1 + taken - flying)
+        moves = self.here[node]
+        gone = bisect_right(moves, at)
+        return all(bisect_left(moves, later) - gone > earlier for earlier, later in enumerate(sorted(due)))
 
     def next_frame(self, sender, receiver):
         link = self.link_of.get((sender, receiver))

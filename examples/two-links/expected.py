@@ -1,4 +1,4 @@
-"""Works out what this example leaves and reports, without the program: from docs/FORMATS.md (texts, bytes) and
+"""Works out what this example leaves and reports, without the program: from docs/FORMATS.md, docs/WIRE.md (texts, bytes) and
 docs/LEDGER.md (who says what, and when). Compares with expected/; `--write` writes it.
 
 It knows no more than the script asks for: links that come up and stay up, sessions that open, one packet from site a.

@@ -13,6 +13,8 @@ BASH = ROOT / "completions/mplsnet.bash"
 ZSH = ROOT / "completions/_mplsnet"
 FORMATS = (ROOT / "docs/FORMATS.md").read_text()
 
+TOOLS = ["mplsnet-draw", "mplsnet-wireshark", "mplsnet-play", "mplsnet-decode"]
+
 # What bash would do at the end of the line, in a folder.
 COMPLETE = """
 source "$1"; cd "$2"; shift 2
@@ -74,13 +76,38 @@ class Bash(unittest.TestCase):
         self.assertEqual({"expected"}, self.completed(first, "mplsnet", "run", "topology.toml", "script.txt", "capture.pcap", ""))
         self.assertEqual(set(), self.completed(first, "mplsnet", "check", "topology.toml", ""))
 
-    def test_options_of_the_drawing_are_those_of_its_help(self):
-        said = subprocess.run([sys.executable, ROOT / "tools/mplsnet-draw", "--help"], capture_output=True, text=True).stdout
-        options = set(re.findall(r"^  (?:-\w, )?(--[a-z]+)", said, re.M))
-        self.assertEqual(options, self.completed("examples", "mplsnet-draw", "-"))
-        for option in options:
-            self.assertIn(option, ZSH.read_text())
+    def test_options_of_the_tools_are_those_of_their_help(self):
+        for tool in TOOLS:
+            with self.subTest(tool):
+                said = subprocess.run([sys.executable, ROOT / "tools" / tool, "--help"], capture_output=True, text=True).stdout
+                options = set(re.findall(r"^  (?:-\w, )?(--[a-z]+)", said, re.M))
+                self.assertEqual(options, self.completed("examples", tool, "-"))
+                words = ZSH.read_text().split(f"_{tool.replace('-', '_')}_words() {{")[1].split("\n}")[0]
+                self.assertEqual(options, set(re.findall(r"--[a-z]+", words)))
         self.assertEqual({"neato"}, self.completed("examples", "mplsnet-draw", "--layout", "n"))
+        self.assertEqual({"circle"}, self.completed("examples", "mplsnet-play", "--layout", "c"))
+
+    def test_words_of_the_tools_by_their_place(self):
+        first = "examples/first"
+        self.assertEqual({"expected"}, self.completed(first, "mplsnet-wireshark", ""))
+        self.assertEqual({"capture.pcap", "expected"}, self.completed(first, "mplsnet-wireshark", "--topology", "topology.toml", "expected", ""))
+        self.assertEqual({"topology.toml", "expected"}, self.completed(first, "mplsnet-wireshark", "expected", "--topology", ""))
+        self.assertEqual({"expected"}, self.completed(first, "mplsnet-play", "--layout", "circle", ""))
+        self.assertEqual({"topology.toml", "expected"}, self.completed(first, "mplsnet-play", "expected", "--report", "report.txt", ""))
+        self.assertEqual({"expected"}, self.completed(first, "mplsnet-decode", "expected", "expected", ""))
+
+
+class Tools(unittest.TestCase):
+    def test_all_are_told_of(self):
+        found = sorted(file.name for file in (ROOT / "tools").glob("mplsnet-*"))
+        self.assertEqual(sorted(TOOLS), found)
+        readme = (ROOT / "tools/README.md").read_text()
+        for tool in TOOLS:
+            self.assertIn(f"| `{tool}` |", readme)
+            said = subprocess.run([ROOT / "tools" / tool, "--help"], capture_output=True, text=True)
+            self.assertEqual((0, ""), (said.returncode, said.stderr))
+            self.assertRegex(said.stdout, r"(?m)^status: 0 .*; 1 .*; 2 ")
+            self.assertLess(max(map(len, said.stdout.splitlines())), 125)
 
 
 class Zsh(unittest.TestCase):

@@ -1,5 +1,9 @@
-"""The index names what is there; a wrong name, a row that is cut and a rule without a row are told with their place."""
+"""The index names what is there; a wrong name, a row that is cut and a rule without a row are told with their place.
 
+And docs/FORMATS.md shows a whole run as it stands in examples/two-links, docs/ARCHITECTURE.md every crate in its order.
+"""
+
+import re
 import shutil
 import subprocess
 import sys
@@ -45,13 +49,28 @@ class Index(unittest.TestCase):
         self.told("INDEX.md", " | mn_ipv4/src/header.rt `check` |", " |", "not five cells")
 
     def test_a_rule_without_a_row(self):
-        self.told("FORMATS.md", "| T1 NotToml |", "| T17 NotNew |", "in no row of docs/INDEX.md: T17 NotNew")
+        self.told("FORMATS.md", "\n| T1 NotToml |", "\n| T17 NotNew |", "in no row of docs/INDEX.md: T17 NotNew")
 
     def test_a_rule_is_looked_up(self):
         ran = self.run_index("NoLsp")
         self.assertEqual(0, ran.returncode)
         self.assertIn("crates/mn_ledger/specs/Packets.antt:", ran.stdout)
-        self.assertEqual(1, self.run_index("no such rule").returncode)
+        self.assertIn("penultimate hop", self.run_index("RFC 3031, section 3.16").stdout)
+        self.assertEqual(1, self.run_index("NoSuchRule").returncode)
+
+
+class Formats(unittest.TestCase):
+    def test_shows_a_whole_run(self):
+        formats = (ROOT / "docs/FORMATS.md").read_text()
+        for name in ["topology.toml", "script.txt", "expected/report.txt"]:
+            self.assertIn(f"\n{(ROOT / 'examples/two-links' / name).read_text()}```", formats)
+
+
+class Architecture(unittest.TestCase):
+    def test_has_every_crate_in_its_order(self):
+        crates = re.findall(r"^(\w+)[^:#]*:", (ROOT / "crates.txt").read_text(), re.M)
+        drawn = (ROOT / "docs/ARCHITECTURE.md").read_text().split("\n## All crates")[1].split("```")[1]
+        self.assertEqual(crates, re.findall(r"^ (mn_\w+|mplsnet)", drawn, re.M))
 
 
 if __name__ == "__main__":

@@ -218,7 +218,7 @@ class Wireshark(unittest.TestCase):
         (run / "journal.txt").write_bytes(files["journal.txt"].replace(b"carry pe2 pe1", b"carry pe1 pe2"))
         self.assertEqual([(5000, 1, 2)], [frame[:3] for frame in self.made(run).frames])
         (run / "journal.txt").write_bytes(b"5 inject a 1\n6 inject a 1\n7 carry pe1 pe2 1\n")
-        self.refused(1, "journal.txt: line 3: this step fits no frame of the links' captures (the report would help)", run, self.out)
+        self.refused(1, "journal.txt: line 2: this step fits no frame of the links' captures (the report would help)", run, self.out)
 
     def test_wrong_words(self):
         self.refused(2, "usage:")
@@ -271,14 +271,21 @@ class Decode(unittest.TestCase):
         with tempfile.TemporaryDirectory() as folder:
             run = Path(folder) / "run"
             shutil.copytree(LINKS / "expected", run)
-            for name, right, wrong in (("pe1+pe2.bgp", b"\x80\x0e\x1f", b"\x80\x0e\x2f"), ("pe1+p.ldp", b"\2\0\0\4", b"\2\0\0\3")):
+            for name, right, wrong in (
+                ("pe1+pe2.bgp", b"\x80\x0e\x1f", b"\x80\x0e\x2f"),  # the length of MP_REACH_NLRI
+                ("pe1+p.ldp", b"\2\0\0\4", b"\2\0\0\3"),  # the length of three labels
+                ("delivered.pcap", b"\x69\xcd", b"\x69\xce"),  # the checksum of the packet
+                *((name, b"\x00\x35\x00\x08", b"\x00\x35\x00\x80") for name in ("pe1+p.pcap", "p+pe2.pcap", "delivered.pcap")),  # the customer's UDP
+            ):
                 content = (run / name).read_bytes()
                 self.assertIn(right, content)
                 (run / name).write_bytes(content.replace(right, wrong))
             ran = self.decode(run)
         self.assertEqual(1, ran.returncode)
         self.assertRegex(ran.stdout, r"all.pcap: .* UPDATE Message\[Malformed Packet\]")
-        self.assertIn("tshark decodes", ran.stdout)
+        self.assertIn("all.pcap: ldp.msg.tlv.generic.label: tshark decodes 9 of 12", ran.stdout)
+        self.assertRegex(ran.stdout, r"delivered.pcap: 1: .* the checksum of the IP header is wrong")
+        self.assertIn("(2 records with a customer's malformed packet)", ran.stdout)
 
 
 if __name__ == "__main__":

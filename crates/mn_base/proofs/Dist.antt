@@ -108,7 +108,7 @@ module _ (net : Wiring) (view : View) (p : ℕ) (ok : JoinsNodes net) where
   has_over x ds [] h g = tt
   has_over x ds (l ∷ ls) h g =
       has_lesser x _ _ (has_arm x l (is_up view l) (slice_index_or ds (across net l x) None) refl g.0.0 g.0.1 (h (across net l x) (across_below x l g.0.1)))
-          (has_over x ds ls h g.1)
+      (has_over x ds ls h g.1)
 
   has_start : (x : ℕ) (b : Bool) → (x == p) ≡ b → HasSome x (cond b (Some 0) None)
   has_start x true e = ([], ap (λ n. Some n) (eqb-true x p e), refl)
@@ -169,7 +169,7 @@ module _ (net : Wiring) (view : View) (p : ℕ) (ok : JoinsNodes net) where
       let v : (is_end net l x ≡ true) × (nat_lt l (length net.ends) ≡ true) = and_parts _ _ u.1 in
       let b : l < length net.ends = less_tells _ _ v.1 in
       subst (λ o. AtMost o ((link net l).cost + cost_of net ls))
-          (sym (get-nodes (λ x. lesser (cond (x == p) (Some 0) None) (least_over net view (rounds k net view p) x (links_at net x))) x h))
+      (sym (get-nodes (λ x. lesser (cond (x == p) (Some 0) None) (least_over net view (rounds k net view p) x (links_at net x))) x h))
       (lesser_right _ _ _ (most_over x (rounds k net view p) (links_at net x) l (cost_of net ls)
       (in_filter (λ m. is_end net m x) (length net.ends) 0 l (omega arith) (omega (arith, b)) v.0) u.0
       (most_rounds k ls (across net l x) (across_below x l b) (omega (arith, n)) g.1)))
@@ -188,7 +188,7 @@ module _ (net : Wiring) (view : View) (p : ℕ) (ok : JoinsNodes net) where
   straight x [] = []
   straight x (l ∷ ls) =
       cond (list_any (eqb x) (visits (across net l x) (straight (across net l x) ls))) (suffix x (across net l x) (straight (across net l x) ls))
-          (l ∷ straight (across net l x) ls)
+      (l ∷ straight (across net l x) ls)
 
   -- a walk to p that meets no node twice and costs at most so much
   record IsStraight (x c : ℕ) (ms : List ℕ) : Type 0 where
@@ -226,7 +226,7 @@ module _ (net : Wiring) (view : View) (p : ℕ) (ok : JoinsNodes net) where
   unfolding IsDistinct
   straight_step x l c ms true e g h =
       let k : IsStraight x (cost_of net ms) (suffix x (across net l x) ms) =
-          suffix_ok ms x (across net l x) e (record { ends = h.ends; cheap = omega arith; once = h.once }) in
+      suffix_ok ms x (across net l x) e (record { ends = h.ends; cheap = omega arith; once = h.once }) in
       record { ends = k.ends; cheap = omega (arith, k.cheap, h.cheap); once = k.once }
   straight_step x l c ms false e g h = record { ends = rw g h.ends; cheap = omega (arith, h.cheap); once = (any_none x _ e, h.once) }
 
@@ -259,8 +259,12 @@ module _ (net : Wiring) (view : View) (p : ℕ) (ok : JoinsNodes net) where
   cheapest x h ls w =
       let k : IsStraight x (cost_of net ls) (straight x ls) = straight_ok ls x w in
       most_rounds (length net.loopbacks) (straight x ls) x h
-      (omega (arith, length-visits (straight x ls) x, length-le_from_distinct_below (visits x (straight x ls)) (length net.loopbacks) k.once
-          (visits_below (straight x ls) x h k.ends)))
+      (omega (
+        arith,
+        length-visits (straight x ls) x,
+        length-le_from_distinct_below (visits x (straight x ls)) (length net.loopbacks) k.once
+            (visits_below (straight x ls) x h k.ends),
+      ))
       k.ends
 
   is_dist : (x : ℕ) (o : Option ℕ) → HasSome x o → ((ls : List ℕ) → walk_end net view x ls ≡ Some p → AtMost o (cost_of net (straight x ls))) →

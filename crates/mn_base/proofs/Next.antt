@@ -99,15 +99,22 @@ module _ (net : Wiring) (view : View) (to : ℕ) (ok : JoinsNodes net) where
   sound x l hx hl e h =
       let p = and_parts (is_up view l) _ h in
       let s = on_least (dist (across net l x)) (dist x) (link net l).cost p.1 in
-      record { there = hl; at_node = e; up = p.0; rest = s.0; after = is_least (across net l x) s.0 (across_below x l hl) s.1; whole =
-          is_least x ((link net l).cost + s.0) hx s.2 }
+      record {
+        there = hl;
+        at_node = e;
+        up = p.0;
+        rest = s.0;
+        after = is_least (across net l x) s.0 (across_below x l hl) s.1;
+        whole =
+            is_least x ((link net l).cost + s.0) hx s.2;
+      }
 
   -- and one that is on a least walk passes
   complete : (x l : ℕ) → x < length net.loopbacks → IsOnLeast net view x to l → is_on_least net view (dists_to net view to) x l ≡ true
   complete x l hx h =
       and_on (is_up view l) _ h.up
-          (same_on _ _ (link net l).cost h.rest (dist_is (across net l x) h.rest (across_below x l h.there) h.after)
-          (dist_is x ((link net l).cost + h.rest) hx h.whole))
+      (same_on _ _ (link net l).cost h.rest (dist_is (across net l x) h.rest (across_below x l h.there) h.after)
+      (dist_is x ((link net l).cost + h.rest) hx h.whole))
 
   -- the first link of a least walk is on one
   first_link : (x l : ℕ) (ls : List ℕ) (o : Option ℕ) → x < length net.loopbacks → walk_end net view x (l ∷ ls) ≡ Some to →

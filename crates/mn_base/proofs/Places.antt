@@ -26,8 +26,8 @@ filter_front p [] (suc at) h pass never = absurd (none_below at (omega (arith, h
 filter_front p (x ∷ xs) (suc at) h pass never =
     ap (λ b. cond b (x ∷ filter p xs) (filter p xs)) (pass 0 x (omega arith))
     ∙ ap (λ ys. x ∷ ys)
-        (filter_front p xs at (omega (arith, h)) (λ k d lt. pass (suc k) d (omega (arith, lt)))
-        (λ k d le lt. never (suc k) d (omega (arith, le)) (omega (arith, lt))))
+    (filter_front p xs at (omega (arith, h)) (λ k d lt. pass (suc k) d (omega (arith, lt)))
+    (λ k d le lt. never (suc k) d (omega (arith, le)) (omega (arith, lt))))
 
 -- the first so many don't pass, and each other does
 pub filter_back : {A : Type 0} (p : A → Bool) (xs : List A) (at : ℕ) → at ≤ length xs → ((k : ℕ) (d : A) → k < at → p (get_or xs k d) ≡ false) →
@@ -37,7 +37,7 @@ filter_back p [] (suc at) h never pass = absurd (none_below at (omega (arith, h)
 filter_back p (x ∷ xs) (suc at) h never pass =
     ap (λ b. cond b (x ∷ filter p xs) (filter p xs)) (never 0 x (omega arith))
     ∙ filter_back p xs at (omega (arith, h)) (λ k d lt. never (suc k) d (omega (arith, lt)))
-        (λ k d le lt. pass (suc k) d (omega (arith, le)) (omega (arith, lt)))
+    (λ k d le lt. pass (suc k) d (omega (arith, le)) (omega (arith, lt)))
 
 -- all pass but the one at this place
 pub filter_but : {A : Type 0} (p : A → Bool) (xs : List A) (at : ℕ) → at < length xs → ((k : ℕ) (d : A) → k < at → p (get_or xs k d) ≡ true) →
@@ -49,8 +49,8 @@ filter_but p (x ∷ xs) zero h pass fail more =
 filter_but p (x ∷ xs) (suc at) h pass fail more =
     ap (λ b. cond b (x ∷ filter p xs) (filter p xs)) (pass 0 x (omega arith))
     ∙ ap (λ ys. x ∷ ys)
-        (filter_but p xs at (omega (arith, h)) (λ k d lt. pass (suc k) d (omega (arith, lt))) fail
-        (λ k d le lt. more (suc k) d (omega (arith, le)) (omega (arith, lt))))
+    (filter_but p xs at (omega (arith, h)) (λ k d lt. pass (suc k) d (omega (arith, lt))) fail
+    (λ k d le lt. more (suc k) d (omega (arith, le)) (omega (arith, lt))))
 
 pub any_at : {A : Type 0} (p : A → Bool) (xs : List A) (at : ℕ) → at < length xs → ((d : A) → p (get_or xs at d) ≡ true) → list_any p xs ≡ true
 any_at p [] at h e = absurd (none_below at h)
@@ -78,7 +78,7 @@ some_there before x [] at e h apart same = absurd (none_below at h)
 some_there before x (y ∷ ys) zero e h apart same = ap (λ b. if b then one_at before x ys else Some y) (same y)
 some_there before x (y ∷ ys) (suc at) e h apart same =
     ap (λ b. if b then one_at before x ys else Some y) (apart 0 y (omega arith))
-        ∙ some_there before x ys at e (omega (arith, h)) (λ k d lt. apart (suc k) d (omega (arith, lt))) same
+    ∙ some_there before x ys at e (omega (arith, h)) (λ k d lt. apart (suc k) d (omega (arith, lt))) same
 
 -- 2. The changes keep the order
 
@@ -125,8 +125,11 @@ ascends_with before x xs order h =
     ascends_append before (filter (λ y. before y x) xs) (x ∷ filter (λ y. before x y) xs) (ascends_filter before (λ y. before y x) xs h)
     (all_passed (λ y. before x y) xs, ascends_filter before (λ y. before x y) xs h)
     (all_turned (λ y. before y x ≡ true) (λ y. AllByRecursion (λ z. before y z ≡ true) (x ∷ filter (λ z. before x z) xs))
-    (λ y e. (e, all_turned (λ z. before x z ≡ true) (λ z. before y z ≡ true) (λ z f. order.onward y x z e f) (filter (λ z. before x z) xs)
-        (all_passed (λ z. before x z) xs)))
+    (λ y e. (
+      e,
+      all_turned (λ z. before x z ≡ true) (λ z. before y z ≡ true) (λ z f. order.onward y x z e f) (filter (λ z. before x z) xs)
+          (all_passed (λ z. before x z) xs),
+    ))
     (filter (λ y. before y x) xs) (all_passed (λ y. before y x) xs))
 
 pub ascends_without : {A : Type 0} (before : A → A → Bool) (x : A) (xs : List A) → Ascends before xs → Ascends before (without_one before x xs)
@@ -309,11 +312,11 @@ module _ {A : Type 0} (before : A → A → Bool) (order : IsOrder before) (x : 
         let after : before x h ≡ true = ap (λ b. b || before x h) (sym g) ∙ all.0 in
         ap (λ b. cond b (h ∷ filter (λ k. before k x) hs) (filter (λ k. before k x) hs) ++ filter (λ k. before x k) (h ∷ hs)) g
         ∙ ap (λ ys. ys ++ filter (λ k. before x k) (h ∷ hs))
-            (filter_off (λ k. before k x) hs
-            (all_turned (λ k. before h k ≡ true) (λ k. before k x ≡ false) (λ k e. behind_is k (order.onward x h k after e)) hs up.0))
+        (filter_off (λ k. before k x) hs
+        (all_turned (λ k. before h k ≡ true) (λ k. before k x ≡ false) (λ k e. behind_is k (order.onward x h k after e)) hs up.0))
         ∙ ap (λ b. cond b (h ∷ filter (λ k. before x k) hs) (filter (λ k. before x k) hs)) after
         ∙ ap (λ ys. h ∷ ys)
-            (filter_of (λ k. before x k) hs (all_turned (λ k. before h k ≡ true) (λ k. before x k ≡ true) (λ k e. order.onward x h k after e) hs up.0))
+        (filter_of (λ k. before x k) hs (all_turned (λ k. before h k ≡ true) (λ k. before x k ≡ true) (λ k e. order.onward x h k after e) hs up.0))
   ]
     where
       front_is : before h x ≡ true → before x h ≡ false
@@ -326,23 +329,23 @@ module _ {A : Type 0} (before : A → A → Bool) (order : IsOrder before) (x : 
   without_with z ks up true e =
       filter-append (λ y. before y x || before x y) (filter (λ y. before y z) ks) (z ∷ filter (λ y. before z y) ks)
       ∙ ap (λ b. filter (λ y. before y x || before x y) (filter (λ y. before y z) ks) ++ cond b
-          (z ∷ filter (λ y. before y x || before x y) (filter (λ y. before z y) ks)) (filter (λ y. before y x || before x y) (filter (λ y. before z y) ks)))
-          e
+      (z ∷ filter (λ y. before y x || before x y) (filter (λ y. before z y) ks)) (filter (λ y. before y x || before x y) (filter (λ y. before z y) ks)))
+      e
       ∙ ap (λ ys. ys ++ z ∷ filter (λ y. before y x || before x y) (filter (λ y. before z y) ks))
-          (filter_twice (λ y. before y x || before x y) (λ y. before y z) ks)
+      (filter_twice (λ y. before y x || before x y) (λ y. before y z) ks)
       ∙ ap (λ ys. filter (λ y. before y z) (without_one before x ks) ++ z ∷ ys) (filter_twice (λ y. before y x || before x y) (λ y. before z y) ks)
   without_with z ks up false e =
       filter-append (λ y. before y x || before x y) (filter (λ y. before y z) ks) (z ∷ filter (λ y. before z y) ks)
       ∙ ap (λ b. filter (λ y. before y x || before x y) (filter (λ y. before y z) ks) ++ cond b
-          (z ∷ filter (λ y. before y x || before x y) (filter (λ y. before z y) ks)) (filter (λ y. before y x || before x y) (filter (λ y. before z y) ks)))
-          e
+      (z ∷ filter (λ y. before y x || before x y) (filter (λ y. before z y) ks)) (filter (λ y. before y x || before x y) (filter (λ y. before z y) ks)))
+      e
       ∙ ap (λ ys. ys ++ filter (λ y. before y x || before x y) (filter (λ y. before z y) ks))
-          (filter_twice (λ y. before y x || before x y) (λ y. before y z) ks)
+      (filter_twice (λ y. before y x || before x y) (λ y. before y z) ks)
       ∙ ap (λ ys. filter (λ y. before y z) (without_one before x ks) ++ ys) (filter_twice (λ y. before y x || before x y) (λ y. before z y) ks)
       ∙ ap (λ ys. ys ++ filter (λ y. before z y) (without_one before x ks))
-          (filter_alike (λ y. before y z) (λ y. before y x) (λ y. order.alike_back z x y e) (without_one before x ks))
+      (filter_alike (λ y. before y z) (λ y. before y x) (λ y. order.alike_back z x y e) (without_one before x ks))
       ∙ ap (λ ys. filter (λ y. before y x) (without_one before x ks) ++ ys)
-          (filter_alike (λ y. before z y) (λ y. before x y) (λ y. order.alike z x y e) (without_one before x ks))
+      (filter_alike (λ y. before z y) (λ y. before x y) (λ y. order.alike z x y e) (without_one before x ks))
       ∙ halves (without_one before x ks) (ascends_without before x ks up) (all_passed (λ y. before y x || before x y) ks)
     where
       filter_alike : (p q : A → Bool) → ((y : A) → p y ≡ q y) → (ys : List A) → filter p ys ≡ filter q ys

@@ -68,7 +68,7 @@ abbrev pub least_over : Wiring → View → List (Option ℕ) → ℕ → List �
 least_over wiring view dists node [] = None
 least_over wiring view dists node (l ∷ ls) =
     lesser (elim (is_up view l) [ true ↦ plus (link wiring l).cost (dist_in dists (across wiring l node)) | false ↦ None ])
-        (least_over wiring view dists node ls)
+    (least_over wiring view dists node ls)
 
 -- with one link more
 abbrev pub round : Wiring → View → ℕ → List (Option ℕ) → List (Option ℕ)

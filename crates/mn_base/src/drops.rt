@@ -7,7 +7,7 @@ pub enum Rule {
     SiteDown,
     /// The packet is empty, or its version isn't 4 (RFC 791, section 3.1).
     NotIpv4,
-    /// The header is said to be shorter than 20 bytes, or the packet shorter than its header.
+    /// The header is said to be shorter than 20 bytes, or, where the bytes reach that field, longer than the total length.
     Malformed,
     /// Fewer bytes are there than the header or the packet is said to have.
     Truncated,

@@ -49,7 +49,7 @@ reply_in _ = record { say_keep = false; became_established = false }
 abbrev pub answer_in : BgpSession → BgpMessage → Result BgpReply BgpBad
 answer_in session message =
     if has_row session.state (kind_of message) then if is_of_peer session message then Ok (reply_in session.state) else Err BadPeer else Err
-        (Unexpected session.state (kind_of message))
+    (Unexpected session.state (kind_of message))
 
 -- refused, a message changes nothing
 abbrev pub state_if : Result BgpReply BgpBad → BgpState → BgpState

@@ -12,7 +12,7 @@ use Rattle.mn_bgp_wire.specs.Grammar.{IsBgp}
 use Rattle.mn_bgp_wire.specs.Reading.{message_of}
 use Rattle.mn_bgp_wire.proofs.Messages as wire
 use Rattle.mn_ledger.specs.World.{World, Telling}
-use Rattle.mn_ledger.specs.Vpn.{state_of, exports_of}
+use Rattle.mn_ledger.specs.Vpn.{bgp_state_of, exports_of}
 use Rattle.mn_ledger.specs.Turns.{IsInTurn, has_bgp_row}
 use Rattle.mn_ledger.proofs.InTurn.{rows}
 use Rattle.mn_bgp_spelling.specs.Spelling.{Labels, message_in, bytes_in, IsWritable}
@@ -20,7 +20,7 @@ use Rattle.mn_bgp_spelling.specs.Laws.{next_of, IsComing, IsTaken, GoesOn, Repli
 use Rattle.mn_bgp_spelling.proofs.Wire as told
 
 row : (t : Network) (w : World) (edge peer : ℕ) → IsLawful t → IsInTurn t w → IsComing w edge peer →
-    has_bgp_row (state_of w.config w.peerings edge peer) (next_of w edge peer) ≡ true
+    has_bgp_row (bgp_state_of w.config w.peerings edge peer) (next_of w edge peer) ≡ true
 row t w edge peer lawful turn coming = (rows t w lawful turn).bgp edge peer coming.differ coming.lives coming.there
 
 pub taken : (t : Network) (l : Labels) (w : World) (edge peer : ℕ) → IsLawful t → IsInTurn t w → IsComing w edge peer → IsTaken t l w edge peer
@@ -31,7 +31,7 @@ goes_on t l w peer edge lawful turn coming = told.hears t l w.config w.peerings 
 
 pub replies : (t : Network) (w : World) (edge peer : ℕ) → IsLawful t → IsInTurn t w → IsComing w edge peer → RepliesByTheTable t w edge peer
 replies t w edge peer lawful turn coming =
-    told.told_back (state_of w.config w.peerings edge peer) (next_of w edge peer) (exports_of t w.config edge) (row t w edge peer lawful turn coming)
+    told.told_back (bgp_state_of w.config w.peerings edge peer) (next_of w edge peer) (exports_of t w.config edge) (row t w edge peer lawful turn coming)
 
 asn_fits : (asn : ℕ) → (nat_le 1 asn && nat_le asn 65535) ≡ true → asn < 2 ^ 16
 asn_fits asn h = below asn (and_right (nat_le 1 asn) (nat_le asn 65535) h)

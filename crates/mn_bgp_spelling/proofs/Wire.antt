@@ -15,7 +15,7 @@ use Rattle.mn_bgp_session.specs.declared.session.BgpSession.{BgpSession}
 use Rattle.mn_bgp_session.specs.Table.{kind_of, has_row, is_of_peer, next_state, reply_in, answer_in, state_if, after_message}
 use Rattle.mn_ledger.specs.Places.{loopback, vrf_at}
 use Rattle.mn_ledger.specs.World.{Config, Export, Telling, Open, Alive, Announce, Unreach, Peerings}
-use Rattle.mn_ledger.specs.Vpn.{peers_live, state_heard, state_of, reply, peerings_after}
+use Rattle.mn_ledger.specs.Vpn.{peers_live, state_heard, bgp_state_of, reply, peerings_after}
 use Rattle.mn_ledger.specs.Turns.{has_bgp_row}
 use Rattle.mn_ledger.proofs.GoingBy.{pair_here}
 use Rattle.mn_base.proofs.Bools.{same_test}
@@ -50,12 +50,12 @@ of_peer t l c p edge peer (Announce e) = refl
 of_peer t l c p edge peer (Unreach v q) = refl
 
 -- where its state has a row for the message, the session takes it
-pub taken : (t : Network) (l : Labels) (c : Config) (p : Peerings) (edge peer : ℕ) (m : Telling) → has_bgp_row (state_of c p edge peer) m ≡ true
-    → answer_in (session_in t c p edge peer) (message_in t l peer m) ≡ Ok (reply_in (state_of c p edge peer))
+pub taken : (t : Network) (l : Labels) (c : Config) (p : Peerings) (edge peer : ℕ) (m : Telling) → has_bgp_row (bgp_state_of c p edge peer) m ≡ true
+    → answer_in (session_in t c p edge peer) (message_in t l peer m) ≡ Ok (reply_in (bgp_state_of c p edge peer))
 taken t l c p edge peer m row =
-    first_of_three (has_row (state_of c p edge peer) (kind_of (message_in t l peer m))) (is_of_peer (session_in t c p edge peer) (message_in t l peer m))
-        (Ok (reply_in (state_of c p edge peer))) _ _
-    (rows_same t l peer (state_of c p edge peer) m ∙ row) (of_peer t l c p edge peer m)
+    first_of_three (has_row (bgp_state_of c p edge peer) (kind_of (message_in t l peer m))) (is_of_peer (session_in t c p edge peer) (message_in t l peer m))
+    (Ok (reply_in (bgp_state_of c p edge peer))) _ _
+    (rows_same t l peer (bgp_state_of c p edge peer) m ∙ row) (of_peer t l c p edge peer m)
   where
     first_of_three : {A : Type 0} (b d : Bool) (x y z : A) → b ≡ true → d ≡ true → (if b then if d then x else y else z) ≡ x
     first_of_three b d x y z e f = ap (λ h. if h then if d then x else y else z) e ∙ ap (λ h. if h then x else y) f
@@ -63,7 +63,7 @@ taken t l c p edge peer m row =
 -- what the edge then tells
 pub told_back : (state : BgpState) (m : Telling) (exports : List Export) → has_bgp_row state m ≡ true
     → reply state m exports ≡ cond (reply_in state).say_keep (Alive ∷ []) [] ++ cond (reply_in state).became_established
-        (map (λ export. Announce export) exports) []
+    (map (λ export. Announce export) exports) []
 told_back Idle m exports h = idle m h
   where
     idle : (m : Telling) → has_bgp_row Idle m ≡ true → reply Idle m exports ≡ []
@@ -95,15 +95,15 @@ heard_more n = ap state_heard (add-one n) ∙ by_count n
     by_count (suc (suc more)) = refl
 
 pub hears : (t : Network) (l : Labels) (c : Config) (p : Peerings) (a b : NodeNo) → peers_live c b.0 a.0 ≡ true
-    → has_bgp_row (state_of c p b.0 a.0) (slice_index_or (p.told a.0 b.0) (p.heard b.0 a.0) Open) ≡ true
+    → has_bgp_row (bgp_state_of c p b.0 a.0) (slice_index_or (p.told a.0 b.0) (p.heard b.0 a.0) Open) ≡ true
     → session_in t c (peerings_after t c c p (step.HearBgp a b)) b.0 a.0 ≡ after_message (session_in t c p b.0 a.0)
-        (message_in t l a.0 (slice_index_or (p.told a.0 b.0) (p.heard b.0 a.0) Open))
+    (message_in t l a.0 (slice_index_or (p.told a.0 b.0) (p.heard b.0 a.0) Open))
 unfolding peerings_after
 hears t l c p a b alive row =
     ap in_state (ap (λ n. if peers_live c b.0 a.0 then state_heard n else Idle) (pair_here p.heard b.0 a.0 (p.heard b.0 a.0 + 1))
-        ∙ ap (λ x. if x then state_heard (p.heard b.0 a.0 + 1) else Idle) alive ∙ heard_more (p.heard b.0 a.0)
+    ∙ ap (λ x. if x then state_heard (p.heard b.0 a.0 + 1) else Idle) alive ∙ heard_more (p.heard b.0 a.0)
     ∙ ap (λ x. next_state (if x then state_heard (p.heard b.0 a.0) else Idle)) (sym alive))
-    ∙ sym (ap (λ r. in_state (state_if r (state_of c p b.0 a.0))) (taken t l c p b.0 a.0 (slice_index_or (p.told a.0 b.0) (p.heard b.0 a.0) Open) row))
+    ∙ sym (ap (λ r. in_state (state_if r (bgp_state_of c p b.0 a.0))) (taken t l c p b.0 a.0 (slice_index_or (p.told a.0 b.0) (p.heard b.0 a.0) Open) row))
   where
     in_state : BgpState → BgpSession
     in_state state = record { asn = t.asn; me = loopback t b.0; peer = loopback t a.0; state = state }
@@ -116,7 +116,7 @@ read_again t l teller Open asn address w = open_is_spelled t.asn (loopback t tel
 read_again t l teller Alive asn address w = record { body = []; is_body = refl; within = omega arith; whole = refl }
 read_again t l teller (Announce e) asn address w =
     announced_is_spelled (loopback t teller) (route_of t l e) (as_targets e.targets) address (written_short (route_of t l e) false w.0) w.1
-        (written_is_route (route_of t l e) false w.0) (written_are_targets (as_targets e.targets) w.2)
+    (written_is_route (route_of t l e) false w.0) (written_are_targets (as_targets e.targets) w.2)
 read_again t l teller (Unreach v p) asn address w =
     withdrawn_is_spelled (vrf_at t v).rd p (written_short (withdrawn_route (vrf_at t v).rd p) true w)
-        (written_is_route (withdrawn_route (vrf_at t v).rd p) true w)
+    (written_is_route (withdrawn_route (vrf_at t v).rd p) true w)

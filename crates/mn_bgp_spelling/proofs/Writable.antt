@@ -22,8 +22,8 @@ use Rattle.mn_topo.specs.declared.steps.JournalEntry.{JournalEntry}
 use Rattle.mn_ledger.specs.Tables.{put, put_pair}
 use Rattle.mn_ledger.specs.Places.{vrf_at, edges}
 use Rattle.mn_ledger.specs.World.{Config, Export, Telling, Open, Alive, Announce, Unreach, Peerings, World}
-use Rattle.mn_ledger.specs.Vpn.{Told, exports_of, tellings_of, told_to, reply, replies, is_for, same_export, withdrawn, announced, changed, steady_peers}
-use Rattle.mn_ledger.specs.Vpn.{news, told_in, counted, peerings_after}
+use Rattle.mn_ledger.specs.Vpn.{Told, exports_of, tellings_of, told_to, reply, bgp_replies, is_for, same_export, withdrawn, announced, changed, steady_peers}
+use Rattle.mn_ledger.specs.Vpn.{route_news, told_in, bgp_counted, peerings_after}
 use Rattle.mn_ledger.specs.Ledger.{with_target, ascending, config_after, after, start, no_packets, next_of, left_by, world_from, world_of}
 use Rattle.mn_ledger.specs.Packets.{Packets, packets_after}
 use Rattle.mn_ledger.specs.Refusal.{is_targets_full}
@@ -91,7 +91,7 @@ sets_go t c (step.Export v x true) fit full h =
 sets_go t c (step.Export v x false) fit full h =
     put_good c.exports v.0 (with_target x.0 false (c.exports v.0)) h
     (let fewer : length (filter (λ other. not (x.0 == other)) (c.exports v.0)) ≤ length (c.exports v.0) =
-        no_longer (λ other. not (x.0 == other)) (c.exports v.0) in
+    no_longer (λ other. not (x.0 == other)) (c.exports v.0) in
     let few : length (c.exports v.0) ≤ 16 = (h v.0).0 in
     (omega (arith, fewer, few), all_filter (λ target. has_rt_form target ≡ true) (λ other. not (x.0 == other)) (c.exports v.0) (h v.0).1))
 sets_go t c _ fit full h = h
@@ -102,7 +102,7 @@ sorted_good [] set few formed all = (omega (arith, few), formed)
 sorted_good (x ∷ xs) set few formed all =
     sorted_good xs (with_target x.0 true set) (let more : length (with_target x.0 true set) ≡ suc (length set) = one_longer x.0 set in omega (arith, few, more))
     (formed_with x.0 set (and_left (has_rt_form x.0) (list_all (λ (target : Rt). has_rt_form target.0) xs) all) formed)
-        (and_right (has_rt_form x.0) (list_all (λ (target : Rt). has_rt_form target.0) xs) all)
+    (and_right (has_rt_form x.0) (list_all (λ (target : Rt). has_rt_form target.0) xs) all)
 
 abbrev HasSets : VrfDef → Type 0
 HasSets vrf = AreTargets vrf.«import» × AreTargets vrf.export
@@ -134,9 +134,12 @@ pub record IsFit (c : Config) : Type 0 where
 good_export : (t : Network) (c : Config) (edge : ℕ) → IsFit c → (e : Export) → In (exports_of t c edge) e → IsGoodExport t e
 unfolding Behind
 good_export t c edge h e i =
-    let x = exported_by t c edge e i in
-    (x.0, subst (λ (p : Export). IsPrefix p.prefix.address p.prefix.length) x.1.3 (h.forms.formed x.1.0 x.1.1), subst
-        (λ (p : Export). IsFewAndFormed p.targets) x.1.3 (h.sets e.vrf))
+    let x = exported_by t c edge e i in (
+      x.0,
+      subst (λ (p : Export). IsPrefix p.prefix.address p.prefix.length) x.1.3 (h.forms.formed x.1.0 x.1.1),
+      subst
+          (λ (p : Export). IsFewAndFormed p.targets) x.1.3 (h.sets e.vrf),
+    )
 
 abbrev AreGood : Network → List Telling → Type 0
 AreGood t ms = (m : Telling) → In ms m → IsGood t m
@@ -162,7 +165,7 @@ good_told_to t a b ms h x i = let f = in_map (λ telling. record { teller = a; p
 join_told : (t : Network) (xs ys : List Told) → AllTold t xs → AllTold t ys → AllTold t (xs ++ ys)
 join_told t xs ys h g x i = elim (in_append xs ys x i) [ inl j ↦ h x j | inr j ↦ g x j ]
 
-good_replies : (t : Network) (c : Config) (k : Peerings) (s : Step) → IsFit c → AllTold t (replies t c k s)
+good_replies : (t : Network) (c : Config) (k : Peerings) (s : Step) → IsFit c → AllTold t (bgp_replies t c k s)
 good_replies t c k (step.BgpUp a b) h =
     join_told t (told_to a.0 b.0 (Open ∷ [])) (told_to b.0 a.0 (Open ∷ [])) (good_told_to t a.0 b.0 (Open ∷ []) (one_good t Open tt))
     (good_told_to t b.0 a.0 (Open ∷ []) (one_good t Open tt))
@@ -175,32 +178,32 @@ good_changed : (t : Network) (before now : List Export) → ((e : Export) → In
 good_changed t before now g h m i = elim (in_append (withdrawn before now) (announced before now) m i) [
   | inl j ↦
       let f = in_map (λ (export : Export). Unreach export.vrf export.prefix)
-          (filter (λ export. not (list_any (is_for export.vrf export.prefix) now)) before) m j in
+      (filter (λ export. not (list_any (is_for export.vrf export.prefix) now)) before) m j in
       let e = g f.0 (in_filter (λ (export : Export). not (list_any (is_for export.vrf export.prefix) now)) before f.0 f.1).0 in
       subst (IsGood t) f.2 (e.0, e.1)
   | inr j ↦ good_announced t (filter (λ export. not (list_any (same_export export) before)) now)
       (λ e k. h e (in_filter (λ export. not (list_any (same_export export) before)) now e k).0) m j
 ]
 
-good_news : (t : Network) (c : Config) (p : Peerings) (new : Config) (k : Peerings) (edge : ℕ) → IsFit c → IsFit new → AllTold t (news t c p new k edge)
+good_news : (t : Network) (c : Config) (p : Peerings) (new : Config) (k : Peerings) (edge : ℕ) → IsFit c → IsFit new → AllTold t (route_news t c p new k edge)
 good_news t c p new k edge g h x i =
     let f = in_flat_map (λ telling. map (λ peer. record { teller = edge; peer = peer; telling = telling }) (steady_peers t c p new k edge))
-        (changed (exports_of t c edge) (exports_of t new edge)) x i in
+    (changed (exports_of t c edge) (exports_of t new edge)) x i in
     let m = in_map (λ peer. record { teller = edge; peer = peer; telling = f.0 }) (steady_peers t c p new k edge) x f.2 in
     subst (λ (y : Told). IsGood t y.telling) m.2
-        (good_changed t (exports_of t c edge) (exports_of t new edge) (good_export t c edge g) (good_export t new edge h) f.0 f.1)
+    (good_changed t (exports_of t c edge) (exports_of t new edge) (good_export t c edge g) (good_export t new edge h) f.0 f.1)
 
 good_told : (t : Network) (c : Config) (p : Peerings) (new : Config) (k : Peerings) (s : Step) → IsFit c → IsFit new → AllTold t (told_in t c p new k s)
 good_told t c p new k s g h =
-    join_told t (replies t new p s) (flat_map (news t c p new k) (edges t)) (good_replies t new p s h)
-    (λ x i. let f = in_flat_map (news t c p new k) (edges t) x i in good_news t c p new k f.0 g h x f.2)
+    join_told t (bgp_replies t new p s) (flat_map (route_news t c p new k) (edges t)) (good_replies t new p s h)
+    (λ x i. let f = in_flat_map (route_news t c p new k) (edges t) x i in good_news t c p new k f.0 g h x f.2)
 
 -- 4. A step
 
 abbrev pub AllGood : Network → Peerings → Type 0
 AllGood t p = (edge peer : ℕ) (m : Telling) → In (p.told edge peer) m → IsGood t m
 
-still_good : (t : Network) (p : Peerings) (s : Step) → AllGood t p → AllGood t (counted p s)
+still_good : (t : Network) (p : Peerings) (s : Step) → AllGood t p → AllGood t (bgp_counted p s)
 still_good t p (step.BgpUp a b) h =
     λ edge peer m i. h edge peer m (in_cleared p.told a.0 b.0 edge peer m (in_cleared (put_pair p.told a.0 b.0 []) b.0 a.0 edge peer m i))
 still_good t p (step.BgpDown a b) h =
@@ -208,13 +211,13 @@ still_good t p (step.BgpDown a b) h =
 still_good t p _ h = h
 
 told_go_on : (t : Network) (c : Config) (p : Peerings) (s : Step) → IsFit c → IsFit (config_after c s) → AllGood t p → (edge peer : ℕ) (m : Telling)
-    → In ((counted p s).told edge peer ++ tellings_of edge peer (told_in t c p (config_after c s) (counted p s) s)) m → IsGood t m
+    → In ((bgp_counted p s).told edge peer ++ tellings_of edge peer (told_in t c p (config_after c s) (bgp_counted p s) s)) m → IsGood t m
 told_go_on t c p s g h good edge peer m i =
-    elim (in_append ((counted p s).told edge peer) (tellings_of edge peer (told_in t c p (config_after c s) (counted p s) s)) m i) [
-  | inl j ↦ still_good t p s good edge peer m j
-  | inr j ↦ let f = in_tellings edge peer (told_in t c p (config_after c s) (counted p s) s) m j in
-      subst (IsGood t) f.2 (good_told t c p (config_after c s) (counted p s) s g h f.0 f.1)
-]
+    elim (in_append ((bgp_counted p s).told edge peer) (tellings_of edge peer (told_in t c p (config_after c s) (bgp_counted p s) s)) m i) [
+      | inl j ↦ still_good t p s good edge peer m j
+      | inr j ↦ let f = in_tellings edge peer (told_in t c p (config_after c s) (bgp_counted p s) s) m j in
+          subst (IsGood t) f.2 (good_told t c p (config_after c s) (bgp_counted p s) s g h f.0 f.1)
+    ]
 
 tellings_go : (t : Network) (w : World) (s : Step) → IsFit w.config → IsFit (config_after w.config s) → AllGood t w.peerings → AllGood t (after t w s).peerings
 unfolding peerings_after
@@ -240,7 +243,7 @@ good_from t (e ∷ es) tick w k n ps lawful fit good =
       sets = sets_go t w.config e.step lawful.0 (free t w k n e.step (next_of ps) lawful.2).targets fit.sets;
     } in
     good_from t es e.tick (after t w e.step) (packets_after t (after t w e.step) k e.step (next_of ps)) (n + 1) (left_by e.step ps) lawful.3 next
-        (tellings_go t w e.step fit next good)
+    (tellings_go t w e.step fit next good)
 
 good_told_all : (t : Network) (es : List JournalEntry) (ps : List (List ℕ)) → IsLawful t → IsLawfulJournal t es ps → AllGood t (world_of t es).peerings
 good_told_all t es ps topology journal =
@@ -282,4 +285,4 @@ pub writable : (t : Network) (l : Labels) (es : List JournalEntry) (ps : List (L
     IsLawfulJournal t es ps → Contains ((world_of t es).peerings.told teller peer) m → IsWritable t l m
 writable t l es ps teller peer m topology labels journal there =
     good_is_writable t l m topology labels
-        (good_told_all t es ps topology journal teller peer m (in_contained ((world_of t es).peerings.told teller peer) m there))
+    (good_told_all t es ps topology journal teller peer m (in_contained ((world_of t es).peerings.told teller peer) m there))

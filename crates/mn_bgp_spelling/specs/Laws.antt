@@ -5,7 +5,7 @@ use Rattle.mn_topo.specs.Network.{Network}
 use Rattle.mn_topo.specs.declared.steps.Step.TheVariants.{HearBgp}
 use Rattle.mn_bgp_session.specs.Table.{reply_in, answer_in, after_message}
 use Rattle.mn_ledger.specs.World.{World, Export, Telling, Open, Alive, Announce}
-use Rattle.mn_ledger.specs.Vpn.{peers_live, state_of, reply, exports_of, peerings_after}
+use Rattle.mn_ledger.specs.Vpn.{peers_live, bgp_state_of, reply, exports_of, peerings_after}
 use Rattle.mn_bgp_spelling.specs.Spelling.{Labels, message_in, session_in}
 
 -- the next message that an edge hears of a peer
@@ -21,7 +21,8 @@ pub record IsComing (world : World) (edge peer : ℕ) : Type 0 where
 -- the session takes it: it is neither unexpected nor of another peer
 abbrev pub IsTaken : Network → Labels → World → ℕ → ℕ → Type 0
 IsTaken topology labels world edge peer =
-    answer_in (session_in topology world.config world.peerings edge peer) (message_in topology labels peer (next_of world edge peer)) ≡ Ok (reply_in (state_of world.config world.peerings edge peer))
+    answer_in (session_in topology world.config world.peerings edge peer) (message_in topology labels peer (next_of world edge peer)) ≡ Ok
+    (reply_in (bgp_state_of world.config world.peerings edge peer))
 
 -- and is then as the table has it
 abbrev pub GoesOn : Network → Labels → World → NodeNo → NodeNo → Type 0
@@ -32,9 +33,10 @@ GoesOn topology labels world peer edge =
 -- what the edge tells back is a KEEPALIVE where the session says so, and its exports where it became Established
 abbrev pub RepliesByTheTable : Network → World → ℕ → ℕ → Type 0
 RepliesByTheTable topology world edge peer =
-    let answer = reply_in (state_of world.config world.peerings edge peer) in
-    reply (state_of world.config world.peerings edge peer) (next_of world edge peer) (exports_of topology world.config edge)
-    ≡ cond answer.say_keep (Alive ∷ []) [] ++ cond answer.became_established (map (λ (export : Export). Announce export) (exports_of topology world.config edge)) []
+    let answer = reply_in (bgp_state_of world.config world.peerings edge peer) in
+    reply (bgp_state_of world.config world.peerings edge peer) (next_of world edge peer) (exports_of topology world.config edge)
+    ≡ cond answer.say_keep (Alive ∷ []) [] ++ cond answer.became_established
+    (map (λ (export : Export). Announce export) (exports_of topology world.config edge)) []
 
 -- labels are of 20 bits: RFC 3032, section 2.1
 abbrev pub AreLabels : Labels → Type 0

@@ -71,7 +71,7 @@ headed bytes fits long marked len =
     let rest_len : 19 + length (body_of bytes) ≡ length bytes = omega (arith, length-drop 19 bytes) in
     let two : big_bytes 2 (19 + length (body_of bytes)) ≡ slice_index behind 0 ∷ slice_index behind 1 ∷ [] =
     ap (big_bytes 2) (rest_len ∙ sym len ∙ ap (big_number 2) parts)
-        ∙ two_of (slice_index behind 0) (slice_index behind 1) (slice_index behind 2 ∷ drop 3 behind) (omega arith) (omega arith) in
+    ∙ two_of (slice_index behind 0) (slice_index behind 1) (slice_index behind 2 ∷ drop 3 behind) (omega arith) (omega arith) in
     sym (take-append-drop 16 bytes) ∙ ap (λ (xs : List ℕ). xs ++ behind) front ∙ ap (λ (xs : List ℕ). marker ++ xs) parts
     ∙ ap (λ (xs : List ℕ). marker ++ xs ++ slice_index behind 2 ∷ drop 3 behind) (sym two)
     ∙ ap (λ (n : ℕ). marker ++ big_bytes 2 (19 + length (body_of bytes)) ++ n ∷ drop 3 behind) kind
@@ -82,7 +82,7 @@ unfolding header_of
 header_take bytes kind fits e =
     let size = length bytes in
     let r = rules_pass (nat_lt size 19) (not (is_marked bytes)) (not (length_of bytes == size && nat_le size 4096 && allows (kind_at bytes) size))
-        (not (is_kind (kind_at bytes))) (kind_at bytes) kind e in
+    (not (is_kind (kind_at bytes))) (kind_at bytes) kind e in
     let long : 19 ≤ size = ltb-false _ _ r.0 in
     let t = and_true (length_of bytes == size && nat_le size 4096) (allows (kind_at bytes) size) (not_false _ r.2) in
     let u = and_true (length_of bytes == size) (nat_le size 4096) t.0 in
@@ -122,8 +122,8 @@ long_front kind body n within long lt =
     let marked : is_marked (take n bytes) ≡ true = ap (λ (xs : List ℕ). list_all (λ (byte : ℕ). byte == 255) xs) (take-take 16 n bytes (omega arith)) in
     let number : length_of (take n bytes) ≡ length bytes =
     ap (λ (m : ℕ). big_number 2 (drop 16 (take m bytes))) split ∙ ap (big_number 2) (drop-take 16 (n - 16) bytes)
-        ∙ big_from-take 0 2 (n - 16) (drop 16 bytes) (omega arith)
+    ∙ big_from-take 0 2 (n - 16) (drop 16 bytes) (omega arith)
     ∙ number_back 2 (19 + length body) (kind ∷ body) (omega arith) ∙ sym size in
     let other : (length_of (take n bytes) == length (take n bytes)) ≡ false =
-        ne_eqb (length_of (take n bytes)) (length (take n bytes)) (length bytes) n number len lt in
+    ne_eqb (length_of (take n bytes)) (length (take n bytes)) (length bytes) n number len lt in
     cut_behind (take n bytes) (omega arith) marked other

@@ -28,7 +28,7 @@ nothing first (suc most) bytes h is = let open_ : (length bytes == 0) ≡ false 
 
 either : {A : Type 0} (first : List ℕ → Option (A × List ℕ)) (m n : ℕ) (bytes : List ℕ) (o : Option (A × List ℕ)) → 0 < length bytes → first bytes ≡ o
     → ((found : A × List ℕ) → first bytes ≡ Some found → items_from first m found.1 ≡ items_from first n found.1) →
-        items_from first (suc m) bytes ≡ items_from first (suc n) bytes
+    items_from first (suc m) bytes ≡ items_from first (suc n) bytes
 either first m n bytes None h is same = nothing first (suc m) bytes h is ∙ sym (nothing first (suc n) bytes h is)
 either {A = A} first m n bytes (Some found) h is same =
     next first m bytes found h is ∙ ap (λ (o : Option (List A)). o >>= λ more. Some (found.0 ∷ more)) (same found is) ∙ sym (next first n bytes found h is)
@@ -54,8 +54,8 @@ items_first first s [] found is = let l = s.shorter [] found is in absurd (omega
 items_first {A = A} first s (b ∷ bs) found is =
     let l = s.shorter (b ∷ bs) found is in
     next first (length bs) (b ∷ bs) found (omega arith) is
-        ∙ ap (λ (o : Option (List A)). o >>= λ more. Some (found.0 ∷ more))
-        (enough first s (length bs) (length found.1) found.1 (omega arith) (omega arith))
+    ∙ ap (λ (o : Option (List A)). o >>= λ more. Some (found.0 ∷ more))
+    (enough first s (length bs) (length found.1) found.1 (omega arith) (omega arith))
 
 pub items_none : {A : Type 0} (first : List ℕ → Option (A × List ℕ)) (bytes : List ℕ) → 0 < length bytes → first bytes ≡ None → items_of first bytes ≡ None
 items_none first bytes h is = nothing first (length bytes) bytes h is
@@ -86,7 +86,7 @@ some_list x y o p q = cc
 take_step : {A : Type 0} (first : List ℕ → Option (A × List ℕ)) (spelling : A → List ℕ) → Takes first spelling →
     (most : ℕ) (bytes : List ℕ) (items : List A) → IsBytes bytes → 0 < length bytes
     → (o : Option (A × List ℕ)) → first bytes ≡ o →
-        ((rest : List ℕ) (more : List A) → IsBytes rest → items_from first most rest ≡ Some more → rest ≡ flat_map spelling more)
+    ((rest : List ℕ) (more : List A) → IsBytes rest → items_from first most rest ≡ Some more → rest ≡ flat_map spelling more)
     → items_from first (suc most) bytes ≡ Some items → bytes ≡ flat_map spelling items
 take_step first spelling t most bytes items fits h None is later e = let n = nothing first (suc most) bytes h is in absurd cc
 take_step {A = A} first spelling t most bytes items fits h (Some found) is later e =

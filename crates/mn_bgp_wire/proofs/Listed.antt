@@ -10,7 +10,8 @@ use Rattle.std.proofs.lemmas.List.Elements.{All-from_recursion}
 use Rattle.std.proofs.lemmas.List.Kept.{AllPairs-cons}
 use Rattle.byteorder.specs.Endian.{big_number, big_bytes}
 use Rattle.mn_vpn_nlri.specs.Reading.{IsBytes}
-use Rattle.mn_bgp_wire.specs.Grammar.{PathAttribute, attribute_bytes, attributes_bytes, length_bytes, is_extended, is_optional, is_known, has, value_of}
+use Rattle.mn_bgp_wire.specs.Grammar.{PathAttribute, attribute_bytes, attributes_bytes, length_bytes, is_extended, is_optional, is_known_attribute, has}
+use Rattle.mn_bgp_wire.specs.Grammar.{value_of}
 use Rattle.mn_bgp_wire.specs.Grammar.{update_body, IsLawful, HasAllWanted, origin_kind, local_pref_kind, as_path_kind, mp_reach_kind, mp_unreach_kind}
 use Rattle.mn_bgp_wire.specs.Grammar.{extended_communities_kind}
 use Rattle.mn_bgp_wire.specs.Reading.{attribute_at, attributes_of, attributes_in, has_twice, is_lawful, is_missing}
@@ -59,7 +60,7 @@ listed_takes a b c d rest attributes fits e =
     let rest_fits = bytes-rest (a ∷ b ∷ c ∷ d ∷ []) rest fits in
     let spelled : rest ≡ attributes_bytes attributes = items_take attribute_at attribute_bytes attributes_take (length rest) rest attributes rest_fits q.1 in
     let two : big_bytes 2 (length (attributes_bytes attributes)) ≡ c ∷ d ∷ [] =
-        ap (big_bytes 2) (sym (len ∙ ap length spelled)) ∙ two_of c d rest (fits.below 2) (fits.below 3) in
+    ap (big_bytes 2) (sym (len ∙ ap length spelled)) ∙ two_of c d rest (fits.below 2) (fits.below 3) in
     respelled a b c d rest (big_bytes 2 (length (attributes_bytes attributes))) (attributes_bytes attributes) (omega arith) (omega arith) two spelled
 
 pub list_takes : (body : List ℕ) (attributes : List PathAttribute) → IsBytes body → 4 ≤ length body → attributes_in body ≡ Some attributes →
@@ -98,7 +99,7 @@ once_takes [] h = λ i j d lt within. absurd (omega arith)
 once_takes (a ∷ others) h =
     let o = or_no (has a.kind others) (has_twice others) h in
     AllPairs-cons (λ (earlier later : PathAttribute). earlier.kind ≢ later.kind) a others
-        (All-from_recursion (λ (later : PathAttribute). a.kind ≢ later.kind) others (differs a others o.0)) (once_takes others o.1)
+    (All-from_recursion (λ (later : PathAttribute). a.kind ≢ later.kind) others (differs a others o.0)) (once_takes others o.1)
 
 -- Each lawful.
 
@@ -117,24 +118,24 @@ lawful_takes_by false false true optional one four e = (λ p. absurd cc, λ p q.
 lawful_takes_by false false false optional one four e = (λ p. absurd cc, λ p q. absurd cc, λ p q r. e)
 
 -- what isn't known is none of the known types
-is_other : (type kind : ℕ) → is_known type ≡ true → is_known kind ≡ false → (kind == type) ≡ false
+is_other : (type kind : ℕ) → is_known_attribute type ≡ true → is_known_attribute kind ≡ false → (kind == type) ≡ false
 is_other type kind known unknown = not_equal (kind == type) refl
   where
     not_equal : (b : Bool) → (kind == type) ≡ b → b ≡ false
-    not_equal true is = let same = ap is_known (eqb-true kind type is) in absurd cc
+    not_equal true is = let same = ap is_known_attribute (eqb-true kind type is) in absurd cc
     not_equal false is = refl
 
 lawful_again : (a : PathAttribute) → IsLawful a → is_lawful a ≡ true
 unfolding is_lawful
 lawful_again a is =
-    lawful_by (a.kind == origin_kind) (a.kind == local_pref_kind) (is_known a.kind) (is_optional a.flags) (length a.value == 1) (length a.value == 4)
+    lawful_by (a.kind == origin_kind) (a.kind == local_pref_kind) (is_known_attribute a.kind) (is_optional a.flags) (length a.value == 1) (length a.value == 4)
     (λ t. eq-eqb _ _ (is.of_origin (eqb-true _ _ t))) (λ t. eq-eqb _ _ (is.of_local_pref (eqb-true _ _ t))) is.of_unknown
 
 lawful_takes : (a : PathAttribute) → is_lawful a ≡ true → IsLawful a
 unfolding is_lawful
 lawful_takes a e =
-    let t = lawful_takes_by (a.kind == origin_kind) (a.kind == local_pref_kind) (is_known a.kind) (is_optional a.flags) (length a.value == 1)
-        (length a.value == 4) e in
+    let t = lawful_takes_by (a.kind == origin_kind) (a.kind == local_pref_kind) (is_known_attribute a.kind) (is_optional a.flags) (length a.value == 1)
+    (length a.value == 4) e in
     record {
       of_origin = λ is. eqb-true _ _ (t.0 (eq-eqb _ _ is));
       of_local_pref = λ is. let other : (a.kind == origin_kind) ≡ false = grind (arith, nat_tests) in eqb-true _ _ (t.1 other (eq-eqb _ _ is));

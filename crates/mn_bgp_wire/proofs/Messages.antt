@@ -54,7 +54,7 @@ message_is_read bytes message is =
     let size : length bytes ≡ 19 + length is.body = ap length is.whole ∙ size_of (kind_of message) is.body in
     let head = header_again (kind_of message) is.body (known_of message) (allowed_of message is.body is.is_body) (omega arith) in
     ap message_of is.whole ∙ read_by (message_bytes (kind_of message) is.body) (kind_of message) message head
-        (says_of_body message is.body (omega arith) is.is_body)
+    (says_of_body message is.body (omega arith) is.is_body)
 
 pub one_message : (bytes : List ℕ) (message other : BgpMessage) → IsBgp bytes message → IsBgp bytes other → message ≡ other
 one_message bytes message other is also = done_is message other (sym (message_is_read bytes message is) ∙ message_is_read bytes other also)
@@ -94,8 +94,8 @@ BodyOf kind body message = (kind_of message ≡ kind) × IsBody body message
 body_by : (p q r : Bool) (kind : ℕ) (body : List ℕ) (message : BgpMessage) → IsBytes body → is_kind kind ≡ true → allows kind (19 + length body) ≡ true →
     (kind == 1) ≡ p → (kind == 2) ≡ q → (kind == 3) ≡ r
     → cond p (open_of body)
-        (cond q (update_said body) (cond r (Ok (messages.Notification (slice_index body 0) (slice_index body 1))) (Ok messages.KeepAlive))) ≡ Ok message →
-        BodyOf kind body message
+    (cond q (update_said body) (cond r (Ok (messages.Notification (slice_index body 0) (slice_index body 1))) (Ok messages.KeepAlive))) ≡ Ok message →
+    BodyOf kind body message
 body_by true q r kind body message fits known allowed is1 is2 is3 e =
     let same : kind ≡ 1 = eqb-true kind 1 is1 in
     let long = open_allowed (19 + length body) (subst (λ (k : ℕ). allows k (19 + length body) ≡ true) same allowed) in
@@ -110,7 +110,7 @@ body_by false false true kind body message fits known allowed is1 is2 is3 e =
     let same : kind ≡ 3 = eqb-true kind 3 is3 in
     let long = notification_allowed (19 + length body) (subst (λ (k : ℕ). allows k (19 + length body) ≡ true) same allowed) in
     subst (λ (m : BgpMessage). BodyOf kind body m) (done_is (messages.Notification (slice_index body 0) (slice_index body 1)) message e)
-        (sym same, notification_body body (omega arith))
+    (sym same, notification_body body (omega arith))
 body_by false false false kind body message fits known allowed is1 is2 is3 e =
     let same : kind ≡ 4 = last_kind kind known is1 is2 is3 in
     let size = keepalive_allowed (19 + length body) (subst (λ (k : ℕ). allows k (19 + length body) ≡ true) same allowed) in
@@ -178,15 +178,15 @@ pub update_misses_one : (bytes : List ℕ) (attributes : List PathAttribute) (sa
 update_misses_one bytes attributes says fits head is lacks =
     let long = (long_enough bytes 2 fits head).1 refl in
     by_body bytes 2 head
-        ∙ ap (λ (r : Result Says BgpWireBad). after r (λ s. Ok (messages.Update s))) (update_misses (body_of bytes) attributes says long.1 is lacks)
+    ∙ ap (λ (r : Result Says BgpWireBad). after r (λ s. Ok (messages.Update s))) (update_misses (body_of bytes) attributes says long.1 is lacks)
 
 pub update_has_bad : (bytes : List ℕ) → IsBytes bytes → header_of bytes ≡ Ok update_kind →
     ((attributes : List PathAttribute) (says : Says) → AreAttributes (body_of bytes) attributes says → ⊥) → message_of bytes ≡ Err BadAttribute
 update_has_bad bytes fits head none =
     let long = (long_enough bytes 2 fits head).1 refl in
     by_body bytes 2 head
-        ∙ ap (λ (r : Result Says BgpWireBad). after r (λ s. Ok (messages.Update s)))
-        (update_is_bad (body_of bytes) (IsBytes-drop 19 bytes fits) long.0 none)
+    ∙ ap (λ (r : Result Says BgpWireBad). after r (λ s. Ok (messages.Update s)))
+    (update_is_bad (body_of bytes) (IsBytes-drop 19 bytes fits) long.0 none)
 
 -- What a reader answers.
 

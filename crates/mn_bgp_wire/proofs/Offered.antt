@@ -29,7 +29,7 @@ regroup false b c = refl
 
 among_more : (found first : Bool) (capability : Field) (more : Option (List Field)) → is_vpn capability ≡ first
     → or_found found (option_map (list_any is_vpn) (more >>= λ fields. Some (capability ∷ fields))) ≡ or_found (found || first)
-        (option_map (list_any is_vpn) more)
+    (option_map (list_any is_vpn) more)
 among_more found first capability None is = refl
 among_more found first capability (Some fields) is =
     ap (λ (b : Bool). Some (found || (b || list_any is_vpn fields))) is ∙ ap Some (regroup found first (list_any is_vpn fields))
@@ -39,7 +39,7 @@ pub among_goes_on : (found first : Bool) (rest : List ℕ) (capability : Field) 
     → or_found found (vpn_among rest) ≡ whole → or_found (found || first) (vpn_among others) ≡ whole
 among_goes_on found first rest capability others whole at is so_far =
     sym (ap (λ (o : Option (List Field)). or_found found (option_map (list_any is_vpn) o))
-        (items_first field_at fields_shorten rest (capability, others) at) ∙ among_more found first capability (items_of field_at others) is) ∙ so_far
+    (items_first field_at fields_shorten rest (capability, others) at) ∙ among_more found first capability (items_of field_at others) is) ∙ so_far
 
 pub among_fails : (found : Bool) (rest : List ℕ) (whole : Option Bool) →
     (length rest == 0) ≡ false → field_at rest ≡ None → or_found found (vpn_among rest) ≡ whole → whole ≡ None
@@ -67,7 +67,7 @@ pub offered_goes_on : (found first : Bool) (rest : List ℕ) (parameter : Field)
     → or_found found (vpn_offered rest) ≡ whole → or_found (found || first) (vpn_offered others) ≡ whole
 offered_goes_on found first rest parameter others whole at is so_far =
     sym (ap (λ (o : Option (List Field)). or_found found (o >>= vpn_in_some)) (items_first field_at fields_shorten rest (parameter, others) at)
-        ∙ offered_more found first parameter (items_of field_at others) is) ∙ so_far
+    ∙ offered_more found first parameter (items_of field_at others) is) ∙ so_far
 
 pub offered_fails : (found : Bool) (rest : List ℕ) (whole : Option Bool) →
     (length rest == 0) ≡ false → field_at rest ≡ None → or_found found (vpn_offered rest) ≡ whole → whole ≡ None
@@ -84,7 +84,7 @@ pub offered_fails_in : (found : Bool) (rest : List ℕ) (parameter : Field) (oth
     → or_found found (vpn_offered rest) ≡ whole → whole ≡ None
 offered_fails_in found rest parameter others whole at is so_far =
     sym so_far ∙ ap (λ (o : Option (List Field)). or_found found (o >>= vpn_in_some)) (items_first field_at fields_shorten rest (parameter, others) at)
-        ∙ none_in found parameter (items_of field_at others) is
+    ∙ none_in found parameter (items_of field_at others) is
 
 pub offered_ends : (found : Bool) (rest : List ℕ) (whole : Option Bool) →
     (length rest == 0) ≡ true → or_found found (vpn_offered rest) ≡ whole → whole ≡ Some found

@@ -41,7 +41,7 @@ offers_again : (parameters : List Parameter) → AllByRecursion HasCapabilities 
 offers_again [] h = refl
 offers_again (p ∷ ps) h =
     ap (λ (o : Option Bool). o >>= λ first. vpn_in_some (map field_of ps) >>= λ others. Some (first || others))
-        (offer_by (p.field.kind == capabilities_kind) p.field.value p.capabilities h.0)
+    (offer_by (p.field.kind == capabilities_kind) p.field.value p.capabilities h.0)
     ∙ ap (λ (o : Option Bool). o >>= λ others. Some (offers_vpn p || others)) (offers_again ps h.1)
 
 offered_again : (parameters : List Parameter) → AllByRecursion HasCapabilities parameters →
@@ -69,7 +69,7 @@ open_again body version asn hold id vpn is =
     let behind_asn = big_bytes 2 hold ++ behind_hold in
     ap open_of is.whole ∙ opened version _ _ _ _ _ _ _ _ (length list) list vpn v len o
     ∙ same_opening version _ asn _ hold _ id vpn (number_back 2 asn behind_asn is.asn_fits) (number_back 2 hold behind_hold is.hold_fits)
-        (number_back 4 id behind_id is.id_fits)
+    (number_back 4 id behind_id is.id_fits)
 
 -- the capabilities that are found
 pub record IsOffered (b : Bool) (value : List ℕ) (found : Bool) : Type 0 where
@@ -95,8 +95,8 @@ offers_take (field ∷ fields) found fits e =
     let first = then_some (vpn_in field) (λ b. vpn_in_some fields >>= λ others. Some (b || others)) found e in
     let more = then_some (vpn_in_some fields) (λ others. Some (first.0 || others)) found first.2 in
     let behind_head =
-        bytes-cons (length field.value) (field.value ++ fields_bytes fields)
-        (bytes-cons field.kind (length field.value ∷ field.value ++ fields_bytes fields) fits) in
+    bytes-cons (length field.value) (field.value ++ fields_bytes fields)
+    (bytes-cons field.kind (length field.value ∷ field.value ++ fields_bytes fields) fits) in
     let rest_fits = bytes-rest field.value (fields_bytes fields) behind_head in
     let one = offer_takes (field.kind == capabilities_kind) field.value first.0 (bytes-front field.value (fields_bytes fields) behind_head) first.1 in
     let others = offers_take fields more.0 rest_fits more.1 in

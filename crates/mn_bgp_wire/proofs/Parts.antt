@@ -114,9 +114,9 @@ unfolding attribute_at
 attribute_again attribute rest h =
     let extended = is_extended attribute.flags in
     let split : (length_bytes extended (length attribute.value) ++ attribute.value) ++ rest ≡ length_bytes extended (length attribute.value) ++
-        (attribute.value ++ rest) = append_assoc (length_bytes extended (length attribute.value)) attribute.value rest in
+    (attribute.value ++ rest) = append_assoc (length_bytes extended (length attribute.value)) attribute.value rest in
     ap (λ (xs : List ℕ). attribute_at (attribute.flags ∷ attribute.kind ∷ xs)) split
-        ∙ rw (sized_again extended (length attribute.value) (attribute.value ++ rest) h, cut_again attribute.value rest) refl
+    ∙ rw (sized_again extended (length attribute.value) (attribute.value ++ rest) h, cut_again attribute.value rest) refl
 
 pub attributes_read : Reads attribute_at attribute_bytes IsShort
 attributes_read = record { again = attribute_again }
@@ -127,9 +127,11 @@ cut_takes : (n : ℕ) (rest : List ℕ) (parts : List ℕ × List ℕ) → cut (
 cut_takes n rest parts e =
     let c = cut_is (n, rest) parts e in
     let whole = c.whole in
-    let len : length (take n rest) ≡ n = omega (arith, length-take n rest) in
-    (sym len ∙ ap length c.value_is, sym (take-append-drop n rest) ∙ ap (λ (xs : List ℕ). xs ++ drop n rest) c.value_is
-        ∙ ap (λ (xs : List ℕ). parts.0 ++ xs) c.rest_is)
+    let len : length (take n rest) ≡ n = omega (arith, length-take n rest) in (
+      sym len ∙ ap length c.value_is,
+      sym (take-append-drop n rest) ∙ ap (λ (xs : List ℕ). xs ++ drop n rest) c.value_is
+          ∙ ap (λ (xs : List ℕ). parts.0 ++ xs) c.rest_is,
+    )
 
 sized_takes : (extended : Bool) (rest : List ℕ) (found : ℕ × List ℕ) → IsBytes rest → sized extended rest ≡ Some found →
     rest ≡ length_bytes extended found.0 ++ found.1
@@ -147,7 +149,7 @@ parts_take extended rest parts fits e =
     let s = then_some (sized extended rest) cut parts e in
     let c = cut_takes s.0.0 s.0.1 parts s.2 in
     sized_takes extended rest s.0 fits s.1 ∙ ap (λ (n : ℕ). length_bytes extended n ++ s.0.1) c.0
-        ∙ ap (λ (xs : List ℕ). length_bytes extended (length parts.0) ++ xs) c.1
+    ∙ ap (λ (xs : List ℕ). length_bytes extended (length parts.0) ++ xs) c.1
     ∙ sym (append_assoc (length_bytes extended (length parts.0)) parts.0 parts.1)
 
 field_takes : (bytes : List ℕ) (found : Field × List ℕ) → IsBytes bytes → field_at bytes ≡ Some found → bytes ≡ field_bytes found.0 ++ found.1

@@ -115,7 +115,7 @@ whole_withdrawal rd prefix = refl
 pub withdrawn_is_spelled : (rd : Rd) (prefix : AddressBlock) → length (written (withdrawn_route rd prefix) true) ≤ 16 →
     IsNlri (written (withdrawn_route rd prefix) true) (withdrawn_route rd prefix)
     → IsBgp (update_bytes (withdrawn rd prefix))
-        (messages.Update (record { next_hop = 0; reached = []; withdrawn = withdrawn_route rd prefix ∷ []; targets = [] }))
+    (messages.Update (record { next_hop = 0; reached = []; withdrawn = withdrawn_route rd prefix ∷ []; targets = [] }))
 withdrawn_is_spelled rd prefix short is_route =
     let attributes = withdrawn rd prefix in
     let size = withdrawn_size rd prefix short in

@@ -22,8 +22,8 @@ pub split_goes_on : (front longer : List PathAttribute) (rest : List ℕ) (attri
     → behind front (attributes_of rest) ≡ whole → behind longer (attributes_of others) ≡ whole
 split_goes_on front longer rest attribute others whole at is so_far =
     ap (λ (f : List PathAttribute). behind f (attributes_of others)) is
-        ∙ sym (ap (behind front) (items_first attribute_at attributes_shorten rest (attribute, others) at)
-        ∙ regroup front attribute (items_of attribute_at others)) ∙ so_far
+    ∙ sym (ap (behind front) (items_first attribute_at attributes_shorten rest (attribute, others) at)
+    ∙ regroup front attribute (items_of attribute_at others)) ∙ so_far
 
 pub split_fails : (front : List PathAttribute) (rest : List ℕ) (whole : Option (List PathAttribute)) →
     (length rest == 0) ≡ false → attribute_at rest ≡ None → behind front (attributes_of rest) ≡ whole → whole ≡ None

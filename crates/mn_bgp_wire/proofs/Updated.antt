@@ -67,7 +67,7 @@ respelled x y z m four before rest hop p q r s t =
 reach_takes_by : (x y z m a b c d e f g h i j k l r : ℕ) (nlri : List ℕ) (found : ℕ × List VpnRoute) →
     IsBytes (x ∷ y ∷ z ∷ m ∷ a ∷ b ∷ c ∷ d ∷ e ∷ f ∷ g ∷ h ∷ i ∷ j ∷ k ∷ l ∷ r ∷ nlri)
     → reach_of (x ∷ y ∷ z ∷ m ∷ a ∷ b ∷ c ∷ d ∷ e ∷ f ∷ g ∷ h ∷ i ∷ j ∷ k ∷ l ∷ r ∷ nlri) ≡ Ok found →
-        IsReach (x ∷ y ∷ z ∷ m ∷ a ∷ b ∷ c ∷ d ∷ e ∷ f ∷ g ∷ h ∷ i ∷ j ∷ k ∷ l ∷ r ∷ nlri) found.0 found.1
+    IsReach (x ∷ y ∷ z ∷ m ∷ a ∷ b ∷ c ∷ d ∷ e ∷ f ∷ g ∷ h ∷ i ∷ j ∷ k ∷ l ∷ r ∷ nlri) found.0 found.1
 unfolding reach_of
 reach_takes_by x y z m a b c d e f g h i j k l r nlri found fits is =
     let value = x ∷ y ∷ z ∷ m ∷ a ∷ b ∷ c ∷ d ∷ e ∷ f ∷ g ∷ h ∷ i ∷ j ∷ k ∷ l ∷ r ∷ nlri in
@@ -75,7 +75,7 @@ reach_takes_by x y z m a b c d e f g h i j k l r nlri found fits is =
     let hop = big_number 4 (i ∷ j ∷ k ∷ l ∷ r ∷ nlri) in
     let long = nat_le reach_head (length value) in
     let q = guard_ok (not (long && is_family value && m == 12)) BadAttribute
-        (after (in_attribute (routes_of nlri)) (λ routes. cond (length routes == 0) (Err BadAttribute) (Ok (hop, routes)))) found is in
+    (after (in_attribute (routes_of nlri)) (λ routes. cond (length routes == 0) (Err BadAttribute) (Ok (hop, routes)))) found is in
     let head = and_true (long && is_family value) (m == 12) (not_false (long && is_family value && m == 12) q.0) in
     let family = family_is x y z (and_true long (is_family value) head.0).1 in
     let w = after_ok (in_attribute (routes_of nlri)) (λ routes. cond (length routes == 0) (Err BadAttribute) (Ok (hop, routes))) found q.1 in
@@ -246,9 +246,9 @@ unfolding reach_of
 only_bad_reach value =
     let some = λ (routes : List VpnRoute). cond (length routes == 0) (refused BadAttribute) (Ok (big_number 4 (drop 12 value), routes)) in
     only_bad_guard (not (nat_le reach_head (length value) && is_family value && slice_index value 3 == 12))
-        (after (in_attribute (routes_of (drop reach_head value))) some)
+    (after (in_attribute (routes_of (drop reach_head value))) some)
     (only_bad_after (in_attribute (routes_of (drop reach_head value))) some (only_bad_in (routes_of (drop reach_head value)))
-        (λ routes. only_bad_guard (length routes == 0) (Ok (big_number 4 (drop 12 value), routes)) tt))
+    (λ routes. only_bad_guard (length routes == 0) (Ok (big_number 4 (drop 12 value), routes)) tt))
 
 only_bad_unreach : (value : List ℕ) → OnlyBad (unreach_of value)
 unfolding unreach_of
@@ -284,15 +284,15 @@ bad_unreach attributes reach bad b r w is = rw (b, r, w) (ap refused is)
 bad_targets : (attributes : List PathAttribute) (reach : ℕ × List VpnRoute) (withdrawn : List VpnRoute) (bad : BgpWireBad) →
     (has_twice attributes || not (list_all is_lawful attributes)) ≡ false → said (0, no_routes) reach_of (value_of mp_reach_kind attributes) ≡ Ok reach
     → said no_routes unreach_of (value_of mp_unreach_kind attributes) ≡ Ok withdrawn →
-        said no_targets communities_of (value_of extended_communities_kind attributes) ≡ Err bad → bad ≡ BadAttribute →
-        says_of attributes ≡ Err BadAttribute
+    said no_targets communities_of (value_of extended_communities_kind attributes) ≡ Err bad → bad ≡ BadAttribute →
+    says_of attributes ≡ Err BadAttribute
 unfolding says_of
 bad_targets attributes reach withdrawn bad b r w t is = rw (b, r, w, t) (ap refused is)
 
 verdict_by : (attributes : List PathAttribute) (b : Bool) (r : Result (ℕ × List VpnRoute) BgpWireBad) (w : Result (List VpnRoute) BgpWireBad)
     (t : Result (List Rt) BgpWireBad)
     → (has_twice attributes || not (list_all is_lawful attributes)) ≡ b → said (0, no_routes) reach_of (value_of mp_reach_kind attributes) ≡ r →
-        said no_routes unreach_of (value_of mp_unreach_kind attributes) ≡ w
+    said no_routes unreach_of (value_of mp_unreach_kind attributes) ≡ w
     → said no_targets communities_of (value_of extended_communities_kind attributes) ≡ t → OnlyBad r → OnlyBad w → OnlyBad t → Verdict attributes
 verdict_by attributes true r w t b-is r-is w-is t-is r-bad w-bad t-bad = OneBad (bad_list attributes b-is)
 verdict_by attributes false (Err bad) w t b-is r-is w-is t-is r-bad w-bad t-bad = OneBad (bad_reach attributes bad b-is r-is r-bad)
@@ -320,7 +320,7 @@ are_attributes : (body : List ℕ) (attributes : List PathAttribute) (says : Say
 are_attributes body attributes says fits long list s =
     let whole = list_takes body attributes fits long list in
     let bytes_fit : IsBytes (attributes_bytes attributes) =
-        bytes-rest (big_bytes 2 0 ++ big_bytes 2 (length (attributes_bytes attributes))) (attributes_bytes attributes) (subst IsBytes whole fits) in
+    bytes-rest (big_bytes 2 0 ++ big_bytes 2 (length (attributes_bytes attributes))) (attributes_bytes attributes) (subst IsBytes whole fits) in
     record {
       whole = whole;
       once = once_takes attributes s.once;

@@ -149,15 +149,15 @@ abbrev pub known_kinds : List ℕ
 known_kinds =
     origin_kind ∷ as_path_kind ∷ next_hop_kind ∷ local_pref_kind ∷ atomic_aggregate_kind ∷ mp_reach_kind ∷ mp_unreach_kind ∷ extended_communities_kind ∷ []
 
-abbrev pub is_known : ℕ → Bool
-is_known kind = list_any (λ known. known == kind) known_kinds
+abbrev pub is_known_attribute : ℕ → Bool
+is_known_attribute kind = list_any (λ known. known == kind) known_kinds
 
 -- Of the values that aren't read, that of ORIGIN has one byte and that of LOCAL_PREF four; and an attribute of a type that
 -- isn't known has to be optional.
 pub record IsLawful (attribute : PathAttribute) : Type 0 where
   pub of_origin : attribute.kind ≡ origin_kind → length attribute.value ≡ 1
   pub of_local_pref : attribute.kind ≡ local_pref_kind → length attribute.value ≡ 4
-  pub of_unknown : is_known attribute.kind ≡ false → is_optional attribute.flags ≡ true
+  pub of_unknown : is_known_attribute attribute.kind ≡ false → is_optional attribute.flags ≡ true
 
 -- one of them is of this type
 abbrev pub has : ℕ → List PathAttribute → Bool

@@ -12,7 +12,7 @@ use Rattle.mn_bgp_wire.specs.Says.{Says}
 use Rattle.mn_bgp_wire.specs.Items.{◌>>=◌, items_of}
 use Rattle.mn_bgp_wire.specs.Grammar.{header_size, greatest_length, open_kind, update_kind, notification_kind, keepalive_kind, Field, capabilities_kind}
 use Rattle.mn_bgp_wire.specs.Grammar.{is_vpn, PathAttribute, is_optional, is_extended, origin_kind, as_path_kind, local_pref_kind, mp_reach_kind}
-use Rattle.mn_bgp_wire.specs.Grammar.{mp_unreach_kind, extended_communities_kind, is_known, has, value_of}
+use Rattle.mn_bgp_wire.specs.Grammar.{mp_unreach_kind, extended_communities_kind, is_known_attribute, has, value_of}
 use Rattle.mn_bgp_wire.specs.declared.message.BgpMessage.{BgpMessage}
 use Rattle.mn_bgp_wire.specs.declared.message.BgpMessage.TheVariants as messages
 use Rattle.mn_bgp_wire.specs.declared.refusal.BgpWireBad.{BgpWireBad}
@@ -93,13 +93,13 @@ unfoldable pub is_lawful : PathAttribute → Bool
 is_lawful attribute =
     if attribute.kind == origin_kind then length attribute.value == 1
     else if attribute.kind == local_pref_kind then length attribute.value == 4
-    else is_known attribute.kind || is_optional attribute.flags
+    else is_known_attribute attribute.kind || is_optional attribute.flags
 
 -- neither routes that come nor routes that go, or beside the former something is missing
 unfoldable pub is_missing : List PathAttribute → Bool
 is_missing attributes =
     if has mp_reach_kind attributes then not
-        (has origin_kind attributes && has as_path_kind attributes && has local_pref_kind attributes && has extended_communities_kind attributes)
+    (has origin_kind attributes && has as_path_kind attributes && has local_pref_kind attributes && has extended_communities_kind attributes)
     else not (has mp_unreach_kind attributes)
 
 -- What the values of 14, 15 and 16 say: RFC 4760, sections 3 and 4; RFC 4360, section 4.
@@ -120,7 +120,7 @@ unfoldable pub reach_of : List ℕ → Result (ℕ × List VpnRoute) BgpWireBad
 reach_of value =
     if not (nat_le reach_head (length value) && is_family value && slice_index value 3 == 12) then Err BadAttribute
     else after (in_attribute (routes_of (drop reach_head value)))
-        (λ routes. if length routes == 0 then Err BadAttribute else Ok (big_number 4 (drop 12 value), routes))
+    (λ routes. if length routes == 0 then Err BadAttribute else Ok (big_number 4 (drop 12 value), routes))
 
 unfoldable pub unreach_of : List ℕ → Result (List VpnRoute) BgpWireBad
 unreach_of value = if not (nat_le 3 (length value) && is_family value) then Err BadAttribute else in_attribute (routes_of (drop 3 value))

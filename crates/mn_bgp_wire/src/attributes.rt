@@ -2,7 +2,7 @@
 ghost use Rattle.std.specs.Prelude.{◌≡◌, ◌<◌, ◌≤◌, ◌/◌, ◌%◌, ◌^◌, ◌==◌, length};
 ghost use Rattle.std.specs.Option.{option_map};
 ghost use Rattle.std.specs.List.{list_all};
-ghost use Rattle.mn_bgp_wire.specs.Grammar.{is_known, has, value_of};
+ghost use Rattle.mn_bgp_wire.specs.Grammar.{is_known_attribute, has, value_of};
 ghost use Rattle.mn_bgp_wire.specs.Reading.{sized, attribute_at, attributes_of, attributes_in, or_else, has_twice, is_lawful, Gives};
 ghost use Rattle.mn_bgp_wire.specs.declared.refusal.BgpWireBad.TheVariants.{BadAttribute};
 
@@ -126,12 +126,12 @@ fn is_lawful(attribute: &Attribute<'_>) -> bool
     match attribute.kind {
         ORIGIN => attribute.value.len() == 1,
         LOCAL_PREF => attribute.value.len() == 4,
-        kind => is_known(kind) || is_set(attribute.flags, OPTIONAL_BIT),
+        kind => is_known_attribute(kind) || is_set(attribute.flags, OPTIONAL_BIT),
     }
 }
 
-fn is_known(kind: u8) -> bool
-    ensures { result ≡ is_known kind }
+fn is_known_attribute(kind: u8) -> bool
+    ensures { result ≡ is_known_attribute kind }
 {
     KNOWN.contains(&kind)
 }

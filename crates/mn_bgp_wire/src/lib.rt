@@ -37,7 +37,7 @@
 //! - `update`: what the attributes of an UPDATE say together
 //! - `read`: the header, and a message by its type
 //! - `write`: messages as this network says them
-//! - `laws`: no message begins another
+//! - `laws`: what is read is the message that its bytes spell, no message begins another, and what a body is refused for
 //!
 //! RFC 4271, sections 4.1 to 4.5, 5.1 and 6.1 to 6.3; RFC 4760, sections 3, 4 and 8; RFC 5492, section 4; RFC 4364, section 4.3.
 #![tactic(auto)]

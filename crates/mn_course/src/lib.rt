@@ -13,6 +13,7 @@
 //! enters the journal, with the tick at which it is done. A frame whose number in its direction is a multiple of the link's
 //! loss is lost instead.
 //!
+//! - `coming`: what is in flight, and how a line ends
 //! - `specs/Coming`: which item in flight comes next, and the step that delivers it; `specs/Next`: the same in words
 //! - `specs/Course`: what one line does; `specs/Expansion`: what a script does, and what is told of its lines
 //! - `specs/Lawful`: what has happened lawfully; `specs/Paced`: how far the clock goes on, and what has arrived

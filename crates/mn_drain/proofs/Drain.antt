@@ -15,7 +15,7 @@ use Rattle.mn_topo.specs.declared.steps.Step.{Step}
 use Rattle.mn_topo.specs.declared.steps.Step.TheVariants as step
 use Rattle.mn_topo.specs.declared.steps.JournalEntry.{JournalEntry}
 use Rattle.mn_ledger.specs.World.{Config, Views, World, Address, Open, Telling}
-use Rattle.mn_ledger.specs.Transport.{lives, is_active, state_by, view_of, knowledge_of, answer, said_on, news, counted, with_said, sessions_after}
+use Rattle.mn_ledger.specs.Transport.{lives, is_active, state_by, view_of, knowledge_of, answer, said_on, news, ldp_counted, with_said, sessions_after}
 use Rattle.mn_ledger.specs.Vpn as vpn
 use Rattle.mn_ledger.specs.Vpn.{peers_live, reply, told_to, with_told, exports_of, peerings_after}
 use Rattle.mn_ledger.specs.Places.{edges}
@@ -67,11 +67,11 @@ ldp-lowers t w l dir lawful g d =
     let more : w.sessions.heard l.0 n < length (w.sessions.said l.0 (across (wiring_of t) l.0 n)) = subst (λ m. w.sessions.heard l.0 n < length
     (w.sessions.said l.0 m)) (sym ends.1) (above _ _ parts.1) in
     subst (λ m. ahead (wiring_of t) (known_view t w.views) w.config
-    (with_said (counted t w.sessions (step.HearLdp l dir))
+    (with_said (ldp_counted t w.sessions (step.HearLdp l dir))
     (said_on l.0 n (answer (state_by (is_active t l.0 n) (w.sessions.heard l.0 n))
     (slice_index_or (w.sessions.said l.0 m) (w.sessions.heard l.0 n) Address))
     ++ flat_map (λ x. news (wiring_of t) (knowledge_of (wiring_of t) w.config w.views w.sessions x)
-    (knowledge_of (wiring_of t) w.config w.views (counted t w.sessions (step.HearLdp l dir)) x) x) (nodes_of (wiring_of t)))) + 1
+    (knowledge_of (wiring_of t) w.config w.views (ldp_counted t w.sessions (step.HearLdp l dir)) x) x) (nodes_of (wiring_of t)))) + 1
     ≤ ahead (wiring_of t) (known_view t w.views) w.config w.sessions) ends.1
     (hearing-lowers t lawful w.config w.views w.sessions (known_view t w.views) l.0 n there ends.0 alive more g.ldp
     (one-view t w.views n d.in_turn (ends_below t lawful.joins_nodes l.0 n there ends.0)))
@@ -106,9 +106,10 @@ bgp-lowers t w a b lawful g d =
     let alive : peers_live w.config a.0 b.0 ≡ true = not_false _ parts.0 in
     let back : peers_live w.config b.0 a.0 ≡ true = sym (live_sym w.config a.0 b.0 apart) ∙ alive in
     let message : Telling = slice_index_or (w.peerings.told a.0 b.0) (w.peerings.heard b.0 a.0) Open in
-    subst (λ st. bgp_ahead t w.config (with_told (vpn.counted w.peerings (step.HearBgp a b))
+    subst (λ st. bgp_ahead t w.config (with_told (vpn.bgp_counted w.peerings (step.HearBgp a b))
     (told_to b.0 a.0 (reply st message (exports_of t w.config b.0))
-    ++ flat_map (vpn.news t w.config w.peerings w.config (vpn.counted w.peerings (step.HearBgp a b))) (edges t))) + 1 ≤ bgp_ahead t w.config w.peerings)
+    ++ flat_map (vpn.route_news t w.config w.peerings w.config (vpn.bgp_counted w.peerings (step.HearBgp a b))) (edges t))) + 1 ≤ bgp_ahead t w.config
+    w.peerings)
     (sym (state_alive w.config w.peerings b.0 a.0 back))
     (telling-lowers t w.config w.peerings a.0 b.0 message apart (edge-below t lawful a.0 both.0) (edge-below t lawful b.0 both.1)
     (direction-on t w.config a.0 b.0 both.0 both.1 apart alive) (direction-on t w.config b.0 a.0 both.1 both.0 (λ e. apart (sym e)) back)

@@ -12,7 +12,7 @@ use Rattle.mn_ledger.specs.Turns.{PeersAreInTurn}
 use Rattle.mn_ledger.specs.Tables.{put_pair}
 use Rattle.mn_ledger.specs.Places.{edges}
 use Rattle.mn_ledger.specs.World.{Config, Export, Telling, Open, Alive, Announce, Unreach, Peerings}
-use Rattle.mn_ledger.specs.Vpn.{Told, tellings_of, told_to, state_heard, exports_of, is_for, same_export, reply, announced, changed, steady_peers, news}
+use Rattle.mn_ledger.specs.Vpn.{Told, tellings_of, told_to, state_heard, exports_of, is_for, same_export, reply, announced, changed, steady_peers, route_news}
 use Rattle.mn_ledger.specs.Vpn.{with_told}
 use Rattle.mn_ledger.proofs.Members.{In}
 use Rattle.mn_ledger.proofs.GoingBy.{pair_here, pair_off}
@@ -47,11 +47,11 @@ nothing-changed es =
     ∙ ap (map (λ export. Announce export)) (none-left (λ export. not (list_any (same_export export) es)) es
     (λ x i. ap not (any-here (same_export x) es x i (same-as-itself x))))
 
-no-news : (t : Network) (c : Config) (p k : Peerings) (es : List ℕ) → flat_map (news t c p c k) es ≡ []
+no-news : (t : Network) (c : Config) (p k : Peerings) (es : List ℕ) → flat_map (route_news t c p c k) es ≡ []
 no-news t c p k [] = refl
 no-news t c p k (e ∷ es) =
     ap (λ ms. flat_map (λ telling. map (λ peer. record { teller = e; peer = peer; telling = telling }) (steady_peers t c p c k e)) ms
-    ++ flat_map (news t c p c k) es) (nothing-changed (exports_of t c e))
+    ++ flat_map (route_news t c p c k) es) (nothing-changed (exports_of t c e))
     ∙ no-news t c p k es
 
 -- 2. The answer is no longer than what the edge had still to tell
@@ -100,7 +100,7 @@ module _ (t : Network) (c : Config) (p : Peerings) (x y : ℕ) (message : Tellin
   abbrev afterwards : Peerings
   afterwards =
       with_told (record p { heard = put_pair p.heard y x (p.heard y x + 1) })
-      (answers ++ flat_map (news t c p c (record p { heard = put_pair p.heard y x (p.heard y x + 1) })) (edges t))
+      (answers ++ flat_map (route_news t c p c (record p { heard = put_pair p.heard y x (p.heard y x + 1) })) (edges t))
 
   told-is : (a b : ℕ) → afterwards.told a b ≡ p.told a b ++ tellings_of a b answers
   told-is a b =

@@ -33,7 +33,7 @@ find-set (x ∷ es) zero k v q within named first = step (same_name q k) refl
     step false h = sym (ap (λ b. cond b (Some x.1) (bytes_at es q)) (ap (same_name q) named ∙ h))
 find-set (x ∷ es) (suc i) k v q within named first =
     ap (λ r. cond (same_name q x.0) (Some x.1) r) (find-set es i k v q (omega arith) named (rest (same_name k x.0) first))
-        ∙ step (same_name q x.0) (same_name q k) refl refl
+    ∙ step (same_name q x.0) (same_name q k) refl refl
   where
     rest : (b : Bool) → cond b (Some x.1) (bytes_at (take i es) k) ≡ None → bytes_at (take i es) k ≡ None
     rest true h = cc
@@ -57,7 +57,7 @@ pub from_entries-set : (es : List (List ℕ × List ℕ)) (i : ℕ) (k v : List 
     from_entries (slice_set es i (k, v)) ≡ with_file (from_entries es) k v
 from_entries-set es i k v at = same_files _ _ (λ q.
     get-from_entries nat_list_cmp_total (slice_set es i (k, v)) q ∙ find-set es i k v q at.within at.named at.first
-        ∙ ap (cond (same_name q k) (Some v)) (sym (get-from_entries nat_list_cmp_total es q))
+    ∙ ap (cond (same_name q k) (Some v)) (sym (get-from_entries nat_list_cmp_total es q))
     ∙ sym (file-with_file (from_entries es) k v q))
 
 -- the bytes of the first entry are the file's
@@ -107,7 +107,7 @@ files_of-set fs i f g name bytes at is named held =
     let within : i < length fs = rw length-map at at.within in
     let same_named : string_bytes g.0 ≡ name = named ∙ sym (ap (λ e. e.0) (entry-pairs fs i f within is)) ∙ at.named in
     let set : pairs (slice_set fs i g) ≡ slice_set (pairs fs) i (name, bytes) =
-        map-set (λ e. (string_bytes e.0, e.1.items)) fs i g ∙ ap (slice_set (pairs fs) i) (λ j. (same_named j, held j)) in
+    map-set (λ e. (string_bytes e.0, e.1.items)) fs i g ∙ ap (slice_set (pairs fs) i) (λ j. (same_named j, held j)) in
     ap from_entries set ∙ from_entries-set (pairs fs) i name bytes at
 
 -- a file made anew with its own bytes

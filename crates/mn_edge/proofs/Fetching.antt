@@ -17,8 +17,8 @@ pub whole : (m : Files) (name items buf : List ℕ) (at count : ℕ) → at ≡ 
     IsFront m name items → file m name ≡ Some items
 whole m name items buf at count here has room none front =
     has.there
-        ∙ ap Some (sym (front has.bytes has.there ∙ take_all (length items) has.bytes (let e : length has.bytes ≤ at = has.none_at_end room none in
-        omega arith)))
+    ∙ ap Some (sym (front has.bytes has.there ∙ take_all (length items) has.bytes (let e : length has.bytes ≤ at = has.none_at_end room none in
+    omega arith)))
 
 pub past : (m : Files) (name items buf : List ℕ) (at count limit : ℕ) → at ≡ length items → Fetched m name at count buf → at ≤ limit → limit - at < count →
     (b : List ℕ) × (file m name ≡ Some b) × (limit < length b)
@@ -31,7 +31,7 @@ more m name items buf at count here has room front b is =
     let e : Some has.bytes ≡ Some b = sym has.there ∙ is in
     let same : has.bytes ≡ b = cc in
     let len : length (items ++ take count buf) ≡ length items + count =
-        length-append items (take count buf) ∙ ap (λ k. length items + k) (length-take-le count buf room) in
+    length-append items (take count buf) ∙ ap (λ k. length items + k) (length-take-le count buf room) in
     ap (λ l. l ++ take count buf) (front b is)
     ∙ ap (λ l. take (length items) b ++ l) (has.front ∙ ap (λ l. take count (drop at l)) same ∙ ap (λ k. take count (drop k b)) here)
     ∙ take_sum (length items) count b

@@ -133,8 +133,12 @@ refused names contents held k name piece old new differ here named is may h = by
 
     by : MayGrow h.now name piece new → BeginsOn names contents new
     by (inl same) = let b = begins_on names contents (emptied k held) old h in
-        record { now = h.now; told = same; begins =
-        subst (λ m. (j : ℕ) → j < length names → HasBegun names contents m j) (same_some b.now h.now old b.told h.told) b.begins }
+        record {
+          now = h.now;
+          told = same;
+          begins =
+              subst (λ m. (j : ℕ) → j < length names → HasBegun names contents m j) (same_some b.now h.now old b.told h.told) b.begins;
+        }
     by (inr (n, g)) = record { now = with_file h.now name (g.bytes ++ take n piece); told = g.grown; begins = λ j within. one n g j within (cases_eq j k) }
 
 -- an append, done or refused, changes this file alone
@@ -144,14 +148,24 @@ framed_append names k name piece old new here named silent may = record { silent
   where
     by : (m : Files) → MayGrow m name piece new → (now : Files) × (new ≡ Some now) × ((q : List ℕ) → is_known names q ≡ false → file now q ≡ file m q)
     by m (inl same) = (m, same, λ q unknown. refl)
-    by m (inr (n, g)) =
-        (with_file m name (g.bytes ++ take n piece), g.grown, λ q unknown. stays_there m name (g.bytes ++ take n piece) q
-        (ap (same_name q) named ∙ unknown-apart names k q here unknown))
+    by m (inr (n, g)) = (
+      with_file m name (g.bytes ++ take n piece),
+      g.grown,
+      λ q unknown. stays_there m name (g.bytes ++ take n piece) q
+          (ap (same_name q) named ∙ unknown-apart names k q here unknown),
+    )
 
 pub may_grow : (m : Files) (name piece : List ℕ) (new : Option Files) → Grows m name piece new → MayGrow m name piece new
 may_grow m name piece new g =
-    inr (length piece, record { bytes = g.bytes; there = g.there; grown =
-    g.grown ∙ ap (λ l. Some (with_file m name (g.bytes ++ l))) (sym (take_all (length piece) piece (omega arith))) })
+    inr (
+      length piece,
+      record {
+        bytes = g.bytes;
+        there = g.there;
+        grown =
+            g.grown ∙ ap (λ l. Some (with_file m name (g.bytes ++ l))) (sym (take_all (length piece) piece (omega arith)));
+      },
+    )
 
 -- nothing is held at all, so nothing for this file
 pub none_for : (held : List (List ℕ)) (k : ℕ) → k < length held → held_bytes held ≡ 0 → held_for held k ≡ []
@@ -170,11 +184,11 @@ more_held names contents held k piece files here h = record {
         (j ≡ k) ⊎ (j ≡ k → ⊥) → shelved ++ held_for (with_piece held k piece) j ≡ grown contents k piece j
     by j shelved whole (inl e) =
         ap (λ l. shelved ++ l) (ap (held_for (with_piece held k piece)) e ∙ get_or-set_same held k (held_for held k ++ piece) [] here
-            ∙ ap (λ i. held_for held i ++ piece) (sym e))
+        ∙ ap (λ i. held_for held i ++ piece) (sym e))
         ∙ sym (append_assoc shelved (held_for held j) piece) ∙ ap (λ l. l ++ piece) whole ∙ ap (λ b. contents j ++ cond b piece []) (sym (eq-eqb k j (sym e)))
     by j shelved whole (inr ne) =
         ap (λ l. shelved ++ l) (get_or-set_other held k j (held_for held k ++ piece) [] ne) ∙ whole ∙ sym (append-nil (contents j))
-            ∙ ap (λ b. contents j ++ cond b piece []) (sym (ne_eqb k j (λ e. ne (sym e))))
+        ∙ ap (λ b. contents j ++ cond b piece []) (sym (ne_eqb k j (λ e. ne (sym e))))
 
 -- so many bytes more are held, for as many files
 pub bytes_more : (held : List (List ℕ)) (k : ℕ) (piece : List ℕ) → k < length held → held_bytes (with_piece held k piece) ≡ held_bytes held + length piece

@@ -49,7 +49,7 @@ laid-grown f g names m n piece known more = same_files _ _ (λ q.
         ∙ sym (ap (λ b. cond b (Some (g q)) (file m q)) (known_at q h) ∙ ap Some (more q ∙ ap (λ b. f q ++ (if b then piece else [])) h))
     step q false h =
         file-laid f names m q
-            ∙ ap (λ l. cond (is_known names q) (Some l) (file m q)) (sym (more q ∙ ap (λ b. f q ++ (if b then piece else [])) h ∙ append-nil (f q)))
+        ∙ ap (λ l. cond (is_known names q) (Some l) (file m q)) (sym (more q ∙ ap (λ b. f q ++ (if b then piece else [])) h ∙ append-nil (f q)))
 
 -- the bytes for a name, with one more piece
 pub bytes_for-push : (done : List (List ℕ × List ℕ)) (p : List ℕ × List ℕ) (q : List ℕ) →
@@ -84,7 +84,7 @@ pub begun : (names : List (List ℕ)) (m : Files) (i : ℕ) (name : List ℕ) (a
     after ≡ Some (with_file (laid (written (take i names) []) m) name []) → after ≡ Some (laid (written (take (i + 1) names) []) m)
 begun names m i name after within is done =
     done ∙ ap Some (laid-push (bytes_for []) (take i names) m name
-        ∙ ap (λ l. laid (written l []) m) (ap (λ n. take i names ++ n ∷ []) is ∙ sym (take_more names i name within)))
+    ∙ ap (λ l. laid (written l []) m) (ap (λ n. take i names ++ n ∷ []) is ∙ sym (take_more names i name within)))
 
 -- a begin that was refused
 pub few_begun : (names : List (List ℕ)) (m : Files) (i : ℕ) (name : List ℕ) (after : Option Files) → i < length names → name ≡ get_or names i name →

@@ -14,7 +14,7 @@ use Rattle.mn_edge.specs.Waiting.{segment_at, piece_of, waiting, all_waiting, Is
 skipped : (bytes : List ℕ) (segments : List Segment) (k n : ℕ) → n ≤ k → waiting bytes segments (suc k) n ≡ waiting bytes segments k n
 skipped bytes segments k n below =
     ap (λ b. cond b (waiting bytes segments k (segment_at segments k).before ++ piece_of bytes (segment_at segments k)) (waiting bytes segments k n))
-        (ne_eqb n (suc k) (λ e. omega arith))
+    (ne_eqb n (suc k) (λ e. omega arith))
 
 -- a piece stands behind what waited before it
 pub waiting-step : (bytes : List ℕ) (segments : List Segment) (fuel k : ℕ) → k < fuel → (segment_at segments k).before ≤ k
@@ -28,7 +28,7 @@ waiting-step bytes segments (suc f) k within earlier = by (cases_eq k f) (λ bel
     here : k ≡ f → waiting bytes segments (suc f) (suc k) ≡ waiting bytes segments f (segment_at segments f).before ++ piece_of bytes (segment_at segments f)
     here e =
         ap (λ b. cond b (waiting bytes segments f (segment_at segments f).before ++ piece_of bytes (segment_at segments f))
-            (waiting bytes segments f (suc k))) (eq-eqb (suc k) (suc f) (ap suc e))
+        (waiting bytes segments f (suc k))) (eq-eqb (suc k) (suc f) (ap suc e))
 
     by : (k ≡ f) ⊎ (k ≡ f → ⊥) →
         (k < f → waiting bytes segments f (suc k) ≡ waiting bytes segments f (segment_at segments k).before ++ piece_of bytes (segment_at segments k))
@@ -39,13 +39,13 @@ waiting-step bytes segments (suc f) k within earlier = by (cases_eq k f) (λ bel
     by (inr ne) rest =
         let below : k < f = omega arith in
         skipped bytes segments f (suc k) below ∙ rest below
-            ∙ ap (λ l. l ++ piece_of bytes (segment_at segments k)) (sym (skipped bytes segments f (segment_at segments k).before (omega arith)))
+        ∙ ap (λ l. l ++ piece_of bytes (segment_at segments k)) (sym (skipped bytes segments f (segment_at segments k).before (omega arith)))
 
 -- more bytes and more pieces change nothing of what waited
 piece_of-more : (bytes more : List ℕ) (s : Segment) → s.from ≤ s.end → s.end ≤ length bytes → piece_of (bytes ++ more) s ≡ piece_of bytes s
 piece_of-more bytes more s ordered within =
     ap (take (s.end - s.from)) (drop-append-le s.from bytes more (omega arith)) ∙ take-append-le (s.end - s.from) (drop s.from bytes) more (let d =
-        length-drop s.from bytes in omega (arith, d))
+    length-drop s.from bytes in omega (arith, d))
 
 waiting-more : (bytes more : List ℕ) (segments added : List Segment) (fuel n : ℕ) → fuel ≤ length segments →
     ((k : ℕ) → k < length segments → IsInOrder bytes segments k)
@@ -56,9 +56,9 @@ waiting-more bytes more segments added (suc k) n within order =
     let o = order k here in
     let same : segment_at (segments ++ added) k ≡ segment_at segments k = get_or_append_left segments added (record { from = 0; end = 0; before = 0 }) k here in
     (λ i. cond (n == suc k) (waiting (bytes ++ more) (segments ++ added) k (same i).before ++ piece_of (bytes ++ more) (same i))
-        (waiting (bytes ++ more) (segments ++ added) k n))
+    (waiting (bytes ++ more) (segments ++ added) k n))
     ∙ (λ i. cond (n == suc k) (waiting-more bytes more segments added k (segment_at segments k).before (omega arith) order i ++ piece_of-more bytes more
-        (segment_at segments k) o.ordered o.within i) (waiting-more bytes more segments added k n (omega arith) order i))
+    (segment_at segments k) o.ordered o.within i) (waiting-more bytes more segments added k n (omega arith) order i))
 
 -- the same for all files
 map-waiting_more : (bytes more : List ℕ) (segments : List Segment) (s : Segment) (last : List ℕ) →
@@ -67,7 +67,7 @@ map-waiting_more : (bytes more : List ℕ) (segments : List Segment) (s : Segmen
 map-waiting_more bytes more segments s [] order lasts = refl
 map-waiting_more bytes more segments s (n ∷ last) order lasts =
     λ i. (skipped (bytes ++ more) (segments ++ s ∷ []) (length segments) n (lasts 0)
-        ∙ waiting-more bytes more segments (s ∷ []) (length segments) n (omega arith) order) i
+    ∙ waiting-more bytes more segments (s ∷ []) (length segments) n (omega arith) order) i
     ∷ map-waiting_more bytes more segments s last order (λ j. lasts (suc j)) i
 
 -- a piece is held for a file
@@ -82,7 +82,7 @@ held_more bytes piece segments s last file arena within from end before =
     ∙ ap (waiting bytes segments n) before ∙ sym (get_or-map (waiting bytes segments n) last file 0 [] within) in
     let its : piece_of (bytes ++ piece) s ≡ piece = (λ i. take (end i - from i) (drop (from i) (bytes ++ piece)))
     ∙ ap (take (length (bytes ++ piece) - length bytes)) (drop_at bytes piece (length bytes) refl)
-        ∙ take_all (length (bytes ++ piece) - length bytes) piece (let l = length-append bytes piece in omega (arith, l)) in
+    ∙ take_all (length (bytes ++ piece) - length bytes) piece (let l = length-append bytes piece in omega (arith, l)) in
     let new : waiting (bytes ++ piece) (segments ++ s ∷ []) (suc n) (suc n) ≡ held_for (all_waiting bytes segments last) file ++ piece =
     waiting-step (bytes ++ piece) (segments ++ s ∷ []) (suc n) n (omega arith) (rw at (rw before (arena.lasts file)))
     ∙ (λ i. waiting (bytes ++ piece) (segments ++ s ∷ []) (suc n) (at i).before ++ piece_of (bytes ++ piece) (at i))
@@ -114,9 +114,13 @@ arena_more bytes piece segments s last file arena within from end before room = 
     old k here =
         let o = arena.pieces k here in
         let same : segment_at (segments ++ s ∷ []) k ≡ segment_at segments k =
-            get_or_append_left segments (s ∷ []) (record { from = 0; end = 0; before = 0 }) k here in
-        record { ordered = rw same o.ordered; within = rw same (let l = length-append bytes piece in let w = o.within in omega (arith, l, w)); earlier =
-            rw same o.earlier }
+        get_or_append_left segments (s ∷ []) (record { from = 0; end = 0; before = 0 }) k here in
+        record {
+          ordered = rw same o.ordered;
+          within = rw same (let l = length-append bytes piece in let w = o.within in omega (arith, l, w));
+          earlier =
+              rw same o.earlier;
+        }
 
     by : (k : ℕ) → (k ≡ length segments) ⊎ (k ≡ length segments → ⊥) → k < length (segments ++ s ∷ []) → IsInOrder (bytes ++ piece) (segments ++ s ∷ []) k
     by k (inl e) below =
@@ -170,7 +174,7 @@ waiting_within bytes segments last file arena within =
     let w : file < length held = rw length-map within in
     let le = get_or-le-sum_by length held file [] w in
     let same : length (get_or held file []) ≡ length (waiting bytes segments (length segments) (get_or last file 0)) =
-        ap length (get_or-map (waiting bytes segments (length segments)) last file 0 [] within) in
+    ap length (get_or-map (waiting bytes segments (length segments)) last file 0 [] within) in
     let a = arena.all in
     let r = arena.room in
     omega (arith, le, same, a, r)
@@ -184,19 +188,19 @@ pub record CopiesOn (bytes : List ℕ) (segments : List Segment) (number at : �
 pub copies_on : (bytes : List ℕ) (segments : List Segment) (last : List ℕ) (number at : ℕ) (buf whole : List ℕ) (s : Segment) →
     IsArena bytes segments last → 0 < number → number ≤ length segments → s ≡ get_or segments (number - 1) s
     → at ≤ length buf → length whole ≤ length buf → waiting bytes segments (length segments) number ++ drop at buf ≡ whole →
-        CopiesOn bytes segments number at buf whole s
+    CopiesOn bytes segments number at buf whole s
 copies_on bytes segments last zero at buf whole s arena some there is within fits copied = absurd (omega arith)
 copies_on bytes segments last (suc k) at buf whole s arena some there is within fits copied =
     let here : suc k - 1 ≡ k = omega arith in
     let same : s ≡ segment_at segments k =
-        get_or_read segments k s (omega arith) (is ∙ ap (λ j. get_or segments j s) here) (record { from = 0; end = 0; before = 0 }) in
+    get_or_read segments k s (omega arith) (is ∙ ap (λ j. get_or segments j s) here) (record { from = 0; end = 0; before = 0 }) in
     let o = arena.pieces k (omega arith) in
     let early : s.before ≤ k = rw same o.earlier in
     let step : waiting bytes segments (length segments) (suc k) ≡ waiting bytes segments (length segments) s.before ++ piece_of bytes s =
     waiting-step bytes segments (length segments) k (omega arith) o.earlier
-        ∙ (λ i. waiting bytes segments (length segments) (sym same i).before ++ piece_of bytes (sym same i)) in
+    ∙ (λ i. waiting bytes segments (length segments) (sym same i).before ++ piece_of bytes (sym same i)) in
     let whole_is : (waiting bytes segments (length segments) s.before ++ piece_of bytes s) ++ drop at buf ≡ whole =
-        ap (λ l. l ++ drop at buf) (sym step) ∙ copied in
+    ap (λ l. l ++ drop at buf) (sym step) ∙ copied in
     let a = ap length whole_is in
     let b = length-append (waiting bytes segments (length segments) s.before ++ piece_of bytes s) (drop at buf) in
     let d = length-append (waiting bytes segments (length segments) s.before) (piece_of bytes s) in

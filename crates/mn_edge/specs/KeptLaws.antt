@@ -20,8 +20,12 @@ pub begins_more : (names : List (List ℕ)) (contents longer : ℕ → List ℕ)
     ((k : ℕ) → IsPrefix (contents k) (longer k)) → Begins names contents now → Begins names longer now
 begins_more names contents longer now more b = λ k within.
     let x = b k within in
-    record { shelved = x.shelved; there = x.there; part =
-        (x.part.0 ++ (more k).0, sym (append_assoc x.shelved x.part.0 (more k).0) ∙ ap (λ l. l ++ (more k).0) x.part.1 ∙ (more k).1) }
+    record {
+      shelved = x.shelved;
+      there = x.there;
+      part =
+          (x.part.0 ++ (more k).0, sym (append_assoc x.shelved x.part.0 (more k).0) ∙ ap (λ l. l ++ (more k).0) x.part.1 ∙ (more k).1);
+    }
 
 pub begins_on : (names : List (List ℕ)) (contents : ℕ → List ℕ) (held : List (List ℕ)) (files : Option Files) → HoldsOn names contents held files →
     BeginsOn names contents files

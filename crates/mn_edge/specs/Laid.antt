@@ -30,8 +30,8 @@ file_is [] contents m now q here others = sym (others refl)
 file_is (name ∷ names) contents m now q here others =
     file-with_file (laid (named names (λ k. contents (suc k))) m) name (contents 0) q
     ∙ by (same_name q name) refl
-        (λ e. file_is names (λ k. contents (suc k)) m now q (λ k within. here (suc k) (omega (arith, within)))
-        (λ h. others (ap (λ b. b || is_known names q) e ∙ h)))
+    (λ e. file_is names (λ k. contents (suc k)) m now q (λ k within. here (suc k) (omega (arith, within)))
+    (λ h. others (ap (λ b. b || is_known names q) e ∙ h)))
   where
     by : (b : Bool) → same_name q name ≡ b → (same_name q name ≡ false → file (laid (named names (λ k. contents (suc k))) m) q ≡ file now q)
         → cond b (Some (contents 0)) (file (laid (named names (λ k. contents (suc k))) m) q) ≡ file now q
@@ -78,7 +78,7 @@ all_written names contents held m after framed none holds =
     x.1 ∙ ap Some (all_laid names contents m x.0
     (λ k within. let h = holds.holds k within in
     ap (λ f. file f (name_of names k)) (same_some x.0 holds.now after x.1 holds.told) ∙ h.there
-        ∙ ap Some (sym (append-nil h.shelved) ∙ ap (λ l. h.shelved ++ l) (sym (none k)) ∙ h.whole))
+    ∙ ap Some (sym (append-nil h.shelved) ∙ ap (λ l. h.shelved ++ l) (sym (none k)) ∙ h.whole))
     x.2)
 
 -- the first few files were begun, and no more: the call was cut off

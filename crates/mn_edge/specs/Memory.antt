@@ -38,7 +38,7 @@ pub record ShelfState : Type 0 where
 abbrev pub shelf_code : Coded ShelfState
 shelf_code =
     code_by (Files × (List ℕ × (ℕ × (ℕ × ℕ)))) (coded× files_code (coded× (coded_list coded_ℕ) (coded× coded_ℕ (coded× coded_ℕ coded_ℕ))))
-        (λ s. (s.files, (s.failing, (s.calls, (s.read_faults, s.write_faults)))))
+    (λ s. (s.files, (s.failing, (s.calls, (s.read_faults, s.write_faults)))))
     (λ p. record { files = p.0; failing = p.1.0; calls = p.1.1.0; read_faults = p.1.1.1.0; write_faults = p.1.1.1.1 }) (λ _. refl)
 
 -- a sink in memory: its bytes, and the rest alike

@@ -60,10 +60,11 @@ is_file t out i = elim i [
           (in_append (map (λ l. Frames l) (links_of (wiring_of t)))
           (flat_map (λ l. Said l Forth ∷ Said l Back ∷ []) (links_of (wiring_of t)) ++ flat_map (told_files t) (edges t)) out rest) [
             | inl f ↦ frames_file t out f
-            | inr more ↦ elim (in_append (flat_map (λ l. Said l Forth ∷ Said l Back ∷ []) (links_of (wiring_of t))) (flat_map (told_files t) (edges t)) out more) [
-              | inl s ↦ said_file t out s
-              | inr b ↦ told_file t out b
-            ]
+            | inr more ↦ elim
+                (in_append (flat_map (λ l. Said l Forth ∷ Said l Back ∷ []) (links_of (wiring_of t))) (flat_map (told_files t) (edges t)) out more) [
+                  | inl s ↦ said_file t out s
+                  | inr b ↦ told_file t out b
+                ]
           ]
     ]
   ]

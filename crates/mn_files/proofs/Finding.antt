@@ -1,5 +1,6 @@
 -- Which files there are not.
-use Rattle.std.proofs.Common.{◌≡◌, ◌≢◌, ℕ, zero, suc, ◌+◌, ◌<◌, ◌≤◌, ◌⊎◌, inl, inr, ◌==◌, ◌&&◌, not, Bool, true, false, List, [], ◌∷◌, ◌++◌, map, filter, length, slice_index_or, refl, sym, ◌∙◌, ap, subst, arith}
+use Rattle.std.proofs.Common.{◌≡◌, ◌≢◌, ℕ, zero, suc, ◌+◌, ◌<◌, ◌≤◌, ◌⊎◌, inl, inr, ◌==◌, ◌&&◌, not, Bool, true, false, List, [], ◌∷◌, ◌++◌, map, filter}
+use Rattle.std.proofs.Common.{length, slice_index_or, refl, sym, ◌∙◌, ap, subst, arith}
 use Rattle.std.specs.List.{flat_map, range_with_len}
 use Rattle.mn_base.proofs.Bools.{same_test, other_numbers}
 use Rattle.mn_base.proofs.Members.{In, in_append, in_map, in_filter, in_flat_map, in_range}
@@ -53,7 +54,8 @@ frames_there t l (inr (inr (inr i))) =
     rest (inl m) = let x = in_flat_map saids (links_in t) (Frames l) m in frames_in_saids x.0 l x.2
     rest (inr m) = let x = in_flat_map (told_files t) (edges t) (Frames l) m in frames_in_told t l x.0 x.2
 
-    on : In (map (λ k. Frames k) (links_in t)) (Frames l) ⊎ In (flat_map saids (links_in t) ++ flat_map (told_files t) (edges t)) (Frames l) → l < length t.links
+    on : In (map (λ k. Frames k) (links_in t)) (Frames l) ⊎ In (flat_map saids (links_in t) ++ flat_map (told_files t) (edges t)) (Frames l) →
+        l < length t.links
     on (inl m) =
         let x = in_map (λ k. Frames k) (links_in t) (Frames l) m in
         let e : x.0 ≡ l = (let f : Frames x.0 ≡ Frames l = x.2 in cc) in
@@ -85,7 +87,8 @@ said_there t l dir (inr (inr (inr i))) =
         subst (λ n. n < length t.links) (said_in_saids x.0 l dir x.2) (linked t x.0 x.1)
     rest (inr m) = let x = in_flat_map (told_files t) (edges t) (Said l dir) m in absurd (said_in_told t l x.0 dir x.2)
 
-    on : In (map (λ k. Frames k) (links_in t)) (Said l dir) ⊎ In (flat_map saids (links_in t) ++ flat_map (told_files t) (edges t)) (Said l dir) → l < length t.links
+    on : In (map (λ k. Frames k) (links_in t)) (Said l dir) ⊎ In (flat_map saids (links_in t) ++ flat_map (told_files t) (edges t)) (Said l dir) →
+        l < length t.links
     on (inl m) = let x = in_map (λ k. Frames k) (links_in t) (Said l dir) m in absurd (let f : Frames x.0 ≡ Said l dir = x.2 in cc)
     on (inr m) = rest (in_append (flat_map saids (links_in t)) (flat_map (told_files t) (edges t)) (Said l dir) m)
 

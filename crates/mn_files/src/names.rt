@@ -52,7 +52,7 @@ fn push_lone(alloc: Global, folder: &str, names: &mut Vec<String>) -> Result<(),
     Ok(())
 }
 
-/// A name as a text: it is of ASCII letters and digits.
+/// A name as a text: it is of ASCII letters, digits, `-`, `.` and `_`.
 fn node_name(topology: &Topology, node: NodeNo) -> &str
     requires { node.0 < length topology.now.loopbacks }
     ensures { result.now ≡ node_name topology.now node.0 }

@@ -39,7 +39,7 @@ module _ {T : Type 0} where
       let gone : not (y.number == x.number) ≡ false = rw (eq-eqb y.number x.number (ap (λ (z : Item T). z.number) (sym e))) refl in
       let others : filter (λ (other : Item T). not (other.number == x.number)) ys ≡ ys =
       filter_all (λ (other : Item T). not (other.number == x.number)) ys (λ z j. let less : y.number < z.number = first_below y ys up z j in
-          let same : x.number ≡ y.number = ap (λ (w : Item T). w.number) e in grind (arith, nat_tests)) in
+      let same : x.number ≡ y.number = ap (λ (w : Item T). w.number) e in grind (arith, nat_tests)) in
       rw (gone, others) (omega arith)
   one_less (y ∷ ys) x up (inr j) =
       let less : y.number < x.number = first_below y ys up x j in

@@ -51,8 +51,8 @@ module _ {T : Type 0} where
           let same : y ≡ x = same_Some y x g in
           let gone : others x.number y ≡ false = subst (λ (z : Item T). others z.number y ≡ false) same (same_gone y.number) in
           let all : filter (others x.number) ys ≡ ys =
-              filter_all (others x.number) ys
-              (λ z i. more_stays z.number x.number (subst (λ (k : Item T). k.number < z.number) same (first_below y ys up z i))) in
+          filter_all (others x.number) ys
+          (λ z i. more_stays z.number x.number (subst (λ (k : Item T). k.number < z.number) same (first_below y ys up z i))) in
           rw (gone, all) refl
       by true e hyp (suc n) g =
           let stays : others x.number y ≡ true = less_stays y.number x.number (first_below y ys up x (on_it c ys n x g)) in
@@ -85,8 +85,8 @@ module _ {T : Type 0} where
           let same : y ≡ x = same_Some y x g in
           let gone : others x.number y ≡ false = subst (λ (z : Item T). others z.number y ≡ false) same (same_gone y.number) in
           let all : filter (others x.number) ys ≡ ys =
-              filter_all (others x.number) ys
-              (λ z i. more_stays z.number x.number (subst (λ (k : Item T). k.number < z.number) same (first_below y ys up z i))) in
+          filter_all (others x.number) ys
+          (λ z i. more_stays z.number x.number (subst (λ (k : Item T). k.number < z.number) same (first_below y ys up z i))) in
           rw (gone, elsewhere e) (ap (on_channel d) all)
       by true e hyp (suc n) g =
           let stays : others x.number y ≡ true = less_stays y.number x.number (first_below y ys up x (on_it c ys n x g)) in

@@ -63,8 +63,8 @@ module _ {T : Type 0} where
     shorter : (c : ℕ) (b : Bool) → (x.channel == c) ≡ b → length (nodes_on (left p cells) c (us ++ vs)) + cond b 1 0 ≡ length (nodes_on cells c (us ++ p ∷ vs))
     shorter c b e =
         let before =
-            ap length (leaves.nodes_before head heads free us p vs cells linked x first holds at c
-            ∙ ap (λ v. nodes_on cells c us ++ cond v (p ∷ nodes_on cells c vs) (nodes_on cells c vs)) e) in
+        ap length (leaves.nodes_before head heads free us p vs cells linked x first holds at c
+        ∙ ap (λ v. nodes_on cells c us ++ cond v (p ∷ nodes_on cells c vs) (nodes_on cells c vs)) e) in
         let after = ap length (leaves.nodes_then head heads free us p vs cells linked x first holds at c) in
         by b before after
       where

@@ -36,7 +36,7 @@ module _ {T : Type 0} (channels c : ℕ) (xs : List (Item T)) (flight : IsFlight
   off_without (Some x) e =
       let at = members.from_filter (λ (item : Item T). item.channel == c) x xs (first_in (on_channel c xs) x (sym e)) in
       filter_within (λ (item : Item T). not (item.channel == c)) (λ (other : Item T). not (other.number == x.number)) xs
-          (λ y i off. by y i off (y.number == x.number) refl at.0 at.1)
+      (λ y i off. by y i off (y.number == x.number) refl at.0 at.1)
     where
       by : (y : Item T) → members.IsIn y xs → not (y.channel == c) ≡ true → (b : Bool) → (y.number == x.number) ≡ b →
           (x.channel == c) ≡ true → members.IsIn x xs → not (y.number == x.number) ≡ true

@@ -77,12 +77,17 @@ module _ {T : Type 0} where
               cut = c.2 ∙ sym (append_assoc us (a ∷ []) vs);
               end = inr (us, refl);
               by_then = λ q y i e. elim (in_either q us (a ∷ []) i) [
-                | inl k ↦ omega
-                    (arith, no_later y last.0 (as_items (item_at cells q) (item_at cells a) y last.0 e last.1 (sooner_before cells us a vs sooner q k)),
-                    last.2, below)
-                | inr k ↦ elim k
-                    [ inl s ↦ omega (arith, ap (λ (z : Item T). z.due) (same_Some y last.0 (sym e ∙ ap (item_at cells) s ∙ last.1)), last.2, below) | inr j
-                    ↦ absurd j ]
+                | inl k ↦ omega (
+                  arith,
+                  no_later y last.0 (as_items (item_at cells q) (item_at cells a) y last.0 e last.1 (sooner_before cells us a vs sooner q k)),
+                  last.2,
+                  below,
+                )
+                | inr k ↦ elim k [
+                  | inl s ↦ omega (arith, ap (λ (z : Item T). z.due) (same_Some y last.0 (sym e ∙ ap (item_at cells) s ∙ last.1)), last.2, below)
+                  | inr j
+                      ↦ absurd j
+                ]
               ];
               later = λ q y i e.
                   let flies : IsIn q order = due.flies q (subst (λ l. IsIn q l) (sym c.2) (in_back q us (a ∷ vs) (inr i))) in
@@ -111,7 +116,7 @@ module _ {T : Type 0} where
   module _ (head : Ptr) (heads free order : List Ptr) (p : Ptr) (cells : List (Ptr × Node T)) (linked : IsLinked head heads (free ++ p ∷ []) order cells)
       (x : Item T) (first : Ptr) (at : slice_get heads x.channel ≡ Some first)
       (dues : List Ptr) (ticks : List Tick) (due : IsByDue head order dues ticks cells) (greatest : (q : Ptr) (y : Item T) → IsIn q order →
-          item_at cells q ≡ Some y → y.number < x.number) where
+      item_at cells q ≡ Some y → y.number < x.number) where
     abbrev pub three : List (Ptr × Node T)
     three = entered head first p x cells
 
@@ -155,7 +160,7 @@ module _ {T : Type 0} where
         let flies = in_dues u (in_front u stand.front stand.behind i) in
         let y = some_value (item_at cells u) (all_in (λ q. IsSome (item_at cells q)) order u linked.held flies) in
         of_items (item_at four u) (item_at four p) y.0 x (old_four u flies ∙ y.1) new_four
-            (by y.0 (nat_lt y.0.due x.due) refl (stand.by_then u y.0 i y.1) (greatest u y.0 flies y.1))
+        (by y.0 (nat_lt y.0.due x.due) refl (stand.by_then u y.0 i y.1) (greatest u y.0 flies y.1))
       where
         by : (y : Item T) (v : Bool) → nat_lt y.due x.due ≡ v → y.due ≤ x.due → y.number < x.number →
             (y.due < x.due) ⊎ ((y.due ≡ x.due) × (y.number < x.number))
@@ -176,10 +181,13 @@ module _ {T : Type 0} where
           there = in_front t.last.ptr order (p ∷ []) is.there;
           last = item_tick four (order ++ p ∷ []) t.due (item_at four t.last.ptr) last.0 (old_four t.last.ptr is.there ∙ last.1) last.2
               (λ q y i e f. elim (in_either q order (p ∷ []) i) [
-            | inl k ↦ last.3 q y k (sym (old_four q k) ∙ e) f
-            | inr k ↦ elim k [ inl s ↦ absurd (other (sym f ∙ ap (λ (z : Item T). z.due) (same_Some y x (sym e ∙ ap (item_at four) s ∙ new_four)))) | inr j
-                ↦ absurd j ]
-          ]);
+                | inl k ↦ last.3 q y k (sym (old_four q k) ∙ e) f
+                | inr k ↦ elim k [
+                  | inl s ↦ absurd (other (sym f ∙ ap (λ (z : Item T). z.due) (same_Some y x (sym e ∙ ap (item_at four) s ∙ new_four))))
+                  | inr j
+                      ↦ absurd j
+                ]
+              ]);
         }
 
     put : IsTick four (order ++ p ∷ []) (tick_at x.due p)
@@ -207,15 +215,23 @@ module _ {T : Type 0} where
         | inl k ↦ in_with q stand.front p stand.behind (subst (λ l. IsIn q l) stand.cut (due.stands q k))
         | inr k ↦ elim k [ inl s ↦ subst (λ r. IsIn r then) (sym s) (in_middle stand.front p stand.behind) | inr j ↦ absurd j ]
       ];
-      many = omega
-          (arith, length-append order (p ∷ []), length-append stand.front (p ∷ stand.behind), length-append stand.front stand.behind, ap length stand.cut,
-          due.many);
+      many = omega (
+        arith,
+        length-append order (p ∷ []),
+        length-append stand.front (p ∷ stand.behind),
+        length-append stand.front stand.behind,
+        ap length stand.cut,
+        due.many,
+      );
       ascending = asc_put x.due p ticks due.ascending;
       lasts = all_put (IsTick cells order) (IsTick four (order ++ p ∷ [])) x.due p ticks kept put due.ascending due.lasts;
       each = λ q y i e. elim (in_either q order (p ∷ []) i) [
         | inl k ↦ has_put y.due x.due p ticks (due.each q y k (sym (old_four q k) ∙ e))
-        | inr k ↦ elim k [ inl s ↦ subst (λ d. HasTick d (put_tick x.due p ticks))
-            (sym (ap (λ (z : Item T). z.due) (same_Some y x (sym e ∙ ap (item_at four) s ∙ new_four)))) (has_new x.due p ticks) | inr j ↦ absurd j ]
+        | inr k ↦ elim k [
+          | inl s ↦ subst (λ d. HasTick d (put_tick x.due p ticks))
+              (sym (ap (λ (z : Item T). z.due) (same_Some y x (sym e ∙ ap (item_at four) s ∙ new_four)))) (has_new x.due p ticks)
+          | inr j ↦ absurd j
+        ]
       ];
     }
       where
@@ -224,4 +240,4 @@ module _ {T : Type 0} where
             let one = with_item p (Some x) cells in
             let two = link_behind Number p (prev_of Number one head) one in
             item_past_link Channel p (prev_of Channel two first) head two ∙ item_past_link Number p (prev_of Number one head) head one
-                ∙ item_else p head (Some x) cells fresh.0 ∙ due.vacant
+            ∙ item_else p head (Some x) cells fresh.0 ∙ due.vacant

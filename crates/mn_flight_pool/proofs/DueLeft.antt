@@ -40,14 +40,14 @@ module _ {T : Type 0} where
       let N = next_of pair cells in let P = prev_of pair cells in
       let last = last_of_cons u us in let ws = last.0 in let b = last.1 in
       let sources : s ∷ ((u ∷ us) ++ p ∷ vs) ≡ (s ∷ ws) ++ b ∷ p ∷ vs =
-          ap (λ l. s ∷ (l ++ p ∷ vs)) last.2 ∙ ap (λ l. s ∷ l) (append_assoc ws (b ∷ []) (p ∷ vs)) in
+      ap (λ l. s ∷ (l ++ p ∷ vs)) last.2 ∙ ap (λ l. s ∷ l) (append_assoc ws (b ∷ []) (p ∷ vs)) in
       let targets : ((u ∷ us) ++ p ∷ vs) ++ s ∷ [] ≡ (ws ++ b ∷ []) ++ p ∷ (vs ++ s ∷ []) =
-          ap (λ l. (l ++ p ∷ vs) ++ s ∷ []) last.2 ∙ append_assoc (ws ++ b ∷ []) (p ∷ vs) (s ∷ []) in
+      ap (λ l. (l ++ p ∷ vs) ++ s ∷ []) last.2 ∙ append_assoc (ws ++ b ∷ []) (p ∷ vs) (s ∷ []) in
       let split : (ws ++ b ∷ []) ++ p ∷ (vs ++ s ∷ []) ≡ ws ++ b ∷ p ∷ (vs ++ s ∷ []) = append_assoc ws (b ∷ []) (p ∷ (vs ++ s ∷ [])) in
       let e : length (s ∷ ws) ≡ length (ws ++ b ∷ []) = omega (arith, length-append ws (b ∷ [])) in
       let round =
-          subst (λ l. AreNeighbours N P l ((ws ++ b ∷ []) ++ p ∷ (vs ++ s ∷ []))) sources
-          (subst (λ l. AreNeighbours N P (s ∷ ((u ∷ us) ++ p ∷ vs)) l) targets ring.round) in
+      subst (λ l. AreNeighbours N P l ((ws ++ b ∷ []) ++ p ∷ (vs ++ s ∷ []))) sources
+      (subst (λ l. AreNeighbours N P (s ∷ ((u ∷ us) ++ p ∷ vs)) l) targets ring.round) in
       let prev_is : P p ≡ b = (neighbour N P (s ∷ ws) b (p ∷ vs) (ws ++ b ∷ []) p (vs ++ s ∷ []) e round).1 in
       inr (ws, subst (λ c. u ∷ us ≡ ws ++ c ∷ []) (sym prev_is) last.2)
 
@@ -59,7 +59,7 @@ module _ {T : Type 0} where
   ring_after pair cells s us p (v ∷ vs) ring =
       let e : length (s ∷ us) ≡ length (us ++ p ∷ []) = omega (arith, length-append us (p ∷ [])) in
       let targets : (us ++ p ∷ v ∷ vs) ++ s ∷ [] ≡ (us ++ p ∷ []) ++ v ∷ (vs ++ s ∷ []) =
-          append_assoc us (p ∷ v ∷ vs) (s ∷ []) ∙ sym (append_assoc us (p ∷ []) (v ∷ (vs ++ s ∷ []))) in
+      append_assoc us (p ∷ v ∷ vs) (s ∷ []) ∙ sym (append_assoc us (p ∷ []) (v ∷ (vs ++ s ∷ []))) in
       let round = subst (λ l. AreNeighbours (next_of pair cells) (prev_of pair cells) (s ∷ (us ++ p ∷ v ∷ vs)) l) targets ring.round in
       let next_is = (neighbour (next_of pair cells) (prev_of pair cells) (s ∷ us) p (v ∷ vs) (us ++ p ∷ []) v (vs ++ s ∷ []) e round).0 in
       inr (vs, subst (λ c. v ∷ vs ≡ c ∷ vs) (sym next_is) refl)
@@ -130,7 +130,7 @@ module _ {T : Type 0} where
     item_kept : (q : Ptr) → (q ≡ p → ⊥) → item_at three q ≡ item_at cells q
     item_kept q n =
         item_else p q None (unlink Channel p (unlink Number p one)) (apart (same_ptr p q) refl) ∙ item_past_unlink Channel p q (unlink Number p one)
-            ∙ item_past_unlink Number p q one ∙ item_past_unlink Due p q cells
+        ∙ item_past_unlink Number p q one ∙ item_past_unlink Due p q cells
       where
         apart : (b : Bool) → same_ptr p q ≡ b → same_ptr p q ≡ false
         apart true t = absurd (n (sym (same_ptr_eq p q t)))
@@ -147,7 +147,7 @@ module _ {T : Type 0} where
     ring_then =
         ring_past_item Due p None (unlink Channel p (unlink Number p one)) head then
         (ring_past_unlink Channel Due channel_due p (unlink Number p one) head then
-            (ring_past_unlink Number Due number_due p one head then (ring_unlinked Due head cells us p vs ring)))
+        (ring_past_unlink Number Due number_due p one head then (ring_unlinked Due head cells us p vs ring)))
 
     sooner_then : AreSooner three then
     sooner_then = sooner_same cells three then item_then (sooner_without cells us p vs sooner)
@@ -235,11 +235,11 @@ module _ {T : Type 0} where
           | inr j ↦
               let first_in : IsIn after vs = subst (λ l. IsIn after l) (sym s) (inl refl) in
               let z = some_value (item_at cells after)
-                  (all_in (λ q. IsSome (item_at cells q)) order after linked.held (flies after (in_back after us vs first_in))) in
+              (all_in (λ q. IsSome (item_at cells q)) order after linked.held (flies after (in_back after us vs first_in))) in
               let behind : AreSooner cells (after ∷ ws) = subst (λ l. AreSooner cells l) s (sooner_tail us vs sooner) in
               let follows =
-                  as_items (item_at cells after) (item_at cells v) z.0 y z.1 e
-                  (all_in (λ r. IsSooner (item_at cells after) (item_at cells r)) ws v behind.0 j) in
+              as_items (item_at cells after) (item_at cells v) z.0 y z.1 e
+              (all_in (λ r. IsSooner (item_at cells after) (item_at cells r)) ws v behind.0 j) in
               omega (arith, later after z.0 refl first_in z.1, no_later z.0 y follows)
         ]
           where
@@ -261,7 +261,7 @@ module _ {T : Type 0} where
             let z = due_item x.due (item_at cells before) k in
             let at : IsIn before us = subst (λ l. IsIn before l) (sym s) (in_middle ws before []) in
             let front : AreSooner cells (ws ++ before ∷ (p ∷ vs)) =
-                subst (λ l. AreSooner cells l) (ap (λ l. l ++ p ∷ vs) s ∙ append_assoc ws (before ∷ []) (p ∷ vs)) sooner in
+            subst (λ l. AreSooner cells l) (ap (λ l. l ++ p ∷ vs) s ∙ append_assoc ws (before ∷ []) (p ∷ vs)) sooner in
             record {
               ascending = asc_set x.due before ticks due.ascending;
               lasts = all_set (IsTick cells order) (IsTick three rest) x.due before ticks keep_other (record {
@@ -273,9 +273,11 @@ module _ {T : Type 0} where
                         | inl m ↦ number_before y z.0
                             (as_items (item_at cells q) (item_at cells before) y z.0 old z.1 (sooner_before cells ws before (p ∷ vs) front q m))
                             (f ∙ sym z.2)
-                        | inr m ↦ elim m
-                            [ inl same ↦ omega (arith, ap (λ (w : Item T). w.number) (same_Some y z.0 (sym old ∙ ap (item_at cells) same ∙ z.1))) | inr n ↦
-                            absurd n ]
+                        | inr m ↦ elim m [
+                          | inl same ↦ omega (arith, ap (λ (w : Item T). w.number) (same_Some y z.0 (sym old ∙ ap (item_at cells) same ∙ z.1)))
+                          | inr n ↦
+                              absurd n
+                        ]
                       ]
                       | inr j ↦ absurd (omega (arith, all_later h q y j old, f))
                     ]);
@@ -302,12 +304,16 @@ module _ {T : Type 0} where
           | inl m ↦
               let at : IsIn before us = subst (λ l. IsIn before l) (sym s) (in_middle ws before []) in
               let front : AreSooner cells (ws ++ before ∷ (p ∷ vs)) =
-                  subst (λ l. AreSooner cells l) (ap (λ l. l ++ p ∷ vs) s ∙ append_assoc ws (before ∷ []) (p ∷ vs)) sooner in
+              subst (λ l. AreSooner cells l) (ap (λ l. l ++ p ∷ vs) s ∙ append_assoc ws (before ∷ []) (p ∷ vs)) sooner in
               let z = some_value (item_at cells before)
-                  (all_in (λ q. IsSome (item_at cells q)) order before linked.held (flies before (in_front before us vs at))) in
-              omega (arith, no_later y z.0
-                  (as_items (item_at cells u) (item_at cells before) y z.0 e z.1 (sooner_before cells ws before (p ∷ vs) front u m)), earlier before z.0
-                  refl at z.1)
+              (all_in (λ q. IsSome (item_at cells q)) order before linked.held (flies before (in_front before us vs at))) in
+              omega (
+                arith,
+                no_later y z.0
+                    (as_items (item_at cells u) (item_at cells before) y z.0 e z.1 (sooner_before cells ws before (p ∷ vs) front u m)),
+                earlier before z.0
+                    refl at z.1,
+              )
           | inr m ↦ elim m [ inl same ↦ earlier u y same i e | inr n ↦ absurd n ]
         ]
 

@@ -162,7 +162,7 @@ module _ {T : Type 0} where
     pub nodes_then : (c : ℕ) → nodes_on three c (order ++ p ∷ []) ≡ nodes_on cells c order ++ cond (x.channel == c) (p ∷ []) []
     nodes_then c =
         filter-append (λ q. is_on c (item_at three q)) order (p ∷ [])
-            ∙ ap (λ l. l ++ filter (λ q. is_on c (item_at three q)) (p ∷ [])) (same_nodes_on cells three c order old_item)
+        ∙ ap (λ l. l ++ filter (λ q. is_on c (item_at three q)) (p ∷ [])) (same_nodes_on cells three c order old_item)
         ∙ ap (λ o. nodes_on cells c order ++ cond (is_on c o) (p ∷ []) []) new_item
 
     pub channel_entered : (c : ℕ) (f : Ptr) → slice_get heads c ≡ Some f → IsRing Channel three f (nodes_on three c (order ++ p ∷ []))
@@ -216,14 +216,14 @@ module _ {T : Type 0} where
       channel = channel_entered;
       apart =
           let moved : ((head ∷ heads) ++ order) ++ p ∷ free ≡ (head ∷ heads) ++ ((order ++ p ∷ []) ++ free) =
-              append_assoc (head ∷ heads) order (p ∷ free) ∙ ap (λ l. (head ∷ heads) ++ l) (sym (append_assoc order (p ∷ []) free)) in
+          append_assoc (head ∷ heads) order (p ∷ free) ∙ ap (λ l. (head ∷ heads) ++ l) (sym (append_assoc order (p ∷ []) free)) in
           let split : (head ∷ heads) ++ (order ++ free) ≡ ((head ∷ heads) ++ order) ++ free = sym (append_assoc (head ∷ heads) order free) in
           subst (λ l. IsDistinct same_ptr l) moved
-              (distinct_with ((head ∷ heads) ++ order) p free (subst (λ l. IsFree p l) split alone) (subst (λ l. IsDistinct same_ptr l) split rest_apart));
+          (distinct_with ((head ∷ heads) ++ order) p free (subst (λ l. IsFree p l) split alone) (subst (λ l. IsDistinct same_ptr l) split rest_apart));
       held =
           all_push (λ q. IsSome (item_at three q)) order
           (all_old (λ q. IsSome (item_at three q)) order (λ q i. rw (old_item q i) (all_at (λ r. IsSome (item_at cells r)) order q linked.held i)))
-              (rw new_item refl);
+          (rw new_item refl);
       there = all_old (λ q. IsSome (value_at q three)) free
           (λ q i. three_there q (all_at (λ r. IsSome (value_at r cells)) free q (all_front (λ r. IsSome (value_at r cells)) free linked.there) i));
     }
@@ -231,4 +231,4 @@ module _ {T : Type 0} where
     pub items_entered : items_in three (order ++ p ∷ []) ≡ items_in cells order ++ x ∷ []
     items_entered =
         filter_map-append (item_at three) order (p ∷ []) ∙ ap (λ l. l ++ filter_map (item_at three) (p ∷ [])) (same_items cells three order old_item)
-            ∙ ap (λ o. items_in cells order ++ cons_option o []) new_item
+        ∙ ap (λ o. items_in cells order ++ cons_option o []) new_item

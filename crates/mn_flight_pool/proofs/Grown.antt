@@ -56,11 +56,11 @@ module _ {T : Type 0} where
   ring_past_lone pair other u p cells =
       ring_same cells (lone pair p cells) (λ x h. lone_stays pair p x cells h) other
       (λ x h. set_prev_leaves pair (next_in other) (λ link node. ap (λ (l : Link). l.next.ptr) (link_unlike pair other u link node)) p p x
-          (set_next pair p p cells)
-          ∙ set_next_leaves pair (next_in other) (λ link node. ap (λ (l : Link). l.next.ptr) (link_unlike pair other u link node)) p p x cells)
+      (set_next pair p p cells)
+      ∙ set_next_leaves pair (next_in other) (λ link node. ap (λ (l : Link). l.next.ptr) (link_unlike pair other u link node)) p p x cells)
       (λ x h. set_prev_leaves pair (prev_in other) (λ link node. ap (λ (l : Link). l.prev.ptr) (link_unlike pair other u link node)) p p x
-          (set_next pair p p cells)
-          ∙ set_next_leaves pair (prev_in other) (λ link node. ap (λ (l : Link). l.prev.ptr) (link_unlike pair other u link node)) p p x cells)
+      (set_next pair p p cells)
+      ∙ set_next_leaves pair (prev_in other) (λ link node. ap (λ (l : Link). l.prev.ptr) (link_unlike pair other u link node)) p p x cells)
 
   item_lone : (pair : Pair) (p x : Ptr) (cells : List (Ptr × Node T)) → item_at (lone pair p cells) x ≡ item_at cells x
   item_lone pair p x cells =
@@ -69,7 +69,7 @@ module _ {T : Type 0} where
   value_lone : (pair : Pair) (p x : Ptr) (cells : List (Ptr × Node T)) → same_ptr p x ≡ false → value_at x (lone pair p cells) ≡ value_at x cells
   value_lone pair p x cells h =
       value_other p x (λ node. with_link pair (record (link_of pair node) { prev = record { ptr = p } }) node) (set_next pair p p cells) h
-          ∙ value_other p x (λ node. with_link pair (record (link_of pair node) { next = record { ptr = p } }) node) cells h
+      ∙ value_other p x (λ node. with_link pair (record (link_of pair node) { next = record { ptr = p } }) node) cells h
 
   first_there : (p : Ptr) (old new : List (Ptr × Node T)) → IsVacantFirst p old new → IsSome (value_at p new)
   first_there p old new added = rw added.1 here
@@ -97,9 +97,12 @@ module _ {T : Type 0} where
     ascending = due.ascending;
     lasts = all_kept (IsTick old order) (IsTick new order) ticks (λ t is.
         let last = tick_item old order t.due (item_at old t.last.ptr) is.last in
-        record { there = is.there; last =
-            item_tick new order t.due (item_at new t.last.ptr) last.0 (same t.last.ptr is.there ∙ last.1) last.2
-            (λ q y i e f. last.3 q y i (sym (same q i) ∙ e) f) }) due.lasts;
+        record {
+          there = is.there;
+          last =
+              item_tick new order t.due (item_at new t.last.ptr) last.0 (same t.last.ptr is.there ∙ last.1) last.2
+              (λ q y i e f. last.3 q y i (sym (same q i) ∙ e) f);
+        }) due.lasts;
     each = λ q y i e. due.each q y i (sym (same q i) ∙ e);
   }
 
@@ -130,8 +133,11 @@ module _ {T : Type 0} where
     pub grown_counted : IsCounted pool.counts.items (length pool.heads.items) (order_of pool.head.ptr pool.count new) new
     grown_counted =
         subst (λ o. IsCounted pool.counts.items (length pool.heads.items) o new) (sym same_order)
-        (record { many = whole.counted.many; each =
-            λ c h. whole.counted.each c h ∙ ap length (sym (same_nodes_on pool.store new c (order_in pool) same_item)) })
+        (record {
+          many = whole.counted.many;
+          each =
+              λ c h. whole.counted.each c h ∙ ap length (sym (same_nodes_on pool.store new c (order_in pool) same_item));
+        })
 
     abbrev dues : List Ptr
     dues = dues_of pool.head.ptr pool.count pool.store
@@ -212,16 +218,22 @@ module _ {T : Type 0} where
       channel_held heads_then e =
           subst (λ c. IsHeld head (ptrs heads_then) free pool.count c) (sym two_is)
           (subst (λ n. IsHeld head (ptrs heads_then) free n last) (sym none)
-          (subst (λ l. IsHeld head l free 0 last) (sym (ap (λ l. ptrs l) e ∙ ptrs_push pool.heads.items node)) (record { linked = linked_last; flight =
-              none_flies (length (heads ++ p ∷ [])) })))
+          (subst (λ l. IsHeld head l free 0 last) (sym (ap (λ l. ptrs l) e ∙ ptrs_push pool.heads.items node)) (record {
+            linked = linked_last;
+            flight =
+                none_flies (length (heads ++ p ∷ []));
+          })))
 
       pub channel_counted : (counts : List ℕ) (n : ℕ) → counts ≡ pool.counts.items ++ 0 ∷ [] → n ≡ length pool.heads.items + 1 →
           IsCounted counts n (order_of head pool.count two) two
       channel_counted counts n e m =
           subst (λ k. IsCounted counts n (order_of head k two) two) (sym none)
           (subst (λ l. IsCounted l n [] two) (sym e)
-          (record { many = length-append pool.counts.items (0 ∷ []) ∙ ap (λ k. k + 1) whole.counted.many ∙ sym m; each =
-              λ c h. zeros pool.counts.items c (λ k b. old k (omega (arith, b, whole.counted.many))) }))
+          (record {
+            many = length-append pool.counts.items (0 ∷ []) ∙ ap (λ k. k + 1) whole.counted.many ∙ sym m;
+            each =
+                λ c h. zeros pool.counts.items c (λ k b. old k (omega (arith, b, whole.counted.many)));
+          }))
         where
           old : (k : ℕ) → k < length pool.heads.items → get_or pool.counts.items k 0 ≡ 0
           old k b = whole.counted.each k b ∙ ap (λ j. length (nodes_on pool.store k (order_of head j pool.store))) none

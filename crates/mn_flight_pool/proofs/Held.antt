@@ -84,7 +84,7 @@ module _ {T : Type 0} where
     pub ring_kept : (pair : Pair) (s : Ptr) (ps : List Ptr) → IsRing pair old s ps → IsRing pair new s ps
     ring_kept pair =
         ring_same old new (λ x h. subst (λ o. IsSome o) (sym (value_kept x h)) h) pair (λ x h. ap (next_in pair) (value_kept x h))
-            (λ x h. ap (prev_in pair) (value_kept x h))
+        (λ x h. ap (prev_in pair) (value_kept x h))
 
     all_in : (P : Ptr → Type 0) (xs : List Ptr) (q : Ptr) → AllByRecursion P xs → IsIn q xs → P q
     all_in P [] q h i = absurd i
@@ -123,8 +123,8 @@ module _ {T : Type 0} where
           free_both p (head ∷ heads) (ring_order ++ free)
           (apart head held.linked.number.there.0, free_from p heads (λ q i. apart q (all_in (λ r. IsSome (value_at r old)) heads q heads_there i)))
           (free_both p ring_order free
-              (free_from p ring_order (λ q i. apart q (all_in (λ r. IsSome (value_at r old)) ring_order q held.linked.number.there.1 i)))
-              (free_from p free (λ q i. apart q (all_in (λ r. IsSome (value_at r old)) free q held.linked.there i))))
+          (free_from p ring_order (λ q i. apart q (all_in (λ r. IsSome (value_at r old)) ring_order q held.linked.number.there.1 i)))
+          (free_from p free (λ q i. apart q (all_in (λ r. IsSome (value_at r old)) free q held.linked.there i))))
         where
           apart : (q : Ptr) → IsSome (value_at q old) → same_ptr p q ≡ false
           apart q h = same_ptr_symm p q ∙ not_p q h
@@ -138,10 +138,10 @@ module _ {T : Type 0} where
               (ring_kept Channel f (nodes_on old c ring_order) (held.linked.channel c f e));
           apart =
               let whole : ((head ∷ heads) ++ (ring_order ++ free)) ++ p ∷ [] ≡ (head ∷ heads) ++ (ring_order ++ (free ++ p ∷ [])) =
-                  append_assoc (head ∷ heads) (ring_order ++ free) (p ∷ []) ∙ ap (λ l. (head ∷ heads) ++ l) (append_assoc ring_order free (p ∷ [])) in
+              append_assoc (head ∷ heads) (ring_order ++ free) (p ∷ []) ∙ ap (λ l. (head ∷ heads) ++ l) (append_assoc ring_order free (p ∷ [])) in
               subst (λ l. IsDistinct same_ptr l) whole
-                  (distinct_with ((head ∷ heads) ++ (ring_order ++ free)) p [] (free_both p ((head ∷ heads) ++ (ring_order ++ free)) [] alone tt)
-                  (subst (λ l. IsDistinct same_ptr l) (sym (append-nil ((head ∷ heads) ++ (ring_order ++ free)))) held.linked.apart));
+              (distinct_with ((head ∷ heads) ++ (ring_order ++ free)) p [] (free_both p ((head ∷ heads) ++ (ring_order ++ free)) [] alone tt)
+              (subst (λ l. IsDistinct same_ptr l) (sym (append-nil ((head ∷ heads) ++ (ring_order ++ free)))) held.linked.apart));
           held = all_old (λ q. IsSome (item_at new q)) ring_order
               (λ q i. subst (λ o. IsSome o) (sym (item_kept q i)) (all_in (λ r. IsSome (item_at old r)) ring_order q held.linked.held i));
           there = all_push (λ q. IsSome (value_at q new)) free
@@ -206,8 +206,8 @@ module _ {T : Type 0} where
     pub items_without : items_in (left p cells) (order_of head n (left p cells)) ≡ without (Some x) (items_in cells (order_of head (suc n) cells))
     items_without =
         items_after ∙ sym dropped
-            ∙ removed (length heads) (items_in cells us ++ x ∷ items_in cells vs) (length (items_in cells us)) x inside read flight_before
-            ∙ ap (λ xs. without (Some x) xs) (sym items_before_it)
+        ∙ removed (length heads) (items_in cells us ++ x ∷ items_in cells vs) (length (items_in cells us)) x inside read flight_before
+        ∙ ap (λ xs. without (Some x) xs) (sym items_before_it)
 
     pub held_left : IsHeld head heads (free ++ p ∷ []) n (left p cells)
     held_left = record {

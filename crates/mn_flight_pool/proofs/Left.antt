@@ -50,7 +50,7 @@ module _ {T : Type 0} (head : Ptr) (heads free us : List Ptr) (p : Ptr) (vs : Li
   pub alone_order : IsFree p (us ++ vs)
   alone_order =
       free_both p us vs (free_right p (head ∷ heads) us (free_left p ((head ∷ heads) ++ us) (vs ++ free) alone))
-          (free_left p vs free (free_right p ((head ∷ heads) ++ us) (vs ++ free) alone))
+      (free_left p vs free (free_right p ((head ∷ heads) ++ us) (vs ++ free) alone))
 
   here : (xs : List Ptr) → IsIn p (xs ++ p ∷ vs)
   here [] = inl refl
@@ -131,8 +131,8 @@ module _ {T : Type 0} (head : Ptr) (heads free us : List Ptr) (p : Ptr) (vs : Li
   sides : IsIn (prev_of Channel one p) (first ∷ nodes_on cells x.channel order) × IsIn (next_of Channel one p) (first ∷ nodes_on cells x.channel order)
   sides =
       let back : nodes_on cells x.channel us ++ p ∷ nodes_on cells x.channel vs ≡ nodes_on cells x.channel order =
-          sym (nodes_before x.channel ∙ ap (λ b. nodes_on cells x.channel us ++ cond b (p ∷ nodes_on cells x.channel vs) (nodes_on cells x.channel vs))
-          (eq-eqb x.channel x.channel refl)) in
+      sym (nodes_before x.channel ∙ ap (λ b. nodes_on cells x.channel us ++ cond b (p ∷ nodes_on cells x.channel vs) (nodes_on cells x.channel vs))
+      (eq-eqb x.channel x.channel refl)) in
       let both = ring_sides Channel one first (nodes_on cells x.channel us) p (nodes_on cells x.channel vs) own_ring in
       (subst (λ l. IsIn (prev_of Channel one p) (first ∷ l)) back both.0, subst (λ l. IsIn (next_of Channel one p) (first ∷ l)) back both.1)
 
@@ -149,8 +149,8 @@ module _ {T : Type 0} (head : Ptr) (heads free us : List Ptr) (p : Ptr) (vs : Li
       by false t =
           let ne : x.channel ≡ c → ⊥ = λ same. clash (x.channel == c) (eq-eqb x.channel c same) t in
           let ring =
-              ring_aside_unlink Channel p one f (nodes_on cells c order) (strangers x.channel c first f at e ne (prev_of Channel one p) sides.0)
-              (strangers x.channel c first f at e ne (next_of Channel one p) sides.1) (ring_one c f e) in
+          ring_aside_unlink Channel p one f (nodes_on cells c order) (strangers x.channel c first f at e ne (prev_of Channel one p) sides.0)
+          (strangers x.channel c first f at e ne (next_of Channel one p) sides.1) (ring_one c f e) in
           subst (λ l. IsRing Channel two f l) (nodes_before c ∙ ap (λ b. nodes_on cells c us ++ cond b (p ∷ nodes_on cells c vs) (nodes_on cells c vs)) t) ring
         where
           clash : (b : Bool) → b ≡ true → b ≡ false → ⊥
@@ -179,8 +179,8 @@ module _ {T : Type 0} (head : Ptr) (heads free us : List Ptr) (p : Ptr) (vs : Li
         append_assoc ((head ∷ heads) ++ us) (vs ++ free) (p ∷ []) ∙ append_assoc (head ∷ heads) us ((vs ++ free) ++ p ∷ [])
         ∙ ap (λ l. (head ∷ heads) ++ (us ++ l)) (append_assoc vs free (p ∷ [])) ∙ ap (λ l. (head ∷ heads) ++ l) (sym (append_assoc us vs (free ++ p ∷ []))) in
         subst (λ l. IsDistinct same_ptr l) whole
-            (distinct_with others p [] (subst (λ l. IsFree p l) (sym (append-nil others)) alone)
-            (subst (λ l. IsDistinct same_ptr l) (sym (append-nil others)) rest_apart));
+        (distinct_with others p [] (subst (λ l. IsFree p l) (sym (append-nil others)) alone)
+        (subst (λ l. IsDistinct same_ptr l) (sym (append-nil others)) rest_apart));
     held = all_old (λ q. IsSome (item_at three q)) (us ++ vs)
         (λ q i. rw (old_item q i)
         (all_in (λ r. IsSome (item_at cells r)) (us ++ vs) q (all_without (λ r. IsSome (item_at cells r)) us p vs linked.held) i));

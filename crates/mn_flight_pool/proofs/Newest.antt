@@ -43,12 +43,18 @@ module _ {T : Type 0} (pool : Pool T) (whole : IsWhole pool) (number : ℕ) wher
           let last = last_of_cons u us in let ws = last.0 in let p = last.1 in
           let new : order_in pool ≡ ws ++ p ∷ is.passed = cut ∙ ap (λ l. l ++ is.passed) last.2 ∙ append_assoc ws (p ∷ []) is.passed in
           let steps : steps_of (prev_of Number pool.store) pool.head.ptr (suc k) ≡ p =
-              ap (λ n. steps_of (prev_of Number pool.store) pool.head.ptr (suc n)) (sym is.count)
-              ∙ back_at Number pool.store pool.head.ptr is.passed ws p (subst (λ l. IsRing Number pool.store pool.head.ptr l) new whole.held.linked.number)
-              in
+          ap (λ n. steps_of (prev_of Number pool.store) pool.head.ptr (suc n)) (sym is.count)
+          ∙ back_at Number pool.store pool.head.ptr is.passed ws p (subst (λ l. IsRing Number pool.store pool.head.ptr l) new whole.held.linked.number)
+          in
           let here : node ≡ p = e ∙ ap (prev_of Number pool.store) is.node ∙ steps in
-          record { front = ws; passed = is.passed; cut = subst (λ r. order_in pool ≡ ws ++ r ∷ is.passed) (sym here) new; count = is.count; greater =
-              is.greater }
+          record {
+            front = ws;
+            passed = is.passed;
+            cut = subst (λ r. order_in pool ≡ ws ++ r ∷ is.passed) (sym here) new;
+            count = is.count;
+            greater =
+                is.greater;
+          }
 
   pub at_there : (k : ℕ) (at : Ptr) → IsPassed pool number k at → k < pool.count → IsSome (value_at at pool.store)
   at_there k at is below = by is.passed is.cut is.count is.node
@@ -60,9 +66,9 @@ module _ {T : Type 0} (pool : Pool T) (whole : IsWhole pool) (number : ℕ) wher
           whole.held.linked.number.there.0
       by (v ∷ vs) cut count node =
           let steps : steps_of (prev_of Number pool.store) pool.head.ptr k ≡ v =
-              ap (steps_of (prev_of Number pool.store) pool.head.ptr) (sym count)
-              ∙ back_at Number pool.store pool.head.ptr vs is.front v (subst (λ l. IsRing Number pool.store pool.head.ptr l) cut whole.held.linked.number)
-              in
+          ap (steps_of (prev_of Number pool.store) pool.head.ptr) (sym count)
+          ∙ back_at Number pool.store pool.head.ptr vs is.front v (subst (λ l. IsRing Number pool.store pool.head.ptr l) cut whole.held.linked.number)
+          in
           subst (λ p. IsSome (value_at p pool.store)) (sym (node ∙ steps)) (node_there pool whole v (subst (λ l. IsIn v l) (sym cut) (in_middle is.front v vs)))
 
   module _ (k : ℕ) (node : Ptr) (n : Next k node) where

@@ -37,10 +37,10 @@ module _ {T : Type 0} (pool : Pool T) (whole : IsWhole pool) where
   pub ticks_count : length pool.ticks.items ≤ pool.count
   ticks_count =
       let few =
-          fewer due_at pool.ticks.items (order_in pool) whole.by_due.ascending
-          (all_kept (IsTick pool.store (order_in pool)) (λ t. IsIn t.last.ptr (order_in pool) × (due_at t.last.ptr ≡ t.due)) pool.ticks.items
+      fewer due_at pool.ticks.items (order_in pool) whole.by_due.ascending
+      (all_kept (IsTick pool.store (order_in pool)) (λ t. IsIn t.last.ptr (order_in pool) × (due_at t.last.ptr ≡ t.due)) pool.ticks.items
       (λ t is. let last = tick_item pool.store (order_in pool) t.due (item_at pool.store t.last.ptr) is.last in
-          (is.there, ap due_of last.1 ∙ last.2)) whole.by_due.lasts) in
+      (is.there, ap due_of last.1 ∙ last.2)) whole.by_due.lasts) in
       omega (arith, few, order_length pool whole)
     where
       due_of : Option (Item T) → ℕ
@@ -115,7 +115,7 @@ module _ {T : Type 0} (pool : Pool T) (whole : IsWhole pool) where
         last_in : IsIn last (pool.head.ptr ∷ dues)
         last_in =
             let s = stand pool.head.ptr (ptrs pool.heads.items) (ptrs front)
-                (order_in pool) node.ptr pool.store held_cut.linked x first.ptr at dues pool.ticks.items whole.by_due greatest in
+            (order_in pool) node.ptr pool.store held_cut.linked x first.ptr at dues pool.ticks.items whole.by_due greatest in
             elim s.end [
               | inl e ↦ inl e.1
               | inr e ↦ inr (subst (λ l. IsIn last l) (sym s.cut) (in_front last s.front s.behind (subst (λ l. IsIn last l) (sym e.1) (in_middle e.0 last []))))
@@ -126,7 +126,7 @@ module _ {T : Type 0} (pool : Pool T) (whole : IsWhole pool) where
           node_in_one =
               subst (λ c. IsSome (value_at node.ptr c)) (sym one_is)
               (three_there pool.head.ptr (ptrs pool.heads.items) (ptrs front) (order_in pool) node.ptr pool.store held_cut.linked x first.ptr at node.ptr
-                  (p_there pool.head.ptr (ptrs pool.heads.items) (ptrs front) (order_in pool) node.ptr pool.store held_cut.linked x first.ptr at))
+              (p_there pool.head.ptr (ptrs pool.heads.items) (ptrs front) (order_in pool) node.ptr pool.store held_cut.linked x first.ptr at))
 
           pub last_in_one : IsSome (value_at last one)
           last_in_one =
@@ -137,7 +137,7 @@ module _ {T : Type 0} (pool : Pool T) (whole : IsWhole pool) where
           next_in_one =
               subst (λ c. IsSome (value_at (next_of Due c last) c)) (sym one_is)
               (all_in (λ q. IsSome (value_at q three)) (pool.head.ptr ∷ dues) (next_of Due three last) three_ring.there
-                  (ring_next Due three pool.head.ptr dues three_ring last last_in))
+              (ring_next Due three pool.head.ptr dues three_ring last last_in))
 
           module _ (two : List (Ptr × Node T)) (two_is : two ≡ link_behind Due node.ptr last one) where
             abbrev four : List (Ptr × Node T)
@@ -159,7 +159,7 @@ module _ {T : Type 0} (pool : Pool T) (whole : IsWhole pool) where
             dues_four : dues_of pool.head.ptr (pool.count + 1) four ≡ dues_then
             dues_four =
                 let many : length dues_then ≡ pool.count + 1 =
-                    omega (arith, entered_dues.many, length-append (order_in pool) (node.ptr ∷ []), order_length pool whole) in
+                omega (arith, entered_dues.many, length-append (order_in pool) (node.ptr ∷ []), order_length pool whole) in
                 ap (λ n. trace (next_of Due four) pool.head.ptr n) (sym many) ∙ trace_ring Due four pool.head.ptr dues_then entered_dues.ring
 
             pub put_held : IsHeld pool.head.ptr (ptrs pool.heads.items) (ptrs front) (pool.count + 1) two
@@ -181,7 +181,7 @@ module _ {T : Type 0} (pool : Pool T) (whole : IsWhole pool) where
                 (subst (λ l. IsCounted l (length pool.heads.items) (order_in pool ++ node.ptr ∷ []) four) (sym e)
                 (counted_alike _ (length pool.heads.items) (order_in pool ++ node.ptr ∷ []) three four (alike_link node.ptr last three)
                 (counted_entered pool.head.ptr (ptrs pool.heads.items) (ptrs front)
-                    (order_in pool) node.ptr pool.store held_cut.linked x first.ptr at pool.counts.items (length pool.heads.items) whole.counted below))))
+                (order_in pool) node.ptr pool.store held_cut.linked x first.ptr at pool.counts.items (length pool.heads.items) whole.counted below))))
 
             pub put_by_due : (ticks : List Tick) → ticks ≡ put_tick x.due node.ptr pool.ticks.items →
                 IsByDue pool.head.ptr (order_of pool.head.ptr (pool.count + 1) two) (dues_of pool.head.ptr (pool.count + 1) two) ticks two

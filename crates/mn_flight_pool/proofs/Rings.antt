@@ -138,7 +138,7 @@ module _ {T : Type 0} where
       round : (us vs us' vs' : List Ptr) → length us ≡ length us' → IsDistinct same_ptr (us ++ a ∷ vs) → IsDistinct same_ptr (us' ++ b ∷ vs') →
           IsFree p (us ++ a ∷ vs) → IsFree p (us' ++ b ∷ vs')
           → AreNeighbours (next_of pair cells) (prev_of pair cells) (us ++ a ∷ vs) (us' ++ b ∷ vs') →
-              AreNeighbours (next_of pair four) (prev_of pair four) (us ++ a ∷ p ∷ vs) (us' ++ p ∷ b ∷ vs')
+          AreNeighbours (next_of pair four) (prev_of pair four) (us ++ a ∷ p ∷ vs) (us' ++ p ∷ b ∷ vs')
       round us vs us' vs' e d d' f f' h =
           between (next_of pair cells) (prev_of pair cells) (next_of pair four) (prev_of pair four) us a vs us' b vs' p e h next_a prev_p next_p prev_b
           (all_next (us ++ vs) (others_free us a vs d) (gone us vs a f)) (all_prev (us' ++ vs') (others_free us' b vs' d') (gone us' vs' b f'))
@@ -162,10 +162,10 @@ module _ {T : Type 0} where
           let apart_s = subst (λ l. IsDistinct same_ptr l) es ring.apart in
           let apart_t = subst (λ l. IsDistinct same_ptr l) et (distinct_turned s ps ring.apart) in
           let h = subst (λ l. AreNeighbours (next_of pair cells) (prev_of pair cells) l (us' ++ b ∷ vs')) es
-              (subst (λ l. AreNeighbours (next_of pair cells) (prev_of pair cells) (s ∷ ps) l) et ring.round) in
+          (subst (λ l. AreNeighbours (next_of pair cells) (prev_of pair cells) (s ∷ ps) l) et ring.round) in
           let next_is : next_of pair cells a ≡ b = (neighbour (next_of pair cells) (prev_of pair cells) us a vs us' b vs' e h).0 in
           let four_is : four p a b cells there there_a there_b not_a not_b ≡ link_behind pair p a cells =
-              ap (λ c. set_prev pair c p (set_next pair a p (set_prev pair p a (set_next pair p c cells)))) (sym next_is) in
+          ap (λ c. set_prev pair c p (set_next pair a p (set_prev pair p a (set_next pair p c cells)))) (sym next_is) in
           let at_a_p : us ++ a ∷ p ∷ vs ≡ (us ++ a ∷ []) ++ p ∷ vs = sym (append_assoc us (a ∷ []) (p ∷ vs)) in
           let at_a : us ++ a ∷ vs ≡ (us ++ a ∷ []) ++ vs = sym (append_assoc us (a ∷ []) vs) in
           subst (λ c. IsRing pair c s qs) four_is (record {
@@ -174,12 +174,12 @@ module _ {T : Type 0} where
             there =
                 subst (λ l. AllByRecursion (λ x. IsSome (value_at x (four p a b cells there there_a there_b not_a not_b))) l) (sym (fs ∙ at_a_p))
                 (all_there p a b cells there there_a there_b not_a not_b ((us ++ a ∷ []) ++ p ∷ vs)
-                    (all_with Here (us ++ a ∷ []) p vs there (subst (λ l. AllByRecursion Here l) at_a sources)));
+                (all_with Here (us ++ a ∷ []) p vs there (subst (λ l. AllByRecursion Here l) at_a sources)));
             round =
                 subst (λ l. AreNeighbours (next_of pair (four p a b cells there there_a there_b not_a not_b))
-                    (prev_of pair (four p a b cells there there_a there_b not_a not_b)) l (qs ++ s ∷ [])) (sym fs)
+                (prev_of pair (four p a b cells there there_a there_b not_a not_b)) l (qs ++ s ∷ [])) (sym fs)
                 (subst (λ l. AreNeighbours (next_of pair (four p a b cells there there_a there_b not_a not_b))
-                    (prev_of pair (four p a b cells there there_a there_b not_a not_b)) (us ++ a ∷ p ∷ vs) l) (sym ft)
+                (prev_of pair (four p a b cells there there_a there_b not_a not_b)) (us ++ a ∷ p ∷ vs) l) (sym ft)
                 (round p a b cells there there_a there_b not_a not_b us vs us' vs' e apart_s apart_t free_s free_t h));
           })
 
@@ -195,11 +195,11 @@ module _ {T : Type 0} where
       ring_behind us a vs ring free =
           let on = first_of_push vs s in
           let targets : (us ++ a ∷ vs) ++ s ∷ [] ≡ (us ++ a ∷ []) ++ on.0 ∷ on.1 =
-              append_assoc us (a ∷ vs) (s ∷ []) ∙ ap (λ l. us ++ a ∷ l) on.2 ∙ sym (append_assoc us (a ∷ []) (on.0 ∷ on.1)) in
+          append_assoc us (a ∷ vs) (s ∷ []) ∙ ap (λ l. us ++ a ∷ l) on.2 ∙ sym (append_assoc us (a ∷ []) (on.0 ∷ on.1)) in
           let later : (us ++ a ∷ p ∷ vs) ++ s ∷ [] ≡ (us ++ a ∷ []) ++ p ∷ on.0 ∷ on.1 =
-              append_assoc us (a ∷ p ∷ vs) (s ∷ []) ∙ ap (λ l. us ++ a ∷ p ∷ l) on.2 ∙ sym (append_assoc us (a ∷ []) (p ∷ on.0 ∷ on.1)) in
+          append_assoc us (a ∷ p ∷ vs) (s ∷ []) ∙ ap (λ l. us ++ a ∷ p ∷ l) on.2 ∙ sym (append_assoc us (a ∷ []) (p ∷ on.0 ∷ on.1)) in
           cut_ring (us ++ a ∷ vs) (s ∷ us) a vs (us ++ a ∷ []) on.0 on.1 (us ++ a ∷ p ∷ vs) ring free refl targets
-              (omega (arith, length-append us (a ∷ []))) refl later
+          (omega (arith, length-append us (a ∷ []))) refl later
 
     -- a node leaves its ring
     module _ (s : Ptr) (cells : List (Ptr × Node T)) where
@@ -219,7 +219,7 @@ module _ {T : Type 0} where
           let second : us₁ ++ a ∷ p ∷ vs ≡ (us₁ ++ a ∷ []) ++ p ∷ vs = sym (append_assoc us₁ (a ∷ []) (p ∷ vs)) in
           let third : us ++ p ∷ b ∷ vs' ≡ (us ++ p ∷ []) ++ b ∷ vs' = sym (append_assoc us (p ∷ []) (b ∷ vs')) in
           let next_is : N p ≡ b =
-              (neighbour N P (us₁ ++ a ∷ []) p vs (us ++ p ∷ []) b vs' (omega (arith, e, length-append us₁ (a ∷ []), length-append us (p ∷ [])))
+          (neighbour N P (us₁ ++ a ∷ []) p vs (us ++ p ∷ []) b vs' (omega (arith, e, length-append us₁ (a ∷ []), length-append us (p ∷ [])))
           (subst (λ l. AreNeighbours N P l ((us ++ p ∷ []) ++ b ∷ vs')) second (subst (λ l. AreNeighbours N P (us₁ ++ a ∷ p ∷ vs) l) third h))).0 in
           let apart' : IsDistinct same_ptr (s ∷ (us ++ vs)) = distinct_without (s ∷ us) p vs ring.apart in
           let there' : AllByRecursion Here (s ∷ (us ++ vs)) = all_without Here (s ∷ us) p vs ring.there in
@@ -284,7 +284,7 @@ module _ {T : Type 0} where
           round =
               same_neighbours (next_of pair old) (prev_of pair old) (next_of pair new) (prev_of pair new) (s ∷ ps) (ps ++ s ∷ [])
               (each Here (λ x. next_of pair new x ≡ next_of pair old x) n (s ∷ ps) ring.there)
-                  (each Here (λ x. prev_of pair new x ≡ prev_of pair old x) p (ps ++ s ∷ []) (all_turned Here s ps ring.there)) ring.round;
+              (each Here (λ x. prev_of pair new x ≡ prev_of pair old x) p (ps ++ s ∷ []) (all_turned Here s ps ring.there)) ring.round;
         }
       where
         each : (P Q : Ptr → Type 0) → ((x : Ptr) → P x → Q x) → (xs : List Ptr) → AllByRecursion P xs → AllByRecursion Q xs
@@ -332,8 +332,8 @@ module _ {T : Type 0} where
     link_leaves p a x cells =
         let b = next_of pair cells a in
         set_prev_leaves b p x (set_next pair a p (set_prev pair p a (set_next pair p b cells)))
-            ∙ set_next_leaves a p x (set_prev pair p a (set_next pair p b cells)) ∙ set_prev_leaves p a x (set_next pair p b cells)
-            ∙ set_next_leaves p b x cells
+        ∙ set_next_leaves a p x (set_prev pair p a (set_next pair p b cells)) ∙ set_prev_leaves p a x (set_next pair p b cells)
+        ∙ set_next_leaves p b x cells
 
     pub unlink_leaves : (p x : Ptr) (cells : List (Ptr × Node T)) → see (value_at x (unlink pair p cells)) ≡ see (value_at x cells)
     unlink_leaves p x cells =
@@ -345,13 +345,13 @@ module _ {T : Type 0} where
       let b = next_of pair cells a in
       let one = set_next pair p b cells in let two = set_prev pair p a one in let three = set_next pair a p two in
       prev_stays pair b p x three (set_prev pair b p three) refl
-          (next_stays pair a p x two three refl (prev_stays pair p a x one two refl (next_stays pair p b x cells one refl h)))
+      (next_stays pair a p x two three refl (prev_stays pair p a x one two refl (next_stays pair p b x cells one refl h)))
 
   pub unlink_stays : (pair : Pair) (p x : Ptr) (cells : List (Ptr × Node T)) → IsSome (value_at x cells) → IsSome (value_at x (unlink pair p cells))
   unlink_stays pair p x cells h =
       let a = prev_of pair cells p in let b = next_of pair cells p in
       prev_stays pair b a x (set_next pair a b cells) (set_prev pair b a (set_next pair a b cells)) refl
-          (next_stays pair a b x cells (set_next pair a b cells) refl h)
+      (next_stays pair a b x cells (set_next pair a b cells) refl h)
 
   -- a ring of another pair stays as it is
   pub ring_past_link : (pair other : Pair) → Unlike pair other →
@@ -359,14 +359,14 @@ module _ {T : Type 0} where
   ring_past_link pair other u p a cells =
       ring_same cells (link_behind pair p a cells) (λ x. link_stays pair p a x cells) other
       (λ x h. link_leaves pair (next_in other) (λ link node. ap (λ (l : Link). l.next.ptr) (link_unlike pair other u link node)) p a x cells)
-          (λ x h. link_leaves pair (prev_in other) (λ link node. ap (λ (l : Link). l.prev.ptr) (link_unlike pair other u link node)) p a x cells)
+      (λ x h. link_leaves pair (prev_in other) (λ link node. ap (λ (l : Link). l.prev.ptr) (link_unlike pair other u link node)) p a x cells)
 
   pub ring_past_unlink : (pair other : Pair) → Unlike pair other →
       (p : Ptr) (cells : List (Ptr × Node T)) (s : Ptr) (ps : List Ptr) → IsRing other cells s ps → IsRing other (unlink pair p cells) s ps
   ring_past_unlink pair other u p cells =
       ring_same cells (unlink pair p cells) (λ x. unlink_stays pair p x cells) other
       (λ x h. unlink_leaves pair (next_in other) (λ link node. ap (λ (l : Link). l.next.ptr) (link_unlike pair other u link node)) p x cells)
-          (λ x h. unlink_leaves pair (prev_in other) (λ link node. ap (λ (l : Link). l.prev.ptr) (link_unlike pair other u link node)) p x cells)
+      (λ x h. unlink_leaves pair (prev_in other) (λ link node. ap (λ (l : Link). l.prev.ptr) (link_unlike pair other u link node)) p x cells)
 
   -- linking and unlinking keep the items
   pub item_past_link : (pair : Pair) (p a x : Ptr) (cells : List (Ptr × Node T)) → item_at (link_behind pair p a cells) x ≡ item_at cells x
@@ -395,7 +395,7 @@ module _ {T : Type 0} where
   ring_past_item pair p item cells =
       ring_same cells (with_item p item cells) (λ x. stays p x (λ (node : Node T). record node { item = item }) cells) pair
       (λ x h. keeps (next_in pair) p x (λ (node : Node T). record node { item = item }) cells (item_next pair item))
-          (λ x h. keeps (prev_in pair) p x (λ (node : Node T). record node { item = item }) cells (item_prev pair item))
+      (λ x h. keeps (prev_in pair) p x (λ (node : Node T). record node { item = item }) cells (item_prev pair item))
 
   pub item_put : (p : Ptr) (item : Option (Item T)) (cells : List (Ptr × Node T)) → IsSome (value_at p cells) → item_at (with_item p item cells) p ≡ item
   item_put p item cells h = ap item_in (value_same p (λ (node : Node T). record node { item = item }) cells) ∙ put (value_at p cells) h
@@ -420,9 +420,9 @@ module _ {T : Type 0} where
             (s ∷ ps) ring.there;
         round =
             same_neighbours (next_of pair cells) (prev_of pair cells) (next_of pair (link_behind pair p a cells))
-                (prev_of pair (link_behind pair p a cells)) (s ∷ ps) (ps ++ s ∷ [])
+            (prev_of pair (link_behind pair p a cells)) (s ∷ ps) (ps ++ s ∷ [])
             (nexts (s ∷ ps) fp fa) (prevs (ps ++ s ∷ []) (all_turned (λ q. same_ptr p q ≡ false) s ps fp) (all_turned (λ q. same_ptr b q ≡ false) s ps fb))
-                ring.round;
+            ring.round;
       }
     where
       each : (P Q : Ptr → Type 0) → ((x : Ptr) → P x → Q x) → (xs : List Ptr) → AllByRecursion P xs → AllByRecursion Q xs
@@ -495,7 +495,7 @@ module _ {T : Type 0} where
     there = each (λ x. IsSome (value_at x cells)) (λ x. IsSome (value_at x (unlink pair p cells))) (λ x. unlink_stays pair p x cells) (s ∷ ps) ring.there;
     round =
         same_neighbours (next_of pair cells) (prev_of pair cells) (next_of pair (unlink pair p cells)) (prev_of pair (unlink pair p cells)) (s ∷ ps)
-            (ps ++ s ∷ [])
+        (ps ++ s ∷ [])
         (nexts (s ∷ ps) fa) (prevs (ps ++ s ∷ []) (all_turned (λ q. same_ptr (next_of pair cells p) q ≡ false) s ps fb)) ring.round;
   }
     where

@@ -76,7 +76,7 @@ module _ {T : Type 0} where
   entered_is head first p a b item old one two three e1 ea e2 eb e3 =
       let one' = with_item p (Some item) old in
       let two_is : two ≡ link_behind Number p (prev_of Number one' head) one' =
-          e2 ∙ ap (λ c. link_behind Number p c one) ea ∙ ap (λ o. link_behind Number p (prev_of Number o head) o) e1 in
+      e2 ∙ ap (λ c. link_behind Number p c one) ea ∙ ap (λ o. link_behind Number p (prev_of Number o head) o) e1 in
       e3 ∙ ap (λ c. link_behind Channel p c two) eb ∙ ap (λ t. link_behind Channel p (prev_of Channel t first) t) two_is
 
   pub left_item : (p : Ptr) (old one two : List (Ptr × Node T)) → one ≡ unlink Number p old → two ≡ unlink Channel p one → item_at two p ≡ item_at old p

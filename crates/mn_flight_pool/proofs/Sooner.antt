@@ -60,7 +60,7 @@ module _ {T : Type 0} where
   sooner_same old new (p ∷ ps) same h = (
     all_from (λ q. IsSooner (item_at new p) (item_at new q)) ps
         (λ q i. subst (λ o. IsSooner o (item_at new q)) (sym (same p (inl refl)))
-            (subst (λ o. IsSooner (item_at old p) o) (sym (same q (inr i))) (all_in (λ r. IsSooner (item_at old p) (item_at old r)) ps q h.0 i))),
+        (subst (λ o. IsSooner (item_at old p) o) (sym (same q (inr i))) (all_in (λ r. IsSooner (item_at old p) (item_at old r)) ps q h.0 i))),
     sooner_same old new ps (λ q i. same q (inr i)) h.1,
   )
 
@@ -119,7 +119,7 @@ module _ {T : Type 0} where
   -- 3. Last nodes of ticks
   pub tick_item : (cells : List (Ptr × Node T)) (order : List Ptr) (due : ℕ) (o : Option (Item T)) → IsLastAt cells order due o
       → (last : Item T) × (o ≡ Some last) × (last.due ≡ due) × ((q : Ptr) (item : Item T) → IsIn q order → item_at cells q ≡ Some item → item.due ≡ due →
-          item.number ≤ last.number)
+      item.number ≤ last.number)
   tick_item cells order due None h = absurd h
   tick_item cells order due (Some last) h = (last, refl, h.0, h.1)
 
@@ -146,26 +146,45 @@ later_has n (t ∷ ts) h e (inr j) = later_has n ts h.1 e j
 -- the last tick that is not after one
 pub last_by_is : (P : Tick → Type 0) (due : ℕ) (s : Ptr) (ts : List Tick) → AreAscending ts → AllByRecursion P ts
     → ((last_by due s ts ≡ s) × ((e : ℕ) → HasTick e ts → due < e)) ⊎ ((t : Tick) × (P t) × (t.due ≤ due) × (last_by due s ts ≡ t.last.ptr)
-        × ((e : ℕ) → HasTick e ts → e ≤ due → e ≤ t.due) × HasTick t.due ts)
+    × ((e : ℕ) → HasTick e ts → e ≤ due → e ≤ t.due) × HasTick t.due ts)
 last_by_is P due s [] up h = inl (refl, λ e i. absurd i)
 last_by_is P due s (t ∷ ts) up h = by (nat_le t.due due) refl (last_by_is P due t.last.ptr ts up.1 h.1)
   where
     by : (b : Bool) → nat_le t.due due ≡ b
         → ((last_by due t.last.ptr ts ≡ t.last.ptr) × ((e : ℕ) → HasTick e ts → due < e)) ⊎
-            ((u : Tick) × (P u) × (u.due ≤ due) × (last_by due t.last.ptr ts ≡ u.last.ptr) × ((e : ℕ) → HasTick e ts → e ≤ due → e ≤ u.due)
-            × HasTick u.due ts)
+        ((u : Tick) × (P u) × (u.due ≤ due) × (last_by due t.last.ptr ts ≡ u.last.ptr) × ((e : ℕ) → HasTick e ts → e ≤ due → e ≤ u.due)
+        × HasTick u.due ts)
         → ((cond b (last_by due t.last.ptr ts) s ≡ s) × ((e : ℕ) → HasTick e (t ∷ ts) → due < e)) ⊎
-            ((u : Tick) × (P u) × (u.due ≤ due) × (cond b (last_by due t.last.ptr ts) s ≡ u.last.ptr) × ((e : ℕ) → HasTick e (t ∷ ts) → e ≤ due → e ≤ u.due)
-            × HasTick u.due (t ∷ ts))
+        ((u : Tick) × (P u) × (u.due ≤ due) × (cond b (last_by due t.last.ptr ts) s ≡ u.last.ptr) × ((e : ℕ) → HasTick e (t ∷ ts) → e ≤ due → e ≤ u.due)
+        × HasTick u.due (t ∷ ts))
     by true le (inl rest) =
-        inr (t, h.0, at_most_tells t.due due le, rest.0, λ e i k. elim i [ inl f ↦ omega (arith, f) | inr j ↦ absurd (omega (arith, rest.1 e j, k)) ], inl
-        refl)
+        inr (
+          t,
+          h.0,
+          at_most_tells t.due due le,
+          rest.0,
+          λ e i k. elim i [ inl f ↦ omega (arith, f) | inr j ↦ absurd (omega (arith, rest.1 e j, k)) ],
+          inl
+              refl,
+        )
     by true le (inr rest) =
-        inr (rest.0, rest.1, rest.2, rest.3, λ e i k. elim i [ inl f ↦ omega (arith, f, later_has t.due ts up.0 rest.0.due rest.5) | inr j ↦ rest.4 e j k ],
-        inr rest.5)
+        inr (
+          rest.0,
+          rest.1,
+          rest.2,
+          rest.3,
+          λ e i k. elim i [ inl f ↦ omega (arith, f, later_has t.due ts up.0 rest.0.due rest.5) | inr j ↦ rest.4 e j k ],
+          inr rest.5,
+        )
     by false gt rest =
-        inl (refl, λ e i. elim i [ inl f ↦ omega (arith, not_at_most_tells t.due due gt, f) | inr j ↦ omega
-        (arith, not_at_most_tells t.due due gt, later_has t.due ts up.0 e j) ])
+        inl (
+          refl,
+          λ e i. elim i [
+            | inl f ↦ omega (arith, not_at_most_tells t.due due gt, f)
+            | inr j ↦ omega
+                (arith, not_at_most_tells t.due due gt, later_has t.due ts up.0 e j)
+          ],
+        )
 
 -- a tick that is put, and those that are kept
 pub asc_put : (due : ℕ) (p : Ptr) (ts : List Tick) → AreAscending ts → AreAscending (put_tick due p ts)
@@ -317,10 +336,13 @@ fewer due_at [] ps up h = omega arith
 fewer due_at (t ∷ ts) ps up h =
     let cut = in_cut t.last.ptr ps h.0.0 in
     let rest =
-        fewer due_at ts (cut.0 ++ cut.1) up.1
-        (all_ticks (λ u. (IsIn u.last.ptr ps × (due_at u.last.ptr ≡ u.due)) × (t.due < u.due))
-        (λ u. IsIn u.last.ptr (cut.0 ++ cut.1) × (due_at u.last.ptr ≡ u.due)) ts
-    (λ u g. (in_without u.last.ptr cut.0 t.last.ptr cut.1 (subst (λ l. IsIn u.last.ptr l) cut.2 g.0.0)
-        (λ e. omega (arith, g.1, g.0.1, h.0.1, ap due_at e)), g.0.1))
+    fewer due_at ts (cut.0 ++ cut.1) up.1
+    (all_ticks (λ u. (IsIn u.last.ptr ps × (due_at u.last.ptr ≡ u.due)) × (t.due < u.due))
+    (λ u. IsIn u.last.ptr (cut.0 ++ cut.1) × (due_at u.last.ptr ≡ u.due)) ts
+    (λ u g. (
+      in_without u.last.ptr cut.0 t.last.ptr cut.1 (subst (λ l. IsIn u.last.ptr l) cut.2 g.0.0)
+          (λ e. omega (arith, g.1, g.0.1, h.0.1, ap due_at e)),
+      g.0.1,
+    ))
     (both_ticks (λ u. IsIn u.last.ptr ps × (due_at u.last.ptr ≡ u.due)) (λ u. t.due < u.due) ts h.1 up.0)) in
     omega (arith, rest, length-append cut.0 cut.1, length-append cut.0 (t.last.ptr ∷ cut.1), ap length cut.2)

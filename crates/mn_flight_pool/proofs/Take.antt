@@ -163,15 +163,15 @@ module _ {T : Type 0} (pool : Pool T) (whole : IsWhole pool) (p : Ptr) (i : IsIn
         take_held frees e =
             subst (λ l. IsHeld head heads l n two) (sym e)
             (subst (λ c. IsHeld head heads (free ++ p ∷ []) n c) (sym is)
-                (held_left head heads free us p vs n mid held_mid order_mid x first holds_mid first_at.1))
+            (held_left head heads free us p vs n mid held_mid order_mid x first holds_mid first_at.1))
 
         pub take_items : items_in two (order_of head n two) ≡ without (Some x) (items_of pool)
         take_items =
             subst (λ c. items_in c (order_of head n c) ≡ without (Some x) (items_of pool)) (sym is)
             (items_without head heads free us p vs n mid held_mid order_mid x first holds_mid first_at.1
             ∙ ap (λ l. without (Some x) l)
-                (items_kept pool.store mid (alike_unlink p pool.store) head heads free (suc n)
-                (subst (λ m. IsHeld head heads free m pool.store) count_is whole.held)
+            (items_kept pool.store mid (alike_unlink p pool.store) head heads free (suc n)
+            (subst (λ m. IsHeld head heads free m pool.store) count_is whole.held)
             ∙ ap (λ m. items_in pool.store (order_of head m pool.store)) (sym count_is)))
 
         pub take_counted : (counts : List ℕ) → counts ≡ slice_set pool.counts.items x.channel (get_or pool.counts.items x.channel 0 - 1) →
@@ -196,7 +196,7 @@ module _ {T : Type 0} (pool : Pool T) (whole : IsWhole pool) (p : Ptr) (i : IsIn
         dues_two : dues_of head n (left p mid) ≡ dues_then
         dues_two =
             let many : length dues_then ≡ n =
-                omega (arith, left_due.many, order_length pool whole, ap length cut.2, length-append us vs, length-append us (p ∷ vs)) in
+            omega (arith, left_due.many, order_length pool whole, ap length cut.2, length-append us vs, length-append us (p ∷ vs)) in
             ap (λ m. trace (next_of Due (left p mid)) head m) (sym many) ∙ trace_ring Due (left p mid) head dues_then left_due.ring
 
         pub take_by_due : (ticks : List Tick) → ticks ≡ ticks_then → IsByDue head (order_of head n two) (dues_of head n two) ticks two

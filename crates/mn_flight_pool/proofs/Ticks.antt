@@ -69,7 +69,7 @@ found_last due s (t ∷ ts) d up h e = by (nat_lt t.due due) refl h e (found_las
     by : (b : Bool) → nat_lt t.due due ≡ b → cond b (suc (earlier due ts)) 0 < suc (length ts) →
         (slice_index_or (t ∷ ts) (cond b (suc (earlier due ts)) 0) d).due ≡ due
         → (earlier due ts < length ts → (slice_index_or ts (earlier due ts) d).due ≡ due →
-            (slice_index_or ts (earlier due ts) d).last.ptr ≡ last_by due t.last.ptr ts)
+        (slice_index_or ts (earlier due ts) d).last.ptr ≡ last_by due t.last.ptr ts)
         → (slice_index_or (t ∷ ts) (cond b (suc (earlier due ts)) 0) d).last.ptr ≡ cond (nat_le t.due due) (last_by due t.last.ptr ts) s
     by true l k q rest = rw (at_most_is t.due due (omega (arith, less_tells t.due due l))) (rest (omega (arith, k)) q)
     by false l k q rest =
@@ -89,7 +89,7 @@ missing_last due s (t ∷ ts) d h pos = by (nat_lt t.due due) refl h pos (missin
         (cond b (suc (earlier due ts)) 0 < suc (length ts) → due < (slice_index_or (t ∷ ts) (cond b (suc (earlier due ts)) 0) d).due) →
         0 < cond b (suc (earlier due ts)) 0
         → ((earlier due ts < length ts → due < (slice_index_or ts (earlier due ts) d).due) → 0 < earlier due ts →
-            (slice_index_or ts (earlier due ts - 1) d).last.ptr ≡ last_by due t.last.ptr ts)
+        (slice_index_or ts (earlier due ts - 1) d).last.ptr ≡ last_by due t.last.ptr ts)
         → (slice_index_or (t ∷ ts) (cond b (suc (earlier due ts)) 0 - 1) d).last.ptr ≡ cond (nat_le t.due due) (last_by due t.last.ptr ts) s
     by true l k q rest = rw (at_most_is t.due due (omega (arith, less_tells t.due due l))) (at_place (earlier due ts) refl)
       where
@@ -112,7 +112,7 @@ found_put due p (t ∷ ts) d h e = by (nat_lt t.due due) refl h e (found_put due
         (slice_index_or (t ∷ ts) (cond b (suc (earlier due ts)) 0) d).due ≡ due
         → (earlier due ts < length ts → (slice_index_or ts (earlier due ts) d).due ≡ due → slice_set ts (earlier due ts) (tick_at due p) ≡ put_tick due p ts)
         → slice_set (t ∷ ts) (cond b (suc (earlier due ts)) 0) (tick_at due p) ≡ cond b (t ∷ put_tick due p ts)
-            (tick_at due p ∷ cond (t.due == due) ts (t ∷ ts))
+        (tick_at due p ∷ cond (t.due == due) ts (t ∷ ts))
     by true l k q rest = ap (λ r. t ∷ r) (rest (omega (arith, k)) q)
     by false l k q rest = rw (test_same t.due due q) refl
 

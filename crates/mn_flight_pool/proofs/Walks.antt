@@ -74,7 +74,7 @@ module _ {T : Type 0} (pair : Pair) (cells : List (Ptr × Node T)) (s : Ptr) whe
       let rest = back_at vs (us ++ p ∷ []) v (subst (λ l. IsRing pair cells s l) moved ring) in
       let sources : s ∷ (us ++ p ∷ v ∷ vs) ≡ (s ∷ us) ++ p ∷ v ∷ vs = refl in
       let targets : (us ++ p ∷ v ∷ vs) ++ s ∷ [] ≡ (us ++ p ∷ []) ++ v ∷ (vs ++ s ∷ []) =
-          append_assoc us (p ∷ v ∷ vs) (s ∷ []) ∙ sym (append_assoc us (p ∷ []) (v ∷ (vs ++ s ∷ []))) in
+      append_assoc us (p ∷ v ∷ vs) (s ∷ []) ∙ sym (append_assoc us (p ∷ []) (v ∷ (vs ++ s ∷ []))) in
       let e : length (s ∷ us) ≡ length (us ++ p ∷ []) = omega (arith, length-append us (p ∷ [])) in
       let round = subst (λ l. AreNeighbours (next_of pair cells) (prev_of pair cells) (s ∷ (us ++ p ∷ v ∷ vs)) l) targets ring.round in
       ap (prev_of pair cells) rest ∙ (neighbour (next_of pair cells) (prev_of pair cells) (s ∷ us) p (v ∷ vs) (us ++ p ∷ []) v (vs ++ s ∷ []) e round).1

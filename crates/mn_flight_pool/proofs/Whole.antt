@@ -67,9 +67,11 @@ module _ {T : Type 0} (pool : Pool T) (whole : IsWhole pool) where
   placed : (c n : ℕ) (p : Ptr) → slice_get (nodes_on pool.store c (order_in pool)) n ≡ Some p →
       IsIn p (order_in pool) × (item_at pool.store p ≡ slice_get (on_channel c (items_of pool)) n)
   placed c n p e =
-      let nodes = nodes_on pool.store c (order_in pool) in
-      ((from_filter _ p (order_in pool) (in_at nodes n p e)).1, sym (item_placed pool.store nodes n p (held_on pool.store c (order_in pool) held_order) e)
-          ∙ ap (λ l. slice_get l n) (items_on pool.store c (order_in pool)))
+      let nodes = nodes_on pool.store c (order_in pool) in (
+        (from_filter _ p (order_in pool) (in_at nodes n p e)).1,
+        sym (item_placed pool.store nodes n p (held_on pool.store c (order_in pool) held_order) e)
+            ∙ ap (λ l. slice_get l n) (items_on pool.store c (order_in pool)),
+      )
 
   module _ (c : ℕ) (f : Place) (below : c < length pool.heads.items) (read : f ≡ slice_index_or pool.heads.items c f) where
     pub channel_ring : IsRing Channel pool.store f.ptr (nodes_on pool.store c (order_in pool))
@@ -81,7 +83,7 @@ module _ {T : Type 0} (pool : Pool T) (whole : IsWhole pool) where
         let below : n < length (nodes_on pool.store c (order_in pool)) = omega (arith, h, on_length c) in
         let steps : n + 1 ≡ suc n = omega arith in
         placed c n p (forth_at Channel pool.store f.ptr (nodes_on pool.store c (order_in pool)) channel_ring n below
-            ∙ ap (λ q. Some q) (sym (e ∙ ap (steps_of (next_of Channel pool.store) f.ptr) steps)))
+        ∙ ap (λ q. Some q) (sym (e ∙ ap (steps_of (next_of Channel pool.store) f.ptr) steps)))
 
     pub back_placed : (n count : ℕ) (p : Ptr) → p ≡ steps_of (prev_of Channel pool.store) f.ptr (count - n) →
         count ≡ length (on_channel c (items_of pool)) → n < count →
@@ -92,8 +94,8 @@ module _ {T : Type 0} (pool : Pool T) (whole : IsWhole pool) where
         let us = cut.0 in let q = cut.1 in let vs = cut.2 in
         let steps : count - n ≡ suc (length vs) = omega (arith, m, on_length c, cut.4, ap length cut.3, length-append us (q ∷ vs)) in
         let same : p ≡ q =
-            e ∙ ap (steps_of (prev_of Channel pool.store) f.ptr) steps
-            ∙ back_at Channel pool.store f.ptr vs us q (subst (λ l. IsRing Channel pool.store f.ptr l) cut.3 channel_ring) in
+        e ∙ ap (steps_of (prev_of Channel pool.store) f.ptr) steps
+        ∙ back_at Channel pool.store f.ptr vs us q (subst (λ l. IsRing Channel pool.store f.ptr l) cut.3 channel_ring) in
         placed c n p (ap (λ l. slice_get l n) cut.3 ∙ ap (λ k. slice_get (us ++ q ∷ vs) k) (sym cut.4) ∙ at_cut us q vs ∙ ap (λ r. Some r) (sym same))
 
   -- past the end of its channel there is none
@@ -136,7 +138,7 @@ module _ {T : Type 0} (pool : Pool T) (whole : IsWhole pool) where
     later_due x e h =
         let holds : item_at pool.store (next_of Due pool.store pool.head.ptr) ≡ Some x = ap (item_at pool.store) (sym is) ∙ sym e in
         earliest_none pool.head.ptr (order_in pool) (length pool.heads.items) pool.ticks.items pool.store flight
-            (dues_of pool.head.ptr pool.count pool.store) whole.by_due many limit x holds h
+        (dues_of pool.head.ptr pool.count pool.store) whole.by_due many limit x holds h
 
     pub first_holds : None ≡ item_at pool.store node → ⊥
     first_holds e = at (dues_of pool.head.ptr pool.count pool.store) whole.by_due.ring whole.by_due.flies (omega (arith, many, whole.by_due.many))

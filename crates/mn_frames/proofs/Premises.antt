@@ -202,7 +202,7 @@ one_use label x apart = rw (other_key label 18 apart) refl
 
 first_fecs_of_pe1 : (edge : ℕ) → edge < 3 → edge ≢ 0 →
     use_of ((18, label_of.Site (site_no 0)) ∷ []) (label_in (first_labels 0) (fec_of edge)) ≡ fec_use
-        (next_entry two_links first_labels (start two_links) 0 edge)
+    (next_entry two_links first_labels (start two_links) 0 edge)
 unfolding next knowledge_of given
 first_fecs_of_pe1 zero h apart = absurd (apart refl)
 first_fecs_of_pe1 (suc zero) h apart = refl
@@ -219,7 +219,7 @@ first_fecs_of_p (suc (suc (suc n))) h apart = absurd (too_high n h)
 
 first_fecs_of_pe2 : (edge : ℕ) → edge < 3 → edge ≢ 2 →
     use_of ((18, label_of.Site (site_no 1)) ∷ []) (label_in (first_labels 2) (fec_of edge)) ≡ fec_use
-        (next_entry two_links first_labels (start two_links) 2 edge)
+    (next_entry two_links first_labels (start two_links) 2 edge)
 unfolding next knowledge_of given
 first_fecs_of_pe2 zero h apart = refl
 first_fecs_of_pe2 (suc zero) h apart = refl
@@ -251,7 +251,7 @@ the_first_table_of_pe1 = record {
   fecs = first_fecs_of_pe1;
   sites = λ site k c. one_site 1 2 0 site k
       (λ x n. use_of ((18, label_of.Site (site_no 0)) ∷ []) (label_in (first_labels 0) (attachment_of x n)) ≡ Some (site_entry (start two_links) x n))
-          first_site_a
+      first_site_a
       (subst (λ binds. In binds (attachment_of site k)) first_of_pe1 (in_contained (first_labels 0) (attachment_of site k) c));
   reserved = λ label h. one_use label _ (below label 18 h (omega arith));
   later = λ label h. let high : 16 + 3 ≤ label = subst (λ binds. 16 + length binds ≤ label) first_of_pe1 h in
@@ -272,7 +272,7 @@ the_first_table_of_pe2 = record {
   fecs = first_fecs_of_pe2;
   sites = λ site k c. one_site 0 1 1 site k
       (λ x n. use_of ((18, label_of.Site (site_no 1)) ∷ []) (label_in (first_labels 2) (attachment_of x n)) ≡ Some (site_entry (start two_links) x n))
-          first_site_b
+      first_site_b
       (subst (λ binds. In binds (attachment_of site k)) first_of_pe2 (in_contained (first_labels 2) (attachment_of site k) c));
   reserved = λ label h. one_use label _ (below label 18 h (omega arith));
   later = λ label h. let high : 16 + 3 ≤ label = subst (λ binds. 16 + length binds ≤ label) first_of_pe2 h in

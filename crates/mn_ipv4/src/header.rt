@@ -39,7 +39,7 @@ pub enum Bad {
     /// There is no byte, or the version isn't 4.
     #[error("the packet is not IPv4")]
     NotIpv4,
-    /// The header is said to be shorter than 20 bytes, or longer than the whole packet.
+    /// The header is said to be shorter than 20 bytes, or, where the bytes reach that field, longer than the total length.
     #[error("the IPv4 header contradicts itself")]
     Malformed,
     /// Bytes are missing: of 20, of the header or of the total length.

@@ -28,7 +28,7 @@ all_fit network entries all = λ k d below. (all k d below).fit
 -- one line more
 pub one_more : (network : Network) (all : List (List ℕ)) (done new : List JournalEntry) (line : List ℕ) (rest next : List (List ℕ)) (entry : JournalEntry)
     → all ≡ map (text_of network) done ++ rest → rest ≡ line ∷ next → line ≡ text_of network entry → new ≡ done ++ entry ∷ [] →
-        all ≡ map (text_of network) new ++ next
+    all ≡ map (text_of network) new ++ next
 one_more network all done new line rest next entry before first is pushed =
     before
     ∙ ap (λ ls. map (text_of network) done ++ ls) (first ∙ ap (λ l. l ∷ next) is)
@@ -45,8 +45,8 @@ same_entries network (found ∷ more) (entry ∷ entries) lawful one other is =
     let text : text_of network found ≡ text_of network entry = cc in
     let texts : map (text_of network) more ≡ map (text_of network) entries = cc in
     let first : Some found ≡ Some entry =
-        sym (one 0 found (omega arith)).asked ∙ ap (λ t. asked_by network (words t)) text
-        ∙ asked_again network entry lawful (other 0 entry (omega arith)) in
+    sym (one 0 found (omega arith)).asked ∙ ap (λ t. asked_by network (words t)) text
+    ∙ asked_again network entry lawful (other 0 entry (omega arith)) in
     let same : found ≡ entry = cc in
     let later = same_entries network more entries lawful (λ k d below. one (suc k) d (omega arith)) (λ k d below. other (suc k) d (omega arith)) texts in
     cc
@@ -54,7 +54,7 @@ same_entries network (found ∷ more) (entry ∷ entries) lawful one other is =
 -- a line that is the text of no entry isn't among those that were written
 pub none_bad : (network : Network) (done entries : List JournalEntry) (line : List ℕ) (next : List (List ℕ)) → All (IsEntry network) entries
     → ((entry : JournalEntry) → IsEntry network entry → line ≡ text_of network entry → ⊥) →
-        map (text_of network) entries ≡ map (text_of network) done ++ line ∷ next → ⊥
+    map (text_of network) entries ≡ map (text_of network) done ++ line ∷ next → ⊥
 none_bad network [] [] line next all bad is = cc
 none_bad network [] (entry ∷ entries) line next all bad is = bad entry (all 0 entry (omega arith)) (let same : text_of network entry ≡ line = cc in sym same)
 none_bad network (one ∷ done) [] line next all bad is = cc

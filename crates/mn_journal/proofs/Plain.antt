@@ -89,12 +89,12 @@ prefix_plain p h = and_from _ _ (some_joined (address_text p.address) 47 (number
 as_plain : (n : ℕ) → is_plain (by_as_text n) ≡ true
 as_plain n = and_from _ _ (some_joined (decimal (n / 2 ^ 32 % 2 ^ 16)) 58 (decimal (n % 2 ^ 32)))
     (joined (decimal (n / 2 ^ 32 % 2 ^ 16)) 58 (decimal (n % 2 ^ 32)) (digits_plain (n / 2 ^ 32 % 2 ^ 16) (omega arith)) refl
-        (digits_plain (n % 2 ^ 32) (omega arith)))
+    (digits_plain (n % 2 ^ 32) (omega arith)))
 
 addressed_plain : (n : ℕ) → is_plain (by_address_text n) ≡ true
 addressed_plain n = and_from _ _ (some_joined (address_text (n / 2 ^ 16 % 2 ^ 32)) 58 (decimal (n % 2 ^ 16)))
     (joined (address_text (n / 2 ^ 16 % 2 ^ 32)) 58 (decimal (n % 2 ^ 16)) (address_plain (n / 2 ^ 16 % 2 ^ 32) (omega arith)) refl
-        (digits_plain (n % 2 ^ 16) (omega arith)))
+    (digits_plain (n % 2 ^ 16) (omega arith)))
 
 either_plain : (b : Bool) (n : ℕ) → is_plain (if b then by_address_text n else by_as_text n) ≡ true
 either_plain true n = addressed_plain n
@@ -189,19 +189,35 @@ step_plain network (AddRoute site prefix) lawful fit is =
     (refl, (refl, (site_plain network site lawful (ltb-true _ _ (and_parts _ _ fit).0), (prefix_plain prefix is, tt))))
 step_plain network (DelRoute site prefix) lawful fit is =
     (refl, (refl, (site_plain network site lawful (ltb-true _ _ (and_parts _ _ fit).0), (prefix_plain prefix is, tt))))
-step_plain network (Import vrf target on) lawful fit is =
-    (refl, (whether on (codes "add") (codes "del") refl refl,
-    (vrf_plain network vrf lawful (ltb-true _ _ (and_parts _ _ fit).0), (target_plain target, tt))))
-step_plain network (Export vrf target on) lawful fit is =
-    (refl, (whether on (codes "add") (codes "del") refl refl,
-    (vrf_plain network vrf lawful (ltb-true _ _ (and_parts _ _ fit).0), (target_plain target, tt))))
+step_plain network (Import vrf target on) lawful fit is = (
+  refl,
+  (
+    whether on (codes "add") (codes "del") refl refl,
+    (vrf_plain network vrf lawful (ltb-true _ _ (and_parts _ _ fit).0), (target_plain target, tt)),
+  ),
+)
+step_plain network (Export vrf target on) lawful fit is = (
+  refl,
+  (
+    whether on (codes "add") (codes "del") refl refl,
+    (vrf_plain network vrf lawful (ltb-true _ _ (and_parts _ _ fit).0), (target_plain target, tt)),
+  ),
+)
 step_plain network (Attach site) lawful fit is = (refl, (refl, (site_plain network site lawful (ltb-true _ _ fit), tt)))
 step_plain network (Detach site) lawful fit is = (refl, (refl, (site_plain network site lawful (ltb-true _ _ fit), tt)))
 step_plain network (Inject site number) lawful fit is =
     (refl, (site_plain network site lawful (ltb-true _ _ (and_parts _ _ fit).0), (number_plain number (omega (arith, is)), tt)))
-step_plain network (Carry link direction place) lawful fit is =
-    (refl, (from_plain network link direction lawful (ltb-true _ _ fit),
-    (to_plain network link direction lawful (ltb-true _ _ fit), (number_plain place (omega (arith, is)), tt))))
-step_plain network (Lose link direction place) lawful fit is =
-    (refl, (from_plain network link direction lawful (ltb-true _ _ fit),
-    (to_plain network link direction lawful (ltb-true _ _ fit), (number_plain place (omega (arith, is)), tt))))
+step_plain network (Carry link direction place) lawful fit is = (
+  refl,
+  (
+    from_plain network link direction lawful (ltb-true _ _ fit),
+    (to_plain network link direction lawful (ltb-true _ _ fit), (number_plain place (omega (arith, is)), tt)),
+  ),
+)
+step_plain network (Lose link direction place) lawful fit is = (
+  refl,
+  (
+    from_plain network link direction lawful (ltb-true _ _ fit),
+    (to_plain network link direction lawful (ltb-true _ _ fit), (number_plain place (omega (arith, is)), tt)),
+  ),
+)

@@ -89,7 +89,7 @@ asked_again network entry lawful is =
     let plain = step_plain network entry.step lawful is.fit is.step in
     ap (asked_by network) (words_of (number_text entry.tick) (step_words network entry.step) (number_plain entry.tick is.tick) plain)
     ∙ ap (λ found. entry_with found (step_of (line_says network (take_while (λ word. not (is_comment word)) (step_words network entry.step)))))
-        (tick_again entry.tick is.tick)
+    (tick_again entry.tick is.tick)
     ∙ ap (λ ws. entry_with (Some entry.tick) (step_of (line_says network ws))) (no_comments (step_words network entry.step) plain)
     ∙ ap (λ said. entry_with (Some entry.tick) (step_of said)) (command_again network (Do entry.step) lawful is.fit is.step)
 
@@ -98,7 +98,7 @@ pub same_entry : (network : Network) (one other : JournalEntry) → IsLawful net
     text_of network one ≡ text_of network other → one ≡ other
 same_entry network one other lawful first second is =
     let same : Some one ≡ Some other =
-        sym (asked_again network one lawful first) ∙ ap (λ text. asked_by network (words text)) is ∙ asked_again network other lawful second in
+    sym (asked_again network one lawful first) ∙ ap (λ text. asked_by network (words text)) is ∙ asked_again network other lawful second in
     cc
 
 -- 4. Lines
@@ -141,9 +141,9 @@ lines_written network (entry ∷ entries) lawful all =
     let is = all 0 entry (omega arith) in
     let plain = step_plain network entry.step lawful is.fit is.step in
     let inner =
-        list_all-append is_inner (number_text entry.tick) (spaced (step_words network entry.step))
-        ∙ and_from (list_all is_inner (number_text entry.tick)) (list_all is_inner (spaced (step_words network entry.step)))
-        (word_inner (number_text entry.tick) (number_plain entry.tick is.tick)) (spaced_inner (step_words network entry.step) plain) in
+    list_all-append is_inner (number_text entry.tick) (spaced (step_words network entry.step))
+    ∙ and_from (list_all is_inner (number_text entry.tick)) (list_all is_inner (spaced (step_words network entry.step)))
+    (word_inner (number_text entry.tick) (number_plain entry.tick is.tick)) (spaced_inner (step_words network entry.step) plain) in
     ap lines (append_assoc (text_of network entry) (10 ∷ []) (flat_map (line_of network) entries))
     ∙ line_first (text_of network entry) (flat_map (line_of network) entries) inner
     ∙ ap (λ found. text_of network entry ∷ found) (lines_written network entries lawful (λ k d below. all (suc k) d (omega arith)))

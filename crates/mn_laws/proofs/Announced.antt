@@ -24,8 +24,8 @@ use Rattle.mn_ledger.specs.declared.refused.Refused.TheVariants as why
 use Rattle.mn_ledger.specs.Tables.{put, put_pair}
 use Rattle.mn_ledger.specs.Places.{vrf_at, vrf_of, edge_of, vrfs_at, edges}
 use Rattle.mn_ledger.specs.World.{SiteRoute, Config, Export, Telling, Open, Alive, Announce, Unreach, Peerings, World}
-use Rattle.mn_ledger.specs.Vpn.{Told, exports_with, exports_of, is_between, tellings_of, told_to, reply, replies, is_for, same_export, withdrawn, announced}
-use Rattle.mn_ledger.specs.Vpn.{changed, steady_peers, news, told_in, counted, peerings_after}
+use Rattle.mn_ledger.specs.Vpn.{Told, exports_with, exports_of, is_from_to, tellings_of, told_to, reply, bgp_replies, is_for, same_export, withdrawn, announced}
+use Rattle.mn_ledger.specs.Vpn.{changed, steady_peers, route_news, told_in, bgp_counted, peerings_after}
 use Rattle.mn_ledger.specs.Packets.{Packets}
 use Rattle.mn_ledger.specs.Ledger.{with_target, statics_from, is_static, config_after, after, start}
 use Rattle.mn_ledger.specs.Refusal.{is_unchanged, is_empty, static_refusal, is_targets_full, is_spent, is_full, where_holds, first_cause, limits, refusal_at}
@@ -309,7 +309,7 @@ named_told_to t c a b ms h x i = let f = in_map (λ telling. record { teller = a
 join_told : (t : Network) (c : Config) (xs ys : List Told) → AllTold t c xs → AllTold t c ys → AllTold t c (xs ++ ys)
 join_told t c xs ys h g x i = elim (in_append xs ys x i) [ inl j ↦ h x j | inr j ↦ g x j ]
 
-named_replies : (t : Network) (c : Config) (k : Peerings) (s : Step) → ExportsNamed t c → AllTold t c (replies t c k s)
+named_replies : (t : Network) (c : Config) (k : Peerings) (s : Step) → ExportsNamed t c → AllTold t c (bgp_replies t c k s)
 named_replies t c k (step.BgpUp a b) h =
     join_told t c (told_to a.0 b.0 (Open ∷ [])) (told_to b.0 a.0 (Open ∷ [])) (named_told_to t c a.0 b.0 (Open ∷ []) (one_named t c a.0 Open tt))
     (named_told_to t c b.0 a.0 (Open ∷ []) (one_named t c b.0 Open tt))
@@ -333,7 +333,7 @@ named_changed t old new edge h g m
     ]
 
 named_news : (t : Network) (c : Config) (p : Peerings) (new : Config) (k : Peerings) (edge : ℕ) → ExportsNamed t c → ExportsNamed t new
-    → AllTold t new (news t c p new k edge)
+    → AllTold t new (route_news t c p new k edge)
 named_news t c p new k edge h g x i =
     let f = in_flat_map (λ telling. map (λ peer. record { teller = edge; peer = peer; telling = telling }) (steady_peers t c p new k edge))
     (changed (exports_of t c edge) (exports_of t new edge)) x i in
@@ -343,8 +343,8 @@ named_news t c p new k edge h g x i =
 named_told : (t : Network) (c : Config) (p : Peerings) (new : Config) (k : Peerings) (s : Step) → ExportsNamed t c → ExportsNamed t new
     → AllTold t new (told_in t c p new k s)
 named_told t c p new k s h g =
-    join_told t new (replies t new p s) (flat_map (news t c p new k) (edges t)) (named_replies t new p s g)
-    (λ x i. let f = in_flat_map (news t c p new k) (edges t) x i in named_news t c p new k f.0 h g x f.2)
+    join_told t new (bgp_replies t new p s) (flat_map (route_news t c p new k) (edges t)) (named_replies t new p s g)
+    (λ x i. let f = in_flat_map (route_news t c p new k) (edges t) x i in named_news t c p new k f.0 h g x f.2)
 
 -- 4. What was told
 
@@ -353,11 +353,11 @@ TellingsNamed t c p = (edge peer : ℕ) (m : Telling) → In (p.told edge peer) 
 
 in_tellings : (a b : ℕ) (xs : List Told) (m : Telling) → In (tellings_of a b xs) m → (x : Told) × In xs x × (x.teller ≡ a) × (x.telling ≡ m)
 in_tellings a b xs m i =
-    let f = in_map (λ (told : Told). told.telling) (filter (is_between a b) xs) m i in
-    let g = in_filter (is_between a b) xs f.0 f.1 in
+    let f = in_map (λ (told : Told). told.telling) (filter (is_from_to a b) xs) m i in
+    let g = in_filter (is_from_to a b) xs f.0 f.1 in
     (f.0, g.0, same_numbers f.0.teller a (and_parts (f.0.teller == a) (f.0.peer == b) g.1).0, f.2)
 
-still_named : (t : Network) (c : Config) (p : Peerings) (s : Step) → TellingsNamed t c p → TellingsNamed t c (counted p s)
+still_named : (t : Network) (c : Config) (p : Peerings) (s : Step) → TellingsNamed t c p → TellingsNamed t c (bgp_counted p s)
 still_named t c p (step.BgpUp a b) h = λ edge peer m i. h edge peer m
     (in_cleared p.told a.0 b.0 edge peer m (in_cleared (put_pair p.told a.0 b.0 []) b.0 a.0 edge peer m i))
 still_named t c p (step.BgpDown a b) h = λ edge peer m i. h edge peer m
@@ -383,15 +383,15 @@ later_named t c s edge (Announce e) h = record {
 }
 
 told_go_on : (t : Network) (c : Config) (p : Peerings) (s : Step) → ExportsNamed t c → ExportsNamed t (config_after c s) → TellingsNamed t c p
-    → (edge peer : ℕ) (m : Telling) → In ((counted p s).told edge peer ++ tellings_of edge peer (told_in t c p (config_after c s) (counted p s) s)) m
+    → (edge peer : ℕ) (m : Telling) → In ((bgp_counted p s).told edge peer ++ tellings_of edge peer (told_in t c p (config_after c s) (bgp_counted p s) s)) m
     → NamesItsVrf t (config_after c s) edge m
 told_go_on t c p s h g named edge peer m
-    i = elim (in_append ((counted p s).told edge peer) (tellings_of edge peer (told_in t c p (config_after c s) (counted p s) s)) m i) [
+    i = elim (in_append ((bgp_counted p s).told edge peer) (tellings_of edge peer (told_in t c p (config_after c s) (bgp_counted p s) s)) m i) [
       | inl j ↦ later_named t c s edge m (still_named t c p s named edge peer m j)
       | inr j ↦
-          let f = in_tellings edge peer (told_in t c p (config_after c s) (counted p s) s) m j in
+          let f = in_tellings edge peer (told_in t c p (config_after c s) (bgp_counted p s) s) m j in
           subst (NamesItsVrf t (config_after c s) edge) f.3
-          (subst (λ n. NamesItsVrf t (config_after c s) n f.0.telling) f.2 (named_told t c p (config_after c s) (counted p s) s h g f.0 f.1))
+          (subst (λ n. NamesItsVrf t (config_after c s) n f.0.telling) f.2 (named_told t c p (config_after c s) (bgp_counted p s) s h g f.0 f.1))
     ]
 
 tellings_go : (t : Network) (w : World) (s : Step) → ExportsNamed t w.config → ExportsNamed t (config_after w.config s)

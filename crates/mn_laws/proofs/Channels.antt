@@ -21,7 +21,7 @@ use Rattle.mn_ledger.specs.Places.{edges}
 use Rattle.mn_node.specs.Ldp.{Message, Initialization, Said, Knowledge, is_operational, said_on, mention, mentioned_on, mentioned_from, offered}
 use Rattle.mn_node.specs.Ldp.{by_neighbour, news}
 use Rattle.mn_ledger.specs.World.{World, Config, Views, Sessions, Peerings, Telling, Open}
-use Rattle.mn_ledger.specs.Transport.{lives, opening, replies, knowledge_of, speakers, said_in, counted, is_transport}
+use Rattle.mn_ledger.specs.Transport.{lives, opening, ldp_replies, knowledge_of, speakers, said_in, ldp_counted, is_transport}
 use Rattle.mn_ledger.specs.Vpn as vpn
 use Rattle.mn_ledger.specs.Vpn.{peerings_after, Told, told_to, peers_live, is_established, steady_peers, is_routing, exports_of, changed}
 use Rattle.mn_ledger.specs.Packets.{Token, Packets, flying_on, packets_after}
@@ -58,7 +58,7 @@ opening-said t c l h = either (lives c l)
     either true = on-link t l (opener t l) (Initialization ∷ []) h (opener_end t l)
     either false = λ x i. absurd i
 
-replies-said : (t : Network) (c : Config) (s : Sessions) (st : Step) → EndsDiffer (wiring_of t) → fits t st ≡ true → AllSaid t (replies t c s st)
+replies-said : (t : Network) (c : Config) (s : Sessions) (st : Step) → EndsDiffer (wiring_of t) → fits t st ≡ true → AllSaid t (ldp_replies t c s st)
 replies-said t c s (step.LinkUp l) differ fit = opening-said t c l.0 (less_tells l.0 (length t.links) fit)
 replies-said t c s (step.LdpAdmin l on) differ fit = opening-said t c l.0 (less_tells l.0 (length t.links) fit)
 replies-said t c s (step.HearLdp l dir) differ fit =
@@ -97,7 +97,7 @@ news-said t before now n = from-said t before now n (by_neighbour (wiring_of t) 
 
 all-said : (t : Network) (c new : Config) (v nv : Views) (s k : Sessions) (st : Step) → EndsDiffer (wiring_of t) → fits t st ≡ true
     → AllSaid t (said_in t c v s new nv k st)
-all-said t c new v nv s k st differ fit = both-said t (replies t new s st) _ (replies-said t new s st differ fit)
+all-said t c new v nv s k st differ fit = both-said t (ldp_replies t new s st) _ (replies-said t new s st differ fit)
     (λ x i. let m = in_flat_map (λ node. news (wiring_of t) (knowledge_of (wiring_of t) c v s node) (knowledge_of (wiring_of t) new nv k node) node)
     (speakers (wiring_of t) st) x i in
     news-said t (knowledge_of (wiring_of t) c v s m.0) (knowledge_of (wiring_of t) new nv k m.0) m.0 x m.2)
@@ -142,7 +142,7 @@ edges-in-order t a b fit =
     apart : a < b → a ≢ b
     apart l e = omega (arith, l, e)
 
-told-replies : (t : Network) (c : Config) (p : Peerings) (st : Step) → fits t st ≡ true → AllTold t (vpn.replies t c p st)
+told-replies : (t : Network) (c : Config) (p : Peerings) (st : Step) → fits t st ≡ true → AllTold t (vpn.bgp_replies t c p st)
 told-replies t c p (step.BgpUp a b) fit = λ x i. elim (in_append (told_to a.0 b.0 (Open ∷ [])) (told_to b.0 a.0 (Open ∷ [])) x i) [
   | inl j ↦ told-between t a.0 b.0 (Open ∷ []) (edges-in-order t a.0 b.0 fit) x j
   | inr j ↦ told-between t b.0 a.0 (Open ∷ []) (back-edges t a.0 b.0 (edges-in-order t a.0 b.0 fit)) x j
@@ -150,7 +150,7 @@ told-replies t c p (step.BgpUp a b) fit = λ x i. elim (in_append (told_to a.0 b
 told-replies t c p (step.HearBgp a b) fit = told-between t b.0 a.0 _ (back-edges t a.0 b.0 (edges-fit t a.0 b.0 fit))
 told-replies t c p _ fit = λ x i. absurd i
 
-told-news : (t : Network) (c : Config) (p : Peerings) (new : Config) (k : Peerings) (e : ℕ) → JoinEdges t c → AllTold t (vpn.news t c p new k e)
+told-news : (t : Network) (c : Config) (p : Peerings) (new : Config) (k : Peerings) (e : ℕ) → JoinEdges t c → AllTold t (vpn.route_news t c p new k e)
 told-news t c p new k e h x i =
     let m = in_flat_map (λ telling. map (λ peer. record { teller = e; peer = peer; telling = telling }) (steady_peers t c p new k e))
     (changed (exports_of t c e) (exports_of t new e)) x i in
@@ -161,9 +161,9 @@ told-news t c p new k e h x i =
 
 all-told : (t : Network) (c : Config) (p : Peerings) (new : Config) (k : Peerings) (st : Step) → fits t st ≡ true → JoinEdges t c
     → AllTold t (vpn.told_in t c p new k st)
-all-told t c p new k st fit h x i = elim (in_append (vpn.replies t new p st) (flat_map (vpn.news t c p new k) (edges t)) x i) [
+all-told t c p new k st fit h x i = elim (in_append (vpn.bgp_replies t new p st) (flat_map (vpn.route_news t c p new k) (edges t)) x i) [
   | inl j ↦ told-replies t new p st fit x j
-  | inr j ↦ let m = in_flat_map (vpn.news t c p new k) (edges t) x j in told-news t c p new k m.0 h x m.2
+  | inr j ↦ let m = in_flat_map (vpn.route_news t c p new k) (edges t) x j in told-news t c p new k m.0 h x m.2
 ]
 
 joins-put : (t : Network) (c : Config) (a b : ℕ) (on : Bool) → AreEdges t a b → JoinEdges t c → JoinEdges t (record c { bgp_on = put_pair c.bgp_on a b on })
@@ -220,21 +220,21 @@ step-made t w v p q st differ fit h linked x i = elim (in_append (notices_in t s
   | inr j ↦ elim (in_append (messages_in t w v st) (routes_in t w v st ++ frames_in p q st) x j) [
     | inl k ↦ if-made t (is_transport st) (map message_of said)
         (λ y m. let f = in_map message_of said y m in subst (λ (z : Channel × Load). IsOfChannel t z.0 z.1) f.2
-        (all-said t w.config v.config w.views v.views w.sessions (counted t w.sessions st) st differ fit f.0 f.1)) x k
+        (all-said t w.config v.config w.views v.views w.sessions (ldp_counted t w.sessions st) st differ fit f.0 f.1)) x k
     | inr k ↦ elim (in_append (routes_in t w v st) (frames_in p q st) x k) [
       | inl r ↦ if-made t (is_routing st) (map route_of told)
           (λ y m. let f = in_map route_of told y m in subst (λ (z : Channel × Load). IsOfChannel t z.0 z.1) f.2
-          (all-told t w.config w.peerings v.config (vpn.counted w.peerings st) st fit h f.0 f.1)) x r
+          (all-told t w.config w.peerings v.config (vpn.bgp_counted w.peerings st) st fit h f.0 f.1)) x r
       | inr r ↦ frames-made t p q st linked x r
     ]
   ]
 ]
   where
     said : List Said
-    said = said_in t w.config w.views w.sessions v.config v.views (counted t w.sessions st) st
+    said = said_in t w.config w.views w.sessions v.config v.views (ldp_counted t w.sessions st) st
 
     told : List Told
-    told = vpn.told_in t w.config w.peerings v.config (vpn.counted w.peerings st) st
+    told = vpn.told_in t w.config w.peerings v.config (vpn.bgp_counted w.peerings st) st
 
 -- 4. Over a journal
 
@@ -274,10 +274,10 @@ channels_are t es ps item lawful journal c =
 
 none_between : (t : Network) (edge : ℕ) (xs : List Told) → AllTold t xs → vpn.tellings_of edge edge xs ≡ []
 none_between t edge [] h = refl
-none_between t edge (x ∷ xs) h = by_test (vpn.is_between edge edge x) refl (none_between t edge xs (λ y i. h y (inr i)))
+none_between t edge (x ∷ xs) h = by_test (vpn.is_from_to edge edge x) refl (none_between t edge xs (λ y i. h y (inr i)))
   where
-    by_test : (b : Bool) → vpn.is_between edge edge x ≡ b → vpn.tellings_of edge edge xs ≡ []
-        → map (λ (told : Told). told.telling) (cond b (x ∷ filter (vpn.is_between edge edge) xs) (filter (vpn.is_between edge edge) xs)) ≡ []
+    by_test : (b : Bool) → vpn.is_from_to edge edge x ≡ b → vpn.tellings_of edge edge xs ≡ []
+        → map (λ (told : Told). told.telling) (cond b (x ∷ filter (vpn.is_from_to edge edge) xs) (filter (vpn.is_from_to edge edge) xs)) ≡ []
     by_test true e rest =
         let parts = and_parts (x.teller == edge) (x.peer == edge) e in
         absurd ((h x (inl refl)).2 (same_numbers x.teller edge parts.0 ∙ sym (same_numbers x.peer edge parts.1)))
@@ -295,19 +295,19 @@ cleared f a b edge h = elim (eqb_tells edge a) [
   ]
 ]
 
-still_none : (p : Peerings) (st : Step) → NoneToItself p → NoneToItself (vpn.counted p st)
+still_none : (p : Peerings) (st : Step) → NoneToItself p → NoneToItself (vpn.bgp_counted p st)
 still_none p (step.BgpUp a b) h edge = cleared (put_pair p.told a.0 b.0 []) b.0 a.0 edge (cleared p.told a.0 b.0 edge (h edge))
 still_none p (step.BgpDown a b) h edge = cleared (put_pair p.told a.0 b.0 []) b.0 a.0 edge (cleared p.told a.0 b.0 edge (h edge))
 still_none p _ h edge = h edge
 
 none_go_on : (t : Network) (w : World) (st : Step) → fits t st ≡ true → JoinEdges t w.config → NoneToItself w.peerings
-    → (edge : ℕ) → (vpn.counted w.peerings st).told edge edge ++ vpn.tellings_of edge edge
-    (vpn.told_in t w.config w.peerings (config_after w.config st) (vpn.counted w.peerings st) st) ≡ []
+    → (edge : ℕ) → (vpn.bgp_counted w.peerings st).told edge edge ++ vpn.tellings_of edge edge
+    (vpn.told_in t w.config w.peerings (config_after w.config st) (vpn.bgp_counted w.peerings st) st) ≡ []
 none_go_on t w st fit joins h edge =
-    ap (λ xs. xs ++ vpn.tellings_of edge edge (vpn.told_in t w.config w.peerings (config_after w.config st) (vpn.counted w.peerings st) st))
+    ap (λ xs. xs ++ vpn.tellings_of edge edge (vpn.told_in t w.config w.peerings (config_after w.config st) (vpn.bgp_counted w.peerings st) st))
     (still_none w.peerings st h edge)
-    ∙ none_between t edge (vpn.told_in t w.config w.peerings (config_after w.config st) (vpn.counted w.peerings st) st)
-    (all-told t w.config w.peerings (config_after w.config st) (vpn.counted w.peerings st) st fit joins)
+    ∙ none_between t edge (vpn.told_in t w.config w.peerings (config_after w.config st) (vpn.bgp_counted w.peerings st) st)
+    (all-told t w.config w.peerings (config_after w.config st) (vpn.bgp_counted w.peerings st) st fit joins)
 
 none_go : (t : Network) (w : World) (st : Step) → fits t st ≡ true → JoinEdges t w.config → NoneToItself w.peerings → NoneToItself (after t w st).peerings
 unfolding peerings_after

@@ -21,7 +21,7 @@ use Rattle.mn_ledger.specs.Packets.{Packets, bound, hop_over, drop_at, deliver, 
 use Rattle.mn_ledger.proofs.Members.{in_contained, filter_in, passes_none}
 use Rattle.mn_ledger.proofs.Peers.{two_ways}
 use Rattle.mn_ledger.proofs.Choice.{in_first, from_unbeaten, none_matches}
-use Rattle.mn_laws.specs.Accounts.{routes_at, MayEnter, FallsTo, entry_rules, has_no_path, is_out_of_reach, applies_at_entry}
+use Rattle.mn_laws.specs.Accounts.{routes_at, MayEnter, FallsTo, rules_at_entry, has_no_path, is_out_of_reach, applies_at_entry}
 use Rattle.mn_laws.proofs.Elsewhere.{arms_by}
 use Rattle.mn_ledger.proofs.OneKind.{one_passes}
 
@@ -38,7 +38,7 @@ pub record Passes (t : Network) (w : World) (site : ℕ) (b : List ℕ) : Type 0
   pub unicast : is_unicast (destination_of b) ≡ true
 
 abbrev pub Falls : Network → World → ℕ → List ℕ → Rule → Type 0
-Falls t w site b cause = FallsTo entry_rules (applies_at_entry t w site b) cause
+Falls t w site b cause = FallsTo rules_at_entry (applies_at_entry t w site b) cause
 
 abbrev Tells : Network → World → ℕ → List ℕ → Option Rule → Type 0
 Tells t w site b (Some cause) = Falls t w site b cause

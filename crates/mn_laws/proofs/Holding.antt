@@ -18,7 +18,7 @@ use Rattle.mn_node.specs.Ldp.{Knowledge, is_operational, offers, offered, mentio
 use Rattle.mn_ledger.specs.Tables.{put}
 use Rattle.mn_ledger.specs.Places.{loopback, vrf_at, vrf_of, edge_of, home_of, edges}
 use Rattle.mn_ledger.specs.World.{Config, Views, Sessions, Export, Announce, Peerings, World}
-use Rattle.mn_ledger.specs.Transport.{is_active, lives, opening, replies, speakers, said_in, counted, knowledge_of, views_after, sessions_after}
+use Rattle.mn_ledger.specs.Transport.{is_active, lives, opening, ldp_replies, speakers, said_in, ldp_counted, knowledge_of, views_after, sessions_after}
 use Rattle.mn_ledger.specs.Vpn.{HeldRoute, Own, Near, Far, held_by, meet, own_routes, near_routes, far_routes, imported, exports_of, heard_of, believed, held}
 use Rattle.mn_ledger.specs.Ledger.{config_after, after, start, world_from, world_of}
 use Rattle.mn_ledger.specs.Lawful.{IsLawfulJournal}
@@ -190,7 +190,7 @@ nth_nodes t (m ∷ ms) (suc k) h = nth_nodes t ms k (λ x i. h x (inr i))
 opening_nodes : (t : Network) (c : Config) (l : ℕ) → AllSaid t (opening t c l)
 opening_nodes t c l = arms (AllSaid t) (lives c l) _ _ (said_nodes t l _ (Initialization ∷ []) (one_node t Initialization tt)) (none_said t)
 
-replies_nodes : (t : Network) (c : Config) (s : Sessions) (x : Step) → SaidNamed t s → AllSaid t (replies t c s x)
+replies_nodes : (t : Network) (c : Config) (s : Sessions) (x : Step) → SaidNamed t s → AllSaid t (ldp_replies t c s x)
 replies_nodes t c s (LinkUp l) h = opening_nodes t c l.0
 replies_nodes t c s (LdpAdmin l on) h = opening_nodes t c l.0
 replies_nodes t c s (HearLdp l dir) h =
@@ -204,7 +204,7 @@ replies_nodes t c s _ h = none_said t
 said_in_nodes : (t : Network) (c : Config) (v : Views) (s : Sessions) (new : Config) (nv : Views) (k : Sessions) (x : Step) → SaidNamed t s
     → AllSaid t (said_in t c v s new nv k x)
 said_in_nodes t c v s new nv k x h =
-    join_said t (replies t new s x)
+    join_said t (ldp_replies t new s x)
     (flat_map (λ node. news (wiring_of t) (knowledge_of (wiring_of t) c v s node) (knowledge_of (wiring_of t) new nv k node) node)
     (speakers (wiring_of t) x)) (replies_nodes t new s x h)
     (λ y i. let f = in_flat_map (λ node. news (wiring_of t) (knowledge_of (wiring_of t) c v s node) (knowledge_of (wiring_of t) new nv k node) node)
@@ -223,21 +223,21 @@ cleared t f at l node h = split (l == at)
     split true = none_answered t
     split false = h
 
-still_named : (t : Network) (s : Sessions) (x : Step) → SaidNamed t s → SaidNamed t (counted t s x)
+still_named : (t : Network) (s : Sessions) (x : Step) → SaidNamed t s → SaidNamed t (ldp_counted t s x)
 still_named t s (LinkUp at) h = λ l node. cleared t s.said at.0 l node (h l node)
 still_named t s (LinkDown at) h = λ l node. cleared t s.said at.0 l node (h l node)
 still_named t s (LdpAdmin at on) h = λ l node. cleared t s.said at.0 l node (h l node)
 still_named t s _ h = h
 
 said_go_on : (t : Network) (w : World) (x : Step) → SaidNamed t w.sessions → (l node : ℕ)
-    → AllNodes t ((counted t w.sessions x).said l node ++ messages_of l node
-    (said_in t w.config w.views w.sessions (config_after w.config x) (views_after w.views x) (counted t w.sessions x) x))
+    → AllNodes t ((ldp_counted t w.sessions x).said l node ++ messages_of l node
+    (said_in t w.config w.views w.sessions (config_after w.config x) (views_after w.views x) (ldp_counted t w.sessions x) x))
 said_go_on t w x h l node m i =
-    let new : List Said = said_in t w.config w.views w.sessions (config_after w.config x) (views_after w.views x) (counted t w.sessions x) x in
-    elim (in_append ((counted t w.sessions x).said l node) (messages_of l node new) m i) [
+    let new : List Said = said_in t w.config w.views w.sessions (config_after w.config x) (views_after w.views x) (ldp_counted t w.sessions x) x in
+    elim (in_append ((ldp_counted t w.sessions x).said l node) (messages_of l node new) m i) [
       | inl j ↦ still_named t w.sessions x h l node m j
       | inr j ↦ messages_nodes t l node new
-          (said_in_nodes t w.config w.views w.sessions (config_after w.config x) (views_after w.views x) (counted t w.sessions x) x h) m j
+          (said_in_nodes t w.config w.views w.sessions (config_after w.config x) (views_after w.views x) (ldp_counted t w.sessions x) x h) m j
     ]
 
 said_go : (t : Network) (w : World) (x : Step) → SaidNamed t w.sessions → SaidNamed t (after t w x).sessions

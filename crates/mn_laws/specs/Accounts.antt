@@ -160,8 +160,8 @@ pub record FallsTo (rules : List Rule) (applies : Rule → Bool) (rule : Rule) :
   pub not_before : list_any applies earlier ≡ false
 
 -- the rules at entry, in the order in which they are tried
-abbrev pub entry_rules : List Rule
-entry_rules =
+abbrev pub rules_at_entry : List Rule
+rules_at_entry =
     rule.SiteDown ∷ rule.NotIpv4 ∷ rule.Malformed ∷ rule.Truncated ∷ rule.BadChecksum ∷ rule.TtlExpired ∷ rule.NotUnicast ∷ rule.NoRoute
     ∷ rule.NoLsp ∷ []
 
@@ -214,7 +214,7 @@ EndsInFlight topology world _ link dir route ttl cause node = ⊥
 pub record FellAtEntry (topology : Network) (entries : List JournalEntry) (sending : Sending) (cause : Rule) (node : NodeNo) (when : ℕ) : Type 0 where
   pub at_once : when ≡ sending.place
   pub at_edge : node.0 ≡ home_of topology sending.site
-  pub by_rule : FallsTo entry_rules (applies_at_entry topology (world_at topology entries when) sending.site sending.bytes) cause
+  pub by_rule : FallsTo rules_at_entry (applies_at_entry topology (world_at topology entries when) sending.site sending.bytes) cause
 
 -- it flew, bound for the best route that its VRF held as it was sent, and the step ended it
 pub record FellInFlight (topology : Network) (entries : List JournalEntry) (inputs : List (List ℕ)) (sending : Sending) (cause : Rule) (node : NodeNo)

@@ -8,7 +8,7 @@ use Rattle.mn_node.specs.Ldp.{Message, Initialization}
 use Rattle.mn_ledger.specs.Ledger.{world_of}
 use Rattle.mn_ledger.specs.Items.{Messages, Frames, Says, Item, items_on, loads_on, made_by}
 
--- 1. LDP: RFC 5036, section 3.4.1
+-- 1. LDP: RFC 5036, section 3.5
 
 -- the ids of messages that an end says one after another, after one of this id: each life begins with an Initialization, of id 1
 abbrev pub ids_after : ℕ → List Message → List ℕ

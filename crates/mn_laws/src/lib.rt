@@ -82,7 +82,7 @@ pub fn a_node_says_what_has_become_of_its_offers()
 {}
 
 /// After a lawful journal what an end of a link said in the session's present life is the last of all that it said on the link,
-/// and the ids of these messages are their places, from 1 (RFC 5036, section 3.4.1).
+/// and the ids of these messages are their places, from 1 (RFC 5036, section 3.5).
 pub fn ids_are_places_in_a_life()
     ensures { (topology : Network) (entries : List JournalEntry) (inputs : List (List ℕ)) (l end : ℕ) →
         IsLawful topology → IsLawfulJournal topology entries inputs → l < length topology.links → is_end (wiring_of topology) l end ≡ true →

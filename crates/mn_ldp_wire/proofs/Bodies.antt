@@ -12,7 +12,7 @@ use Rattle.mn_ldp_wire.specs.declared.refusal.WireBad.{WireBad}
 use Rattle.mn_ldp_wire.specs.declared.refusal.WireBad.TheVariants.{UnknownMessage, BadTlv, BadFec}
 use Rattle.mn_ldp_wire.specs.Grammar.{IsBytes, framed, FitsFrame, prefix_element, status_value, session_parameters, address_list, binding, type_of}
 use Rattle.mn_ldp_wire.specs.Grammar.{mandatory_tlvs, IsStatus, IsAsked, AreAddresses, IsBinding, IsLawful}
-use Rattle.mn_ldp_wire.specs.Reading.{◌>>=◌, mandatory_at, prefix_of, label_of, addresses_of, is_address_list, asked, notification_of, initialization_of}
+use Rattle.mn_ldp_wire.specs.Reading.{◌>>=◌, mandatory_at, prefix_of, read_label, addresses_of, is_address_list, asked, notification_of, initialization_of}
 use Rattle.mn_ldp_wire.specs.Reading.{address_message_of, binding_of, bound, body_of}
 use Rattle.mn_ldp_wire.proofs.InOrder.{bind_ok}
 use Rattle.mn_ldp_wire.proofs.Frames.{IsDue, mandatory_is, mandatory_again}
@@ -47,12 +47,12 @@ notification_is : (tlvs rest : List ℕ) (body : LdpBody) → IsBytes tlvs → n
 unfolding notification_of
 notification_is tlvs rest body h e =
     let m = bind_ok (mandatory_at 0x0300 tlvs)
-        (λ status. if length status.0 == 10 then Ok
-        (Notification (big_number 4 status.0) (big_number 4 (drop 4 status.0)) (big_number 2 (drop 8 status.0)), status.1) else Err BadTlv)
-        (body, rest) e in
+    (λ status. if length status.0 == 10 then Ok
+    (Notification (big_number 4 status.0) (big_number 4 (drop 4 status.0)) (big_number 2 (drop 8 status.0)), status.1) else Err BadTlv)
+    (body, rest) e in
     let value = m.0.0 in
     let t = chosen (length value == 10) BadTlv (Notification (big_number 4 value) (big_number 4 (drop 4 value)) (big_number 2 (drop 8 value)), m.0.1)
-        (body, rest) m.2 in
+    (body, rest) m.2 in
     let due = mandatory_is 0x0300 tlvs value m.0.1 h m.1 in
     let s = status_is value due.value_bytes (eqb-true _ _ t.0) in
     subst (λ (p : LdpBody × List ℕ). Says tlvs p.0 p.1 × (type_of p.0 ≡ 0x0001)) t.1 (
@@ -96,16 +96,16 @@ initialization_is : (tlvs rest : List ℕ) (body : LdpBody) → IsBytes tlvs →
 unfolding initialization_of
 initialization_is tlvs rest body h e =
     let m = bind_ok (mandatory_at 0x0500 tlvs) (λ parameters. if length parameters.0 == 14 then Ok (asked parameters.0, parameters.1) else Err BadTlv)
-        (body, rest) e in
+    (body, rest) e in
     let value = m.0.0 in
     let t = chosen (length value == 14) BadTlv (asked value, m.0.1) (body, rest) m.2 in
     let due = mandatory_is 0x0500 tlvs value m.0.1 h m.1 in
     subst (λ (p : LdpBody × List ℕ). Says tlvs p.0 p.1 × (type_of p.0 ≡ 0x0200)) t.1
-        (asked_says tlvs value m.0.1 (asked value) due (session_is value due.value_bytes (eqb-true _ _ t.0)), refl)
+    (asked_says tlvs value m.0.1 (asked value) due (session_is value due.value_bytes (eqb-true _ _ t.0)), refl)
 
 initialization_again : (version keepalive flags limit greatest : ℕ) (receiver : LdpId) (rest : List ℕ) → IsAsked version keepalive flags limit greatest receiver
     → initialization_of (framed 0x0500 (session_parameters version keepalive flags limit greatest receiver) ++ rest) ≡ Ok
-        (Initialization version keepalive flags limit greatest receiver, rest)
+    (Initialization version keepalive flags limit greatest receiver, rest)
 unfolding initialization_of
 initialization_again version keepalive flags limit greatest receiver rest a =
     let value = session_parameters version keepalive flags limit greatest receiver in
@@ -120,7 +120,7 @@ address_message_is : (tlvs rest : List ℕ) (body : LdpBody) → IsBytes tlvs �
 unfolding address_message_of
 address_message_is tlvs rest body h e =
     let m = bind_ok (mandatory_at 0x0101 tlvs) (λ list. if is_address_list list.0 then Ok (Address (addresses_of (drop 2 list.0)), list.1) else Err BadTlv)
-        (body, rest) e in
+    (body, rest) e in
     let value = m.0.0 in
     let t = chosen (is_address_list value) BadTlv (Address (addresses_of (drop 2 value)), m.0.1) (body, rest) m.2 in
     let due = mandatory_is 0x0101 tlvs value m.0.1 h m.1 in
@@ -154,18 +154,18 @@ binding_is : (tlvs rest : List ℕ) (prefix : AddressBlock) (label : ℕ) → Is
 unfolding binding_of
 binding_is tlvs rest prefix label h e =
     let m = bind_ok (mandatory_at 0x0100 tlvs)
-        (λ fec. ok_or (prefix_of fec.0) BadFec >>= λ prefix. mandatory_at 0x0200 fec.1 >>= λ value. ok_or (label_of value.0) BadTlv >>= λ label. Ok
-        (prefix, label, value.1)) (prefix, label, rest) e in
+    (λ fec. ok_or (prefix_of fec.0) BadFec >>= λ prefix. mandatory_at 0x0200 fec.1 >>= λ value. ok_or (read_label value.0) BadTlv >>= λ label. Ok
+    (prefix, label, value.1)) (prefix, label, rest) e in
     let p = bind_ok (ok_or (prefix_of m.0.0) BadFec)
-        (λ prefix. mandatory_at 0x0200 m.0.1 >>= λ value. ok_or (label_of value.0) BadTlv >>= λ label. Ok (prefix, label, value.1))
-        (prefix, label, rest) m.2 in
-    let v = bind_ok (mandatory_at 0x0200 m.0.1) (λ value. ok_or (label_of value.0) BadTlv >>= λ label. Ok (p.0, label, value.1)) (prefix, label, rest) p.2 in
-    let l = bind_ok (ok_or (label_of v.0.0) BadTlv) (λ label. Ok (p.0, label, v.0.1)) (prefix, label, rest) v.2 in
+    (λ prefix. mandatory_at 0x0200 m.0.1 >>= λ value. ok_or (read_label value.0) BadTlv >>= λ label. Ok (prefix, label, value.1))
+    (prefix, label, rest) m.2 in
+    let v = bind_ok (mandatory_at 0x0200 m.0.1) (λ value. ok_or (read_label value.0) BadTlv >>= λ label. Ok (p.0, label, value.1)) (prefix, label, rest) p.2 in
+    let l = bind_ok (ok_or (read_label v.0.0) BadTlv) (λ label. Ok (p.0, label, v.0.1)) (prefix, label, rest) v.2 in
     let all = ok_is (p.0, l.0, v.0.1) (prefix, label, rest) l.2 in
     let fec = mandatory_is 0x0100 tlvs m.0.0 m.0.1 h m.1 in
     let element = element_is m.0.0 p.0 fec.value_bytes (some_of (prefix_of m.0.0) BadFec p.0 p.1) in
     let value = mandatory_is 0x0200 m.0.1 v.0.0 v.0.1 fec.rest_bytes v.1 in
-    let lawful = label_is v.0.0 l.0 value.value_bytes (some_of (label_of v.0.0) BadTlv l.0 l.1) in
+    let lawful = label_is v.0.0 l.0 value.value_bytes (some_of (read_label v.0.0) BadTlv l.0 l.1) in
     subst (λ (x : AddressBlock × ℕ × List ℕ). Binds tlvs x.0 x.1 x.2) all (record {
       whole =
           fec.whole
@@ -183,12 +183,18 @@ binding_again prefix label rest b =
     let element = prefix_element prefix in
     let small = length-element prefix in
     let fec : mandatory_at 0x0100 (framed 0x0100 element ++ (framed 0x0200 (big_bytes 4 label) ++ rest)) ≡ Ok
-        (element, framed 0x0200 (big_bytes 4 label) ++ rest) =
+    (element, framed 0x0200 (big_bytes 4 label) ++ rest) =
     mandatory_again 0x0100 element (framed 0x0200 (big_bytes 4 label) ++ rest) (fits_of 0x0100 element (omega arith) (omega arith)) in
     let value : mandatory_at 0x0200 (framed 0x0200 (big_bytes 4 label) ++ rest) ≡ Ok (big_bytes 4 label, rest) =
     mandatory_again 0x0200 (big_bytes 4 label) rest (fits_of 0x0200 (big_bytes 4 label) (omega arith) (omega arith)) in
-    rw (append_assoc (framed 0x0100 element) (framed 0x0200 (big_bytes 4 label)) rest, fec, element_again prefix b.is_prefix, value, label_again label
-        b.is_label) refl
+    rw (
+      append_assoc (framed 0x0100 element) (framed 0x0200 (big_bytes 4 label)) rest,
+      fec,
+      element_again prefix b.is_prefix,
+      value,
+      label_again label
+          b.is_label,
+    ) refl
 
 -- ---- by the type of the message
 
@@ -205,22 +211,43 @@ mapping_is : (tlvs rest : List ℕ) (body : LdpBody) → IsBytes tlvs → bound 
 mapping_is tlvs rest body h e =
     let b = bind_ok (binding_of tlvs) (λ b. Ok (Mapping b.0 b.1, b.2)) (body, rest) e in
     let s = binding_is tlvs b.0.2 b.0.0 b.0.1 h b.1 in
-    subst (λ (p : LdpBody × List ℕ). Says tlvs p.0 p.1 × (type_of p.0 ≡ 0x0400)) (ok_is (Mapping b.0.0 b.0.1, b.0.2) (body, rest) b.2) (record { whole =
-        s.whole; lawful = s.lawful; rest_bytes = s.rest_bytes }, refl)
+    subst (λ (p : LdpBody × List ℕ). Says tlvs p.0 p.1 × (type_of p.0 ≡ 0x0400)) (ok_is (Mapping b.0.0 b.0.1, b.0.2) (body, rest) b.2) (
+      record {
+        whole =
+            s.whole;
+        lawful = s.lawful;
+        rest_bytes = s.rest_bytes;
+      },
+      refl,
+    )
 
 withdraw_is : (tlvs rest : List ℕ) (body : LdpBody) → IsBytes tlvs → bound Withdraw tlvs ≡ Ok (body, rest) → Says tlvs body rest × (type_of body ≡ 0x0402)
 withdraw_is tlvs rest body h e =
     let b = bind_ok (binding_of tlvs) (λ b. Ok (Withdraw b.0 b.1, b.2)) (body, rest) e in
     let s = binding_is tlvs b.0.2 b.0.0 b.0.1 h b.1 in
-    subst (λ (p : LdpBody × List ℕ). Says tlvs p.0 p.1 × (type_of p.0 ≡ 0x0402)) (ok_is (Withdraw b.0.0 b.0.1, b.0.2) (body, rest) b.2) (record { whole =
-        s.whole; lawful = s.lawful; rest_bytes = s.rest_bytes }, refl)
+    subst (λ (p : LdpBody × List ℕ). Says tlvs p.0 p.1 × (type_of p.0 ≡ 0x0402)) (ok_is (Withdraw b.0.0 b.0.1, b.0.2) (body, rest) b.2) (
+      record {
+        whole =
+            s.whole;
+        lawful = s.lawful;
+        rest_bytes = s.rest_bytes;
+      },
+      refl,
+    )
 
 release_is : (tlvs rest : List ℕ) (body : LdpBody) → IsBytes tlvs → bound Release tlvs ≡ Ok (body, rest) → Says tlvs body rest × (type_of body ≡ 0x0403)
 release_is tlvs rest body h e =
     let b = bind_ok (binding_of tlvs) (λ b. Ok (Release b.0 b.1, b.2)) (body, rest) e in
     let s = binding_is tlvs b.0.2 b.0.0 b.0.1 h b.1 in
-    subst (λ (p : LdpBody × List ℕ). Says tlvs p.0 p.1 × (type_of p.0 ≡ 0x0403)) (ok_is (Release b.0.0 b.0.1, b.0.2) (body, rest) b.2) (record { whole =
-        s.whole; lawful = s.lawful; rest_bytes = s.rest_bytes }, refl)
+    subst (λ (p : LdpBody × List ℕ). Says tlvs p.0 p.1 × (type_of p.0 ≡ 0x0403)) (ok_is (Release b.0.0 b.0.1, b.0.2) (body, rest) b.2) (
+      record {
+        whole =
+            s.whole;
+        lawful = s.lawful;
+        rest_bytes = s.rest_bytes;
+      },
+      refl,
+    )
 
 typed : (kind type : ℕ) (tlvs rest : List ℕ) (body : LdpBody) → (kind == type) ≡ true → Says tlvs body rest × (type_of body ≡ type) → IsRead kind tlvs body rest
 typed kind type tlvs rest body same s = record { kind_is = eqb-true _ _ same ∙ sym s.1; says = s.0 }
@@ -233,8 +260,11 @@ body_is kind tlvs rest body h e =
       | inr e ↦ elim (either (kind == 0x0200) (initialization_of tlvs) _ (Ok (body, rest)) e) [
         | inl p ↦ typed kind 0x0200 tlvs rest body p.0 (initialization_is tlvs rest body h p.1)
         | inr e ↦ elim (either (kind == 0x0201) (Ok (KeepAlive, tlvs)) _ (Ok (body, rest)) e) [
-          | inl p ↦ subst (λ (q : LdpBody × List ℕ). IsRead kind tlvs q.0 q.1) (ok_is (KeepAlive, tlvs) (body, rest) p.1) (record { kind_is =
-              eqb-true _ _ p.0; says = record { whole = refl; lawful = tt; rest_bytes = h } })
+          | inl p ↦ subst (λ (q : LdpBody × List ℕ). IsRead kind tlvs q.0 q.1) (ok_is (KeepAlive, tlvs) (body, rest) p.1) (record {
+            kind_is =
+                eqb-true _ _ p.0;
+            says = record { whole = refl; lawful = tt; rest_bytes = h };
+          })
           | inr e ↦ elim (either (kind == 0x0300) (address_message_of tlvs) _ (Ok (body, rest)) e) [
             | inl p ↦ typed kind 0x0300 tlvs rest body p.0 (address_message_is tlvs rest body h p.1)
             | inr e ↦ elim (either (kind == 0x0400) (bound Mapping tlvs) _ (Ok (body, rest)) e) [

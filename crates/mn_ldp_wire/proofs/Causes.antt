@@ -64,14 +64,22 @@ refused_by_first n bytes bad (Err other) is h some most e again =
     let all : messages_of bytes ≡ Err other = messages_bad bytes other some is in
     let both : messages_of bytes ≡ Err bad = e in
     let same : other ≡ bad = cc in
-    record { before = []; rest = bytes; said = []; whole = refl; are_said = refl; some = some; refused =
-        message_bad bytes bad h (is ∙ ap (λ (x : WireBad). Err x) same) }
+    record {
+      before = [];
+      rest = bytes;
+      said = [];
+      whole = refl;
+      are_said = refl;
+      some = some;
+      refused =
+          message_bad bytes bad h (is ∙ ap (λ (x : WireBad). Err x) same);
+    }
 refused_by_first n bytes bad (Ok first) is h some most e again =
     let f = in_front bytes first.1 first.0 h is in
     let s = message_shorter bytes first.1 first.0 is in
     one_before bytes first.1 first.0 bad f
-        (again first.1 f.rest_bytes (omega arith)
-        (bad_behind (option_to_list first.0) (messages_of first.1) bad (sym (messages_more bytes first.1 first.0 is) ∙ e)))
+    (again first.1 f.rest_bytes (omega arith)
+    (bad_behind (option_to_list first.0) (messages_of first.1) bad (sym (messages_more bytes first.1 first.0 is) ∙ e)))
 
 refused_within : (n : ℕ) (bytes : List ℕ) (bad : WireBad) → IsBytes bytes → length bytes ≤ n → messages_of bytes ≡ Err bad → IsMessageRefused bytes bad
 refused_within n [] bad h most e = absurd (let none = messages_nil [] refl in cc)
@@ -113,9 +121,9 @@ bad_is x y e = cc
 refused_by_tests : (bytes : List ℕ) (bad : WireBad) (a b c : Bool) → IsBytes bytes → nat_lt (length bytes) 10 ≡ a → not (big_number 2 bytes == 1) ≡ b →
     (not (size_at bytes == length bytes - 4) || (length bytes == 10)) ≡ c
     → cond {A =
-        Result PduContents WireBad} a (Err Short) (cond {A =
-        Result PduContents WireBad} b (Err BadVersion) (cond {A =
-        Result PduContents WireBad} c (Err BadPduLength) (packed bytes (messages_of (drop 10 bytes))))) ≡ failed bad
+    Result PduContents WireBad} a (Err Short) (cond {A =
+    Result PduContents WireBad} b (Err BadVersion) (cond {A =
+    Result PduContents WireBad} c (Err BadPduLength) (packed bytes (messages_of (drop 10 bytes))))) ≡ failed bad
     → IsRefused bytes bad
 refused_by_tests bytes bad true b c h ta tb tc e = inl (ltb-true _ _ ta, bad_is Short bad e)
 refused_by_tests bytes bad false true c h ta tb tc e = inr (inl (ltb-false _ _ ta, eqb-false _ _ (not-true _ tb), bad_is BadVersion bad e))
@@ -123,8 +131,11 @@ refused_by_tests bytes bad false false true h ta tb tc e =
     inr (inr (inl (
       ltb-false _ _ ta,
       eqb-true _ _ (not-false _ tb),
-      elim (or_cases (not (size_at bytes == length bytes - 4)) (length bytes == 10) tc) [ inl size ↦ inl (eqb-false _ _ (not-true _ size)) | inr none ↦ inr
-          (eqb-true _ _ none) ],
+      elim (or_cases (not (size_at bytes == length bytes - 4)) (length bytes == 10) tc) [
+        | inl size ↦ inl (eqb-false _ _ (not-true _ size))
+        | inr none ↦ inr
+            (eqb-true _ _ none)
+      ],
       bad_is BadPduLength bad e,
     )))
 refused_by_tests bytes bad false false false h ta tb tc e =
@@ -138,7 +149,7 @@ refused_is : (bytes : List ℕ) (bad : WireBad) → IsBytes bytes → pdu_of byt
 unfolding pdu_of
 refused_is bytes bad h e =
     refused_by_tests bytes bad (nat_lt (length bytes) 10) (not (big_number 2 bytes == 1))
-        (not (size_at bytes == length bytes - 4) || (length bytes == 10)) h refl refl refl e
+    (not (size_at bytes == length bytes - 4) || (length bytes == 10)) h refl refl refl e
 
 length_wrong : (bytes : List ℕ) → (size_at bytes ≢ length bytes - 4) ⊎ (length bytes ≡ 10) →
     (not (size_at bytes == length bytes - 4) || (length bytes == 10)) ≡ true
@@ -153,7 +164,7 @@ refused_again bytes bad h (inr (inr (inl size))) = rw (le-ltb _ _ size.0, eq-eqb
 refused_again bytes bad h (inr (inr (inr behind))) =
     let right = behind.0 in
     rw (le-ltb _ _ right.long, eq-eqb _ _ right.version, eq-eqb _ _ right.size, ne_eqb _ _ right.some)
-        (ap (packed bytes) (message_refused (drop 10 bytes) bad (IsBytes-drop 10 bytes h) behind.1))
+    (ap (packed bytes) (message_refused (drop 10 bytes) bad (IsBytes-drop 10 bytes h) behind.1))
 
 pub refused_where : (bytes : List ℕ) (bad : WireBad) → IsBytes bytes → (pdu_of bytes ≡ Err bad) ↔ IsRefused bytes bad
 refused_where bytes bad h = (λ e. refused_is bytes bad h e, λ r. refused_again bytes bad h r)

@@ -12,8 +12,8 @@ use Rattle.mn_ldp_wire.specs.declared.message.LdpBody.{LdpBody}
 use Rattle.mn_ldp_wire.specs.declared.message.LdpBody.TheVariants.{Notification, Initialization, KeepAlive, Address, Mapping, Withdraw, Release}
 use Rattle.mn_ldp_wire.specs.declared.refusal.WireBad.{WireBad}
 use Rattle.mn_ldp_wire.specs.declared.refusal.WireBad.TheVariants.{BadMessageLength, UnknownMessage, MissingTlv, BadTlv, BadFec}
-use Rattle.mn_ldp_wire.specs.Grammar.{IsBytes, framed, FitsFrame, u_bit, is_known, type_of, mandatory_tlvs, prefix_element, ArePassedOver}
-use Rattle.mn_ldp_wire.specs.Reading.{◌>>=◌, Front, front_of, due, mandatory_at, are_passed_over, prefix_of, label_of, addresses_of, is_address_list, asked}
+use Rattle.mn_ldp_wire.specs.Grammar.{IsBytes, framed, FitsFrame, u_bit, is_known_message, type_of, mandatory_tlvs, prefix_element, ArePassedOver}
+use Rattle.mn_ldp_wire.specs.Reading.{◌>>=◌, Front, front_of, due, mandatory_at, are_passed_over, prefix_of, read_label, addresses_of, is_address_list, asked}
 use Rattle.mn_ldp_wire.specs.Reading.{notification_of, initialization_of, address_message_of, binding_of, bound, body_of, said_of, message_in, message_at}
 use Rattle.mn_ldp_wire.specs.Refused.{IsStatusValue, AreParameters, IsAddressList, IsOnePrefix, IsLabelValue, IsMissing, IsNotDue, HasWrongValue}
 use Rattle.mn_ldp_wire.specs.Refused.{IsDueRefused, IsLabelRefused, IsMandatoryRefused, IsFurtherRefused, HasMessage, IsUnknownRefused, AreTlvsRefused}
@@ -81,7 +81,7 @@ due_again_by_test kind bytes front false test f other = refl
 due_again_by_test kind bytes front true test f other =
     let is : front.kind ≡ kind = eqb-true _ _ test in
     absurd (other front.value front.rest (subst (λ (k : ℕ). FitsFrame k front.value) is f.fits)
-        (f.whole ∙ ap (λ (k : ℕ). framed k front.value ++ front.rest) is))
+    (f.whole ∙ ap (λ (k : ℕ). framed k front.value ++ front.rest) is))
 
 due_again : (kind : ℕ) (bytes : List ℕ) (o : Option Front) → IsBytes bytes → front_of bytes ≡ o →
     ((value rest : List ℕ) → FitsFrame kind value → bytes ≢ framed kind value ++ rest) → due kind o ≡ Err BadTlv
@@ -126,9 +126,9 @@ one_bad : (kind : ℕ) (test : List ℕ → Bool) (body : List ℕ → LdpBody) 
     IsBytes tlvs → one kind test body tlvs ≡ Err bad → IsDueRefused kind IsRight BadTlv tlvs bad
 one_bad kind test body IsRight tlvs bad t h e =
     elim (bind_bad (mandatory_at kind tlvs) (λ v. cond {A = Result (LdpBody × List ℕ) WireBad} (test v.0) (Ok (body v.0, v.1)) (Err BadTlv)) bad e) [
-  | inl m ↦ elim (mandatory_bad kind tlvs bad m) [ inl missing ↦ inl missing | inr not_due ↦ inr (inl not_due) ]
-  | inr v ↦ inr (inr (wrong_by_test kind test IsRight (body v.0.0) tlvs v.0.0 v.0.1 bad (test v.0.0) t refl (mandatory_is kind tlvs v.0.0 v.0.1 h v.1) v.2))
-]
+      | inl m ↦ elim (mandatory_bad kind tlvs bad m) [ inl missing ↦ inl missing | inr not_due ↦ inr (inl not_due) ]
+      | inr v ↦ inr (inr (wrong_by_test kind test IsRight (body v.0.0) tlvs v.0.0 v.0.1 bad (test v.0.0) t refl (mandatory_is kind tlvs v.0.0 v.0.1 h v.1) v.2))
+    ]
 
 one_again : (kind : ℕ) (test : List ℕ → Bool) (body : List ℕ → LdpBody) (IsRight : List ℕ → Type 0) (tlvs : List ℕ) (bad : WireBad) → Tells test IsRight →
     IsBytes tlvs → IsDueRefused kind IsRight BadTlv tlvs bad → one kind test body tlvs ≡ Err bad
@@ -136,7 +136,7 @@ one_again kind test body IsRight tlvs bad t h (inl missing) = rw (missing_again 
 one_again kind test body IsRight tlvs bad t h (inr (inl not_due)) = rw (not_due_again kind tlvs bad h not_due) refl
 one_again kind test body IsRight tlvs bad t h (inr (inr w)) =
     let fails : test w.value ≡ false =
-        false_from_ne_true (test w.value) (λ passed. w.not_right (t.passes w.value (value_bytes kind tlvs w.value w.rest h w.fits w.whole).0 passed)) in
+    false_from_ne_true (test w.value) (λ passed. w.not_right (t.passes w.value (value_bytes kind tlvs w.value w.rest h w.fits w.whole).0 passed)) in
     let there : mandatory_at kind tlvs ≡ Ok (w.value, w.rest) = ap (mandatory_at kind) w.whole ∙ mandatory_again kind w.value w.rest w.fits in
     rw (there, fails) (ap (λ (b : WireBad). Err b) (sym w.bad_is))
 
@@ -175,9 +175,9 @@ abbrev failed : WireBad → Result (AddressBlock × ℕ × List ℕ) WireBad
 failed bad = Err bad
 
 abbrev labelled : AddressBlock → List ℕ → Result (AddressBlock × ℕ × List ℕ) WireBad
-labelled prefix rest = mandatory_at 0x0200 rest >>= λ value. ok_or (label_of value.0) BadTlv >>= λ label. Ok (prefix, label, value.1)
+labelled prefix rest = mandatory_at 0x0200 rest >>= λ value. ok_or (read_label value.0) BadTlv >>= λ label. Ok (prefix, label, value.1)
 
-wrong_label : (o : Option ℕ) (tlvs value rest : List ℕ) (prefix : AddressBlock) (bad : WireBad) → label_of value ≡ o → IsDue 0x0200 tlvs value rest →
+wrong_label : (o : Option ℕ) (tlvs value rest : List ℕ) (prefix : AddressBlock) (bad : WireBad) → read_label value ≡ o → IsDue 0x0200 tlvs value rest →
     (ok_or o BadTlv >>= λ label. Ok (prefix, label, rest)) ≡ failed bad → HasWrongValue 0x0200 IsLabelValue BadTlv tlvs bad
 wrong_label (Some label) tlvs value rest prefix bad is d e = absurd cc
 wrong_label None tlvs value rest prefix bad is d e = record {
@@ -185,19 +185,19 @@ wrong_label None tlvs value rest prefix bad is d e = record {
   rest = rest;
   fits = d.fits;
   whole = d.whole;
-  not_right = λ r. (let some = ap label_of r.2 ∙ label_again r.0 r.1 in cc);
+  not_right = λ r. (let some = ap read_label r.2 ∙ label_again r.0 r.1 in cc);
   bad_is = cc;
 }
 
 label_bad : (tlvs : List ℕ) (prefix : AddressBlock) (bad : WireBad) → IsBytes tlvs → labelled prefix tlvs ≡ failed bad →
     IsDueRefused 0x0200 IsLabelValue BadTlv tlvs bad
 label_bad tlvs prefix bad h e =
-    elim (bind_bad (mandatory_at 0x0200 tlvs) (λ value. ok_or (label_of value.0) BadTlv >>= λ label. Ok (prefix, label, value.1)) bad e) [
-  | inl m ↦ elim (mandatory_bad 0x0200 tlvs bad m) [ inl missing ↦ inl missing | inr not_due ↦ inr (inl not_due) ]
-  | inr v ↦ inr (inr (wrong_label (label_of v.0.0) tlvs v.0.0 v.0.1 prefix bad refl (mandatory_is 0x0200 tlvs v.0.0 v.0.1 h v.1) v.2))
-]
+    elim (bind_bad (mandatory_at 0x0200 tlvs) (λ value. ok_or (read_label value.0) BadTlv >>= λ label. Ok (prefix, label, value.1)) bad e) [
+      | inl m ↦ elim (mandatory_bad 0x0200 tlvs bad m) [ inl missing ↦ inl missing | inr not_due ↦ inr (inl not_due) ]
+      | inr v ↦ inr (inr (wrong_label (read_label v.0.0) tlvs v.0.0 v.0.1 prefix bad refl (mandatory_is 0x0200 tlvs v.0.0 v.0.1 h v.1) v.2))
+    ]
 
-none_label : (value : List ℕ) (o : Option ℕ) → IsBytes value → label_of value ≡ o → (IsLabelValue value → ⊥) → label_of value ≡ None
+none_label : (value : List ℕ) (o : Option ℕ) → IsBytes value → read_label value ≡ o → (IsLabelValue value → ⊥) → read_label value ≡ None
 none_label value None h is other = is
 none_label value (Some label) h is other = (let l = label_is value label h is in absurd (other (label, l.1, l.0)))
 
@@ -206,7 +206,8 @@ label_refused : (tlvs : List ℕ) (prefix : AddressBlock) (bad : WireBad) → Is
 label_refused tlvs prefix bad h (inl missing) = rw (missing_again 0x0200 tlvs bad missing) refl
 label_refused tlvs prefix bad h (inr (inl not_due)) = rw (not_due_again 0x0200 tlvs bad h not_due) refl
 label_refused tlvs prefix bad h (inr (inr w)) =
-    let none : label_of w.value ≡ None = none_label w.value (label_of w.value) (value_bytes 0x0200 tlvs w.value w.rest h w.fits w.whole).0 refl w.not_right in
+    let none : read_label w.value ≡ None =
+    none_label w.value (read_label w.value) (value_bytes 0x0200 tlvs w.value w.rest h w.fits w.whole).0 refl w.not_right in
     let there : mandatory_at 0x0200 tlvs ≡ Ok (w.value, w.rest) = ap (mandatory_at 0x0200) w.whole ∙ mandatory_again 0x0200 w.value w.rest w.fits in
     rw (there, none) (ap failed (sym w.bad_is))
 
@@ -250,16 +251,16 @@ binding_refused tlvs bad h (inl (inl missing)) = rw (missing_again 0x0100 tlvs b
 binding_refused tlvs bad h (inl (inr (inl not_due))) = rw (not_due_again 0x0100 tlvs bad h not_due) refl
 binding_refused tlvs bad h (inl (inr (inr w))) =
     let none : prefix_of w.value ≡ None =
-        none_prefix w.value (prefix_of w.value) (value_bytes 0x0100 tlvs w.value w.rest h w.fits w.whole).0 refl w.not_right in
+    none_prefix w.value (prefix_of w.value) (value_bytes 0x0100 tlvs w.value w.rest h w.fits w.whole).0 refl w.not_right in
     let there : mandatory_at 0x0100 tlvs ≡ Ok (w.value, w.rest) = ap (mandatory_at 0x0100) w.whole ∙ mandatory_again 0x0100 w.value w.rest w.fits in
     rw (there, none) (ap failed (sym w.bad_is))
 binding_refused tlvs bad h (inr l) =
     let small = length-element l.prefix in
     let fits : FitsFrame 0x0100 (prefix_element l.prefix) = record { kind_fits = omega arith; size_fits = omega arith } in
     let there : mandatory_at 0x0100 tlvs ≡ Ok (prefix_element l.prefix, l.rest) =
-        ap (mandatory_at 0x0100) l.whole ∙ mandatory_again 0x0100 (prefix_element l.prefix) l.rest fits in
+    ap (mandatory_at 0x0100) l.whole ∙ mandatory_again 0x0100 (prefix_element l.prefix) l.rest fits in
     rw (there, element_again l.prefix l.is_prefix)
-        (label_refused l.rest l.prefix bad (value_bytes 0x0100 tlvs (prefix_element l.prefix) l.rest h fits l.whole).1 l.refused)
+    (label_refused l.rest l.prefix bad (value_bytes 0x0100 tlvs (prefix_element l.prefix) l.rest h fits l.whole).1 l.refused)
 
 bound_bad : (body : AddressBlock → ℕ → LdpBody) (tlvs : List ℕ) (bad : WireBad) → IsBytes tlvs → bound body tlvs ≡ Err bad → IsBindingRefused tlvs bad
 bound_bad body tlvs bad h e = elim (bind_bad (binding_of tlvs) (λ b. Ok (body b.0 b.1, b.2)) bad e) [
@@ -280,25 +281,31 @@ abbrev refused : WireBad → Result (LdpBody × List ℕ) WireBad
 refused bad = Err bad
 
 unknown_kind : (kind : ℕ) → (kind == 0x0001) ≡ false → (kind == 0x0200) ≡ false → (kind == 0x0201) ≡ false → (kind == 0x0300) ≡ false →
-    (kind == 0x0400) ≡ false → (kind == 0x0402) ≡ false → (kind == 0x0403) ≡ false → is_known kind ≡ false
+    (kind == 0x0400) ≡ false → (kind == 0x0402) ≡ false → (kind == 0x0403) ≡ false → is_known_message kind ≡ false
 unknown_kind kind a b c d e f g = rw (a, b, c, d, e, f, g) refl
 
-body_bad : (kind : ℕ) (tlvs : List ℕ) (bad : WireBad) → is_known kind ≡ true → IsBytes tlvs → body_of kind tlvs ≡ Err bad → IsMandatoryRefused kind tlvs bad
+body_bad : (kind : ℕ) (tlvs : List ℕ) (bad : WireBad) → is_known_message kind ≡ true → IsBytes tlvs → body_of kind tlvs ≡ Err bad →
+    IsMandatoryRefused kind tlvs bad
 unfolding body_of notification_of initialization_of address_message_of
 body_bad kind tlvs bad known h e =
     elim (either (kind == 0x0001) (notification_of tlvs) _ (refused bad) e) [
-      | inl p ↦ inl
-          (eqb-true _ _ p.0, one_bad 0x0300 (λ value. length value == 10)
-          (λ value. Notification (big_number 4 value) (big_number 4 (drop 4 value)) (big_number 2 (drop 8 value))) IsStatusValue tlvs bad status_tells h
-          p.1)
+      | inl p ↦ inl (
+        eqb-true _ _ p.0,
+        one_bad 0x0300 (λ value. length value == 10)
+            (λ value. Notification (big_number 4 value) (big_number 4 (drop 4 value)) (big_number 2 (drop 8 value))) IsStatusValue tlvs bad status_tells h
+            p.1,
+      )
       | inr q1 ↦ elim (either (kind == 0x0200) (initialization_of tlvs) _ (refused bad) q1.1) [
         | inl p ↦ inr (inl (eqb-true _ _ p.0, one_bad 0x0500 (λ value. length value == 14) asked AreParameters tlvs bad parameters_tell h p.1))
         | inr q2 ↦ elim (either (kind == 0x0201) (Ok (KeepAlive, tlvs)) _ (refused bad) q2.1) [
           | inl p ↦ absurd (let never = p.1 in cc)
           | inr q3 ↦ elim (either (kind == 0x0300) (address_message_of tlvs) _ (refused bad) q3.1) [
             | inl p ↦ inr
-                (inr (inl (eqb-true _ _ p.0, one_bad 0x0101 is_address_list
-                (λ value. Address (addresses_of (drop 2 value))) IsAddressList tlvs bad list_tells h p.1)))
+                (inr (inl (
+                  eqb-true _ _ p.0,
+                  one_bad 0x0101 is_address_list
+                      (λ value. Address (addresses_of (drop 2 value))) IsAddressList tlvs bad list_tells h p.1,
+                )))
             | inr q4 ↦ elim (either (kind == 0x0400) (bound Mapping tlvs) _ (refused bad) q4.1) [
               | inl p ↦ inr (inr (inr (inl (eqb-true _ _ p.0), bound_bad Mapping tlvs bad h p.1)))
               | inr q5 ↦ elim (either (kind == 0x0402) (bound Withdraw tlvs) _ (refused bad) q5.1) [
@@ -314,7 +321,7 @@ body_bad kind tlvs bad known h e =
       ]
     ]
 
-body_unknown : (kind : ℕ) (tlvs : List ℕ) → is_known kind ≡ false → body_of kind tlvs ≡ Err UnknownMessage
+body_unknown : (kind : ℕ) (tlvs : List ℕ) → is_known_message kind ≡ false → body_of kind tlvs ≡ Err UnknownMessage
 unfolding body_of
 body_unknown kind tlvs h =
     let a = or_parts (kind == 0x0001) _ h in
@@ -330,7 +337,7 @@ body_refused : (kind : ℕ) (tlvs : List ℕ) (bad : WireBad) → IsBytes tlvs �
 unfolding body_of notification_of initialization_of address_message_of
 body_refused kind tlvs bad h (inl r) = ap (λ (k : ℕ). body_of k tlvs) r.0
     ∙ one_again 0x0300 (λ value. length value == 10)
-        (λ value. Notification (big_number 4 value) (big_number 4 (drop 4 value)) (big_number 2 (drop 8 value))) IsStatusValue tlvs bad status_tells h r.1
+    (λ value. Notification (big_number 4 value) (big_number 4 (drop 4 value)) (big_number 2 (drop 8 value))) IsStatusValue tlvs bad status_tells h r.1
 body_refused kind tlvs bad h (inr (inl r)) =
     ap (λ (k : ℕ). body_of k tlvs) r.0 ∙ one_again 0x0500 (λ value. length value == 14) asked AreParameters tlvs bad parameters_tell h r.1
 body_refused kind tlvs bad h (inr (inr (inl r))) =
@@ -344,12 +351,12 @@ body_refused kind tlvs bad h (inr (inr (inr r))) = elim r.0 [
   ]
 ]
 
-mandatory_known : (kind : ℕ) (tlvs : List ℕ) (bad : WireBad) → IsMandatoryRefused kind tlvs bad → is_known kind ≡ true
-mandatory_known kind tlvs bad (inl r) = ap is_known r.0
-mandatory_known kind tlvs bad (inr (inl r)) = ap is_known r.0
-mandatory_known kind tlvs bad (inr (inr (inl r))) = ap is_known r.0
+mandatory_known : (kind : ℕ) (tlvs : List ℕ) (bad : WireBad) → IsMandatoryRefused kind tlvs bad → is_known_message kind ≡ true
+mandatory_known kind tlvs bad (inl r) = ap is_known_message r.0
+mandatory_known kind tlvs bad (inr (inl r)) = ap is_known_message r.0
+mandatory_known kind tlvs bad (inr (inr (inl r))) = ap is_known_message r.0
 mandatory_known kind tlvs bad (inr (inr (inr r))) =
-    elim r.0 [ inl is ↦ ap is_known is | inr more ↦ elim more [ inl is ↦ ap is_known is | inr is ↦ ap is_known is ] ]
+    elim r.0 [ inl is ↦ ap is_known_message is | inr more ↦ elim more [ inl is ↦ ap is_known_message is | inr is ↦ ap is_known_message is ] ]
 
 -- ---- the message at the front
 
@@ -373,7 +380,7 @@ further_by_test kind tlvs rest id body bad false test r e = record {
 abbrev behind : List ℕ → LdpBody × List ℕ → Result (Option LdpMessage) WireBad
 behind contents body = if are_passed_over body.1 then Ok (Some (record { id = big_number 4 contents; body = body.0 })) else Err BadTlv
 
-known_bad : (kind : ℕ) (contents : List ℕ) (bad : WireBad) → is_known kind ≡ true → IsBytes contents →
+known_bad : (kind : ℕ) (contents : List ℕ) (bad : WireBad) → is_known_message kind ≡ true → IsBytes contents →
     (body_of kind (drop 4 contents) >>= behind contents) ≡ Err bad
     → IsMandatoryRefused kind (drop 4 contents) bad ⊎ IsFurtherRefused kind (drop 4 contents) bad
 known_bad kind contents bad known h e = elim (bind_bad (body_of kind (drop 4 contents)) (behind contents) bad e) [
@@ -387,27 +394,31 @@ further_again : (kind : ℕ) (contents : List ℕ) (bad : WireBad) → IsBytes c
     (body_of kind (drop 4 contents) >>= behind contents) ≡ Err bad
 further_again kind contents bad h small r =
     let size : length (mandatory_tlvs r.body) < 2 ^ 16 =
-        omega (arith, ap length r.whole, length-append (mandatory_tlvs r.body) r.rest, length-drop 4 contents) in
+    omega (arith, ap length r.whole, length-append (mandatory_tlvs r.body) r.rest, length-drop 4 contents) in
     let reads : body_of kind (drop 4 contents) ≡ Ok (r.body, r.rest) =
-        ap (λ (k : ℕ). body_of k (drop 4 contents)) r.kind_is ∙ ap (body_of (type_of r.body)) r.whole ∙ body_again r.body r.rest r.lawful size in
+    ap (λ (k : ℕ). body_of k (drop 4 contents)) r.kind_is ∙ ap (body_of (type_of r.body)) r.whole ∙ body_again r.body r.rest r.lawful size in
     let tlvs : IsBytes (drop 4 contents) = IsBytes-drop 4 contents h in
     let rest : IsBytes r.rest = (body_is kind (drop 4 contents) r.rest r.body tlvs reads).says.rest_bytes in
     let over : are_passed_over r.rest ≡ false =
-        false_from_ne_true (are_passed_over r.rest) (λ passed. (let p = over_is r.rest rest passed in r.not_passed p.0 p.1)) in
+    false_from_ne_true (are_passed_over r.rest) (λ passed. (let p = over_is r.rest rest passed in r.not_passed p.0 p.1)) in
     rw (reads, over) (ap (λ (b : WireBad). Err b) (sym r.bad_is))
 
 abbrev passes : ℕ → Bool
-passes kind = nat_le u_bit kind && not (is_known (kind % u_bit))
+passes kind = nat_le u_bit kind && not (is_known_message (kind % u_bit))
 
-said_by_known : (bytes : List ℕ) (kind : ℕ) (contents : List ℕ) (bad : WireBad) (known : Bool) → is_known (kind % u_bit) ≡ known → passes kind ≡ false →
+said_by_known : (bytes : List ℕ) (kind : ℕ) (contents : List ℕ) (bad : WireBad) (known : Bool) → is_known_message (kind % u_bit) ≡ known → passes kind ≡ false →
     IsBytes contents → HasMessage bytes kind contents
     → (body_of (kind % u_bit) (drop 4 contents) >>= behind contents) ≡ Err bad → IsUnknownRefused bytes bad ⊎ AreTlvsRefused bytes bad
 said_by_known bytes kind contents bad true test not_over h m e =
     inr (record { kind = kind; contents = contents; there = m; refused = known_bad (kind % u_bit) contents bad test h e })
 said_by_known bytes kind contents bad false test not_over h m e =
     let low : kind < u_bit =
-        leb-false _ _ (elim (and_cases (nat_le u_bit kind) (not (is_known (kind % u_bit))) not_over) [ inl l ↦ l | inr n ↦ absurd (let k = not-false _ n in
-        cc) ]) in
+    leb-false _ _ (elim (and_cases (nat_le u_bit kind) (not (is_known_message (kind % u_bit))) not_over) [
+      | inl l ↦ l
+      | inr n ↦ absurd (let k =
+          not-false _ n in
+          cc)
+    ]) in
     let same : kind % u_bit ≡ kind = omega arith in
     let wrong = body_unknown (kind % u_bit) (drop 4 contents) test in
     inl (record {
@@ -415,16 +426,16 @@ said_by_known bytes kind contents bad false test not_over h m e =
       contents = contents;
       there = m;
       low = low;
-      unknown = ap is_known (sym same) ∙ test;
+      unknown = ap is_known_message (sym same) ∙ test;
       bad_is = cc;
     })
 
 said_by_over : (bytes : List ℕ) (kind : ℕ) (contents : List ℕ) (bad : WireBad) (over : Bool) → passes kind ≡ over → IsBytes contents →
     HasMessage bytes kind contents
     → cond {A = Result (Option LdpMessage) WireBad} over (Ok None) (body_of (kind % u_bit) (drop 4 contents) >>= behind contents) ≡ Err bad →
-        IsUnknownRefused bytes bad ⊎ AreTlvsRefused bytes bad
+    IsUnknownRefused bytes bad ⊎ AreTlvsRefused bytes bad
 said_by_over bytes kind contents bad true test h m e = absurd cc
-said_by_over bytes kind contents bad false test h m e = said_by_known bytes kind contents bad (is_known (kind % u_bit)) refl test h m e
+said_by_over bytes kind contents bad false test h m e = said_by_known bytes kind contents bad (is_known_message (kind % u_bit)) refl test h m e
 
 said_bad : (bytes : List ℕ) (kind : ℕ) (contents : List ℕ) (bad : WireBad) → IsBytes contents → HasMessage bytes kind contents →
     said_of kind contents ≡ Err bad → IsUnknownRefused bytes bad ⊎ AreTlvsRefused bytes bad
@@ -441,8 +452,8 @@ short_there bytes front is short kind contents rest fits long e =
 
 at_front : (bytes : List ℕ) (front : Front) (bad : WireBad) (short : Bool) → nat_lt (length front.value) 4 ≡ short → IsBytes bytes → front_of bytes ≡ Some front
     → cond {A =
-        Result (Option LdpMessage × List ℕ) WireBad} short (Err BadMessageLength)
-        (said_of front.kind front.value >>= λ said. Ok (said, front.rest)) ≡ Err bad → IsRefusedThere bytes bad
+    Result (Option LdpMessage × List ℕ) WireBad} short (Err BadMessageLength)
+    (said_of front.kind front.value >>= λ said. Ok (said, front.rest)) ≡ Err bad → IsRefusedThere bytes bad
 at_front bytes front bad true test h is e = inl (short_there bytes front is (ltb-true _ _ test), cc)
 at_front bytes front bad false test h is e =
     let f = framed_is bytes front h is in
@@ -464,8 +475,8 @@ message_bad bytes bad h e = at_option bytes (front_of bytes) bad h refl e
 no_message : (bytes : List ℕ) (front : Front) (short : Bool) → nat_lt (length front.value) 4 ≡ short → IsFramed bytes front →
     ((kind : ℕ) (contents rest : List ℕ) → FitsFrame kind contents → 4 ≤ length contents → bytes ≢ framed kind contents ++ rest)
     → cond {A =
-        Result (Option LdpMessage × List ℕ) WireBad} short (Err BadMessageLength)
-        (said_of front.kind front.value >>= λ said. Ok (said, front.rest)) ≡ Err BadMessageLength
+    Result (Option LdpMessage × List ℕ) WireBad} short (Err BadMessageLength)
+    (said_of front.kind front.value >>= λ said. Ok (said, front.rest)) ≡ Err BadMessageLength
 no_message bytes front true test f none = refl
 no_message bytes front false test f none = absurd (none front.kind front.value front.rest f.fits (ltb-false _ _ test) f.whole)
 
@@ -482,13 +493,13 @@ message_there bytes kind contents bad m e =
     let is : front_of bytes ≡ Some (record { kind = kind; value = contents; rest = m.rest }) = ap front_of m.whole ∙ framed_again kind contents m.rest m.fits in
     rw (is, le-ltb _ _ m.long, e) refl
 
-said_unknown : (kind : ℕ) (contents : List ℕ) → kind < u_bit → is_known kind ≡ false → said_of kind contents ≡ Err UnknownMessage
+said_unknown : (kind : ℕ) (contents : List ℕ) → kind < u_bit → is_known_message kind ≡ false → said_of kind contents ≡ Err UnknownMessage
 unfolding said_of
 said_unknown kind contents low unknown =
     let same : kind % u_bit ≡ kind = omega arith in
-    rw (lt-leb u_bit kind low, body_unknown (kind % u_bit) (drop 4 contents) (ap is_known same ∙ unknown)) refl
+    rw (lt-leb u_bit kind low, body_unknown (kind % u_bit) (drop 4 contents) (ap is_known_message same ∙ unknown)) refl
 
-said_known : (kind : ℕ) (contents : List ℕ) (bad : WireBad) → is_known (kind % u_bit) ≡ true →
+said_known : (kind : ℕ) (contents : List ℕ) (bad : WireBad) → is_known_message (kind % u_bit) ≡ true →
     (body_of (kind % u_bit) (drop 4 contents) >>= behind contents) ≡ Err bad → said_of kind contents ≡ Err bad
 unfolding said_of
 said_known kind contents bad known e =
@@ -507,6 +518,6 @@ message_again bytes bad h (inr (inr t)) =
           (said_known t.kind t.contents bad (mandatory_known (t.kind % u_bit) (drop 4 t.contents) bad m)
           (rw (body_refused (t.kind % u_bit) (drop 4 t.contents) bad (IsBytes-drop 4 t.contents contents) m) refl))
       | inr f ↦ message_there bytes t.kind t.contents bad t.there
-          (said_known t.kind t.contents bad (ap is_known f.kind_is ∙ type_known f.body)
+          (said_known t.kind t.contents bad (ap is_known_message f.kind_is ∙ type_known f.body)
           (further_again (t.kind % u_bit) t.contents bad contents t.there.fits.size_fits f))
     ]

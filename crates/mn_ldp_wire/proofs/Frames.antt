@@ -77,8 +77,13 @@ due_by_test kind bytes value rest front false test f e = absurd cc
 due_by_test kind bytes value rest front true test f e =
     let pair : (front.value, front.rest) ≡ (value, rest) = cc in
     let one : IsDue kind bytes front.value front.rest =
-        subst (λ (k : ℕ). IsDue k bytes front.value front.rest) (eqb-true _ _ test) (record { fits = f.fits; value_bytes = f.value_bytes; rest_bytes =
-        f.rest_bytes; whole = f.whole }) in
+    subst (λ (k : ℕ). IsDue k bytes front.value front.rest) (eqb-true _ _ test) (record {
+      fits = f.fits;
+      value_bytes = f.value_bytes;
+      rest_bytes =
+          f.rest_bytes;
+      whole = f.whole;
+    }) in
     subst (λ (p : List ℕ × List ℕ). IsDue kind bytes p.0 p.1) pair one
 
 due_by_front : (kind : ℕ) (bytes value rest : List ℕ) (o : Option Front) → IsBytes bytes → front_of bytes ≡ o → due kind o ≡ Ok (value, rest) →

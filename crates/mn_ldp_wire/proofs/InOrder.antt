@@ -27,8 +27,8 @@ pub record IsAt (bytes : List ℕ) (said : Option LdpMessage) (rest : List ℕ) 
 of_front : (bytes rest : List ℕ) (said : Option LdpMessage) (front : Front) (short : Bool) →
     (nat_lt (length front.value) 4) ≡ short → front_of bytes ≡ Some front
     → cond {A =
-        Result (Option LdpMessage × List ℕ) WireBad} short (Err BadMessageLength) (said_of front.kind front.value >>= λ said. Ok (said, front.rest)) ≡ Ok
-        (said, rest) → IsAt bytes said rest
+    Result (Option LdpMessage × List ℕ) WireBad} short (Err BadMessageLength) (said_of front.kind front.value >>= λ said. Ok (said, front.rest)) ≡ Ok
+    (said, rest) → IsAt bytes said rest
 of_front bytes rest said front true short e is = absurd cc
 of_front bytes rest said front false short e is =
     let b = bind_ok (said_of front.kind front.value) (λ said. Ok (said, front.rest)) (said, rest) is in
@@ -78,7 +78,7 @@ from_nil (suc n) = refl
 from_same : (n m : ℕ) (bytes : List ℕ) (r : Result (Option LdpMessage × List ℕ) WireBad) → 0 < length bytes → message_at bytes ≡ r → length bytes ≤ suc n →
     length bytes ≤ suc m
     → ((rest : List ℕ) → length rest ≤ n → length rest ≤ m → messages_from n rest ≡ messages_from m rest) →
-        messages_from (suc n) bytes ≡ messages_from (suc m) bytes
+    messages_from (suc n) bytes ≡ messages_from (suc m) bytes
 from_same n m bytes (Err bad) some e hn hm again = from_bad n bytes bad some e ∙ sym (from_bad m bytes bad some e)
 from_same n m bytes (Ok x) some e hn hm again =
     let s = message_shorter bytes x.1 x.0 e in
@@ -119,7 +119,7 @@ front_joined a b (Err bad) = refl
 
 pub front_more : (done new : List LdpMessage) (bytes rest : List ℕ) (said : Option LdpMessage) (all : Result (List LdpMessage) WireBad)
     → message_at bytes ≡ Ok (said, rest) → new ≡ done ++ option_to_list said → with_front done (messages_of bytes) ≡ all →
-        with_front new (messages_of rest) ≡ all
+    with_front new (messages_of rest) ≡ all
 front_more done new bytes rest said all e pushed so_far =
     ap (λ (xs : List LdpMessage). with_front xs (messages_of rest)) pushed ∙ sym (front_joined done (option_to_list said) (messages_of rest))
     ∙ ap (λ (r : Result (List LdpMessage) WireBad). with_front done r) (sym (messages_more bytes rest said e)) ∙ so_far
@@ -133,7 +133,7 @@ pub front_done : (done : List LdpMessage) (bytes : List ℕ) (all : Result (List
     with_front done (messages_of bytes) ≡ all → all ≡ Ok done
 front_done done bytes all none so_far =
     sym so_far ∙ ap (λ (r : Result (List LdpMessage) WireBad). with_front done r) (messages_nil bytes none)
-        ∙ ap (λ (xs : List LdpMessage). Ok xs) (append-nil done)
+    ∙ ap (λ (xs : List LdpMessage). Ok xs) (append-nil done)
 
 pub held_ok : {T E P : Type 0} (r : Result T E) → is_ok r ≡ true → OnOk r P → P
 held_ok (Ok x) is h = h

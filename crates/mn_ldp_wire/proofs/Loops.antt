@@ -24,8 +24,12 @@ by_tests bytes made front false false e = (refl, refl, cc)
 pub front_is : (bytes : List ℕ) (front : Front) → front_of bytes ≡ Some front → IsFront bytes front
 unfolding front_of
 front_is bytes front e =
-    let t = by_tests bytes (record { kind = big_number 2 bytes; value = take (size_at bytes) (drop 4 bytes); rest =
-        drop (size_at bytes) (drop 4 bytes) }) front (nat_lt (length bytes) 4) (nat_lt (length bytes - 4) (size_at bytes)) e in
+    let t = by_tests bytes (record {
+      kind = big_number 2 bytes;
+      value = take (size_at bytes) (drop 4 bytes);
+      rest =
+          drop (size_at bytes) (drop 4 bytes);
+    }) front (nat_lt (length bytes) 4) (nat_lt (length bytes - 4) (size_at bytes)) e in
     record { header = ltb-false _ _ t.0; whole = ltb-false _ _ t.1; is = t.2 }
 
 pub front_from : (bytes : List ℕ) → 4 ≤ length bytes → size_at bytes ≤ length bytes - 4
@@ -61,7 +65,7 @@ over_nil (suc n) = refl
 
 over_same : (n m : ℕ) (bytes : List ℕ) (o : Option Front) → 0 < length bytes → front_of bytes ≡ o → length bytes ≤ suc n → length bytes ≤ suc m
     → ((rest : List ℕ) → length rest ≤ n → length rest ≤ m → passed_over_from n rest ≡ passed_over_from m rest) →
-        passed_over_from (suc n) bytes ≡ passed_over_from (suc m) bytes
+    passed_over_from (suc n) bytes ≡ passed_over_from (suc m) bytes
 over_same n m bytes None some e hn hm again = over_none n bytes some e ∙ sym (over_none m bytes some e)
 over_same n m bytes (Some front) some e hn hm again =
     let s = front_shorter bytes front e in
@@ -132,7 +136,7 @@ pub four_go_on : (all rest done octets behind new : List ℕ) (n : ℕ) → octe
 four_go_on all rest done octets behind new n front back long is pushed so_far =
     let one : addresses_of rest ≡ n ∷ addresses_of behind = four_more rest (omega arith) ∙ rw (is, front, back) refl in
     ap (λ (xs : List ℕ). xs ++ addresses_of behind) pushed ∙ append_assoc done (n ∷ []) (addresses_of behind) ∙ ap (λ (xs : List ℕ). done ++ xs) (sym one)
-        ∙ so_far
+    ∙ so_far
 
 pub four_end : (all rest done : List ℕ) → length rest < 4 → done ++ addresses_of rest ≡ all → all ≡ done
 four_end all rest done short so_far = sym so_far ∙ ap (λ (xs : List ℕ). done ++ xs) (no_more rest short) ∙ append-nil done

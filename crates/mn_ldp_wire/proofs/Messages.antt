@@ -10,7 +10,7 @@ use Rattle.mn_ldp_wire.specs.declared.message.LdpBody.{LdpBody}
 use Rattle.mn_ldp_wire.specs.declared.message.LdpBody.TheVariants.{Notification, Initialization, KeepAlive, Address, Mapping, Withdraw, Release}
 use Rattle.mn_ldp_wire.specs.declared.refusal.WireBad.{WireBad}
 use Rattle.mn_ldp_wire.specs.declared.refusal.WireBad.TheVariants.{BadTlv}
-use Rattle.mn_ldp_wire.specs.Grammar.{IsBytes, framed, FitsFrame, u_bit, type_of, is_known, mandatory_tlvs, IsMessage, IsUnknown, IsSaid, AreSaid}
+use Rattle.mn_ldp_wire.specs.Grammar.{IsBytes, framed, FitsFrame, u_bit, type_of, is_known_message, mandatory_tlvs, IsMessage, IsUnknown, IsSaid, AreSaid}
 use Rattle.mn_ldp_wire.specs.Reading.{◌>>=◌, front_of, body_of, are_passed_over, said_of, message_at, messages_of}
 use Rattle.mn_base.proofs.Bytes.{IsBytes-drop}
 use Rattle.mn_ldp_wire.proofs.Bytes.{four_again, four_fits, four_back}
@@ -60,14 +60,14 @@ ok_is x y e = cc
 said_by_over : (kind : ℕ) (contents rest : List ℕ) (body : LdpBody) (said : Option LdpMessage) (over : Bool) → are_passed_over rest ≡ over →
     IsBytes contents → FitsFrame kind contents → 4 ≤ length contents → IsRead (kind % u_bit) (drop 4 contents) body rest
     → cond {A = Result (Option LdpMessage) WireBad} over (Ok (Some (record { id = big_number 4 contents; body = body }))) (Err BadTlv) ≡ Ok said →
-        IsSaid said (framed kind contents)
+    IsSaid said (framed kind contents)
 said_by_over kind contents rest body said false over h fits long read e = absurd cc
 said_by_over kind contents rest body said true over h fits long read e =
     subst (λ (s : Option LdpMessage). IsSaid s (framed kind contents)) (ok_is (Some (record { id = big_number 4 contents; body = body })) said e)
-        (message_is kind contents rest body h fits long read over)
+    (message_is kind contents rest body h fits long read over)
 
 unknown_is : (kind : ℕ) (contents : List ℕ) → FitsFrame kind contents → 4 ≤ length contents →
-    (nat_le u_bit kind && not (is_known (kind % u_bit))) ≡ true → IsUnknown (framed kind contents)
+    (nat_le u_bit kind && not (is_known_message (kind % u_bit))) ≡ true → IsUnknown (framed kind contents)
 unknown_is kind contents fits long passed =
     let p = and_parts _ _ passed in
     let high : u_bit ≤ kind = leb-true _ _ p.0 in
@@ -83,26 +83,26 @@ unknown_is kind contents fits long passed =
     }
 
 said_by_test : (kind : ℕ) (contents : List ℕ) (said : Option LdpMessage) (passed : Bool) →
-    (nat_le u_bit kind && not (is_known (kind % u_bit))) ≡ passed → IsBytes contents → FitsFrame kind contents → 4 ≤ length contents
+    (nat_le u_bit kind && not (is_known_message (kind % u_bit))) ≡ passed → IsBytes contents → FitsFrame kind contents → 4 ≤ length contents
     → cond {A =
-        Result (Option LdpMessage) WireBad} passed (Ok None)
-        (body_of (kind % u_bit) (drop 4 contents) >>= λ body. if are_passed_over body.1 then Ok
-        (Some (record { id = big_number 4 contents; body = body.0 })) else Err BadTlv) ≡ Ok said
+    Result (Option LdpMessage) WireBad} passed (Ok None)
+    (body_of (kind % u_bit) (drop 4 contents) >>= λ body. if are_passed_over body.1 then Ok
+    (Some (record { id = big_number 4 contents; body = body.0 })) else Err BadTlv) ≡ Ok said
     → IsSaid said (framed kind contents)
 said_by_test kind contents said true test h fits long e =
     subst (λ (s : Option LdpMessage). IsSaid s (framed kind contents)) (ok_is None said e) (unknown_is kind contents fits long test)
 said_by_test kind contents said false test h fits long e =
     let b = bind_ok (body_of (kind % u_bit) (drop 4 contents))
-        (λ body. if are_passed_over body.1 then Ok (Some (record { id = big_number 4 contents; body = body.0 })) else Err BadTlv) said e in
+    (λ body. if are_passed_over body.1 then Ok (Some (record { id = big_number 4 contents; body = body.0 })) else Err BadTlv) said e in
     said_by_over kind contents b.0.1 b.0.0 said (are_passed_over b.0.1) refl h fits long
-        (body_is (kind % u_bit) (drop 4 contents) b.0.1 b.0.0 (IsBytes-drop 4 contents h) b.1) b.2
+    (body_is (kind % u_bit) (drop 4 contents) b.0.1 b.0.0 (IsBytes-drop 4 contents h) b.1) b.2
 
 said_is : (kind : ℕ) (contents : List ℕ) (said : Option LdpMessage) → IsBytes contents → FitsFrame kind contents → 4 ≤ length contents →
     said_of kind contents ≡ Ok said → IsSaid said (framed kind contents)
 unfolding said_of
-said_is kind contents said h fits long e = said_by_test kind contents said (nat_le u_bit kind && not (is_known (kind % u_bit))) refl h fits long e
+said_is kind contents said h fits long e = said_by_test kind contents said (nat_le u_bit kind && not (is_known_message (kind % u_bit))) refl h fits long e
 
-pub type_known : (body : LdpBody) → is_known (type_of body) ≡ true
+pub type_known : (body : LdpBody) → is_known_message (type_of body) ≡ true
 type_known (Notification status about kind) = refl
 type_known (Initialization version keepalive flags limit greatest receiver) = refl
 type_known KeepAlive = refl
@@ -140,11 +140,11 @@ message_again message bytes m =
     let tlvs : List ℕ = mandatory_tlvs message.body ++ m.further in
     let contents : List ℕ = big_bytes 4 message.id ++ tlvs in
     let low : kind % u_bit ≡ type_of message.body = low_bits m.u (type_of message.body) m.u_is (type_small message.body) in
-    let known : (nat_le u_bit kind && not (is_known (kind % u_bit))) ≡ false =
-        and_right _ _ (ap (λ (k : ℕ). not (is_known k)) low ∙ ap not (type_known message.body)) in
+    let known : (nat_le u_bit kind && not (is_known_message (kind % u_bit))) ≡ false =
+    and_right _ _ (ap (λ (k : ℕ). not (is_known_message k)) low ∙ ap not (type_known message.body)) in
     let size : length (mandatory_tlvs message.body) < 2 ^ 16 = omega (arith, m.fits.size_fits, length-append (mandatory_tlvs message.body) m.further) in
     let body : body_of (kind % u_bit) tlvs ≡ Ok (message.body, m.further) =
-        ap (λ (k : ℕ). body_of k tlvs) low ∙ body_again message.body m.further m.lawful size in
+    ap (λ (k : ℕ). body_of k tlvs) low ∙ body_again message.body m.further m.lawful size in
     let id : big_number 4 contents ≡ message.id = four_back message.id tlvs m.id_fits in
     record {
       kind = kind;
@@ -161,7 +161,7 @@ unknown_again bytes m =
     let fits = m.fits.kind_fits in
     let low : (u_bit + m.kind) % u_bit ≡ m.kind = omega arith in
     let high : nat_le u_bit (u_bit + m.kind) ≡ true = le-leb _ _ (omega arith) in
-    let unknown : is_known ((u_bit + m.kind) % u_bit) ≡ false = ap is_known low ∙ m.unknown in
+    let unknown : is_known_message ((u_bit + m.kind) % u_bit) ≡ false = ap is_known_message low ∙ m.unknown in
     record {
       kind = u_bit + m.kind;
       contents = m.contents;
@@ -199,7 +199,7 @@ unfolding message_at
 front_again front rest said m =
     let s = spelled said front m in
     let there : front_of (front ++ rest) ≡ Some (record { kind = s.kind; value = s.contents; rest = rest }) =
-        ap (λ (xs : List ℕ). front_of (xs ++ rest)) s.whole ∙ framed_again s.kind s.contents rest s.fits in
+    ap (λ (xs : List ℕ). front_of (xs ++ rest)) s.whole ∙ framed_again s.kind s.contents rest s.fits in
     rw (there, le-ltb (length s.contents) 4 s.long, s.reads) refl
 
 pub front_some : (front rest : List ℕ) (said : Option LdpMessage) → IsSaid said front → 0 < length (front ++ rest)
@@ -236,7 +236,7 @@ list_is x y e = cc
 read_by_first : (n : ℕ) (bytes : List ℕ) (messages : List LdpMessage) (r : Result (Option LdpMessage × List ℕ) WireBad) → message_at bytes ≡ r →
     IsBytes bytes → 0 < length bytes → length bytes ≤ suc n → messages_of bytes ≡ Ok messages
     → ((rest : List ℕ) (others : List LdpMessage) → IsBytes rest → length rest ≤ n → messages_of rest ≡ Ok others → AreRead rest others) →
-        AreRead bytes messages
+    AreRead bytes messages
 read_by_first n bytes messages (Err bad) is h some most e again = absurd (let refused = messages_bad bytes bad some is in cc)
 read_by_first n bytes messages (Ok first) is h some most e again =
     let f = in_front bytes first.1 first.0 h is in

@@ -32,8 +32,8 @@ record Passes (bytes : List ℕ) (pdu : PduContents) : Type 0 where
 
 by_tests : (bytes : List ℕ) (pdu : PduContents) (r : Result PduContents WireBad) (a b c : Bool)
     → cond {A =
-        Result PduContents WireBad} a (Err Short) (cond {A =
-        Result PduContents WireBad} b (Err BadVersion) (cond {A = Result PduContents WireBad} c (Err BadPduLength) r)) ≡ Ok pdu
+    Result PduContents WireBad} a (Err Short) (cond {A =
+    Result PduContents WireBad} b (Err BadVersion) (cond {A = Result PduContents WireBad} c (Err BadPduLength) r)) ≡ Ok pdu
     → (a ≡ false) × (b ≡ false) × (c ≡ false) × (r ≡ Ok pdu)
 by_tests bytes pdu r true b c e = absurd cc
 by_tests bytes pdu r false true c e = absurd cc
@@ -60,7 +60,7 @@ header_whole : (bytes : List ℕ) → IsBytes bytes → 10 ≤ length bytes → 
 header_whole bytes h long version size =
     let id = id_is (drop 4 bytes) (IsBytes-drop 4 bytes h) (omega (arith, length-drop 4 bytes)) in
     let e4 : drop 2 (drop 2 bytes) ≡ ldp_id (id_at (drop 4 bytes)) ++ drop 10 bytes =
-        drop-drop 2 2 bytes ∙ id.0 ∙ ap (λ (xs : List ℕ). ldp_id (id_at (drop 4 bytes)) ++ xs) (drop-drop 6 4 bytes) in
+    drop-drop 2 2 bytes ∙ id.0 ∙ ap (λ (xs : List ℕ). ldp_id (id_at (drop 4 bytes)) ++ xs) (drop-drop 6 4 bytes) in
     let e2 : drop 2 bytes ≡ big_bytes 2 (size_at bytes) ++ (ldp_id (id_at (drop 4 bytes)) ++ drop 10 bytes) =
     two_again (drop 2 bytes) (IsBytes-drop 2 bytes h) (omega (arith, length-drop 2 bytes)) ∙ ap (λ (xs : List ℕ). big_bytes 2 (size_at bytes) ++ xs) e4 in
     two_again bytes h (omega arith)
@@ -99,7 +99,7 @@ more_body (first ∷ said) body (front, rest, whole, is_said, others) h = (let s
 
 pub header_again : (body : List ℕ) (from : LdpId) → FitsId from → 6 + length body < 2 ^ 16 → 0 < length body
     → pdu_of (big_bytes 2 1 ++ (big_bytes 2 (6 + length body) ++ (ldp_id from ++ body))) ≡
-        (messages_of body >>= λ messages. Ok (record { from = from; messages = messages }))
+    (messages_of body >>= λ messages. Ok (record { from = from; messages = messages }))
 unfolding pdu_of
 header_again body from fits size more =
     let bytes : List ℕ = big_bytes 2 1 ++ (big_bytes 2 (6 + length body) ++ (ldp_id from ++ body)) in
@@ -115,7 +115,7 @@ pub pdu_again : (bytes : List ℕ) (from : LdpId) (messages : List LdpMessage) �
 pdu_again bytes from messages p =
     ap pdu_of p.whole ∙ header_again p.body from p.id_fits p.size_fits (more_body p.said p.body p.are_said p.some)
     ∙ ap (λ (r : Result (List LdpMessage) WireBad). r >>= λ messages. Ok (record { from = from; messages = messages }))
-        (messages_again p.said p.body p.are_said)
+    (messages_again p.said p.body p.are_said)
     ∙ ap (λ (xs : List LdpMessage). Ok (record { from = from; messages = xs })) (sym p.messages_are)
 
 -- ---- a PDU that is cut
@@ -212,7 +212,7 @@ lawful_in : (bytes : List ℕ) (from : LdpId) (messages : List LdpMessage) → I
 lawful_in bytes from messages p =
     All-from_recursion (λ (message : LdpMessage). IsLawful message.body) messages
     (subst (λ (ms : List LdpMessage). AllByRecursion (λ (message : LdpMessage). IsLawful message.body) ms) (sym p.messages_are)
-        (all_lawful p.said p.body p.are_said))
+    (all_lawful p.said p.body p.are_said))
 
 pub accepted_lawful : (bytes : List ℕ) (answer : Result PduContents WireBad) → IsBytes bytes → Answers (λ pdu. pdu) answer (pdu_of bytes) →
     IfOk answer (λ pdu. All (λ (message : LdpMessage). IsLawful message.body) pdu.messages)

@@ -94,8 +94,8 @@ pub an_element : (value first_bytes : List ℕ) (address bits : ℕ) (p : Addres
 an_element value first_bytes address bits p header element family same is bits_is p_is form size =
     let a : address ≡ address_of (octets_of value) = is ∙ ap address_of same in
     let p_in : p ≡ prefix_in value =
-        p_is ∙ ap (λ (x : ℕ). record { address = x; length = bits }) a
-        ∙ ap (λ (n : ℕ). record { address = address_of (octets_of value); length = n }) bits_is in
+    p_is ∙ ap (λ (x : ℕ). record { address = x; length = bits }) a
+    ∙ ap (λ (n : ℕ). record { address = address_of (octets_of value); length = n }) bits_is in
     let f : IsPrefix (prefix_in value).address (prefix_in value).length = subst (λ (q : AddressBlock). IsPrefix q.address q.length) p_in form in
     let e : IsElement value = record {
       header = header;
@@ -131,7 +131,7 @@ octets_again (a ∷ b ∷ c ∷ []) h short =
     (let x = h.below 0 in let y = h.below 1 in let z = h.below 2 in (three_cells _ _ _ _ _ _ (omega arith) (omega arith) (omega arith), omega arith))
 octets_again (a ∷ b ∷ c ∷ d ∷ []) h short =
     (let x = h.below 0 in let y = h.below 1 in let z = h.below 2 in let w = h.below 3 in
-        (four_cells _ _ _ _ _ _ _ _ (omega arith) (omega arith) (omega arith) (omega arith), omega arith))
+    (four_cells _ _ _ _ _ _ _ _ (omega arith) (omega arith) (omega arith) (omega arith), omega arith))
 octets_again (a ∷ b ∷ c ∷ d ∷ e ∷ first_bytes) h short = absurd (omega arith)
 
 -- an address is that of its first n bytes, where the others are zero
@@ -168,7 +168,7 @@ element_whole (a ∷ b ∷ c ∷ d ∷ first_bytes) h e =
     let size : length first_bytes ≡ octets d = e.first_bytes in
     let o = octets_again first_bytes (IsBytes-drop 4 (a ∷ b ∷ c ∷ d ∷ first_bytes) h) (omega arith) in
     let same : first_bytes ≡ take (octets d) (big_bytes 4 (address_of first_bytes)) =
-        o.0 ∙ ap (λ (n : ℕ). take n (big_bytes 4 (address_of first_bytes))) size in (
+    o.0 ∙ ap (λ (n : ℕ). take n (big_bytes 4 (address_of first_bytes))) size in (
       five_cells _ _ _ _ _ _ d d first_bytes _ e.element (omega arith) (omega arith) refl same,
       record { fits = o.1; short = e.bits; clear = e.clear },
     )

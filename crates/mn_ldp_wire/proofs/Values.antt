@@ -11,7 +11,7 @@ use Rattle.mn_ldp_wire.specs.declared.message.LdpId.{LdpId}
 use Rattle.mn_ldp_wire.specs.declared.message.LdpBody.{LdpBody}
 use Rattle.mn_ldp_wire.specs.declared.message.LdpBody.TheVariants.{Notification, Initialization}
 use Rattle.mn_ldp_wire.specs.Grammar.{IsBytes, IsLabel, FitsId, ldp_id, status_value, session_parameters, address_list, IsStatus, IsAsked, AreAddresses}
-use Rattle.mn_ldp_wire.specs.Reading.{is_label, label_of, id_at, asked, addresses_of, is_address_list}
+use Rattle.mn_ldp_wire.specs.Reading.{is_label, read_label, id_at, asked, addresses_of, is_address_list}
 use Rattle.mn_base.proofs.Bytes.{IsBytes-drop}
 use Rattle.mn_ldp_wire.proofs.Bytes.{two_again, four_again, two_fits, four_fits, two_back, four_back}
 use Rattle.mn_ldp_wire.proofs.Loops.{four_more, no_more}
@@ -31,23 +31,23 @@ lawful_label n (inr within) = or_right _ _ (and_from _ _ (le-leb _ _ within.0) (
 
 label_by_test : (value : List ℕ) (label : ℕ) (wrong lawful : Bool) → not (length value == 4) ≡ wrong → is_label (big_number 4 value) ≡ lawful
     → cond {A = Option ℕ} wrong None (cond {A = Option ℕ} lawful (Some (big_number 4 value)) None) ≡ Some label →
-        (length value ≡ 4) × (is_label (big_number 4 value) ≡ true) × (big_number 4 value ≡ label)
+    (length value ≡ 4) × (is_label (big_number 4 value) ≡ true) × (big_number 4 value ≡ label)
 label_by_test value label true lawful a b e = absurd cc
 label_by_test value label false false a b e = absurd cc
 label_by_test value label false true a b e = (eqb-true _ _ (not-false _ a), b, cc)
 
-pub label_is : (value : List ℕ) (label : ℕ) → IsBytes value → label_of value ≡ Some label → (value ≡ big_bytes 4 label) × IsLabel label
-unfolding label_of
+pub label_is : (value : List ℕ) (label : ℕ) → IsBytes value → read_label value ≡ Some label → (value ≡ big_bytes 4 label) × IsLabel label
+unfolding read_label
 label_is value label h e =
     let t = label_by_test value label (not (length value == 4)) (is_label (big_number 4 value)) refl refl e in
     let size = t.0 in
     let none : drop 4 value ≡ [] = drop_all 4 value (omega arith) in
     let whole : value ≡ big_bytes 4 (big_number 4 value) =
-        four_again value h (omega arith) ∙ ap (λ (xs : List ℕ). big_bytes 4 (big_number 4 value) ++ xs) none in
+    four_again value h (omega arith) ∙ ap (λ (xs : List ℕ). big_bytes 4 (big_number 4 value) ++ xs) none in
     subst (λ (n : ℕ). (value ≡ big_bytes 4 n) × IsLabel n) t.2 (whole, label_lawful (big_number 4 value) t.1)
 
-pub label_again : (label : ℕ) → IsLabel label → label_of (big_bytes 4 label) ≡ Some label
-unfolding label_of
+pub label_again : (label : ℕ) → IsLabel label → read_label (big_bytes 4 label) ≡ Some label
+unfolding read_label
 label_again label h =
     let fits : label < 2 ^ 32 = elim h [ inl three ↦ omega (arith, three) | inr within ↦ omega (arith, within.1) ] in
     let back : big_number 4 (big_bytes 4 label) ≡ label = four_back label [] fits in
@@ -58,7 +58,7 @@ label_again label h =
 pub id_is : (bytes : List ℕ) → IsBytes bytes → 6 ≤ length bytes → (bytes ≡ ldp_id (id_at bytes) ++ drop 6 bytes) × FitsId (id_at bytes)
 id_is bytes h long =
     let behind : drop 4 bytes ≡ big_bytes 2 (big_number 2 (drop 4 bytes)) ++ drop 2 (drop 4 bytes) =
-        two_again (drop 4 bytes) (IsBytes-drop 4 bytes h) (omega (arith, length-drop 4 bytes)) in
+    two_again (drop 4 bytes) (IsBytes-drop 4 bytes h) (omega (arith, length-drop 4 bytes)) in
     let last : drop 2 (drop 4 bytes) ≡ drop 6 bytes = drop-drop 2 4 bytes in (
       four_again bytes h (omega arith)
           ∙ ap (λ (xs : List ℕ). big_bytes 4 (big_number 4 bytes) ++ xs)
@@ -73,7 +73,7 @@ id_again id rest fits =
 
 pub status_is : (value : List ℕ) → IsBytes value → length value ≡ 10
     → (value ≡ status_value (big_number 4 value) (big_number 4 (drop 4 value)) (big_number 2 (drop 8 value)))
-        × IsStatus (big_number 4 value) (big_number 4 (drop 4 value)) (big_number 2 (drop 8 value))
+    × IsStatus (big_number 4 value) (big_number 4 (drop 4 value)) (big_number 2 (drop 8 value))
 unfolding status_value
 status_is value h size =
     let second = drop 4 value in
@@ -81,21 +81,21 @@ status_is value h size =
     let at_8 : drop 4 second ≡ third = drop-drop 4 4 value in
     let none : drop 2 third ≡ [] = drop-drop 2 8 value ∙ drop_all 10 value (omega arith) in
     let e3 : third ≡ big_bytes 2 (big_number 2 third) =
-        two_again third (IsBytes-drop 8 value h) (omega (arith, length-drop 8 value)) ∙ ap (λ (xs : List ℕ). big_bytes 2 (big_number 2 third) ++ xs) none in
+    two_again third (IsBytes-drop 8 value h) (omega (arith, length-drop 8 value)) ∙ ap (λ (xs : List ℕ). big_bytes 2 (big_number 2 third) ++ xs) none in
     let e2 : second ≡ big_bytes 4 (big_number 4 second) ++ big_bytes 2 (big_number 2 third) =
     four_again second (IsBytes-drop 4 value h) (omega (arith, length-drop 4 value))
-        ∙ ap (λ (xs : List ℕ). big_bytes 4 (big_number 4 second) ++ xs) (at_8 ∙ e3) in (
+    ∙ ap (λ (xs : List ℕ). big_bytes 4 (big_number 4 second) ++ xs) (at_8 ∙ e3) in (
       four_again value h (omega arith) ∙ ap (λ (xs : List ℕ). big_bytes 4 (big_number 4 value) ++ xs) e2,
       record { status_fits = four_fits value h; about_fits = four_fits second (IsBytes-drop 4 value h); kind_fits = two_fits third (IsBytes-drop 8 value h) },
     )
 
 pub status_again : (status about kind : ℕ) → IsStatus status about kind
     → Notification (big_number 4 (status_value status about kind)) (big_number 4 (drop 4 (status_value status about kind)))
-        (big_number 2 (drop 8 (status_value status about kind))) ≡ Notification status about kind
+    (big_number 2 (drop 8 (status_value status about kind))) ≡ Notification status about kind
 unfolding status_value
 status_again status about kind fits =
     ap (λ (n : ℕ). Notification n (big_number 4 (big_bytes 4 about ++ big_bytes 2 kind)) (big_number 2 (big_bytes 2 kind ++ [])))
-        (four_back status (big_bytes 4 about ++ big_bytes 2 kind) fits.status_fits)
+    (four_back status (big_bytes 4 about ++ big_bytes 2 kind) fits.status_fits)
     ∙ ap (λ (n : ℕ). Notification status n (big_number 2 (big_bytes 2 kind ++ []))) (four_back about (big_bytes 2 kind) fits.about_fits)
     ∙ ap (λ (n : ℕ). Notification status about n) (two_back kind [] fits.kind_fits)
 
@@ -121,7 +121,7 @@ session_is value h size =
     let e8 : drop 8 value ≡ ldp_id (id_at (drop 8 value)) = receiver.0 ∙ ap (λ (xs : List ℕ). ldp_id (id_at (drop 8 value)) ++ xs) none in
     let e6 : drop 6 value ≡ big_bytes 2 (big_number 2 (drop 6 value)) ++ ldp_id (id_at (drop 8 value)) =
     two_again (drop 6 value) b6 (omega (arith, length-drop 6 value))
-        ∙ ap (λ (xs : List ℕ). big_bytes 2 (big_number 2 (drop 6 value)) ++ xs) (drop-drop 2 6 value ∙ e8) in
+    ∙ ap (λ (xs : List ℕ). big_bytes 2 (big_number 2 (drop 6 value)) ++ xs) (drop-drop 2 6 value ∙ e8) in
     let flags : slice_index (drop 4 value) 0 ≡ slice_index value 4 = get_or-drop 4 value 0 0 in
     let limit : slice_index (drop 4 value) 1 ≡ slice_index value 5 = get_or-drop 4 value 1 0 in
     let e4 : drop 4 value ≡ slice_index value 4 ∷ slice_index value 5 ∷ (big_bytes 2 (big_number 2 (drop 6 value)) ++ ldp_id (id_at (drop 8 value))) =
@@ -130,7 +130,7 @@ session_is value h size =
     ∙ ap (λ (n : ℕ). slice_index value 4 ∷ n ∷ drop 2 (drop 4 value)) limit
     ∙ ap (λ (xs : List ℕ). slice_index value 4 ∷ slice_index value 5 ∷ xs) (drop-drop 2 4 value ∙ e6) in
     let e2 = two_again (drop 2 value) b2 (omega (arith, length-drop 2 value))
-        ∙ ap (λ (xs : List ℕ). big_bytes 2 (big_number 2 (drop 2 value)) ++ xs) (drop-drop 2 2 value ∙ e4) in (
+    ∙ ap (λ (xs : List ℕ). big_bytes 2 (big_number 2 (drop 2 value)) ++ xs) (drop-drop 2 2 value ∙ e4) in (
       two_again value h (omega arith) ∙ ap (λ (xs : List ℕ). big_bytes 2 (big_number 2 value) ++ xs) e2,
       record {
         version_fits = two_fits value h;
@@ -149,9 +149,9 @@ session_again version keepalive flags limit greatest receiver fits =
     let third = big_bytes 2 greatest ++ ldp_id receiver in
     let second = big_bytes 2 keepalive ++ flags ∷ limit ∷ third in
     ap (λ (n : ℕ). Initialization n (big_number 2 second) flags limit (big_number 2 third) (id_at (ldp_id receiver)))
-        (two_back version second fits.version_fits)
+    (two_back version second fits.version_fits)
     ∙ ap (λ (n : ℕ). Initialization version n flags limit (big_number 2 third) (id_at (ldp_id receiver)))
-        (two_back keepalive (flags ∷ limit ∷ third) fits.keepalive_fits)
+    (two_back keepalive (flags ∷ limit ∷ third) fits.keepalive_fits)
     ∙ ap (λ (n : ℕ). Initialization version keepalive flags limit n (id_at (ldp_id receiver))) (two_back greatest (ldp_id receiver) fits.greatest_fits)
     ∙ ap (λ (id : LdpId). Initialization version keepalive flags limit greatest id) (id_again receiver [] fits.receiver_fits)
 
@@ -177,7 +177,7 @@ addresses_are zero bs h size =
 addresses_are (suc n) bs h size =
     let again = addresses_are n (drop 4 bs) (IsBytes-drop 4 bs h) (omega (arith, length-drop 4 bs)) in
     let one : addresses_of bs ≡ big_number 4 bs ∷ addresses_of (drop 4 bs) =
-        four_more bs (omega arith) ∙ ap (λ (x : ℕ). x ∷ addresses_of (drop 4 bs)) (four_front bs) in
+    four_more bs (omega arith) ∙ ap (λ (x : ℕ). x ∷ addresses_of (drop 4 bs)) (four_front bs) in
     record {
       whole =
           four_again bs h (omega arith) ∙ ap (λ (xs : List ℕ). big_bytes 4 (big_number 4 bs) ++ xs) again.whole

@@ -35,18 +35,18 @@ addresses_in_turn new third second first old addresses done size e4 all e3 e2 e1
 pub fec_in_turn : (last fifth fourth third second first old first_bytes : List ℕ) (prefix : AddressBlock) (size : ℕ) → last ≡ fifth ++ first_bytes →
     first_bytes ≡ take (octets prefix.length) (big_bytes 4 prefix.address)
     → fifth ≡ fourth ++ prefix.length ∷ [] → fourth ≡ third ++ big_bytes 2 1 → third ≡ second ++ 2 ∷ [] → second ≡ first ++ big_bytes 2 size →
-        first ≡ old ++ big_bytes 2 0x0100 → size ≡ 4 + length first_bytes
+    first ≡ old ++ big_bytes 2 0x0100 → size ≡ 4 + length first_bytes
     → last ≡ old ++ framed 0x0100 (prefix_element prefix)
 unfolding framed prefix_element
 fec_in_turn last fifth fourth third second first old first_bytes prefix size e6 all e5 e4 e3 e2 e1 is =
     let same : size ≡ suc (suc (suc (suc (length (take (octets prefix.length) (big_bytes 4 prefix.address)))))) = omega (arith, ap length all) in
     let turn : last ≡ (((((old ++ big_bytes 2 0x0100) ++ big_bytes 2 size) ++ 2 ∷ []) ++ big_bytes 2 1) ++ prefix.length ∷ []) ++ take
-        (octets prefix.length) (big_bytes 4 prefix.address) = cc in
+    (octets prefix.length) (big_bytes 4 prefix.address) = cc in
     turn ∙ regroup_6 old (big_bytes 2 0x0100) (big_bytes 2 size) (2 ∷ []) (big_bytes 2 1) (prefix.length ∷ [])
-        (take (octets prefix.length) (big_bytes 4 prefix.address))
+    (take (octets prefix.length) (big_bytes 4 prefix.address))
     ∙ ap (λ (n : ℕ). old ++
-        (big_bytes 2 0x0100 ++
-        (big_bytes 2 n ++ (2 ∷ [] ++ (big_bytes 2 1 ++ (prefix.length ∷ [] ++ take (octets prefix.length) (big_bytes 4 prefix.address))))))) same
+    (big_bytes 2 0x0100 ++
+    (big_bytes 2 n ++ (2 ∷ [] ++ (big_bytes 2 1 ++ (prefix.length ∷ [] ++ take (octets prefix.length) (big_bytes 4 prefix.address))))))) same
 
 pub at_ok : {T E : Type 0} (r : Result T E) (new old x y : List ℕ) → new ≡ (if is_ok r then x else old) → (new ≡ x → new ≡ y) → OnOk r (new ≡ y)
 at_ok (Ok t) new old x y e h = h e
@@ -69,8 +69,13 @@ length-element prefix = omega (arith, length-take (octets prefix.length) (big_by
 binding_small : (prefix : AddressBlock) (label : ℕ) → length (binding prefix label) ≤ 20
 binding_small prefix label =
     let e = length-element prefix in
-    omega (arith, length-append (framed 0x0100 (prefix_element prefix)) (framed 0x0200 (big_bytes 4 label)), length-framed 0x0100
-        (prefix_element prefix), length-framed 0x0200 (big_bytes 4 label))
+    omega (
+      arith,
+      length-append (framed 0x0100 (prefix_element prefix)) (framed 0x0200 (big_bytes 4 label)),
+      length-framed 0x0100
+          (prefix_element prefix),
+      length-framed 0x0200 (big_bytes 4 label),
+    )
 
 pub length-status : (status about kind : ℕ) → length (status_value status about kind) ≡ 10
 unfolding status_value
@@ -88,8 +93,12 @@ length-list addresses = omega (arith, length-addresses addresses)
 pub tlvs_small : (body : LdpBody) → IsWritable body → length (mandatory_tlvs body) ≤ 4006
 tlvs_small (Notification status about kind) h = omega (arith, length-framed 0x0300 (status_value status about kind), length-status status about kind)
 tlvs_small (Initialization version keepalive flags limit greatest receiver) h =
-    omega (arith, length-framed 0x0500 (session_parameters version keepalive flags limit greatest receiver), length-session version keepalive flags limit
-        greatest receiver)
+    omega (
+      arith,
+      length-framed 0x0500 (session_parameters version keepalive flags limit greatest receiver),
+      length-session version keepalive flags limit
+          greatest receiver,
+    )
 tlvs_small KeepAlive h = omega arith
 tlvs_small (Address addresses) h = (let most = h.1 in omega (arith, length-framed 0x0101 (address_list addresses), length-list addresses))
 tlvs_small (Mapping prefix label) h = (let b = binding_small prefix label in omega arith)
@@ -101,7 +110,7 @@ tlvs_small (Release prefix label) h = (let b = binding_small prefix label in ome
 pub pdu_in_turn : (last sixth fifth fourth third second first tlvs : List ℕ) (from : LdpId) (message : LdpMessage) (kind inner size : ℕ) →
     last ≡ sixth ++ tlvs → tlvs ≡ mandatory_tlvs message.body
     → sixth ≡ fifth ++ big_bytes 4 message.id → fifth ≡ fourth ++ big_bytes 2 inner → fourth ≡ third ++ big_bytes 2 kind → kind ≡ type_of message.body →
-        third ≡ second ++ ldp_id from
+    third ≡ second ++ ldp_id from
     → second ≡ first ++ big_bytes 2 size → first ≡ big_bytes 2 1 → inner ≡ 4 + length tlvs → size ≡ 14 + length tlvs → last ≡ written from message
 unfolding written written_message framed
 pdu_in_turn last sixth fifth fourth third second first tlvs from message kind inner size e7 all e6 e5 e4 says e3 e2 e1 inner_is size_is =
@@ -113,5 +122,5 @@ pdu_in_turn last sixth fifth fourth third second first tlvs from message kind in
     turn ∙ regroup_6 (big_bytes 2 1) (big_bytes 2 size) (ldp_id from) (big_bytes 2 k) (big_bytes 2 inner) (big_bytes 4 message.id) t
     ∙ ap (λ (n : ℕ). big_bytes 2 1 ++ (big_bytes 2 n ++ (ldp_id from ++ (big_bytes 2 k ++ (big_bytes 2 inner ++ (big_bytes 4 message.id ++ t)))))) size_same
     ∙ ap (λ (n : ℕ). big_bytes 2 1 ++
-        (big_bytes 2 (6 + suc (suc (suc (suc (suc (suc (suc (suc (length t))))))))) ++
-        (ldp_id from ++ (big_bytes 2 k ++ (big_bytes 2 n ++ (big_bytes 4 message.id ++ t)))))) inner_same
+    (big_bytes 2 (6 + suc (suc (suc (suc (suc (suc (suc (suc (length t))))))))) ++
+    (ldp_id from ++ (big_bytes 2 k ++ (big_bytes 2 n ++ (big_bytes 4 message.id ++ t)))))) inner_same

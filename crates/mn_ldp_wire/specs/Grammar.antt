@@ -64,8 +64,8 @@ type_of (Mapping prefix label) = 0x0400
 type_of (Withdraw prefix label) = 0x0402
 type_of (Release prefix label) = 0x0403
 
-abbrev pub is_known : ℕ → Bool
-is_known kind = list_any (λ known. kind == known) (0x0001 ∷ 0x0200 ∷ 0x0201 ∷ 0x0300 ∷ 0x0400 ∷ 0x0402 ∷ 0x0403 ∷ [])
+abbrev pub is_known_message : ℕ → Bool
+is_known_message kind = list_any (λ known. kind == known) (0x0001 ∷ 0x0200 ∷ 0x0201 ∷ 0x0300 ∷ 0x0400 ∷ 0x0402 ∷ 0x0403 ∷ [])
 
 -- The mandatory TLVs of a message, in their order, by the same sections. U bit and F bit are zero.
 abbrev pub binding : AddressBlock → ℕ → List ℕ
@@ -135,7 +135,7 @@ pub record IsMessage (message : LdpMessage) (bytes : List ℕ) : Type 0 where
 pub record IsUnknown (bytes : List ℕ) : Type 0 where
   pub kind : ℕ
   pub contents : List ℕ
-  pub unknown : is_known kind ≡ false
+  pub unknown : is_known_message kind ≡ false
   pub has_id : 4 ≤ length contents
   pub fits : FitsFrame (u_bit + kind) contents
   pub whole : bytes ≡ framed (u_bit + kind) contents

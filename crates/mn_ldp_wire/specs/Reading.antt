@@ -11,7 +11,7 @@ use Rattle.mn_ldp_wire.specs.declared.refusal.WireBad.{WireBad}
 use Rattle.mn_ldp_wire.specs.declared.refusal.WireBad.TheVariants.{Short, BadVersion, BadPduLength, BadMessageLength, UnknownMessage, MissingTlv, BadTlv}
 use Rattle.mn_ldp_wire.specs.declared.refusal.WireBad.TheVariants.{BadFec, NoMemory}
 use Rattle.mn_ldp_wire.specs.Message.{PduContents}
-use Rattle.mn_ldp_wire.specs.Grammar.{u_bit, is_known}
+use Rattle.mn_ldp_wire.specs.Grammar.{u_bit, is_known_message}
 use Rattle.mn_prefix.specs.Octets.{octets, address_of}
 pub use Rattle.mn_base.specs.Refusals.{◌>>=◌}
 
@@ -81,8 +81,8 @@ prefix_of value =
 abbrev pub is_label : ℕ → Bool
 is_label label = label == 3 || (nat_le 16 label && nat_le label 1048575)
 
-unfoldable pub label_of : List ℕ → Option ℕ
-label_of value =
+unfoldable pub read_label : List ℕ → Option ℕ
+read_label value =
     if not (length value == 4) then None
     else if is_label (big_number 4 value) then Some (big_number 4 value)
     else None
@@ -127,7 +127,7 @@ binding_of tlvs = do
   fec ← mandatory_at 0x0100 tlvs
   prefix ← ok_or (prefix_of fec.0) BadFec
   value ← mandatory_at 0x0200 fec.1
-  label ← ok_or (label_of value.0) BadTlv
+  label ← ok_or (read_label value.0) BadTlv
   Ok (prefix, label, value.1)
 
 abbrev pub bound : (AddressBlock → ℕ → LdpBody) → List ℕ → Result (LdpBody × List ℕ) WireBad
@@ -147,7 +147,7 @@ body_of kind tlvs =
 -- A message of this type with these contents: none where it is passed over.
 unfoldable pub said_of : ℕ → List ℕ → Result (Option LdpMessage) WireBad
 said_of kind contents =
-    if nat_le u_bit kind && not (is_known (kind % u_bit)) then Ok None
+    if nat_le u_bit kind && not (is_known_message (kind % u_bit)) then Ok None
     else do
       body ← body_of (kind % u_bit) (drop 4 contents)
       if are_passed_over body.1 then Ok (Some (record { id = big_number 4 contents; body = body.0 })) else Err BadTlv

@@ -8,7 +8,7 @@ use Rattle.mn_ldp_wire.specs.declared.message.LdpBody.{LdpBody}
 use Rattle.mn_ldp_wire.specs.declared.refusal.WireBad.{WireBad}
 use Rattle.mn_ldp_wire.specs.declared.refusal.WireBad.TheVariants.{Short, BadVersion, BadPduLength, BadMessageLength, UnknownMessage, MissingTlv, BadTlv}
 use Rattle.mn_ldp_wire.specs.declared.refusal.WireBad.TheVariants.{BadFec}
-use Rattle.mn_ldp_wire.specs.Grammar.{framed, FitsFrame, u_bit, is_known, type_of, mandatory_tlvs, status_value, session_parameters, address_list}
+use Rattle.mn_ldp_wire.specs.Grammar.{framed, FitsFrame, u_bit, is_known_message, type_of, mandatory_tlvs, status_value, session_parameters, address_list}
 use Rattle.mn_ldp_wire.specs.Grammar.{prefix_element, IsStatus, IsAsked, AreAddresses, IsLabel, IsLawful, ArePassedOver, AreSaid}
 use Rattle.mn_ldp_wire.specs.Reading.{size_at}
 
@@ -99,7 +99,7 @@ pub record IsUnknownRefused (bytes : List ℕ) (bad : WireBad) : Type 0 where
   pub contents : List ℕ
   pub there : HasMessage bytes kind contents
   pub low : kind < u_bit
-  pub unknown : is_known kind ≡ false
+  pub unknown : is_known_message kind ≡ false
   pub bad_is : bad ≡ UnknownMessage
 
 -- its type is known, under whatever U bit, and its TLVs are refused

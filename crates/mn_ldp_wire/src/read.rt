@@ -3,8 +3,8 @@ ghost use Rattle.std.specs.Prelude.{◌≡◌, ◌≤◌, ◌<◌, ◌==◌, Lis
 ghost use Rattle.byteorder.specs.Endian.{big_number};
 ghost use Rattle.mn_ldp_wire.specs.declared.message.LdpId.{LdpId};
 ghost use Rattle.mn_ldp_wire.specs.declared.message.LdpMessage.{LdpMessage};
-ghost use Rattle.mn_ldp_wire.specs.Grammar.{is_known, IsPdu, IsLawful};
-ghost use Rattle.mn_ldp_wire.specs.Reading.{Gives, Answers, front_of, mandatory_at, are_passed_over, prefix_of, label_of, is_label, addresses_of, is_address_list, notification_of, initialization_of, address_message_of, binding_of, body_of, said_of, message_at, messages_of, pdu_of, id_at, asked};
+ghost use Rattle.mn_ldp_wire.specs.Grammar.{is_known_message, IsPdu, IsLawful};
+ghost use Rattle.mn_ldp_wire.specs.Reading.{Gives, Answers, front_of, mandatory_at, are_passed_over, prefix_of, read_label, is_label, addresses_of, is_address_list, notification_of, initialization_of, address_message_of, binding_of, body_of, said_of, message_at, messages_of, pdu_of, id_at, asked};
 
 use crate::message::{
     ADDRESS_SIZE, Addresses, ELEMENT_HEADER, FAMILY_SIZE, FIRST_LABEL, FRAME_HEADER, IMPLICIT_NULL,
@@ -100,7 +100,7 @@ fn said(alloc: Global, kind: u16, contents: &[u8]) -> Result<Option<LdpMessage>,
     requires { 4 ≤ length contents.now }
     ensures { Answers (λ said. said) result (said_of kind contents.now) }
 {
-    if kind >= U_BIT && !is_known(kind % U_BIT) {
+    if kind >= U_BIT && !is_known_message(kind % U_BIT) {
         return Ok(None);
     }
     let id = BigEndian::read_u32(contents);
@@ -112,8 +112,8 @@ fn said(alloc: Global, kind: u16, contents: &[u8]) -> Result<Option<LdpMessage>,
     Ok(Some(LdpMessage { id, body }))
 }
 
-fn is_known(kind: u16) -> bool
-    ensures { result ≡ is_known kind }
+fn is_known_message(kind: u16) -> bool
+    ensures { result ≡ is_known_message kind }
 {
     matches!(
         kind,
@@ -237,7 +237,7 @@ fn binding(tlvs: &mut Rest<'_>) -> Result<(Prefix, u32), WireBad>
     let fec = tlvs.take_mandatory(tlvs::FEC)?;
     let prefix = prefix_of(fec).ok_or(WireBad::BadFec)?;
     let label = tlvs.take_mandatory(tlvs::GENERIC_LABEL)?;
-    let label = label_of(label).ok_or(WireBad::BadTlv)?;
+    let label = read_label(label).ok_or(WireBad::BadTlv)?;
     Ok((prefix, label))
 }
 
@@ -264,9 +264,9 @@ fn prefix_of(value: &[u8]) -> Option<Prefix>
 }
 
 /// The label that is the value of a TLV.
-#[tactic(auto, unfolding(crate::specs::Reading::label_of))]
-fn label_of(value: &[u8]) -> Option<u32>
-    ensures { result ≡ label_of value.now }
+#[tactic(auto, unfolding(crate::specs::Reading::read_label))]
+fn read_label(value: &[u8]) -> Option<u32>
+    ensures { result ≡ read_label value.now }
 {
     if value.len() != LABEL_SIZE {
         return None;

@@ -13,7 +13,7 @@ use Rattle.mn_ledger.specs.declared.verdict.Verdict.{Verdict}
 use Rattle.mn_ledger.specs.declared.verdict.Verdict.TheVariants.{Flying}
 use Rattle.mn_ledger.specs.Packets.{Packets, flying_on}
 use Rattle.mn_ledger.specs.Transport.{Said, is_by, messages_of}
-use Rattle.mn_ledger.specs.Vpn.{Told, is_between, tellings_of}
+use Rattle.mn_ledger.specs.Vpn.{Told, is_from_to, tellings_of}
 use Rattle.mn_ledger.specs.Items.{Channel, Notices, Messages, Routes, Frames, Load, Notice, Says, Tells, Item, same_channel, items_on, loads_on, message_of}
 use Rattle.mn_ledger.specs.Items.{route_of, last_of, frame_by, numbered, without}
 use Rattle.mn_ledger.specs.InFlight.{is_in_order, AreLastOf}
@@ -91,8 +91,8 @@ off on other h place [] = refl
 off on other h zero (x ∷ xs) = off_cons on x xs (without other zero xs) (same_channel other x.on) (h x.on) (off on other h zero xs)
 off on other h (suc place) (x ∷ xs) =
     ap (λ ys. cond (same_channel on x.on) (x ∷ ys) ys)
-        (either on (without other place xs) (without other (suc place) xs) xs (same_channel other x.on) (off on other h place xs)
-        (off on other h (suc place) xs))
+    (either on (without other place xs) (without other (suc place) xs) xs (same_channel other x.on) (off on other h place xs)
+    (off on other h (suc place) xs))
 
 -- 3. What a step makes
 
@@ -108,7 +108,7 @@ pub loads_in_append : (on : Channel) (xs ys : List (Channel × Load)) → loads_
 loads_in_append on xs ys =
     ap (map (λ (one : Channel × Load). one.1)) (filter-append (λ (one : Channel × Load). same_channel on one.0) xs ys)
     ∙ map-append (λ (one : Channel × Load). one.1) (filter (λ (one : Channel × Load). same_channel on one.0) xs)
-        (filter (λ (one : Channel × Load). same_channel on one.0) ys)
+    (filter (λ (one : Channel × Load). same_channel on one.0) ys)
 
 number_cons : (b : Bool) (i : Item) (m : Channel × Load) (f : List Item) (g : List (Channel × Load)) → i.load ≡ m.1 →
     map (λ (item : Item). item.load) f ≡ map (λ (one : Channel × Load). one.1) g
@@ -120,14 +120,14 @@ pub on_numbered : (t : Network) (on : Channel) (tick n : ℕ) (xs : List (Channe
 on_numbered t on tick n [] = refl
 on_numbered t on tick n (x ∷ xs) =
     number_cons (same_channel on x.0) _ x (items_on on (numbered t tick (n + 1) xs)) (filter (λ (one : Channel × Load). same_channel on one.0) xs) refl
-        (on_numbered t on tick (n + 1) xs)
+    (on_numbered t on tick (n + 1) xs)
 
 pub none_of : {A : Type 0} (on : Channel) (f : A → Channel × Load) → ((a : A) → same_channel on (f a).0 ≡ false) → (xs : List A) → loads_in on (map f xs) ≡ []
 none_of on f h [] = refl
 none_of on f h (x ∷ xs) =
     ap (λ b. map (λ (one : Channel × Load). one.1)
-        (cond b (f x ∷ filter (λ (one : Channel × Load). same_channel on one.0) (map f xs))
-        (filter (λ (one : Channel × Load). same_channel on one.0) (map f xs)))) (h x) ∙ none_of on f h xs
+    (cond b (f x ∷ filter (λ (one : Channel × Load). same_channel on one.0) (map f xs))
+    (filter (λ (one : Channel × Load). same_channel on one.0) (map f xs)))) (h x) ∙ none_of on f h xs
 
 pub no_frames : (on : Channel) → is_in_order on ≡ true → (p : Packets) (v : Verdict) → loads_in on (frame_by p v) ≡ []
 no_frames on i p (Flying l dir) = none_of on _ (λ token. no_frame on l.0 dir i) (last_of (flying_on p l.0 dir))
@@ -136,7 +136,7 @@ no_frames on i p _ = refl
 message_cons : (b : Bool) (x : Said) (f : List (Channel × Load)) (g : List Said) →
     map (λ (one : Channel × Load). one.1) f ≡ map (λ message. Says message) (map (λ (said : Said). said.message) g)
     → map (λ (one : Channel × Load). one.1) (cond b (message_of x ∷ f) f) ≡ map (λ message. Says message)
-        (map (λ (said : Said). said.message) (cond b (x ∷ g) g))
+    (map (λ (said : Said). said.message) (cond b (x ∷ g) g))
 message_cons true x f g e = ap (λ ys. Says x.message ∷ ys) e
 message_cons false x f g e = e
 
@@ -149,14 +149,14 @@ in_messages l n (x ∷ xs) =
 route_cons : (b : Bool) (x : Told) (f : List (Channel × Load)) (g : List Told) →
     map (λ (one : Channel × Load). one.1) f ≡ map (λ telling. Tells telling) (map (λ (told : Told). told.telling) g)
     → map (λ (one : Channel × Load). one.1) (cond b (route_of x ∷ f) f) ≡ map (λ telling. Tells telling)
-        (map (λ (told : Told). told.telling) (cond b (x ∷ g) g))
+    (map (λ (told : Told). told.telling) (cond b (x ∷ g) g))
 route_cons true x f g e = ap (λ ys. Tells x.telling ∷ ys) e
 route_cons false x f g e = e
 
 pub in_routes : (a b : ℕ) (xs : List Told) → loads_in (Routes a b) (map route_of xs) ≡ map (λ telling. Tells telling) (tellings_of a b xs)
 in_routes a b [] = refl
 in_routes a b (x ∷ xs) =
-    route_cons (is_between a b x) x (filter (λ (one : Channel × Load). same_channel (Routes a b) one.0) (map route_of xs)) (filter (is_between a b) xs)
+    route_cons (is_from_to a b x) x (filter (λ (one : Channel × Load). same_channel (Routes a b) one.0) (map route_of xs)) (filter (is_from_to a b) xs)
     (in_routes a b xs)
 
 -- 4. Notices to each node

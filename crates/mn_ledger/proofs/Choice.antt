@@ -135,9 +135,11 @@ better_is : (x y : HeldRoute) → is_better x y ≡ true →
 better_is x y h = elim (leb_tells (suc y.prefix.length) x.prefix.length) [
   | inl p ↦ inl p.1
   | inr p ↦ elim (eqb_tells x.prefix.length y.prefix.length) [
-    | inl q ↦ inr
-        (q.1, sym (ap (λ b. b || ((x.prefix.length == y.prefix.length) && is_preferred x.source y.source)) p.0
-        ∙ ap (λ b. b && is_preferred x.source y.source) q.0) ∙ h)
+    | inl q ↦ inr (
+      q.1,
+      sym (ap (λ b. b || ((x.prefix.length == y.prefix.length) && is_preferred x.source y.source)) p.0
+          ∙ ap (λ b. b && is_preferred x.source y.source) q.0) ∙ h,
+    )
     | inr q ↦ absurd
         (no (sym (ap (λ b. b || ((x.prefix.length == y.prefix.length) && is_preferred x.source y.source)) p.0
         ∙ ap (λ b. b && is_preferred x.source y.source) q.0) ∙ h))
@@ -245,7 +247,7 @@ to_unbeaten : (routes : List HeldRoute) (address : ℕ) (x : HeldRoute) → In (
     ((y : HeldRoute) → In (matching address routes) y → is_better y x ≡ false) → In (unbeaten (matching address routes)) x
 to_unbeaten routes address x i h =
     filter_in (λ route. not (list_any (λ other. is_better other route) (matching address routes))) (matching address routes) x i
-        (ap not (passes_none (λ other. is_better other x) (matching address routes) h))
+    (ap not (passes_none (λ other. is_better other x) (matching address routes) h))
 
 best_unbeaten : (routes : List HeldRoute) (address : ℕ) (x : HeldRoute) → IsBest routes address x → In (unbeaten (matching address routes)) x
 best_unbeaten routes address x b =
@@ -301,18 +303,22 @@ keeps_on t [] tick w k i ps lawful h = h
 keeps_on t (e ∷ es) tick w k i ps lawful h =
     let forms = forms_go t w e.step lawful.0 h.forms in
     keeps_on t es e.tick (after t w e.step) (packets_after t (after t w e.step) k e.step (next_of ps)) (i + 1) (left_by e.step ps) lawful.3
-        (record { statics = statics_go t w k i e.step (next_of ps) lawful.2 h.statics; forms = forms; told = tellings_go t w e.step forms h.told })
+    (record { statics = statics_go t w k i e.step (next_of ps) lawful.2 h.statics; forms = forms; told = tellings_go t w e.step forms h.told })
 
 pub keeps : (t : Network) (es : List JournalEntry) (ps : List (List ℕ)) → IsLawful t → IsLawfulJournal t es ps → Keeps t (world_of t es)
 keeps t es ps lawful journal =
-    keeps_on t es 0 (start t) no_packets 0 ps journal (record { statics = first_statics t lawful; forms = first_forms t lawful; told =
-    λ edge peer m i. absurd i })
+    keeps_on t es 0 (start t) no_packets 0 ps journal (record {
+      statics = first_statics t lawful;
+      forms = first_forms t lawful;
+      told =
+          λ edge peer m i. absurd i;
+    })
 
 pub names_best : (t : Network) (es : List JournalEntry) (ps : List (List ℕ)) → IsLawful t → IsLawfulJournal t es ps → (edge v address : ℕ)
     → NamesTheBest (held t (world_of t es).config (world_of t es).peerings edge v) address
 names_best t es ps lawful journal edge v address =
     let k : Keeps t (world_of t es) = keeps t es ps lawful journal in
     names_one (held t (world_of t es).config (world_of t es).peerings edge v) address
-        (λ a i. held_formed t (world_of t es).config (world_of t es).peerings edge v a k.forms k.told i)
+    (λ a i. held_formed t (world_of t es).config (world_of t es).peerings edge v a k.forms k.told i)
     (λ a b i j source prefix. one_held t (world_of t es).config (world_of t es).peerings edge v a b lawful
-        (loopbacks_apart t lawful) k.statics k.told i j source prefix)
+    (loopbacks_apart t lawful) k.statics k.told i j source prefix)

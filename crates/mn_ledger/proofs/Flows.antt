@@ -18,7 +18,7 @@ use Rattle.mn_topo.specs.declared.steps.Step.TheVariants.{Export, Attach, Detach
 use Rattle.mn_topo.specs.declared.steps.JournalEntry.{JournalEntry}
 use Rattle.mn_ledger.specs.Tables.{put, put_pair}
 use Rattle.mn_ledger.specs.World.{World, Message, Telling, Sessions, Peerings, Views}
-use Rattle.mn_ledger.specs.Transport.{Said, is_transport, said_in, messages_of, counted, anew, sessions_after}
+use Rattle.mn_ledger.specs.Transport.{Said, is_transport, said_in, messages_of, ldp_counted, ldp_restarted, sessions_after}
 use Rattle.mn_ledger.specs.Vpn as vpn
 use Rattle.mn_ledger.specs.Vpn.{Told, tellings_of, peerings_after}
 use Rattle.mn_ledger.specs.Packets.{Token, Packets, packets_after}
@@ -135,13 +135,13 @@ if_none on false xs h = refl
 no_messages : (on : Channel) → ((x : Said) → same_channel on (message_of x).0 ≡ false) →
     (t : Network) (w v : World) (s : Step) → loads_in on (messages_in t w v s) ≡ []
 no_messages on h t w v s =
-    let said : List Said = said_in t w.config w.views w.sessions v.config v.views (counted t w.sessions s) s in
+    let said : List Said = said_in t w.config w.views w.sessions v.config v.views (ldp_counted t w.sessions s) s in
     if_none on (is_transport s) (map message_of said) (none_of on message_of h said)
 
 no_routes : (on : Channel) → ((x : Told) → same_channel on (route_of x).0 ≡ false) →
     (t : Network) (w v : World) (s : Step) → loads_in on (routes_in t w v s) ≡ []
 no_routes on h t w v s =
-    let told : List Told = vpn.told_in t w.config w.peerings v.config (vpn.counted w.peerings s) s in
+    let told : List Told = vpn.told_in t w.config w.peerings v.config (vpn.bgp_counted w.peerings s) s in
     if_none on (vpn.is_routing s) (map route_of told) (none_of on route_of h told)
 
 made_notices : (t : Network) (w v : World) (p q : Packets) (s : Step) (l node : ℕ) →
@@ -149,10 +149,10 @@ made_notices : (t : Network) (w v : World) (p q : Packets) (s : Step) (l node : 
 made_notices t w v p q s l node =
     parts (Notices l node) (notices_in t s) (messages_in t w v s) (routes_in t w v s) (frames_in p q s)
     ∙ ap (λ r. loads_in (Notices l node) (notices_in t s) ++
-        (r ++ (loads_in (Notices l node) (routes_in t w v s) ++ loads_in (Notices l node) (frames_in p q s))))
-        (no_messages (Notices l node) (λ x. refl) t w v s)
+    (r ++ (loads_in (Notices l node) (routes_in t w v s) ++ loads_in (Notices l node) (frames_in p q s))))
+    (no_messages (Notices l node) (λ x. refl) t w v s)
     ∙ ap (λ r. loads_in (Notices l node) (notices_in t s) ++ (r ++ loads_in (Notices l node) (frames_in p q s)))
-        (no_routes (Notices l node) (λ x. refl) t w v s)
+    (no_routes (Notices l node) (λ x. refl) t w v s)
     ∙ ap (λ r. loads_in (Notices l node) (notices_in t s) ++ r) (frames_none (Notices l node) refl p q s)
     ∙ append-nil (loads_in (Notices l node) (notices_in t s))
 
@@ -166,10 +166,10 @@ made_messages : (t : Network) (w v : World) (p q : Packets) (s : Step) (l node :
 made_messages t w v p q s l node =
     parts (Messages l node) (notices_in t s) (messages_in t w v s) (routes_in t w v s) (frames_in p q s)
     ∙ ap (λ r. r ++
-        (loads_in (Messages l node) (messages_in t w v s) ++
-        (loads_in (Messages l node) (routes_in t w v s) ++ loads_in (Messages l node) (frames_in p q s)))) (no_notices t s l node)
+    (loads_in (Messages l node) (messages_in t w v s) ++
+    (loads_in (Messages l node) (routes_in t w v s) ++ loads_in (Messages l node) (frames_in p q s)))) (no_notices t s l node)
     ∙ ap (λ r. loads_in (Messages l node) (messages_in t w v s) ++ (r ++ loads_in (Messages l node) (frames_in p q s)))
-        (no_routes (Messages l node) (λ x. refl) t w v s)
+    (no_routes (Messages l node) (λ x. refl) t w v s)
     ∙ ap (λ r. loads_in (Messages l node) (messages_in t w v s) ++ r) (frames_none (Messages l node) refl p q s)
     ∙ append-nil (loads_in (Messages l node) (messages_in t w v s))
 
@@ -183,10 +183,10 @@ made_routes : (t : Network) (w v : World) (p q : Packets) (s : Step) (edge peer 
 made_routes t w v p q s edge peer =
     parts (Routes edge peer) (notices_in t s) (messages_in t w v s) (routes_in t w v s) (frames_in p q s)
     ∙ ap (λ r. r ++
-        (loads_in (Routes edge peer) (messages_in t w v s) ++
-        (loads_in (Routes edge peer) (routes_in t w v s) ++ loads_in (Routes edge peer) (frames_in p q s)))) (no_route_notices t s edge peer)
+    (loads_in (Routes edge peer) (messages_in t w v s) ++
+    (loads_in (Routes edge peer) (routes_in t w v s) ++ loads_in (Routes edge peer) (frames_in p q s)))) (no_route_notices t s edge peer)
     ∙ ap (λ r. r ++ (loads_in (Routes edge peer) (routes_in t w v s) ++ loads_in (Routes edge peer) (frames_in p q s)))
-        (no_messages (Routes edge peer) (λ x. refl) t w v s)
+    (no_messages (Routes edge peer) (λ x. refl) t w v s)
     ∙ ap (λ r. loads_in (Routes edge peer) (routes_in t w v s) ++ r) (frames_none (Routes edge peer) refl p q s)
     ∙ append-nil (loads_in (Routes edge peer) (routes_in t w v s))
 
@@ -197,7 +197,7 @@ later_loads : (t : Network) (w : World) (p q : Packets) (s : Step) (tick n : ℕ
     → loads_on on (later_items t w p q s tick n items) ≡ loads_on on (left_in_flight t s items) ++ loads_in on (made_in t w (after t w s) p q s)
 later_loads t w p q s tick n items on =
     loads_append on (left_in_flight t s items) (numbered t tick n (made_in t w (after t w s) p q s))
-        ∙ ap (λ r. loads_on on (left_in_flight t s items) ++ r) (on_numbered t on tick n (made_in t w (after t w s) p q s))
+    ∙ ap (λ r. loads_on on (left_in_flight t s items) ++ r) (on_numbered t on tick n (made_in t w (after t w s) p q s))
 
 loads_kept : (t : Network) (s : Step) (on : Channel) → is_in_order on ≡ true → touches t s on ≡ false →
     (items : List Item) → loads_on on (left_in_flight t s items) ≡ loads_on on items
@@ -207,10 +207,10 @@ loads_kept t s on i h items = ap (map (λ (item : Item). item.load)) (untouched 
 
 count_later : (t : Network) (w : World) (p q : Packets) (s : Step) (tick n : ℕ) (items : List Item) (l node : ℕ)
     → length (loads_on (Notices l node) (later_items t w p q s tick n items)) ≡ length (loads_on (Notices l node) (left_in_flight t s items)) + length
-        (loads_in (Notices l node) (notices_in t s))
+    (loads_in (Notices l node) (notices_in t s))
 count_later t w p q s tick n items l node =
     ap length (later_loads t w p q s tick n items (Notices l node)
-        ∙ ap (λ r. loads_on (Notices l node) (left_in_flight t s items) ++ r) (made_notices t w (after t w s) p q s l node))
+    ∙ ap (λ r. loads_on (Notices l node) (left_in_flight t s items) ++ r) (made_notices t w (after t w s) p q s l node))
     ∙ length-append (loads_on (Notices l node) (left_in_flight t s items)) (loads_in (Notices l node) (notices_in t s))
 
 -- the link comes up or goes down
@@ -239,19 +239,31 @@ learns : (v : Views) (who at : ℕ) (items : List Item) → v.learned who at < v
     v.learned who at + length (loads_on (Notices at who) items) ≡ v.changes at
     → put_pair v.learned who at (v.learned who at + 1) who at + length (loads_on (Notices at who) (without (Notices at who) 0 items)) ≡ v.changes at
 learns v who at items less h =
-    omega (arith, h, less, pair_here v.learned who at (v.learned who at + 1), ap length (first_loads (Notices at who) items), length-drop 1
-        (loads_on (Notices at who) items))
+    omega (
+      arith,
+      h,
+      less,
+      pair_here v.learned who at (v.learned who at + 1),
+      ap length (first_loads (Notices at who) items),
+      length-drop 1
+          (loads_on (Notices at who) items),
+    )
 
 learns_all : (t : Network) (v : Views) (who at : ℕ) (items left : List Item) (l node : ℕ) → left ≡ without (Notices at who) 0 items →
     v.learned who at < v.changes at
     → (same_channel (Notices at who) (Notices l node) ≡ false → loads_on (Notices l node) left ≡ loads_on (Notices l node) items)
     → v.learned node l + length (loads_on (Notices l node) items) ≡ v.changes l →
-        put_pair v.learned who at (v.learned who at + 1) node l + length (loads_on (Notices l node) left) ≡ v.changes l
+    put_pair v.learned who at (v.learned who at + 1) node l + length (loads_on (Notices l node) left) ≡ v.changes l
 learns_all t v who at items left l node is less off h =
     let other : ((node ≢ who) ⊎ (l ≢ at)) →
-        put_pair v.learned who at (v.learned who at + 1) node l + length (loads_on (Notices l node) left) ≡ v.changes l = λ d.
-    omega (arith, h, pair_off v.learned who at (v.learned who at + 1) node l d, ap length
-        (off (both (l == at) (node == who) (elim d [ inl p ↦ inr (other_test node who p) | inr p ↦ inl (other_test l at p) ])))) in
+    put_pair v.learned who at (v.learned who at + 1) node l + length (loads_on (Notices l node) left) ≡ v.changes l = λ d.
+    omega (
+      arith,
+      h,
+      pair_off v.learned who at (v.learned who at + 1) node l d,
+      ap length
+          (off (both (l == at) (node == who) (elim d [ inl p ↦ inr (other_test node who p) | inr p ↦ inl (other_test l at p) ]))),
+    ) in
     elim (eqb_tells node who) [
       | inr p ↦ other (inl p.1)
       | inl p ↦ elim (eqb_tells l at) [
@@ -261,8 +273,8 @@ learns_all t v who at items left l node is less off h =
             (subst (λ j. put_pair v.learned who at (v.learned who at + 1) who j + length (loads_on (Notices j who) left) ≡ v.changes j) (sym q.1)
             (subst (λ r. put_pair v.learned who at (v.learned who at + 1) who at + length (loads_on (Notices at who) r) ≡ v.changes at) (sym is)
             (learns v who at items less
-                (subst (λ j. v.learned who j + length (loads_on (Notices j who) items) ≡ v.changes j) q.1
-                (subst (λ j. v.learned j l + length (loads_on (Notices l j) items) ≡ v.changes l) p.1 h)))))
+            (subst (λ j. v.learned who j + length (loads_on (Notices j who) items) ≡ v.changes j) q.1
+            (subst (λ j. v.learned j l + length (loads_on (Notices l j) items) ≡ v.changes l) p.1 h)))))
       ]
     ]
 
@@ -283,18 +295,18 @@ notices_go : (t : Network) (w : World) (p q : Packets) (s : Step) (tick n : ℕ)
 unfolding touches
 notices_go t w p q (LinkUp at) tick n items l node below full h =
     some_made _ _ _ _ _ (count_later t w p q (LinkUp at) tick n items l node
-        ∙ ap (λ m. m + length (loads_in (Notices l node) (notices_in t (LinkUp at))))
-        (ap length (loads_kept t (LinkUp at) (Notices l node) refl refl items)))
+    ∙ ap (λ m. m + length (loads_in (Notices l node) (notices_in t (LinkUp at))))
+    (ap length (loads_kept t (LinkUp at) (Notices l node) refl refl items)))
     (turned w.views.changes at.0 l node (length t.loopbacks) (w.views.learned node l) (length (loads_on (Notices l node) items)) below h)
 notices_go t w p q (LinkDown at) tick n items l node below full h =
     some_made _ _ _ _ _ (count_later t w p q (LinkDown at) tick n items l node
-        ∙ ap (λ m. m + length (loads_in (Notices l node) (notices_in t (LinkDown at))))
-        (ap length (loads_kept t (LinkDown at) (Notices l node) refl refl items)))
+    ∙ ap (λ m. m + length (loads_in (Notices l node) (notices_in t (LinkDown at))))
+    (ap length (loads_kept t (LinkDown at) (Notices l node) refl refl items)))
     (turned w.views.changes at.0 l node (length t.loopbacks) (w.views.learned node l) (length (loads_on (Notices l node) items)) below h)
 notices_go t w p q (Learn who at) tick n items l node below full h =
     none_made _ _ _ _ (count_later t w p q (Learn who at) tick n items l node)
     (learns_all t w.views who.0 at.0 items (left_in_flight t (Learn who at) items) l node refl (above _ _ full)
-        (λ e. loads_kept t (Learn who at) (Notices l node) refl e items) h)
+    (λ e. loads_kept t (Learn who at) (Notices l node) refl e items) h)
 notices_go t w p q s tick n items l node below full h =
     none_made _ _ _ _ (count_later t w p q s tick n items l node ∙ ap (λ m. m + 0) (ap length (loads_kept t s (Notices l node) refl refl items))) h
 
@@ -303,7 +315,7 @@ notices_go t w p q s tick n items l node below full h =
 abbrev MessagesGo : Network → World → Packets → Packets → Step → ℕ → ℕ → List Item → ℕ → ℕ → Type 0
 MessagesGo t w p q s tick n items l node =
     loads_on (Messages l node) (later_items t w p q s tick n items) ≡ map (λ message. Says message)
-        (drop ((after t w s).sessions.heard l (across (wiring_of t) l node)) ((after t w s).sessions.said l node))
+    (drop ((after t w s).sessions.heard l (across (wiring_of t) l node)) ((after t w s).sessions.said l node))
 
 -- what is said comes after what isn't heard yet
 speaks : (t : Network) (w : World) (p q : Packets) (s : Step) (tick n : ℕ) (items : List Item) (l node : ℕ) (h : ℕ) (old : List Message) (xs : List Said)
@@ -321,19 +333,23 @@ speaks t w p q s tick n items l node h old xs left few new =
 renewed : (s : Sessions) (at l node other : ℕ) (left items : List Item) → (l ≡ at → loads_on (Messages l node) left ≡ []) →
     (l ≢ at → loads_on (Messages l node) left ≡ loads_on (Messages l node) items)
     → s.heard l other ≤ length (s.said l node) → loads_on (Messages l node) items ≡ map (λ message. Says message) (drop (s.heard l other) (s.said l node))
-    → (loads_on (Messages l node) left ≡ map (λ message. Says message) (drop ((anew s at).heard l other) ((anew s at).said l node)))
-        × ((anew s at).heard l other ≤ length ((anew s at).said l node))
+    → (loads_on (Messages l node) left ≡ map (λ message. Says message) (drop ((ldp_restarted s at).heard l other) ((ldp_restarted s at).said l node)))
+    × ((ldp_restarted s at).heard l other ≤ length ((ldp_restarted s at).said l node))
 renewed s at l node other left items here off few h = elim (eqb_tells l at) [
   | inl p ↦
-      let said : (anew s at).said l node ≡ [] = ap (λ j. (anew s at).said j node) p.1 ∙ ap (λ f. f node) (put_here s.said at (λ _. [])) in
-      let heard : (anew s at).heard l other ≡ 0 = ap (λ j. (anew s at).heard j other) p.1 ∙ ap (λ f. f other) (put_here s.heard at (λ _. 0)) in
-      (here p.1 ∙ sym (ap (λ m. map (λ message. Says message) (drop m ((anew s at).said l node))) heard ∙ ap (map (λ message. Says message)) said), subst
-          (λ m. m ≤ length ((anew s at).said l node)) (sym heard) (omega arith))
+      let said : (ldp_restarted s at).said l node ≡ [] = ap (λ j. (ldp_restarted s at).said j node) p.1 ∙ ap (λ f. f node) (put_here s.said at (λ _. [])) in
+      let heard : (ldp_restarted s at).heard l other ≡ 0 =
+      ap (λ j. (ldp_restarted s at).heard j other) p.1 ∙ ap (λ f. f other) (put_here s.heard at (λ _. 0)) in (
+        here p.1
+            ∙ sym (ap (λ m. map (λ message. Says message) (drop m ((ldp_restarted s at).said l node))) heard ∙ ap (map (λ message. Says message)) said),
+        subst
+            (λ m. m ≤ length ((ldp_restarted s at).said l node)) (sym heard) (omega arith),
+      )
   | inr p ↦
-      let said : (anew s at).said l node ≡ s.said l node = ap (λ f. f node) (put_off s.said at (λ _. []) l p.1) in
-      let heard : (anew s at).heard l other ≡ s.heard l other = ap (λ f. f other) (put_off s.heard at (λ _. 0) l p.1) in (
+      let said : (ldp_restarted s at).said l node ≡ s.said l node = ap (λ f. f node) (put_off s.said at (λ _. []) l p.1) in
+      let heard : (ldp_restarted s at).heard l other ≡ s.heard l other = ap (λ f. f other) (put_off s.heard at (λ _. 0) l p.1) in (
         off p.1 ∙ h
-            ∙ sym (ap (λ m. map (λ message. Says message) (drop m ((anew s at).said l node))) heard
+            ∙ sym (ap (λ m. map (λ message. Says message) (drop m ((ldp_restarted s at).said l node))) heard
             ∙ ap (λ m. map (λ message. Says message) (drop (s.heard l other) m)) said),
         omega (arith, few, heard, ap length said),
       )
@@ -352,17 +368,17 @@ hears : (s : Sessions) (wiring : Wiring) (at who far : ℕ) (l node : ℕ) (left
     → s.heard at who < length (s.said at far) → left ≡ without (Messages at far) 0 items
     → (same_channel (Messages at far) (Messages l node) ≡ false → loads_on (Messages l node) left ≡ loads_on (Messages l node) items)
     → s.heard l (across wiring l node) ≤ length (s.said l node) →
-        loads_on (Messages l node) items ≡ map (λ message. Says message) (drop (s.heard l (across wiring l node)) (s.said l node))
+    loads_on (Messages l node) items ≡ map (λ message. Says message) (drop (s.heard l (across wiring l node)) (s.said l node))
     → (loads_on (Messages l node) left ≡ map (λ message. Says message)
-        (drop (put_pair s.heard at who (s.heard at who + 1) l (across wiring l node)) (s.said l node)))
-        × (put_pair s.heard at who (s.heard at who + 1) l (across wiring l node) ≤ length (s.said l node))
+    (drop (put_pair s.heard at who (s.heard at who + 1) l (across wiring l node)) (s.said l node)))
+    × (put_pair s.heard at who (s.heard at who + 1) l (across wiring l node) ≤ length (s.said l node))
 hears s wiring at who far l node left items differ at_end here there less is off few h =
     let next : ℕ → ℕ → ℕ = put_pair s.heard at who (s.heard at who + 1) in
     let other : ((l ≢ at) ⊎ (node ≢ far)) →
-        (loads_on (Messages l node) left ≡ map (λ message. Says message) (drop (next l (across wiring l node)) (s.said l node)))
-        × (next l (across wiring l node) ≤ length (s.said l node)) = λ d.
+    (loads_on (Messages l node) left ≡ map (λ message. Says message) (drop (next l (across wiring l node)) (s.said l node)))
+    × (next l (across wiring l node) ≤ length (s.said l node)) = λ d.
     let same : next l (across wiring l node) ≡ s.heard l (across wiring l node) =
-        pair_off s.heard at who (s.heard at who + 1) l (across wiring l node) (far_off d) in
+    pair_off s.heard at who (s.heard at who + 1) l (across wiring l node) (far_off d) in
     (off (apart_pair d) ∙ h ∙ ap (λ m. map (λ message. Says message) (drop m (s.said l node))) (sym same), omega (arith, same, few)) in
     elim (eqb_tells l at) [
       | inr p ↦ other (inl p.1)
@@ -386,21 +402,29 @@ hears s wiring at who far l node left items differ at_end here there less is off
 
     both_here : l ≡ at → node ≡ far
         → (loads_on (Messages l node) left ≡ map (λ message. Says message)
-            (drop (put_pair s.heard at who (s.heard at who + 1) l (across wiring l node)) (s.said l node)))
-            × (put_pair s.heard at who (s.heard at who + 1) l (across wiring l node) ≤ length (s.said l node))
+        (drop (put_pair s.heard at who (s.heard at who + 1) l (across wiring l node)) (s.said l node)))
+        × (put_pair s.heard at who (s.heard at who + 1) l (across wiring l node) ≤ length (s.said l node))
     both_here e d =
         let who_is : across wiring l node ≡ who = ap (λ j. across wiring j node) e ∙ ap (across wiring at) d ∙ there in
         let now : put_pair s.heard at who (s.heard at who + 1) l (across wiring l node) ≡ s.heard l (across wiring l node) + 1 =
         ap (λ m. put_pair s.heard at who (s.heard at who + 1) l m) who_is ∙ ap (λ j. put_pair s.heard at who (s.heard at who + 1) j who) e
-            ∙ pair_here s.heard at who (s.heard at who + 1)
+        ∙ pair_here s.heard at who (s.heard at who + 1)
         ∙ ap (λ j. s.heard j who + 1) (sym e) ∙ ap (λ m. s.heard l m + 1) (sym who_is) in
         let chan : Messages at far ≡ Messages l node = ap (λ j. Messages j far) (sym e) ∙ ap (Messages l) (sym d) in (
           ap (loads_on (Messages l node)) (is ∙ ap (λ c. without c 0 items) chan) ∙ first_loads (Messages l node) items ∙ ap (drop 1) h
               ∙ drop-map (λ message. Says message) 1 (drop (s.heard l (across wiring l node)) (s.said l node))
               ∙ ap (map (λ message. Says message)) (drop-drop 1 (s.heard l (across wiring l node)) (s.said l node))
-                  ∙ ap (λ m. map (λ message. Says message) (drop m (s.said l node))) (sym now),
-          omega (arith, now, ap (λ m. s.heard l m) who_is, ap (λ j. s.heard j who) e, ap (λ j. length (s.said j node)) e, ap
-              (λ j. length (s.said at j)) d, less),
+              ∙ ap (λ m. map (λ message. Says message) (drop m (s.said l node))) (sym now),
+          omega (
+            arith,
+            now,
+            ap (λ m. s.heard l m) who_is,
+            ap (λ j. s.heard j who) e,
+            ap (λ j. length (s.said j node)) e,
+            ap
+                (λ j. length (s.said at j)) d,
+            less,
+          ),
         )
 
 quiet : (t : Network) (w : World) (p q : Packets) (s : Step) (tick n : ℕ) (items : List Item) (on : Channel) → is_in_order on ≡ true →
@@ -414,7 +438,7 @@ messages_go : (t : Network) (w : World) (p q : Packets) (s : Step) (tick n : ℕ
     LinkIsThere t s → l < length t.links → is_end (wiring_of t) l node ≡ true → is_empty t w p s ≡ false
     → w.sessions.heard l (across (wiring_of t) l node) ≤ length (w.sessions.said l node)
     → loads_on (Messages l node) items ≡ map (λ message. Says message) (drop (w.sessions.heard l (across (wiring_of t) l node)) (w.sessions.said l node)) →
-        MessagesGo t w p q s tick n items l node
+    MessagesGo t w p q s tick n items l node
 unfolding touches sessions_after
 messages_go t w p q (LinkUp at) tick n items l node differ inside below at_end full few h =
     let new = renewed w.sessions at.0 l node (across (wiring_of t) l node) (left_in_flight t (LinkUp at) items) items
@@ -437,8 +461,8 @@ messages_go t w p q (HearLdp at dir) tick n items l node differ inside below at_
     let ends = dir_ends (wiring_of t) at.0 dir (differ at.0 inside) in
     let back = ap (across (wiring_of t) at.0) (sym ends.1) ∙ (across-end (wiring_of t) at.0 (receiver (wiring_of t) at.0 dir) (differ at.0 inside) ends.0).1 in
     let new =
-        hears w.sessions (wiring_of t) at.0 (receiver (wiring_of t) at.0 dir) (sender (wiring_of t) at.0 dir) l node
-        (left_in_flight t (HearLdp at dir) items) items (differ l below) at_end ends.1 back
+    hears w.sessions (wiring_of t) at.0 (receiver (wiring_of t) at.0 dir) (sender (wiring_of t) at.0 dir) l node
+    (left_in_flight t (HearLdp at dir) items) items (differ l below) at_end ends.1 back
     (above _ _ (or_both _ _ full).1) refl (λ e. loads_kept t (HearLdp at dir) (Messages l node) refl e items) few h in
     speaks t w p q (HearLdp at dir) tick n items l node _ _ _ new.0 new.1 (in_messages l node _)
 messages_go t w p q s tick n items l node differ inside below at_end full few h =
@@ -449,7 +473,7 @@ messages_go t w p q s tick n items l node differ inside below at_end full few h 
 abbrev RoutesGo : Network → World → Packets → Packets → Step → ℕ → ℕ → List Item → ℕ → ℕ → Type 0
 RoutesGo t w p q s tick n items edge peer =
     loads_on (Routes edge peer) (later_items t w p q s tick n items) ≡ map (λ telling. Tells telling)
-        (drop ((after t w s).peerings.heard peer edge) ((after t w s).peerings.told edge peer))
+    (drop ((after t w s).peerings.heard peer edge) ((after t w s).peerings.told edge peer))
 
 tells : (t : Network) (w : World) (p q : Packets) (s : Step) (tick n : ℕ) (items : List Item) (edge peer : ℕ) (h : ℕ) (old : List Telling) (xs : List Told)
     → loads_on (Routes edge peer) (left_in_flight t s items) ≡ map (λ telling. Tells telling) (drop h old) → h ≤ length old
@@ -487,26 +511,28 @@ all_left k new edge peer left items same told heard u = (
 -- a session begins or ends
 begun : (k : Peerings) (a b edge peer : ℕ) (left items : List Item) → a ≢ b → (is_between a b (Routes edge peer) ≡ true → loads_on (Routes edge peer) left ≡ [])
     → (is_between a b (Routes edge peer) ≡ false → loads_on (Routes edge peer) left ≡ loads_on (Routes edge peer) items) → Unheard k edge peer items →
-        Unheard (vpn.anew k a b) edge peer left
+    Unheard (vpn.bgp_restarted k a b) edge peer left
 unfolding Which
 begun k a b edge peer left items differ here off u = elim (which a b edge peer) [
   | inl p ↦
-      none_left (vpn.anew k a b) edge peer left
-          (here (ap (λ x. (x && (b == peer)) || ((b == edge) && (a == peer))) (same_is edge a p.0)
-          ∙ ap (λ x. x || ((b == edge) && (a == peer))) (same_is peer b p.1)))
-      (ap (λ j. (vpn.anew k a b).told j peer) p.0 ∙ ap (λ j. (vpn.anew k a b).told a j) p.1 ∙ pair_off (put_pair k.told a b []) b a [] a b (inl differ)
-          ∙ pair_here k.told a b [])
-      (ap (λ j. (vpn.anew k a b).heard peer j) p.0 ∙ ap (λ j. (vpn.anew k a b).heard j a) p.1 ∙ pair_here (put_pair k.heard a b 0) b a 0)
+      none_left (vpn.bgp_restarted k a b) edge peer left
+      (here (ap (λ x. (x && (b == peer)) || ((b == edge) && (a == peer))) (same_is edge a p.0)
+      ∙ ap (λ x. x || ((b == edge) && (a == peer))) (same_is peer b p.1)))
+      (ap (λ j. (vpn.bgp_restarted k a b).told j peer) p.0 ∙ ap (λ j. (vpn.bgp_restarted k a b).told a j) p.1
+      ∙ pair_off (put_pair k.told a b []) b a [] a b (inl differ)
+      ∙ pair_here k.told a b [])
+      (ap (λ j. (vpn.bgp_restarted k a b).heard peer j) p.0 ∙ ap (λ j. (vpn.bgp_restarted k a b).heard j a) p.1 ∙ pair_here (put_pair k.heard a b 0) b a 0)
   | inr d ↦ elim d [
     | inl p ↦
-        none_left (vpn.anew k a b) edge peer left
+        none_left (vpn.bgp_restarted k a b) edge peer left
         (here (ap (λ x. ((a == edge) && (b == peer)) || (x && (a == peer))) (same_is edge b p.0)
-            ∙ ap (λ x. ((a == edge) && (b == peer)) || x) (same_is peer a p.1) ∙ or_true ((a == edge) && (b == peer))))
-        (ap (λ j. (vpn.anew k a b).told j peer) p.0 ∙ ap (λ j. (vpn.anew k a b).told b j) p.1 ∙ pair_here (put_pair k.told a b []) b a [])
-        (ap (λ j. (vpn.anew k a b).heard peer j) p.0 ∙ ap (λ j. (vpn.anew k a b).heard j b) p.1 ∙ pair_off (put_pair k.heard a b 0) b a 0 a b (inl differ)
-            ∙ pair_here k.heard a b 0)
+        ∙ ap (λ x. ((a == edge) && (b == peer)) || x) (same_is peer a p.1) ∙ or_true ((a == edge) && (b == peer))))
+        (ap (λ j. (vpn.bgp_restarted k a b).told j peer) p.0 ∙ ap (λ j. (vpn.bgp_restarted k a b).told b j) p.1 ∙ pair_here (put_pair k.told a b []) b a [])
+        (ap (λ j. (vpn.bgp_restarted k a b).heard peer j) p.0 ∙ ap (λ j. (vpn.bgp_restarted k a b).heard j b) p.1
+        ∙ pair_off (put_pair k.heard a b 0) b a 0 a b (inl differ)
+        ∙ pair_here k.heard a b 0)
     | inr p ↦
-        all_left k (vpn.anew k a b) edge peer left items
+        all_left k (vpn.bgp_restarted k a b) edge peer left items
         (off (ap (λ x. x || ((b == edge) && (a == peer))) (both (a == edge) (b == peer) (tests a b p.0)) ∙ both (b == edge) (a == peer) (tests b a p.1)))
         (pair_off (put_pair k.told a b []) b a [] edge peer p.1 ∙ pair_off k.told a b [] edge peer p.0)
         (pair_off (put_pair k.heard a b 0) b a 0 peer edge (swap p.0) ∙ pair_off k.heard a b 0 peer edge (swap p.1)) u
@@ -524,8 +550,8 @@ heeds k a b edge peer left items less is off u =
     let new : Peerings = record k { heard = put_pair k.heard b a (k.heard b a + 1) } in
     let other : ((edge ≢ a) ⊎ (peer ≢ b)) → Unheard new edge peer left = λ d.
     all_left k new edge peer left items
-        (off (both (edge == a) (peer == b) (elim d [ inl p ↦ inl (other_test edge a p) | inr p ↦ inr (other_test peer b p) ]))) refl
-        (pair_off k.heard b a (k.heard b a + 1) peer edge (swap d)) u in
+    (off (both (edge == a) (peer == b) (elim d [ inl p ↦ inl (other_test edge a p) | inr p ↦ inr (other_test peer b p) ]))) refl
+    (pair_off k.heard b a (k.heard b a + 1) peer edge (swap d)) u in
     elim (eqb_tells edge a) [
       | inr p ↦ other (inl p.1)
       | inl p ↦ elim (eqb_tells peer b) [
@@ -538,35 +564,35 @@ heeds k a b edge peer left items less is off u =
     here e d =
         let now : put_pair k.heard b a (k.heard b a + 1) peer edge ≡ k.heard peer edge + 1 =
         ap (λ j. put_pair k.heard b a (k.heard b a + 1) j edge) d ∙ ap (λ j. put_pair k.heard b a (k.heard b a + 1) b j) e
-            ∙ pair_here k.heard b a (k.heard b a + 1) ∙ ap (λ j. k.heard j a + 1) (sym d) ∙ ap (λ j. k.heard peer j + 1) (sym e) in
+        ∙ pair_here k.heard b a (k.heard b a + 1) ∙ ap (λ j. k.heard j a + 1) (sym d) ∙ ap (λ j. k.heard peer j + 1) (sym e) in
         let chan : Routes a b ≡ Routes edge peer = ap (λ j. Routes j b) (sym e) ∙ ap (Routes edge) (sym d) in (
           ap (loads_on (Routes edge peer)) (is ∙ ap (λ c. without c 0 items) chan) ∙ first_loads (Routes edge peer) items ∙ ap (drop 1) u.0
               ∙ drop-map (λ telling. Tells telling) 1 (drop (k.heard peer edge) (k.told edge peer))
               ∙ ap (map (λ telling. Tells telling)) (drop-drop 1 (k.heard peer edge) (k.told edge peer))
-                  ∙ ap (λ m. map (λ telling. Tells telling) (drop m (k.told edge peer))) (sym now),
+              ∙ ap (λ m. map (λ telling. Tells telling) (drop m (k.told edge peer))) (sym now),
           omega (arith, now, ap (λ j. k.heard j edge) d, ap (λ j. k.heard b j) e, ap (λ j. length (k.told j peer)) e, ap (λ j. length (k.told a j)) d, less),
         )
 
 abbrev told_by : Network → World → Step → List Told
-told_by t w s = vpn.told_in t w.config w.peerings (after t w s).config (vpn.counted w.peerings s) s
+told_by t w s = vpn.told_in t w.config w.peerings (after t w s).config (vpn.bgp_counted w.peerings s) s
 
 routes_go : (t : Network) (w : World) (p q : Packets) (s : Step) (tick n : ℕ) (items : List Item) (edge peer : ℕ) → AreInOrder s →
     is_empty t w p s ≡ false → Unheard w.peerings edge peer items → RoutesGo t w p q s tick n items edge peer
 unfolding touches peerings_after
 routes_go t w p q (BgpUp a b) tick n items edge peer order full u =
     let new =
-        begun w.peerings a.0 b.0 edge peer (left_in_flight t (BgpUp a b) items) items (other_than a.0 b.0 order)
-        (λ e. emptied (Routes edge peer) (is_between a.0 b.0) refl e items) (λ e. loads_kept t (BgpUp a b) (Routes edge peer) refl e items) u in
+    begun w.peerings a.0 b.0 edge peer (left_in_flight t (BgpUp a b) items) items (other_than a.0 b.0 order)
+    (λ e. emptied (Routes edge peer) (is_between a.0 b.0) refl e items) (λ e. loads_kept t (BgpUp a b) (Routes edge peer) refl e items) u in
     tells t w p q (BgpUp a b) tick n items edge peer _ _ (told_by t w (BgpUp a b)) new.0 new.1 (in_routes edge peer (told_by t w (BgpUp a b)))
 routes_go t w p q (BgpDown a b) tick n items edge peer order full u =
     let new =
-        begun w.peerings a.0 b.0 edge peer (left_in_flight t (BgpDown a b) items) items (other_than a.0 b.0 order)
-        (λ e. emptied (Routes edge peer) (is_between a.0 b.0) refl e items) (λ e. loads_kept t (BgpDown a b) (Routes edge peer) refl e items) u in
+    begun w.peerings a.0 b.0 edge peer (left_in_flight t (BgpDown a b) items) items (other_than a.0 b.0 order)
+    (λ e. emptied (Routes edge peer) (is_between a.0 b.0) refl e items) (λ e. loads_kept t (BgpDown a b) (Routes edge peer) refl e items) u in
     tells t w p q (BgpDown a b) tick n items edge peer _ _ (told_by t w (BgpDown a b)) new.0 new.1 (in_routes edge peer (told_by t w (BgpDown a b)))
 routes_go t w p q (HearBgp a b) tick n items edge peer order full u =
     let new =
-        heeds w.peerings a.0 b.0 edge peer (left_in_flight t (HearBgp a b) items) items (above _ _ (or_both _ _ full).1) refl
-        (λ e. loads_kept t (HearBgp a b) (Routes edge peer) refl e items) u in
+    heeds w.peerings a.0 b.0 edge peer (left_in_flight t (HearBgp a b) items) items (above _ _ (or_both _ _ full).1) refl
+    (λ e. loads_kept t (HearBgp a b) (Routes edge peer) refl e items) u in
     tells t w p q (HearBgp a b) tick n items edge peer _ _ (told_by t w (HearBgp a b)) new.0 new.1 (in_routes edge peer (told_by t w (HearBgp a b)))
 routes_go t w p q (AddRoute a b) tick n items edge peer order full u =
     tells t w p q (AddRoute a b) tick n items edge peer _ _ (told_by t w (AddRoute a b)) (loads_kept t (AddRoute a b) (Routes edge peer) refl refl items
@@ -621,8 +647,11 @@ numbers_go : (t : Network) (tick : ℕ) (made : List Item) (n : ℕ) (new : List
     AreNumbered (made ++ numbered t tick n new)
 unfolding AreFrom
 numbers_go t tick made n new is h place item e =
-    omega (arith, from_join 0 made (numbered t tick n new) (λ k i f. omega (arith, h k i f))
-        (λ k i f. omega (arith, is, from_numbered t tick n new k i f)) place item e)
+    omega (
+      arith,
+      from_join 0 made (numbered t tick n new) (λ k i f. omega (arith, h k i f))
+          (λ k i f. omega (arith, is, from_numbered t tick n new k i f)) place item e,
+    )
 
 -- 8. One step, and a journal
 
@@ -679,7 +708,7 @@ made_frames : (t : Network) (w v : World) (p q : Packets) (s : Step) (l : ℕ) (
 made_frames t w v p q s l d =
     parts (Frames l d) (notices_in t s) (messages_in t w v s) (routes_in t w v s) (frames_in p q s)
     ∙ ap (λ r. r ++ (loads_in (Frames l d) (messages_in t w v s) ++ (loads_in (Frames l d) (routes_in t w v s) ++ loads_in (Frames l d) (frames_in p q s))))
-        (no_frame_notices s)
+    (no_frame_notices s)
     ∙ ap (λ r. r ++ (loads_in (Frames l d) (routes_in t w v s) ++ loads_in (Frames l d) (frames_in p q s))) (no_messages (Frames l d) (λ x. refl) t w v s)
     ∙ ap (λ r. r ++ loads_in (Frames l d) (frames_in p q s)) (no_routes (Frames l d) (λ x. refl) t w v s)
   where
@@ -706,12 +735,12 @@ flows_step t differ w p s b tick count fit full g one made flight f =
           let other = across-end (wiring_of t) l node (differ l below) at_end in
           messages_go t w p q s tick flight.made flight.items l node differ (link_there t s fit) below at_end full
           (subst (λ n. w.sessions.heard l (across (wiring_of t) l node) ≤ length (w.sessions.said l n)) other.1
-              (g.ldp l (across (wiring_of t) l node) below other.0).heard) (f.messages l node below at_end);
+          (g.ldp l (across (wiring_of t) l node) below other.0).heard) (f.messages l node below at_end);
       routes = λ edge peer d. routes_go t w p q s tick flight.made flight.items edge peer (in_order t s fit) full
           (f.routes edge peer d, (g.bgp peer edge (λ e. d (sym e))).heard);
       frames = λ l dir.
           later_loads t w p q s tick flight.made flight.items (Frames l dir)
-              ∙ ap (λ r. loads_on (Frames l dir) (left_in_flight t s flight.items) ++ r) (made_frames t w (after t w s) p q s l dir)
+          ∙ ap (λ r. loads_on (Frames l dir) (left_in_flight t s flight.items) ++ r) (made_frames t w (after t w s) p q s l dir)
           ∙ frames_go t (after t w s) p s b flight.items count l dir one f.frames;
     }
 
@@ -719,7 +748,7 @@ flows_on : (t : Network) → Apart t → JoinsNodes (wiring_of t) → EndsDiffer
     (es : List JournalEntry) (tick : ℕ) (w : World) (k : Packets) (i count : ℕ) (ps : List (List ℕ)) → IsLawfulFrom t tick w k i es ps → IsInTurn t w →
     AreInOnePlace k count
     → (made : List Item) (flight : Flight) → IsInFlight t w k made flight →
-        IsInFlight t (world_from t w es) (packets_from t w k es ps) (made ++ made_from t w k flight.made es ps) (flight_from t w k flight es ps)
+    IsInFlight t (world_from t w es) (packets_from t w k es ps) (made ++ made_from t w k flight.made es ps) (flight_from t w k flight es ps)
 flows_on t distinct joins differ [] tick w k i count ps lawful g one made flight f = subst (λ m. IsInFlight t w k m flight) (sym (append-nil made)) f
 flows_on t distinct joins differ (e ∷ es) tick w k i count ps lawful g one made flight f =
     let later : World = after t w e.step in
@@ -727,12 +756,12 @@ flows_on t distinct joins differ (e ∷ es) tick w k i count ps lawful g one mad
     let new : List (Channel × Load) = made_in t w later k packets e.step in
     let full : is_empty t w k e.step ≡ false = not_empty t w k i e.step (next_of ps) lawful.2 in
     subst (λ m. IsInFlight t (world_from t later es) (packets_from t later packets es (left_by e.step ps)) m
-        (flight_from t later packets (with_made t e.tick new e.step flight) es (left_by e.step ps)))
+    (flight_from t later packets (with_made t e.tick new e.step flight) es (left_by e.step ps)))
     (append_assoc made (numbered t e.tick flight.made new) (made_from t later packets (flight.made + length new) es (left_by e.step ps)))
     (flows_on t distinct joins differ es e.tick later packets (i + 1) (one_if (injects e.step) + count) (left_by e.step ps) lawful.3
-        (goes_step t distinct joins differ w k e.step lawful.0 full g) (stepped t later k e.step (next_of ps) count one)
+    (goes_step t distinct joins differ w k e.step lawful.0 full g) (stepped t later k e.step (next_of ps) count one)
     (made ++ numbered t e.tick flight.made new) (with_made t e.tick new e.step flight)
-        (flows_step t differ w k e.step (next_of ps) e.tick count lawful.0 full g one made flight f))
+    (flows_step t differ w k e.step (next_of ps) e.tick count lawful.0 full g one made flight f))
 
 nothing_flies : (t : Network) → IsInFlight t (start t) no_packets [] (record { made = 0; items = [] })
 nothing_flies t = record {
@@ -752,5 +781,9 @@ nothing_flies t = record {
 pub in_flight : (t : Network) (es : List JournalEntry) (ps : List (List ℕ)) → IsLawful t → IsLawfulJournal t es ps →
     IsInFlight t (world_of t es) (packets_of t es ps) (made_by t es ps) (flight_of t es ps)
 in_flight t es ps lawful journal =
-    flows_on t (loopbacks_apart t lawful) lawful.joins_nodes lawful.ends_differ es 0 (start t) no_packets 0 0 ps journal (begins t) (record { places =
-        λ j c. refl; verdicts = refl; paths = refl }) [] (record { made = 0; items = [] }) (nothing_flies t)
+    flows_on t (loopbacks_apart t lawful) lawful.joins_nodes lawful.ends_differ es 0 (start t) no_packets 0 0 ps journal (begins t) (record {
+      places =
+          λ j c. refl;
+      verdicts = refl;
+      paths = refl;
+    }) [] (record { made = 0; items = [] }) (nothing_flies t)

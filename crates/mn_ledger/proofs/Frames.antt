@@ -75,22 +75,22 @@ flies w p tok k e h l d =
     let frame : List (Channel × Load) = (Frames k e, Carries tok) ∷ [] in
     let made : frame_by later (verdict_on later p) ≡ frame =
     ap (frame_by later) (judged_is w p (Flying (record { 0 = k }) e) h)
-        ∙ ap (λ ks. map (λ token. (Frames k e, Carries token)) (last_of ks)) (put_here w.flying (channel k e) (w.flying (channel k e) ++ tok ∷ []))
-        ∙ ap (map (λ token. (Frames k e, Carries token))) (last_pushed (w.flying (channel k e)) tok) in
+    ∙ ap (λ ks. map (λ token. (Frames k e, Carries token)) (last_of ks)) (put_here w.flying (channel k e) (w.flying (channel k e) ++ tok ∷ []))
+    ∙ ap (map (λ token. (Frames k e, Carries token))) (last_pushed (w.flying (channel k e)) tok) in
     elim (eqb_tells (channel l d) (channel k e)) [
       | inl q ↦
           ap (map (λ token. Carries token)) (ap (put w.flying (channel k e) (w.flying (channel k e) ++ tok ∷ [])) q.1
-              ∙ put_here w.flying (channel k e) (w.flying (channel k e) ++ tok ∷ []))
+          ∙ put_here w.flying (channel k e) (w.flying (channel k e) ++ tok ∷ []))
           ∙ map-append (λ token. Carries token) (w.flying (channel k e)) (tok ∷ [])
           ∙ ap (λ c. carried_on w c ++ Carries tok ∷ []) (sym q.1)
           ∙ sym (ap (λ f. carried_on w (channel l d) ++ loads_in (Frames l d) f) made
-              ∙ ap (λ b. carried_on w (channel l d) ++ map (λ (one : Channel × Load). one.1) (cond b frame []))
-              (ap (λ c. channel k e == c) q.1 ∙ same_test (channel k e)))
+          ∙ ap (λ b. carried_on w (channel l d) ++ map (λ (one : Channel × Load). one.1) (cond b frame []))
+          (ap (λ c. channel k e == c) q.1 ∙ same_test (channel k e)))
       | inr q ↦
           ap (map (λ token. Carries token)) (put_off w.flying (channel k e) (w.flying (channel k e) ++ tok ∷ []) (channel l d) q.1)
           ∙ sym (ap (λ f. carried_on w (channel l d) ++ loads_in (Frames l d) f) made
-              ∙ ap (λ b. carried_on w (channel l d) ++ map (λ (one : Channel × Load). one.1) (cond b frame []))
-              (other_test (channel k e) (channel l d) (λ x. q.1 (sym x))) ∙ append-nil (carried_on w (channel l d)))
+          ∙ ap (λ b. carried_on w (channel l d) ++ map (λ (one : Channel × Load). one.1) (cond b frame []))
+          (other_test (channel k e) (channel l d) (λ x. q.1 (sym x))) ∙ append-nil (carried_on w (channel l d)))
     ]
 
 hops : (t : Network) (w : Packets) (k : Token) (x : ℕ) (r : Rule) (o : Option (ℕ × ℕ)) → k.packet < length w.verdicts → Adds w (hop_over t w k x r o) k.packet
@@ -101,7 +101,7 @@ routes : (t : Network) (v : World) (w : Packets) (j : ℕ) (b : List ℕ) (e : �
 routes t v w j b e None h = drops w j rule.NoRoute e h
 routes t v w j b e (Some route) h =
     arms (λ x. Adds w x j) (route.edge == e) _ _ (delivers w j route.site _ b h)
-        (hops t w (bound j route b) e rule.NoLsp (usable t v.config v.views v.sessions e route.edge) h)
+    (hops t w (bound j route b) e rule.NoLsp (usable t v.config v.views v.sessions e route.edge) h)
 
 enters : (t : Network) (v : World) (w : Packets) (j : ℕ) (b : List ℕ) (e vrf : ℕ) (o : Option Rule) → j < length w.verdicts →
     Adds w (enter_by t v w j b e vrf o) j
@@ -117,7 +117,7 @@ arrives : (t : Network) (v : World) (w : Packets) (k : Token) (y : ℕ) → k.pa
 arrives t v w k y h =
     arms (λ x. Adds w x k.packet) (nat_le k.ttl 1) _ _ (drops w k.packet rule.TtlExpired y h)
     (arms (λ x. Adds w x k.packet) (y == k.edge) _ _ (leaves v w k y h)
-        (hops t w (record k { ttl = k.ttl - 1 }) y rule.NoEntry (usable t v.config v.views v.sessions y k.edge) h))
+    (hops t w (record k { ttl = k.ttl - 1 }) y rule.NoEntry (usable t v.config v.views v.sessions y k.edge) h))
 
 -- 2. A frame is taken out
 
@@ -138,19 +138,19 @@ unfolding removed
 zero_cons on x xs more true q e = sym (ap (λ b. removed 0 (map (λ (item : Item). item.load) (cond b (x ∷ items_on on xs) (items_on on xs)))) q)
 zero_cons on x xs more false q e =
     ap (λ b. map (λ (item : Item). item.load) (cond b (x ∷ items_on on more) (items_on on more))) q ∙ e
-        ∙ sym (ap (λ b. removed 0 (map (λ (item : Item). item.load) (cond b (x ∷ items_on on xs) (items_on on xs)))) q)
+    ∙ sym (ap (λ b. removed 0 (map (λ (item : Item). item.load) (cond b (x ∷ items_on on xs) (items_on on xs)))) q)
 
 next_cons : (on : Channel) (x : Item) (xs fewer more : List Item) (n : ℕ) (b : Bool) → same_channel on x.on ≡ b →
     loads_on on fewer ≡ removed n (loads_on on xs) → loads_on on more ≡ removed (suc n) (loads_on on xs)
     → loads_on on (x ∷ cond b fewer more) ≡ removed (suc n)
-        (map (λ (item : Item). item.load) (cond (same_channel on x.on) (x ∷ items_on on xs) (items_on on xs)))
+    (map (λ (item : Item). item.load) (cond (same_channel on x.on) (x ∷ items_on on xs) (items_on on xs)))
 unfolding removed
 next_cons on x xs fewer more n true q e d =
     ap (λ b. map (λ (item : Item). item.load) (cond b (x ∷ items_on on fewer) (items_on on fewer))) q ∙ ap (λ r. x.load ∷ r) e
-        ∙ sym (ap (λ b. removed (suc n) (map (λ (item : Item). item.load) (cond b (x ∷ items_on on xs) (items_on on xs)))) q)
+    ∙ sym (ap (λ b. removed (suc n) (map (λ (item : Item). item.load) (cond b (x ∷ items_on on xs) (items_on on xs)))) q)
 next_cons on x xs fewer more n false q e d =
     ap (λ b. map (λ (item : Item). item.load) (cond b (x ∷ items_on on more) (items_on on more))) q ∙ d
-        ∙ sym (ap (λ b. removed (suc n) (map (λ (item : Item). item.load) (cond b (x ∷ items_on on xs) (items_on on xs)))) q)
+    ∙ sym (ap (λ b. removed (suc n) (map (λ (item : Item). item.load) (cond b (x ∷ items_on on xs) (items_on on xs)))) q)
 
 -- the one at a place on the channel is taken out
 taken_at : (on other : Channel) → ((c : Channel) → same_channel on c ≡ same_channel other c) →
@@ -179,14 +179,14 @@ AsCarried w items = (l : ℕ) (d : Dir) → loads_on (Frames l d) items ≡ map 
 
 taken_left : (w : Packets) (items : List Item) (k : ℕ) (e : Dir) (n l : ℕ) (d : Dir) → AsCarried w items
     → loads_on (Frames l d) (without (Frames k e) n items) ≡ map (λ token. Carries token)
-        (put w.flying (channel k e) (without_place n (w.flying (channel k e))) (channel l d))
+    (put w.flying (channel k e) (without_place n (w.flying (channel k e))) (channel l d))
 taken_left w items k e n l d h = elim (eqb_tells (channel l d) (channel k e)) [
   | inl q ↦
       taken_at (Frames l d) (Frames k e) (alike l k d e q.1) n items ∙ ap (removed n) (h l d ∙ ap (λ c. map (λ token. Carries token) (w.flying c)) q.1)
-          ∙ sym (removed_tokens n (w.flying (channel k e)))
+      ∙ sym (removed_tokens n (w.flying (channel k e)))
       ∙ ap (map (λ token. Carries token))
-          (sym (ap (put w.flying (channel k e) (without_place n (w.flying (channel k e)))) q.1
-          ∙ put_here w.flying (channel k e) (without_place n (w.flying (channel k e)))))
+      (sym (ap (put w.flying (channel k e) (without_place n (w.flying (channel k e)))) q.1
+      ∙ put_here w.flying (channel k e) (without_place n (w.flying (channel k e)))))
   | inr q ↦
       ap (map (λ (item : Item). item.load)) (off (Frames l d) (Frames k e) (unlike l k d e q.1) n items) ∙ h l d
       ∙ ap (map (λ token. Carries token)) (sym (put_off w.flying (channel k e) (without_place n (w.flying (channel k e))) (channel l d) q.1))
@@ -255,7 +255,7 @@ no_route l d k n (Frames o f) q = absurd (no q)
 carry_goes : (t : Network) (v : World) (w : Packets) (k : ℕ) (e : Dir) (n count y : ℕ) (items : List Item) (l : ℕ) (d : Dir) (o : Option Token) →
     slice_get (w.flying (channel k e)) n ≡ o → AreInOnePlace w count → AsCarried w items
     → loads_on (Frames l d) (without (Frames k e) n items) ++ loads_in (Frames l d) (frame_after (carry t v (taken w k e n) y o) o) ≡ map
-        (λ token. Carries token) ((carry t v (taken w k e n) y o).flying (channel l d))
+    (λ token. Carries token) ((carry t v (taken w k e n) y o).flying (channel l d))
 unfolding Adds carried_on
 carry_goes t v w k e n count y items l d None there one h = append-nil (loads_on (Frames l d) (without (Frames k e) n items)) ∙ taken_left w items k e n l d h
 carry_goes t v w k e n count y items l d (Some tok) there one h =
@@ -269,13 +269,13 @@ lose_keeps w y (Some tok) = refl
 
 cut_goes : (w : Packets) (k a b : ℕ) (items : List Item) (l : ℕ) (d : Dir) → AsCarried w items
     → (let first : Packets = cut_each w (channel k Forth) a (flying_on w k Forth) in
-        loads_on (Frames l d) (filter (λ item. not (is_session_of k item.on || is_over k item.on)) items) ≡ map (λ token. Carries token)
-        ((cut_each first (channel k Back) b (flying_on first k Back)).flying (channel l d)))
+    loads_on (Frames l d) (filter (λ item. not (is_session_of k item.on || is_over k item.on)) items) ≡ map (λ token. Carries token)
+    ((cut_each first (channel k Back) b (flying_on first k Back)).flying (channel l d)))
 cut_goes w k a b items l d h =
     let first : Packets = cut_each w (channel k Forth) a (flying_on w k Forth) in
     let after_first : (c : ℕ) → first.flying c ≡ put w.flying (channel k Forth) [] c = λ c. cut_flying (flying_on w k Forth) w (channel k Forth) a c refl in
     let after_both : (cut_each first (channel k Back) b (flying_on first k Back)).flying (channel l d) ≡ put first.flying (channel k Back) []
-        (channel l d) = cut_flying (flying_on first k Back) first (channel k Back) b (channel l d) refl in
+    (channel l d) = cut_flying (flying_on first k Back) first (channel k Back) b (channel l d) refl in
     elim (eqb_tells l k) [
       | inl q ↦
           ap (map (λ (item : Item). item.load)) (gone (Frames l d) (λ c. is_session_of k c || is_over k c) (over_link l k d q.1) items)
@@ -283,14 +283,14 @@ cut_goes w k a b items l d h =
       | inr q ↦
           ap (map (λ (item : Item). item.load)) (kept (Frames l d) (λ c. is_session_of k c || is_over k c) (off_link l k d q.1) items) ∙ h l d
           ∙ sym (ap (map (λ token. Carries token)) (after_both ∙ put_off first.flying (channel k Back) [] (channel l d) (λ e. q.1 (one_link l k d Back e))
-              ∙ after_first (channel l d) ∙ put_off w.flying (channel k Forth) [] (channel l d) (λ e. q.1 (one_link l k d Forth e))))
+          ∙ after_first (channel l d) ∙ put_off w.flying (channel k Forth) [] (channel l d) (λ e. q.1 (one_link l k d Forth e))))
     ]
   where
     none_on : (f g : ℕ → List Token) → ((c : ℕ) → f c ≡ put g (channel k Forth) [] c) → (d : Dir) → l ≡ k → put f (channel k Back) [] (channel l d) ≡ []
     none_on f g h Back e = ap (λ m. put f (channel k Back) [] (channel m Back)) e ∙ put_here f (channel k Back) []
     none_on f g h Forth e =
         ap (λ m. put f (channel k Back) [] (channel m Forth)) e ∙ put_off f (channel k Back) [] (channel k Forth) (λ q. absurd (odd q))
-            ∙ h (channel k Forth) ∙ put_here g (channel k Forth) []
+        ∙ h (channel k Forth) ∙ put_here g (channel k Forth) []
       where
         odd : 2 * k ≡ 2 * k + 1 → ⊥
         odd q = omega (arith, q)
@@ -299,19 +299,19 @@ cut_goes w k a b items l d h =
 pub frames_go : (t : Network) (v : World) (w : Packets) (s : Step) (b : List ℕ) (items : List Item) (count l : ℕ) (d : Dir) → AreInOnePlace w count →
     AsCarried w items
     → loads_on (Frames l d) (left_in_flight t s items) ++ loads_in (Frames l d) (frames_in w (packets_after t v w s b) s) ≡ map (λ token. Carries token)
-        ((packets_after t v w s b).flying (channel l d))
+    ((packets_after t v w s b).flying (channel l d))
 unfolding packets_after Adds carried_on
 frames_go t v w (Inject s n) b items count l d one h =
     let loose = fresh (before_step w) count (home_of t s.0) (unmarked w count one) in
     ap (λ r. r ++ loads_in (Frames l d) (frames_in w (packets_after t v w (Inject s n) b) (Inject s n))) (h l d)
     ∙ sym (enters t v (one_more (before_step w) (home_of t s.0)) (length w.verdicts) b (home_of t s.0) (vrf_of t s.0)
-        (first_rule (entry_rules (v.config.attached s.0) b)) loose.within l d)
+    (first_rule (entry_rules (v.config.attached s.0) b)) loose.within l d)
 frames_go t v w (Carry k e n) b items count l d one h =
     carry_goes t v (before_step w) k.0 e n count _ items l d (slice_get (w.flying (channel k.0 e)) n) refl (unmarked w count one) h
 frames_go t v w (Lose k e n) b items count l d one h =
     append-nil (loads_on (Frames l d) (without (Frames k.0 e) n items)) ∙ taken_left w items k.0 e n l d h
-        ∙ ap (λ f. map (λ token. Carries token) (f (channel l d)))
-        (sym (lose_keeps (taken (before_step w) k.0 e n) _ (slice_get (w.flying (channel k.0 e)) n)))
+    ∙ ap (λ f. map (λ token. Carries token) (f (channel l d)))
+    (sym (lose_keeps (taken (before_step w) k.0 e n) _ (slice_get (w.flying (channel k.0 e)) n)))
 frames_go t v w (LinkDown k) b items count l d one h =
     append-nil (loads_on (Frames l d) (left_in_flight t (LinkDown k) items)) ∙ cut_goes (before_step w) k.0 _ _ items l d h
 frames_go t v w (LinkUp k) b items count l d one h =

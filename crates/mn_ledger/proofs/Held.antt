@@ -29,7 +29,7 @@ is_for_it : (x e : Export) → SameRoute x e → is_for e.vrf e.prefix x ≡ tru
 is_for_it x e a =
     ap (λ v. (e.vrf == v) && same_prefix e.prefix x.prefix) a.0 ∙ ap (λ p. (e.vrf == e.vrf) && same_prefix e.prefix p) a.1
     ∙ ap (λ b. b && same_prefix e.prefix e.prefix) (same_test e.vrf) ∙ ap (λ b. b && (e.prefix.length == e.prefix.length)) (same_test e.prefix.address)
-        ∙ same_test e.prefix.length
+    ∙ same_test e.prefix.length
 
 believed_apart : (es : List Export) (ms : List Telling) → AreApart SameRoute es → AreApart SameRoute (believed_from es ms)
 believed_apart es [] h = h
@@ -82,7 +82,7 @@ one_believed : (c : Config) (p : Peerings) (edge peer : ℕ) (x y : Export) → 
     x ≡ y
 one_believed c p edge peer x y i j a =
     one_alike SameRoute (λ _ _ s. (sym s.0, sym s.1)) (believed_from [] (heard_of p edge peer)) x y (believed_apart [] (heard_of p edge peer) tt)
-        (in_believed c p edge peer x i) (in_believed c p edge peer y j) a
+    (in_believed c p edge peer x i) (in_believed c p edge peer y j) a
 
 -- 2. From where each held route comes
 
@@ -117,11 +117,11 @@ from_far t c p edge v a i =
     let m = in_flat_map (far_routes t c p edge v) (filter (λ peer. not (peer == edge)) (edges t)) a i in
     let peer : ℕ = m.0 in
     let at_edge =
-        in_filter (λ node. is_edge t.vrfs node) (range_with_len 0 (length t.loopbacks)) peer
-        (in_filter (λ peer. not (peer == edge)) (edges t) peer m.1).0 in
+    in_filter (λ node. is_edge t.vrfs node) (range_with_len 0 (length t.loopbacks)) peer
+    (in_filter (λ peer. not (peer == edge)) (edges t) peer m.1).0 in
     let below = in_range 0 (length t.loopbacks) peer at_edge.0 in
     let n = in_map (λ (export : Export). held_by peer (Far (loopback t peer) (vrf_at t export.vrf).rd.0) export)
-        (imported c v (believed c p edge peer)) a m.2 in
+    (imported c v (believed c p edge peer)) a m.2 in
     (peer, omega (arith, below.1), n.0, (in_filter (λ (export : Export). meet export.targets (c.imports v)) (believed c p edge peer) n.0 n.1).0, n.2)
 
 Kinds : Network → Config → Peerings → ℕ → ℕ → HeldRoute → Type 0
@@ -132,12 +132,12 @@ unfolding held Kinds
 kinds t c p edge v a i =
     elim (in_append (own_routes t c edge v) (near_routes t c edge v ++ flat_map (far_routes t c p edge v) (filter (λ peer. not (peer == edge)) (edges t))) a
     i) [
-  | inl j ↦ inl (from_own t c edge v a j)
-  | inr j ↦ elim (in_append (near_routes t c edge v) (flat_map (far_routes t c p edge v) (filter (λ peer. not (peer == edge)) (edges t))) a j) [
-    | inl k ↦ inr (inl (from_near t c edge v a k))
-    | inr k ↦ inr (inr (from_far t c p edge v a k))
-  ]
-]
+      | inl j ↦ inl (from_own t c edge v a j)
+      | inr j ↦ elim (in_append (near_routes t c edge v) (flat_map (far_routes t c p edge v) (filter (λ peer. not (peer == edge)) (edges t))) a j) [
+        | inl k ↦ inr (inl (from_near t c edge v a k))
+        | inr k ↦ inr (inr (from_far t c p edge v a k))
+      ]
+    ]
 
 -- 3. One route of each source and prefix
 
@@ -204,24 +204,24 @@ one_own : (t : Network) (c : Config) (edge v : ℕ) (a b : HeldRoute) → HasSta
 unfolding OwnRoute
 one_own t c edge v a b h m n prefix =
     sym m.2 ∙ ap (held_by edge Own)
-        (one_behind t c v [] m.0 n.0 h m.1 n.1 (ap (λ (r : HeldRoute). r.prefix) m.2 ∙ prefix ∙ sym (ap (λ (r : HeldRoute). r.prefix) n.2))) ∙ n.2
+    (one_behind t c v [] m.0 n.0 h m.1 n.1 (ap (λ (r : HeldRoute). r.prefix) m.2 ∙ prefix ∙ sym (ap (λ (r : HeldRoute). r.prefix) n.2))) ∙ n.2
 
 one_far : (t : Network) (c : Config) (p : Peerings) (edge : ℕ) (a b : HeldRoute) → IsLawful t → Apart t → AllGood t p → FarRoute t c p edge a →
     FarRoute t c p edge b → a.source ≡ b.source → a.prefix ≡ b.prefix → a ≡ b
 unfolding FarRoute
 one_far t c p edge a b lawful apart good m n source prefix =
     let address : loopback t m.0 ≡ loopback t n.0 =
-        ap (λ (r : HeldRoute). far_address r.source) m.4 ∙ ap far_address source ∙ sym (ap (λ (r : HeldRoute). far_address r.source) n.4) in
+    ap (λ (r : HeldRoute). far_address r.source) m.4 ∙ ap far_address source ∙ sym (ap (λ (r : HeldRoute). far_address r.source) n.4) in
     let peer : m.0 ≡ n.0 = one_edge t apart m.0 n.0 m.1 n.1 address in
     let rd : (vrf_at t m.2.vrf).rd.0 ≡ (vrf_at t n.2.vrf).rd.0 =
-        ap (λ (r : HeldRoute). far_rd r.source) m.4 ∙ ap far_rd source ∙ sym (ap (λ (r : HeldRoute). far_rd r.source) n.4) in
+    ap (λ (r : HeldRoute). far_rd r.source) m.4 ∙ ap far_rd source ∙ sym (ap (λ (r : HeldRoute). far_rd r.source) n.4) in
     let here : In (believed c p edge n.0) m.2 = subst (λ q. In (believed c p edge q) m.2) peer m.3 in
     let vrf : m.2.vrf ≡ n.2.vrf =
-        one_vrf t lawful m.2.vrf n.2.vrf (good_believed t c p edge n.0 m.2 good here).0 (good_believed t c p edge n.0 n.2 good n.3).0 rd in
+    one_vrf t lawful m.2.vrf n.2.vrf (good_believed t c p edge n.0 m.2 good here).0 (good_believed t c p edge n.0 n.2 good n.3).0 rd in
     let one : m.2 ≡ n.2 =
-        one_believed c p edge n.0 m.2 n.2 here n.3 (vrf, ap (λ (r : HeldRoute). r.prefix) m.4 ∙ prefix ∙ sym (ap (λ (r : HeldRoute). r.prefix) n.4)) in
+    one_believed c p edge n.0 m.2 n.2 here n.3 (vrf, ap (λ (r : HeldRoute). r.prefix) m.4 ∙ prefix ∙ sym (ap (λ (r : HeldRoute). r.prefix) n.4)) in
     sym m.4 ∙ ap (λ q. held_by q (Far (loopback t q) (vrf_at t m.2.vrf).rd.0) m.2) peer
-        ∙ ap (λ (e : Export). held_by n.0 (Far (loopback t n.0) (vrf_at t e.vrf).rd.0) e) one ∙ n.4
+    ∙ ap (λ (e : Export). held_by n.0 (Far (loopback t n.0) (vrf_at t e.vrf).rd.0) e) one ∙ n.4
 
 -- its kind
 pub own_kind : (t : Network) (c : Config) (edge v : ℕ) (a : HeldRoute) → OwnRoute t c edge v a → 0 ≡ source_kind a.source

@@ -132,8 +132,11 @@ begins t = record {
   where
     never : (edge peer : ℕ) → peers_live (start t).config edge peer ≡ true → ⊥
     never edge peer on =
-        elim (leb_tells (suc edge) peer) [ inl p ↦ no (sym (ap (λ b. cond b false false) p.0) ∙ on) | inr p ↦ no
-        (sym (ap (λ b. cond b false false) p.0) ∙ on) ]
+        elim (leb_tells (suc edge) peer) [
+          | inl p ↦ no (sym (ap (λ b. cond b false false) p.0) ∙ on)
+          | inr p ↦ no
+              (sym (ap (λ b. cond b false false) p.0) ∙ on)
+        ]
 
 pub in_turn : (t : Network) (es : List JournalEntry) (ps : List (List ℕ)) → IsLawful t → IsLawfulJournal t es ps → IsInTurn t (world_of t es)
 in_turn t es ps lawful journal = goes_on t (loopbacks_apart t lawful) lawful.joins_nodes lawful.ends_differ es 0 (start t) no_packets 0 ps journal (begins t)
@@ -143,15 +146,15 @@ rows t w lawful turn = record {
   ldp = λ l node below at_end alive more.
       let other = across-end (wiring_of t) l node (lawful.ends_differ l below) at_end in
       nth-row (is_active t l node) (w.sessions.heard l node) _
-          (talk-nth (is_active t l (across (wiring_of t) l node)) (w.sessions.heard l (across (wiring_of t) l node))
-          (w.sessions.said l (across (wiring_of t) l node)) (w.sessions.heard l node)
-          ((turn.ldp l (across (wiring_of t) l node) below other.0).talk alive) more);
+      (talk-nth (is_active t l (across (wiring_of t) l node)) (w.sessions.heard l (across (wiring_of t) l node))
+      (w.sessions.said l (across (wiring_of t) l node)) (w.sessions.heard l node)
+      ((turn.ldp l (across (wiring_of t) l node) below other.0).talk alive) more);
   bgp = λ edge peer d alive more.
       subst (λ st. has_bgp_row st (slice_index_or (w.peerings.told peer edge) (w.peerings.heard edge peer) Open) ≡ true)
-          (sym (state_alive w.config w.peerings edge peer alive))
+      (sym (state_alive w.config w.peerings edge peer alive))
       (peer-row (w.peerings.heard edge peer) _
-          (peer-nth (w.peerings.heard peer edge) (w.peerings.told peer edge) (w.peerings.heard edge peer)
-          ((turn.bgp peer edge (λ e. d (sym e))).talk (live_back edge peer d alive)) more));
+      (peer-nth (w.peerings.heard peer edge) (w.peerings.told peer edge) (w.peerings.heard edge peer)
+      ((turn.bgp peer edge (λ e. d (sym e))).talk (live_back edge peer d alive)) more));
 }
   where
     live_back : (edge peer : ℕ) → edge ≢ peer → peers_live w.config edge peer ≡ true → peers_live w.config peer edge ≡ true

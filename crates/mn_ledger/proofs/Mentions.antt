@@ -42,7 +42,7 @@ each-links before k node fec was is [] = tt
 each-links before k node fec was is (l ∷ ls) =
     each-append k (mentioned_on before (k node) node fec was is l) (flat_map (mentioned_on before (k node) node fec was is) ls)
     (each_if k (is_operational (k node) l) (said_on l node (mention (is_operational before l && was) is fec))
-        (each-mention k (is_operational before l && was) is l node fec))
+    (each-mention k (is_operational before l && was) is l node fec))
     (each-links before k node fec was is ls)
 
 each-from : (before : Knowledge) (k : ℕ → Knowledge) (node : ℕ) (ls : List ℕ) (fec : ℕ) (weres ares : List Bool) →
@@ -72,9 +72,11 @@ messages-append l node xs ys =
 pick : (l node : ℕ) (x : Said) (xs : List Said) →
     (is_by l node x ≡ true → messages_of l node (x ∷ xs) ≡ x.message ∷ messages_of l node xs)
     × (is_by l node x ≡ false → messages_of l node (x ∷ xs) ≡ messages_of l node xs)
-pick l node x xs =
-    (λ h. ap (λ b. map (λ (said : Said). said.message) (cond b (x ∷ filter (is_by l node) xs) (filter (is_by l node) xs))) h, λ h. ap
-    (λ b. map (λ (said : Said). said.message) (cond b (x ∷ filter (is_by l node) xs) (filter (is_by l node) xs))) h)
+pick l node x xs = (
+  λ h. ap (λ b. map (λ (said : Said). said.message) (cond b (x ∷ filter (is_by l node) xs) (filter (is_by l node) xs))) h,
+  λ h. ap
+      (λ b. map (λ (said : Said). said.message) (cond b (x ∷ filter (is_by l node) xs) (filter (is_by l node) xs))) h,
+)
 
 pub messages-mentions : (k : ℕ → Knowledge) (l node : ℕ) (xs : List Said) → EachNews k xs → AreLabelMessages (messages_of l node xs)
 messages-mentions k l node [] h = tt
@@ -102,7 +104,7 @@ pub operational-is : (w : Wiring) (c : Config) (v : Views) (s : Sessions) (node 
 unfolding knowledge_of
 operational-is w c v s node l h =
     ap (λ x. x.alive && nat_le 2 x.count)
-        (get_or-map-range_with_len (hearing_at w c s node) 0 (length w.ends) l l (record { alive = false; count = 0; messages = [] }) h (omega arith))
+    (get_or-map-range_with_len (hearing_at w c s node) 0 (length w.ends) l l (record { alive = false; count = 0; messages = [] }) h (omega arith))
 
 pub few_off : (b : Bool) (k : ℕ) → k < 2 → (b && nat_le 2 k) ≡ false
 few_off true k h = elim (leb_tells 2 k) [ inl r ↦ absurd (not_both h r.1) | inr r ↦ r.0 ]

@@ -64,12 +64,25 @@ packet_to_a_group = 69 ∷ 0 ∷ 0 ∷ 28 ∷ 0 ∷ 0 ∷ 0 ∷ 0 ∷ 1 ∷ 17 �
 abbrev wider : Network
 wider = record two_links {
   vrf_names = (114 ∷ 49 ∷ []) ∷ (114 ∷ 50 ∷ []) ∷ (114 ∷ 51 ∷ []) ∷ [];
-  vrfs = record { node = node_no 0; rd = record { 0 = 279172874240001 }; «import» = target ∷ []; export = target ∷ [] } ∷ record { node = node_no 2; rd =
-      record { 0 = 279172874240002 }; «import» = target ∷ []; export = target ∷ [] } ∷ record { node = node_no 0; rd =
-      record { 0 = 279172874240003 }; «import» = target ∷ []; export = [] } ∷ [];
+  vrfs = record { node = node_no 0; rd = record { 0 = 279172874240001 }; «import» = target ∷ []; export = target ∷ [] } ∷ record {
+    node = node_no 2;
+    rd =
+        record { 0 = 279172874240002 };
+    «import» = target ∷ [];
+    export = target ∷ [];
+  } ∷ record {
+    node = node_no 0;
+    rd =
+        record { 0 = 279172874240003 };
+    «import» = target ∷ [];
+    export = [];
+  } ∷ [];
   site_names = (97 ∷ []) ∷ (98 ∷ []) ∷ (99 ∷ []) ∷ (100 ∷ []) ∷ [];
-  sites = record { vrf = vrf_no 0; prefixes = near_block ∷ [] } ∷ record { vrf = vrf_no 1; prefixes = far_block ∷ [] } ∷ record { vrf = vrf_no 2; prefixes =
-      block 167968768 16 ∷ [] } ∷ record { vrf = vrf_no 0; prefixes = block 168034304 16 ∷ [] } ∷ [];
+  sites = record { vrf = vrf_no 0; prefixes = near_block ∷ [] } ∷ record { vrf = vrf_no 1; prefixes = far_block ∷ [] } ∷ record {
+    vrf = vrf_no 2;
+    prefixes =
+        block 167968768 16 ∷ [];
+  } ∷ record { vrf = vrf_no 0; prefixes = block 168034304 16 ∷ [] } ∷ [];
 }
 
 -- 1. LDP, and where a node can send
@@ -131,9 +144,17 @@ ends_speak_first = refl
 
 -- neighbours go by their own numbers, whichever order the links have
 pub neighbours_go_by_number : by_neighbour
-    (wiring_of (record two_links { links =
-    record { a = node_no 1; b = node_no 2; cost = 10; delay = 2; loss = 0 } ∷ record { a = node_no 0; b = node_no 1; cost = 10; delay = 2; loss =
-    0 } ∷ [] })) 1 ≡ 1 ∷ 0 ∷ []
+    (wiring_of (record two_links {
+      links =
+          record { a = node_no 1; b = node_no 2; cost = 10; delay = 2; loss = 0 } ∷ record {
+            a = node_no 0;
+            b = node_no 1;
+            cost = 10;
+            delay = 2;
+            loss =
+                0;
+          } ∷ [];
+    })) 1 ≡ 1 ∷ 0 ∷ []
 unfolding next knowledge_of news sessions_after peerings_after held packets_after is_not_ipv4 is_malformed is_truncated has_bad_checksum good checksum_for
     with_ttl aged in_flight bytes_flying
 neighbours_go_by_number = refl
@@ -388,8 +409,10 @@ what_is_in_flight = refl
 -- so many notices for the near edge
 abbrev noticed : ℕ → World
 noticed count =
-    record (start two_links) { views =
-    record { changes = λ l. elim l [ zero ↦ count | suc more ↦ 0 ]; learned = λ node l. elim node [ zero ↦ 0 | suc more ↦ count ] } }
+    record (start two_links) {
+      views =
+          record { changes = λ l. elim l [ zero ↦ count | suc more ↦ 0 ]; learned = λ node l. elim node [ zero ↦ 0 | suc more ↦ count ] };
+    }
 
 -- 2,000,000 notices are full for a step that takes nothing out of flight
 pub notices_are_full : is_full two_links (noticed 1999999) no_packets (LinkUp (link_no 0)) []
@@ -405,12 +428,38 @@ unfolding next knowledge_of news sessions_after peerings_after held packets_afte
 notices_are_full = refl
 
 -- a packet may fill the room, and not pass it
-pub bytes_are_full : is_full two_links (start two_links) (record no_packets { flying =
-    λ at. elim at [ zero ↦ record { packet = 0; edge = 2; site = 1; attachment = 1; pushed = 63; ttl = 63; bytes =
-    69 ∷ 0 ∷ 1048575 ∷ 255 ∷ [] } ∷ [] | suc more ↦ [] ] }) (Inject (site_no 0) 1) (69 ∷ [])
-    ∷ is_full two_links (start two_links) (record no_packets { flying =
-    λ at. elim at [ zero ↦ record { packet = 0; edge = 2; site = 1; attachment = 1; pushed = 63; ttl = 63; bytes =
-    69 ∷ 0 ∷ 1048575 ∷ 255 ∷ [] } ∷ [] | suc more ↦ [] ] }) (Inject (site_no 0) 1) (69 ∷ 0 ∷ []) ∷ [] ≡ false ∷ true ∷ []
+pub bytes_are_full : is_full two_links (start two_links) (record no_packets {
+  flying =
+      λ at. elim at [
+        | zero ↦ record {
+          packet = 0;
+          edge = 2;
+          site = 1;
+          attachment = 1;
+          pushed = 63;
+          ttl = 63;
+          bytes =
+              69 ∷ 0 ∷ 1048575 ∷ 255 ∷ [];
+        } ∷ []
+        | suc more ↦ []
+      ];
+}) (Inject (site_no 0) 1) (69 ∷ [])
+    ∷ is_full two_links (start two_links) (record no_packets {
+      flying =
+          λ at. elim at [
+            | zero ↦ record {
+              packet = 0;
+              edge = 2;
+              site = 1;
+              attachment = 1;
+              pushed = 63;
+              ttl = 63;
+              bytes =
+                  69 ∷ 0 ∷ 1048575 ∷ 255 ∷ [];
+            } ∷ []
+            | suc more ↦ []
+          ];
+    }) (Inject (site_no 0) 1) (69 ∷ 0 ∷ []) ∷ [] ≡ false ∷ true ∷ []
 unfolding next knowledge_of news sessions_after peerings_after held packets_after is_not_ipv4 is_malformed is_truncated has_bad_checksum good checksum_for
     with_ttl aged in_flight bytes_flying
 bytes_are_full = refl
@@ -460,8 +509,14 @@ packet_of_ttl_5 = 69 ∷ 0 ∷ 0 ∷ 28 ∷ 0 ∷ 0 ∷ 0 ∷ 0 ∷ 5 ∷ 17 ∷
 --       10 ---- p ---- 50
 abbrev triangle : Network
 triangle = record two_links {
-  links = record { a = node_no 0; b = node_no 1; cost = 10; delay = 2; loss = 0 } ∷ record { a = node_no 1; b = node_no 2; cost = 50; delay = 2; loss =
-      0 } ∷ record { a = node_no 0; b = node_no 2; cost = 10; delay = 2; loss = 0 } ∷ [];
+  links = record { a = node_no 0; b = node_no 1; cost = 10; delay = 2; loss = 0 } ∷ record {
+    a = node_no 1;
+    b = node_no 2;
+    cost = 50;
+    delay = 2;
+    loss =
+        0;
+  } ∷ record { a = node_no 0; b = node_no 2; cost = 10; delay = 2; loss = 0 } ∷ [];
 }
 
 -- all links come up, the edges open their session, and every notice and message is heard

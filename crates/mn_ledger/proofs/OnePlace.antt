@@ -98,8 +98,8 @@ past w j h = grind (arith, common_steps, h)
 
 flown_places : (w : Packets) (p count : ℕ) (tok : Token) (l : ℕ) (d : Dir) → Loose w p count → tok.packet ≡ p →
     (j c : ℕ) →
-        times_in j (put w.flying (channel l d) (w.flying (channel l d) ++ tok ∷ []) c) ≡ times_by
-        (verdict_on (judged w p (Flying (record { 0 = l }) d)) j) c
+    times_in j (put w.flying (channel l d) (w.flying (channel l d) ++ tok ∷ []) c) ≡ times_by
+    (verdict_on (judged w p (Flying (record { 0 = l }) d)) j) c
 flown_places w p count tok l d k e j c =
     rw (judged_on w p (Flying (record { 0 = l }) d) j k.within)
     (elim (eqb_tells j p) [
@@ -120,7 +120,7 @@ pub loosen : (w : Packets) (c n count : ℕ) (k : Token) → AreInOnePlace w cou
     Loose (record w { flying = put w.flying c (without_place n (w.flying c)) }) k.packet count
 loosen w c n count k h e =
     let gone : times_in k.packet (w.flying c) ≡ times_in k.packet (without_place n (w.flying c)) + 1 =
-        times-without k.packet (w.flying c) n k e ∙ ap (λ x. times_in k.packet (without_place n (w.flying c)) + x) (one_same k.packet) in
+    times-without k.packet (w.flying c) n k e ∙ ap (λ x. times_in k.packet (without_place n (w.flying c)) + x) (one_same k.packet) in
     let there : 1 ≤ times_by (verdict_on w k.packet) c = omega (arith, gone, h.places k.packet c) in
     record {
       others = λ j b q. times-put w.flying c _ j b _
@@ -168,7 +168,7 @@ routed : (t : Network) (v : World) (w : Packets) (j count : ℕ) (b : List ℕ) 
 routed t v w j count b e None l = dropped w j count rule.NoRoute e l
 routed t v w j count b e (Some route) l =
     arms (λ x. AreInOnePlace x count) (route.edge == e) _ _ (delivered w j count route.site _ b l)
-        (hopped t w (bound j route b) count e rule.NoLsp (usable t v.config v.views v.sessions e route.edge) l)
+    (hopped t w (bound j route b) count e rule.NoLsp (usable t v.config v.views v.sessions e route.edge) l)
 
 entered : (t : Network) (v : World) (w : Packets) (j count : ℕ) (b : List ℕ) (e vrf : ℕ) (o : Option Rule) → Loose w j count →
     AreInOnePlace (enter_by t v w j b e vrf o) count
@@ -223,7 +223,7 @@ cut_kept (k ∷ ks) w c n count e h =
     let there : slice_get (w.flying c) 0 ≡ Some k = rw e refl in
     let l : Loose (record w { flying = put w.flying c ks }) k.packet count = rw e at (loosen w c 0 count k h there) in
     cut_kept ks (drop_at (record w { flying = put w.flying c ks }) k.packet rule.LinkCut n) c n count (put_here w.flying c ks)
-        (dropped (record w { flying = put w.flying c ks }) k.packet count rule.LinkCut n l)
+    (dropped (record w { flying = put w.flying c ks }) k.packet count rule.LinkCut n l)
 
 pub unmarked : (w : Packets) (count : ℕ) → AreInOnePlace w count → AreInOnePlace (before_step w) count
 unmarked w count h = record { places = h.places; verdicts = h.verdicts; paths = h.paths }
@@ -251,8 +251,8 @@ run_kept : (t : Network) (v : World) (w : Packets) (es : List JournalEntry) (ps 
 run_kept t v w [] ps count h = none_more _ _ h
 run_kept t v w (e ∷ es) ps count h =
     subst (AreInOnePlace (packets_from t v w (e ∷ es) ps)) (omega arith)
-        (run_kept t (after t v e.step) _ es (left_by e.step ps) (one_if (injects e.step) + count)
-        (stepped t (after t v e.step) w e.step (next_of ps) count h))
+    (run_kept t (after t v e.step) _ es (left_by e.step ps) (one_if (injects e.step) + count)
+    (stepped t (after t v e.step) w e.step (next_of ps) count h))
 
 pub in_one_place : (t : Network) (es : List JournalEntry) (ps : List (List ℕ)) → AreInOnePlace (packets_of t es ps) (injections es)
 in_one_place t es ps =

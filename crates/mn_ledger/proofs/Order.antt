@@ -82,7 +82,7 @@ pub each_flat_map : {A B : Type 0} (before : A → A → Type 0) (later : B → 
 each_flat_map before later f [] h each go = tt
 each_flat_map before later f (x ∷ xs) h each go =
     each_append later (f x) (flat_map f xs) (each x (inl refl))
-        (each_flat_map before later f xs h.1 (λ y i. each y (inr i)) (λ a b u v i j. go a b u v (inr i) (inr j)))
+    (each_flat_map before later f xs h.1 (λ y i. each y (inr i)) (λ a b u v i j. go a b u v (inr i) (inr j)))
     (λ u v i j. let m = in_flat_map f xs v j in go x m.0 u v (inl refl) (inr m.1) (h.0 m.0 m.1) i m.2)
 
 pub each_more : {A : Type 0} (before later : A → A → Type 0) (xs : List A) →
@@ -122,7 +122,7 @@ lesser_before p q h = ap (λ b. b || ((p.address == q.address) && nat_lt p.lengt
 shorter_before : (p q : AddressBlock) → p.address ≡ q.address → p.length < q.length → comes_before p q ≡ true
 shorter_before p q e h =
     ap (λ b. b || ((p.address == q.address) && nat_lt p.length q.length)) (not_less p.address q.address (at_most e))
-        ∙ ap (λ b. b && nat_lt p.length q.length) (test_same p.address q.address e) ∙ less_is p.length q.length h
+    ∙ ap (λ b. b && nat_lt p.length q.length) (test_same p.address q.address e) ∙ less_is p.length q.length h
   where
     at_most : {m n : ℕ} → m ≡ n → n ≤ m
     at_most e = omega (arith, e)
@@ -135,8 +135,11 @@ before_follows p q r h g = elim (before_tells p q h) [
 
 not_itself : (p q : AddressBlock) → comes_before p q ≡ true → p ≢ q
 not_itself p q h e =
-    elim (before_tells p q h) [ inl a ↦ less_same a (ap (λ (r : AddressBlock). r.address) e) | inr a ↦ less_same a.1
-    (ap (λ (r : AddressBlock). r.length) e) ]
+    elim (before_tells p q h) [
+      | inl a ↦ less_same a (ap (λ (r : AddressBlock). r.address) e)
+      | inr a ↦ less_same a.1
+          (ap (λ (r : AddressBlock). r.length) e)
+    ]
   where
     less_same : {m n : ℕ} → m < n → m ≡ n → ⊥
     less_same h e = omega (arith, h, e)
@@ -202,9 +205,9 @@ of_vrf t c v targets e i = ap (λ (x : Export). x.vrf) (exported t c v targets e
 pub told_each : (t : Network) (c : Config) (edge : ℕ) → HasStatics t c.statics → EachBefore ComesBefore (exports_of t c edge)
 told_each t c edge h =
     each_flat_map (λ (u v : ℕ). u < v) ComesBefore (λ v. exports_with t c v (c.exports v)) (vrfs_at t edge)
-        (each_filter (λ (u v : ℕ). u < v) (λ v. edge_of t v == edge) (range_with_len 0 (length t.vrfs)) (each_range 0 (length t.vrfs)))
+    (each_filter (λ (u v : ℕ). u < v) (λ v. edge_of t v == edge) (range_with_len 0 (length t.vrfs)) (each_range 0 (length t.vrfs)))
     (λ v i. each_more ByPrefix ComesBefore (exports_with t c v (c.exports v))
-        (λ x y j k b. inr (sym (of_vrf t c v (c.exports v) x j) ∙ of_vrf t c v (c.exports v) y k, b)) (exports_each t c v (c.exports v) h))
+    (λ x y j k b. inr (sym (of_vrf t c v (c.exports v) x j) ∙ of_vrf t c v (c.exports v) y k, b)) (exports_each t c v (c.exports v) h))
     (λ u v x y i j less k l. inl (subst (λ n. n < y.vrf) (of_vrf t c u (c.exports u) x k) (subst (λ n. u < n) (of_vrf t c v (c.exports v) y l) less)))
 
 pub statics_each : (t : Network) (statics : List SiteRoute) → HasStatics t statics → EachBefore (DifferInVrf t) statics
@@ -229,21 +232,23 @@ near_each : (t : Network) (c : Config) (edge v : ℕ) → HasStatics t c.statics
 near_each t c edge v h =
     let others : List Export = filter (λ export. not (export.vrf == v)) (exports_of t c edge) in
     each_map ComesBefore DifferBySource (λ (export : Export). held_by edge (Near export.vrf) export) (imported c v others)
-        (λ x y i j b source. not_the_same x y b (ap near_vrf source))
+    (λ x y i j b source. not_the_same x y b (ap near_vrf source))
     (each_filter ComesBefore (λ (export : Export). meet export.targets (c.imports v)) others
-        (each_filter ComesBefore (λ (export : Export). not (export.vrf == v)) (exports_of t c edge) (told_each t c edge h)))
+    (each_filter ComesBefore (λ (export : Export). not (export.vrf == v)) (exports_of t c edge) (told_each t c edge h)))
 
 far_each : (t : Network) (c : Config) (p : Peerings) (edge v peer : ℕ) → IsLawful t → AllGood t p → EachBefore DifferBySource (far_routes t c p edge v peer)
 far_each t c p edge v peer lawful good =
     let routes : List Export = imported c v (believed c p edge peer) in
     let of_them : (x : Export) → In routes x → In (believed c p edge peer) x =
-        λ x i. (in_filter (λ (export : Export). meet export.targets (c.imports v)) (believed c p edge peer) x i).0 in
+    λ x i. (in_filter (λ (export : Export). meet export.targets (c.imports v)) (believed c p edge peer) x i).0 in
     each_map (λ x y. SameRoute x y → ⊥) DifferBySource (λ (export : Export). held_by peer (Far (loopback t peer) (vrf_at t export.vrf).rd.0) export) routes
-    (λ x y i j d source prefix. d
-        (one_vrf t lawful x.vrf y.vrf (good_believed t c p edge peer x good (of_them x i)).0 (good_believed t c p edge peer y good (of_them y j)).0
-        (ap far_rd source), prefix))
+    (λ x y i j d source prefix. d (
+      one_vrf t lawful x.vrf y.vrf (good_believed t c p edge peer x good (of_them x i)).0 (good_believed t c p edge peer y good (of_them y j)).0
+          (ap far_rd source),
+      prefix,
+    ))
     (each_apart SameRoute routes
-        (apart_filter SameRoute (λ (export : Export). meet export.targets (c.imports v)) (believed c p edge peer) (believed_is_apart c p edge peer)))
+    (apart_filter SameRoute (λ (export : Export). meet export.targets (c.imports v)) (believed c p edge peer) (believed_is_apart c p edge peer)))
 
 -- the edge behind a route of another edge
 from_peer : (t : Network) (c : Config) (p : Peerings) (edge v peer : ℕ) (a : HeldRoute) → In (far_routes t c p edge v peer) a →
@@ -257,15 +262,15 @@ peers_each : (t : Network) (c : Config) (p : Peerings) (edge v : ℕ) → IsLawf
 peers_each t c p edge v lawful apart good =
     let peers : List ℕ = filter (λ peer. not (peer == edge)) (edges t) in
     let there : (x : ℕ) → In peers x → x < length t.loopbacks =
-        λ x i. below x
-        (in_range 0 (length t.loopbacks) x
-        (in_filter (λ node. is_edge t.vrfs node) (range_with_len 0 (length t.loopbacks)) x (in_filter (λ peer. not (peer == edge)) (edges t) x i).0).0).1 in
+    λ x i. below x
+    (in_range 0 (length t.loopbacks) x
+    (in_filter (λ node. is_edge t.vrfs node) (range_with_len 0 (length t.loopbacks)) x (in_filter (λ peer. not (peer == edge)) (edges t) x i).0).0).1 in
     each_flat_map (λ (m n : ℕ). m < n) DifferBySource (far_routes t c p edge v) peers
     (each_filter (λ (m n : ℕ). m < n) (λ peer. not (peer == edge)) (edges t)
-        (each_filter (λ (m n : ℕ). m < n) (λ node. is_edge t.vrfs node) (range_with_len 0 (length t.loopbacks)) (each_range 0 (length t.loopbacks))))
+    (each_filter (λ (m n : ℕ). m < n) (λ node. is_edge t.vrfs node) (range_with_len 0 (length t.loopbacks)) (each_range 0 (length t.loopbacks))))
     (λ peer i. far_each t c p edge v peer lawful good)
     (λ m n x y i j less k l source prefix. less_same less
-        (one_edge t apart m n (there m i) (there n j) (from_peer t c p edge v m x k ∙ ap far_address source ∙ sym (from_peer t c p edge v n y l))))
+    (one_edge t apart m n (there m i) (there n j) (from_peer t c p edge v m x k ∙ ap far_address source ∙ sym (from_peer t c p edge v n y l))))
   where
     below : (x : ℕ) → x < 0 + length t.loopbacks → x < length t.loopbacks
     below x h = omega (arith, h)

@@ -140,7 +140,7 @@ last_decides : {A : Type 0} (t : Network) (of : World → A) (says : Step → Op
 last_decides t of says set w [] = refl
 last_decides t of says set w (e ∷ es) =
     last_decides t of says set (after t w e.step) es ∙ ap (unwrap_or (last_said says es)) (set w e.step)
-        ∙ sym (later_or (last_said says es) (says e.step) (of w))
+    ∙ sym (later_or (last_said says es) (says e.step) (of w))
 
 put_says : {A : Type 0} (f : ℕ → A) (k : ℕ) (v : A) (l : ℕ) → cond (l == k) v (f l) ≡ unwrap_or (cond (l == k) (Some v) None) (f l)
 put_says f k v l = elim (eqb_tells l k) [ inl q ↦ rw q.0 refl | inr q ↦ rw q.0 refl ]
@@ -323,7 +323,7 @@ added_says s prefix (y ∷ ys) x =
 
 removed_says : (s : ℕ) (prefix : AddressBlock) (r : ℕ) (other : AddressBlock) (xs : List SiteRoute)
     → list_any (is_static s prefix) (filter (λ static. not (is_static r other static)) xs) ≡ unwrap_or
-        (cond (is_static s prefix (record { site = r; prefix = other })) (Some false) None) (list_any (is_static s prefix) xs)
+    (cond (is_static s prefix (record { site = r; prefix = other })) (Some false) None) (list_any (is_static s prefix) xs)
 removed_says s prefix r other [] = nothing (is_static s prefix (record { site = r; prefix = other }))
   where
     nothing : (b : Bool) → false ≡ unwrap_or (cond b (Some false) None) false
@@ -332,14 +332,14 @@ removed_says s prefix r other [] = nothing (is_static s prefix (record { site = 
 removed_says s prefix r other (x ∷ xs) = elim (two_ways (is_static r other x)) [
   | inl p ↦
       ap (λ b. list_any (is_static s prefix)
-          (cond (not b) (x ∷ filter (λ static. not (is_static r other static)) xs) (filter (λ static. not (is_static r other static)) xs))) p
+      (cond (not b) (x ∷ filter (λ static. not (is_static r other static)) xs) (filter (λ static. not (is_static r other static)) xs))) p
       ∙ removed_says s prefix r other xs
-          ∙ sym (ap (λ b. unwrap_or (cond (is_static s prefix (record { site = r; prefix = other })) (Some false) None)
-          (b || list_any (is_static s prefix) xs)) (both_static s prefix r other x p)
-          ∙ gone (is_static s prefix (record { site = r; prefix = other })) (list_any (is_static s prefix) xs))
+      ∙ sym (ap (λ b. unwrap_or (cond (is_static s prefix (record { site = r; prefix = other })) (Some false) None)
+      (b || list_any (is_static s prefix) xs)) (both_static s prefix r other x p)
+      ∙ gone (is_static s prefix (record { site = r; prefix = other })) (list_any (is_static s prefix) xs))
   | inr p ↦
       ap (λ b. list_any (is_static s prefix)
-          (cond (not b) (x ∷ filter (λ static. not (is_static r other static)) xs) (filter (λ static. not (is_static r other static)) xs))) p
+      (cond (not b) (x ∷ filter (λ static. not (is_static r other static)) xs) (filter (λ static. not (is_static r other static)) xs))) p
       ∙ ap (λ b. is_static s prefix x || b) (removed_says s prefix r other xs) ∙ stays (two_ways (is_static s prefix (record { site = r; prefix = other }))) p
 ]
   where
@@ -369,8 +369,8 @@ removed_says s prefix r other (x ∷ xs) = elim (two_ways (is_static r other x))
     stays : ((is_static s prefix (record { site = r; prefix = other }) ≡ true) ⊎ (is_static s prefix (record { site = r; prefix = other }) ≡ false)) →
         is_static r other x ≡ false
         → (is_static s prefix x || unwrap_or (cond (is_static s prefix (record { site = r; prefix = other })) (Some false) None)
-            (list_any (is_static s prefix) xs)) ≡ unwrap_or (cond (is_static s prefix (record { site = r; prefix = other })) (Some false) None)
-            (is_static s prefix x || list_any (is_static s prefix) xs)
+        (list_any (is_static s prefix) xs)) ≡ unwrap_or (cond (is_static s prefix (record { site = r; prefix = other })) (Some false) None)
+        (is_static s prefix x || list_any (is_static s prefix) xs)
     stays d p = elim d [
       | inl q ↦ rw (q, other_one q p) refl
       | inr q ↦ rw q refl

@@ -17,8 +17,8 @@ use Rattle.mn_topo.specs.declared.steps.Step.TheVariants as step
 use Rattle.mn_ledger.specs.Tables.{put_pair}
 use Rattle.mn_ledger.specs.Places.{edges}
 use Rattle.mn_ledger.specs.World.{Config, Export, Telling, Open, Alive, Announce, Unreach, Peerings, World}
-use Rattle.mn_ledger.specs.Vpn.{Told, peers_live, state_heard, state_of, is_established, is_between, tellings_of, told_to, reply, is_for, same_export}
-use Rattle.mn_ledger.specs.Vpn.{withdrawn, announced, changed, exports_of, steady_peers, news, anew, counted, with_told, peerings_after}
+use Rattle.mn_ledger.specs.Vpn.{Told, peers_live, state_heard, bgp_state_of, is_established, is_from_to, tellings_of, told_to, reply, is_for, same_export}
+use Rattle.mn_ledger.specs.Vpn.{withdrawn, announced, changed, exports_of, steady_peers, route_news, bgp_restarted, bgp_counted, with_told, peerings_after}
 use Rattle.mn_ledger.specs.Packets.{Packets}
 use Rattle.mn_ledger.specs.Ledger.{config_after, after}
 use Rattle.mn_ledger.specs.Refusal.{is_empty}
@@ -76,9 +76,12 @@ peer-heard : (k : ℕ) (xs : List Telling) (x : Telling) (es : List Export) (ms 
 peer-heard zero xs x es ms t e q m = rw (t, e, q refl) refl
 peer-heard (suc zero) xs x es ms t e q m =
     (map (λ export. Announce export) es ++ ms, rw (t, e) refl, all_append IsUpdate (map (λ export. Announce export) es) ms (updates-announce es) m)
-peer-heard (suc (suc n)) xs x es ms t e q m =
-    (t.0 ++ ms, ap (λ ys. ys ++ (reply (state_heard (suc (suc n))) x es ++ ms)) t.1
-    ∙ ap (λ r. Open ∷ Alive ∷ (t.0 ++ (r ++ ms))) (reply-none n x es), all_append IsUpdate t.0 ms t.2 m)
+peer-heard (suc (suc n)) xs x es ms t e q m = (
+  t.0 ++ ms,
+  ap (λ ys. ys ++ (reply (state_heard (suc (suc n))) x es ++ ms)) t.1
+      ∙ ap (λ r. Open ∷ Alive ∷ (t.0 ++ (r ++ ms))) (reply-none n x es),
+  all_append IsUpdate t.0 ms t.2 m,
+)
 
 peer-told : (k : ℕ) (xs ms : List Telling) → IsPeerTalk k xs → (k < 2 → ms ≡ []) → AreUpdates ms → IsPeerTalk k (xs ++ ms)
 peer-told zero xs ms t q m = rw (q (omega arith)) (append-nil xs ∙ t)
@@ -100,8 +103,8 @@ each-append c k (x ∷ xs) ys h g = (h.0, each-append c k xs ys h.1 g)
 
 each-peer : (c : Config) (p : Peerings) (new : Config) (k : Peerings) (edge : ℕ) (x : Telling) → IsUpdate x → (nodes : List ℕ)
     → EachNews new k
-        (map (λ peer. record { teller = edge; peer = peer; telling = x })
-        (filter (λ peer. is_established c p edge peer && is_established new k edge peer) nodes))
+    (map (λ peer. record { teller = edge; peer = peer; telling = x })
+    (filter (λ peer. is_established c p edge peer && is_established new k edge peer) nodes))
 each-peer c p new k edge x u [] = tt
 each-peer c p new k edge x u (n ∷ nodes) =
     elim (two_ways (is_established c p edge n && is_established new k edge n)) [
@@ -123,7 +126,7 @@ each-telling : (t : Network) (c : Config) (p : Peerings) (new : Config) (k : Pee
 each-telling t c p new k edge [] u = tt
 each-telling t c p new k edge (x ∷ xs) u =
     each-append new k (map (λ peer. record { teller = edge; peer = peer; telling = x }) (steady_peers t c p new k edge))
-        (flat_map (λ telling. map (λ peer. record { teller = edge; peer = peer; telling = telling }) (steady_peers t c p new k edge)) xs)
+    (flat_map (λ telling. map (λ peer. record { teller = edge; peer = peer; telling = telling }) (steady_peers t c p new k edge)) xs)
     (each-peer c p new k edge x u.0 (nodes_of (wiring_of t))) (each-telling t c p new k edge xs u.1)
 
 updates-changed : (before now : List Export) → AreUpdates (changed before now)
@@ -133,29 +136,29 @@ updates-changed before now =
     (updates-announce (filter (λ export. not (list_any (same_export export) before)) now))
 
 abbrev all_news : Network → Config → Peerings → Config → Peerings → List ℕ → List Told
-all_news t c p new k es = flat_map (news t c p new k) es
+all_news t c p new k es = flat_map (route_news t c p new k) es
 
 each-edge : (t : Network) (c : Config) (p : Peerings) (new : Config) (k : Peerings) (es : List ℕ) → EachNews new k (all_news t c p new k es)
 each-edge t c p new k [] = tt
 each-edge t c p new k (e ∷ es) =
-    each-append new k (news t c p new k e) (all_news t c p new k es)
+    each-append new k (route_news t c p new k e) (all_news t c p new k es)
     (each-telling t c p new k e (changed (exports_of t c e) (exports_of t new e)) (updates-changed (exports_of t c e) (exports_of t new e)))
     (each-edge t c p new k es)
 
 pub tellings-append : (a b : ℕ) (xs ys : List Told) → tellings_of a b (xs ++ ys) ≡ tellings_of a b xs ++ tellings_of a b ys
 tellings-append a b xs ys =
-    ap (map (λ (told : Told). told.telling)) (filter-append (is_between a b) xs ys)
-    ∙ map-append (λ (told : Told). told.telling) (filter (is_between a b) xs) (filter (is_between a b) ys)
+    ap (map (λ (told : Told). told.telling)) (filter-append (is_from_to a b) xs ys)
+    ∙ map-append (λ (told : Told). told.telling) (filter (is_from_to a b) xs) (filter (is_from_to a b) ys)
 
-pub pick : (a b : ℕ) (x : Told) (xs : List Told) (on : Bool) → is_between a b x ≡ on →
+pub pick : (a b : ℕ) (x : Told) (xs : List Told) (on : Bool) → is_from_to a b x ≡ on →
     tellings_of a b (x ∷ xs) ≡ cond on (x.telling ∷ tellings_of a b xs) (tellings_of a b xs)
-pick a b x xs true h = ap (λ o. map (λ (told : Told). told.telling) (cond o (x ∷ filter (is_between a b) xs) (filter (is_between a b) xs))) h
-pick a b x xs false h = ap (λ o. map (λ (told : Told). told.telling) (cond o (x ∷ filter (is_between a b) xs) (filter (is_between a b) xs))) h
+pick a b x xs true h = ap (λ o. map (λ (told : Told). told.telling) (cond o (x ∷ filter (is_from_to a b) xs) (filter (is_from_to a b) xs))) h
+pick a b x xs false h = ap (λ o. map (λ (told : Told). told.telling) (cond o (x ∷ filter (is_from_to a b) xs) (filter (is_from_to a b) xs))) h
 
 tellings-updates : (c : Config) (k : Peerings) (a b : ℕ) (xs : List Told) → EachNews c k xs → AreUpdates (tellings_of a b xs)
 tellings-updates c k a b [] h = tt
 tellings-updates c k a b (x ∷ xs) h =
-    elim (two_ways (is_between a b x)) [
+    elim (two_ways (is_from_to a b x)) [
       | inl q ↦ subst AreUpdates (sym (pick a b x xs true q)) (h.0.0, tellings-updates c k a b xs h.1)
       | inr q ↦ subst AreUpdates (sym (pick a b x xs false q)) (tellings-updates c k a b xs h.1)
     ]
@@ -163,7 +166,7 @@ tellings-updates c k a b (x ∷ xs) h =
 tellings-none : (c : Config) (k : Peerings) (a b : ℕ) (xs : List Told) → EachNews c k xs → is_established c k a b ≡ false → tellings_of a b xs ≡ []
 tellings-none c k a b [] h off = refl
 tellings-none c k a b (x ∷ xs) h off =
-    elim (two_ways (is_between a b x)) [
+    elim (two_ways (is_from_to a b x)) [
       | inl q ↦ absurd
           (clash (sym h.0.1 ∙ ap (λ j. is_established c k j x.peer) (same_numbers x.teller a (and_left _ _ q))
           ∙ ap (is_established c k a) (same_numbers x.peer b (and_right _ _ q)) ∙ off))
@@ -187,7 +190,7 @@ told-other a b j k (x ∷ xs) d = pick a b (record { teller = j; peer = k; telli
 
 keeps : (c new : Config) (p k : Peerings) (xs ns : List Told) (edge peer : ℕ) → EachNews new k ns
     → k.told edge peer ≡ p.told edge peer → k.heard edge peer ≡ p.heard edge peer → k.told peer edge ≡ p.told peer edge →
-        peers_live new edge peer ≡ peers_live c edge peer → tellings_of edge peer xs ≡ []
+    peers_live new edge peer ≡ peers_live c edge peer → tellings_of edge peer xs ≡ []
     → IsPeerInTurn c p edge peer → IsPeerInTurn new (with_told k (xs ++ ns)) edge peer
 keeps c new p k xs ns edge peer each told heard far alive none g =
     let only : tellings_of edge peer (xs ++ ns) ≡ tellings_of edge peer ns = tellings-append edge peer xs ns ∙ ap (λ ms. ms ++ tellings_of edge peer ns) none in
@@ -210,13 +213,13 @@ keeps c new p k xs ns edge peer each told heard far alive none g =
 -- a life begins with Open, or ends
 renewed : (new : Config) (k : Peerings) (xs ns : List Told) (edge peer : ℕ) → EachNews new k ns → k.told edge peer ≡ [] → k.heard edge peer ≡ 0
     → (peers_live new edge peer ≡ true → tellings_of edge peer xs ≡ Open ∷ []) →
-        (peers_live new edge peer ≡ false → tellings_of edge peer xs ≡ []) → IsPeerInTurn new (with_told k (xs ++ ns)) edge peer
+    (peers_live new edge peer ≡ false → tellings_of edge peer xs ≡ []) → IsPeerInTurn new (with_told k (xs ++ ns)) edge peer
 renewed new k xs ns edge peer each told heard on off =
     let quiet : tellings_of edge peer ns ≡ [] =
-        tellings-none new k edge peer ns each (few_off (peers_live new edge peer) (k.heard edge peer) (subst (λ n. n < 2) (sym heard) (omega arith))) in
+    tellings-none new k edge peer ns each (few_off (peers_live new edge peer) (k.heard edge peer) (subst (λ n. n < 2) (sym heard) (omega arith))) in
     let all : k.told edge peer ++ tellings_of edge peer (xs ++ ns) ≡ tellings_of edge peer xs =
-        ap (λ ms. ms ++ tellings_of edge peer (xs ++ ns)) told ∙ tellings-append edge peer xs ns ∙ ap (λ ms. tellings_of edge peer xs ++ ms) quiet
-        ∙ append-nil (tellings_of edge peer xs) in
+    ap (λ ms. ms ++ tellings_of edge peer (xs ++ ns)) told ∙ tellings-append edge peer xs ns ∙ ap (λ ms. tellings_of edge peer xs ++ ms) quiet
+    ∙ append-nil (tellings_of edge peer xs) in
     record {
       heard = subst (λ n. n ≤ length (k.told peer edge ++ tellings_of peer edge (xs ++ ns))) (sym heard) (omega arith);
       silent = λ dead. (all ∙ off dead, heard);
@@ -227,16 +230,16 @@ renewed new k xs ns edge peer each told heard on off =
 hears : (c : Config) (p k : Peerings) (ns : List Told) (edge peer : ℕ) (es : List Export) → EachNews c k ns → k.told edge peer ≡ p.told edge peer →
     k.told peer edge ≡ p.told peer edge → k.heard edge peer ≡ p.heard edge peer + 1
     → peers_live c edge peer ≡ true → p.heard edge peer < length (p.told peer edge) → IsPeerInTurn c p edge peer →
-        IsPeerTalk (p.heard peer edge) (p.told peer edge)
+    IsPeerTalk (p.heard peer edge) (p.told peer edge)
     → IsPeerInTurn c
-        (with_told k (told_to edge peer (reply (state_heard (p.heard edge peer)) (slice_index_or (p.told peer edge) (p.heard edge peer) Open) es) ++ ns))
-        edge peer
+    (with_told k (told_to edge peer (reply (state_heard (p.heard edge peer)) (slice_index_or (p.told peer edge) (p.heard edge peer) Open) es) ++ ns))
+    edge peer
 hears c p k ns edge peer es each told far heard alive more g far_talk =
     let message : Telling = slice_index_or (p.told peer edge) (p.heard edge peer) Open in
     let answers : List Telling = reply (state_heard (p.heard edge peer)) message es in
     let turn : IsPeerNth (p.heard edge peer) message = peer-nth (p.heard peer edge) (p.told peer edge) (p.heard edge peer) far_talk more in
     let only : tellings_of edge peer (told_to edge peer answers ++ ns) ≡ answers ++ tellings_of edge peer ns =
-        tellings-append edge peer (told_to edge peer answers) ns ∙ ap (λ ms. ms ++ tellings_of edge peer ns) (told-own edge peer answers) in
+    tellings-append edge peer (told_to edge peer answers) ns ∙ ap (λ ms. ms ++ tellings_of edge peer ns) (told-own edge peer answers) in
     record {
       heard = omega (arith, more, heard, ap length far, length-append (k.told peer edge) (tellings_of peer edge (told_to edge peer answers ++ ns)));
       silent = λ dead. absurd (clash (sym alive ∙ dead));
@@ -294,26 +297,27 @@ live_here c a b on h = (
   ap (λ x. if x then put_pair c.bgp_on a b on b a else put_pair c.bgp_on a b on a b) (not_less b a (omega (arith, h))) ∙ pair_here c.bgp_on a b on,
 )
 
-session_step : (t : Network) (c : Config) (p : Peerings) (a b : ℕ) (on : Bool) (xs ns : List Told) → a < b → EachNews (with_session c a b on) (anew p a b) ns
+session_step : (t : Network) (c : Config) (p : Peerings) (a b : ℕ) (on : Bool) (xs ns : List Told) → a < b →
+    EachNews (with_session c a b on) (bgp_restarted p a b) ns
     → (on ≡ true → (tellings_of a b xs ≡ Open ∷ []) × (tellings_of b a xs ≡ Open ∷ [])) → (on ≡ false → xs ≡ []) →
-        ((edge peer : ℕ) → (edge ≢ a) ⊎ (peer ≢ b) → (edge ≢ b) ⊎ (peer ≢ a) → tellings_of edge peer xs ≡ [])
-    → PeersAreInTurn c p → PeersAreInTurn (with_session c a b on) (with_told (anew p a b) (xs ++ ns))
+    ((edge peer : ℕ) → (edge ≢ a) ⊎ (peer ≢ b) → (edge ≢ b) ⊎ (peer ≢ a) → tellings_of edge peer xs ≡ [])
+    → PeersAreInTurn c p → PeersAreInTurn (with_session c a b on) (with_told (bgp_restarted p a b) (xs ++ ns))
 unfolding Which
 session_step t c p a b on xs ns order each opens ends others h edge peer d =
     elim (split (which a b edge peer)) [
-      | inl q ↦ subst (λ x. IsPeerInTurn (with_session c a b on) (with_told (anew p a b) (xs ++ ns)) x peer) (sym q.0)
-          (subst (λ x. IsPeerInTurn (with_session c a b on) (with_told (anew p a b) (xs ++ ns)) a x) (sym q.1)
-          (renewed (with_session c a b on) (anew p a b) xs ns a b each
+      | inl q ↦ subst (λ x. IsPeerInTurn (with_session c a b on) (with_told (bgp_restarted p a b) (xs ++ ns)) x peer) (sym q.0)
+          (subst (λ x. IsPeerInTurn (with_session c a b on) (with_told (bgp_restarted p a b) (xs ++ ns)) a x) (sym q.1)
+          (renewed (with_session c a b on) (bgp_restarted p a b) xs ns a b each
           (pair_off (put_pair p.told a b []) b a [] a b (inl apart) ∙ pair_here p.told a b []) (pair_off (put_pair p.heard a b 0) b a 0 a b (inl apart)
-              ∙ pair_here p.heard a b 0)
+          ∙ pair_here p.heard a b 0)
           (λ live. (opens (sym (live_here c a b on order).0 ∙ live)).0) (λ dead. ap (tellings_of a b) (ends (sym (live_here c a b on order).0 ∙ dead)))))
       | inr r ↦ elim r [
-        | inl q ↦ subst (λ x. IsPeerInTurn (with_session c a b on) (with_told (anew p a b) (xs ++ ns)) x peer) (sym q.0)
-            (subst (λ x. IsPeerInTurn (with_session c a b on) (with_told (anew p a b) (xs ++ ns)) b x) (sym q.1)
-            (renewed (with_session c a b on) (anew p a b) xs ns b a each
+        | inl q ↦ subst (λ x. IsPeerInTurn (with_session c a b on) (with_told (bgp_restarted p a b) (xs ++ ns)) x peer) (sym q.0)
+            (subst (λ x. IsPeerInTurn (with_session c a b on) (with_told (bgp_restarted p a b) (xs ++ ns)) b x) (sym q.1)
+            (renewed (with_session c a b on) (bgp_restarted p a b) xs ns b a each
             (pair_here (put_pair p.told a b []) b a []) (pair_here (put_pair p.heard a b 0) b a 0)
             (λ live. (opens (sym (live_here c a b on order).1 ∙ live)).1) (λ dead. ap (tellings_of b a) (ends (sym (live_here c a b on order).1 ∙ dead)))))
-        | inr q ↦ keeps c (with_session c a b on) p (anew p a b) xs ns edge peer each
+        | inr q ↦ keeps c (with_session c a b on) p (bgp_restarted p a b) xs ns edge peer each
             (pair_off (put_pair p.told a b []) b a [] edge peer q.1 ∙ pair_off p.told a b [] edge peer q.0)
             (pair_off (put_pair p.heard a b 0) b a 0 edge peer q.1 ∙ pair_off p.heard a b 0 edge peer q.0)
             (pair_off (put_pair p.told a b []) b a [] peer edge (swap q.0) ∙ pair_off p.told a b [] peer edge (swap q.1))
@@ -340,9 +344,9 @@ config_step t c new p same h edge peer d =
 hear_step : (t : Network) (c : Config) (p k : Peerings) (a b : ℕ) → a ≢ b → k ≡ record p { heard = put_pair p.heard b a (p.heard b a + 1) } →
     peers_live c b a ≡ true → p.heard b a < length (p.told a b) → peers_live c a b ≡ true → PeersAreInTurn c p
     → PeersAreInTurn c
-        (with_told k
-        (told_to b a (reply (state_heard (p.heard b a)) (slice_index_or (p.told a b) (p.heard b a) Open) (exports_of t c b)) ++ all_news t c p c k
-        (edges t)))
+    (with_told k
+    (told_to b a (reply (state_heard (p.heard b a)) (slice_index_or (p.told a b) (p.heard b a) Open) (exports_of t c b)) ++ all_news t c p c k
+    (edges t)))
 hear_step t c p k a b apart is alive more far_alive h edge peer d =
     let answers : List Telling = reply (state_heard (p.heard b a)) (slice_index_or (p.told a b) (p.heard b a) Open) (exports_of t c b) in
     let ns : List Told = all_news t c p c k (edges t) in
@@ -351,7 +355,7 @@ hear_step t c p k a b apart is alive more far_alive h edge peer d =
     let heard : k.heard ≡ put_pair p.heard b a (p.heard b a + 1) = ap (λ x. x.heard) is in
     let off : ((edge ≢ b) ⊎ (peer ≢ a)) → IsPeerInTurn c (with_told k (told_to b a answers ++ ns)) edge peer = λ e.
     keeps c c p k (told_to b a answers) ns edge peer each (ap (λ f. f edge peer) told)
-        (ap (λ f. f edge peer) heard ∙ pair_off p.heard b a (p.heard b a + 1) edge peer e) (ap (λ f. f peer edge) told) refl
+    (ap (λ f. f edge peer) heard ∙ pair_off p.heard b a (p.heard b a + 1) edge peer e) (ap (λ f. f peer edge) told) refl
     (told-other edge peer b a answers (elim e [ inl q ↦ inl (λ r. q (sym r)) | inr q ↦ inr (λ r. q (sym r)) ])) (h edge peer d) in
     elim (eqb_tells edge b) [
       | inr q ↦ off (inl q.1)
@@ -359,9 +363,9 @@ hear_step t c p k a b apart is alive more far_alive h edge peer d =
         | inr r ↦ off (inr r.1)
         | inl r ↦
             subst (λ x. IsPeerInTurn c (with_told k (told_to b a answers ++ ns)) x peer) (sym q.1)
-                (subst (λ x. IsPeerInTurn c (with_told k (told_to b a answers ++ ns)) b x) (sym r.1)
+            (subst (λ x. IsPeerInTurn c (with_told k (told_to b a answers ++ ns)) b x) (sym r.1)
             (hears c p k ns b a (exports_of t c b) each (ap (λ f. f b a) told) (ap (λ f. f a b) told)
-                (ap (λ f. f b a) heard ∙ pair_here p.heard b a (p.heard b a + 1)) alive more (h b a (λ e. apart (sym e))) ((h a b apart).talk far_alive)))
+            (ap (λ f. f b a) heard ∙ pair_here p.heard b a (p.heard b a + 1)) alive more (h b a (λ e. apart (sym e))) ((h a b apart).talk far_alive)))
       ]
     ]
 
@@ -387,7 +391,7 @@ live_sym c a b d = elim (lt_tells a b) [
     strict : b ≤ a → b < a
     strict h = grind (arith, h, d)
 
-pub state_alive : (c : Config) (p : Peerings) (b a : ℕ) → peers_live c b a ≡ true → state_of c p b a ≡ state_heard (p.heard b a)
+pub state_alive : (c : Config) (p : Peerings) (b a : ℕ) → peers_live c b a ≡ true → bgp_state_of c p b a ≡ state_heard (p.heard b a)
 state_alive c p b a h = ap (λ x. if x then state_heard (p.heard b a) else Idle) h
 
 opened : (a b : ℕ) → a ≢ b →
@@ -406,7 +410,7 @@ unopened : (a b edge peer : ℕ) → (edge ≢ a) ⊎ (peer ≢ b) →
 unopened a b edge peer d e =
     tellings-append edge peer (told_to a b (Open ∷ [])) (told_to b a (Open ∷ []))
     ∙ ap (λ x. x ++ tellings_of edge peer (told_to b a (Open ∷ [])))
-        (told-other edge peer a b (Open ∷ []) (elim d [ inl p ↦ inl (λ r. p (sym r)) | inr p ↦ inr (λ r. p (sym r)) ]))
+    (told-other edge peer a b (Open ∷ []) (elim d [ inl p ↦ inl (λ r. p (sym r)) | inr p ↦ inr (λ r. p (sym r)) ]))
     ∙ told-other edge peer b a (Open ∷ []) (elim e [ inl p ↦ inl (λ r. p (sym r)) | inr p ↦ inr (λ r. p (sym r)) ])
 
 pub peers_go : (t : Network) (w : World) (k : Packets) (s : Step) → AreInOrder s → is_empty t w k s ≡ false → PeersAreInTurn w.config w.peerings →
@@ -414,27 +418,27 @@ pub peers_go : (t : Network) (w : World) (k : Packets) (s : Step) → AreInOrder
 unfolding peerings_after with_session
 peers_go t w k (step.BgpUp a b) order full h =
     session_step t w.config w.peerings a.0 b.0 true (told_to a.0 b.0 (Open ∷ []) ++ told_to b.0 a.0 (Open ∷ []))
-        (all_news t w.config w.peerings (config_after w.config (step.BgpUp a b)) (anew w.peerings a.0 b.0) (edges t)) order
-    (each-edge t w.config w.peerings (config_after w.config (step.BgpUp a b)) (anew w.peerings a.0 b.0) (edges t))
+    (all_news t w.config w.peerings (config_after w.config (step.BgpUp a b)) (bgp_restarted w.peerings a.0 b.0) (edges t)) order
+    (each-edge t w.config w.peerings (config_after w.config (step.BgpUp a b)) (bgp_restarted w.peerings a.0 b.0) (edges t))
     (λ _. opened a.0 b.0 (λ e. no (subst (λ x. x < b.0) e order))) (λ e. absurd (clash e)) (unopened a.0 b.0) h
   where
     no : b.0 < b.0 → ⊥
     no h = omega (arith, h)
 peers_go t w k (step.BgpDown a b) order full h =
     session_step t w.config w.peerings a.0 b.0 false []
-        (all_news t w.config w.peerings (config_after w.config (step.BgpDown a b)) (anew w.peerings a.0 b.0) (edges t)) order
-    (each-edge t w.config w.peerings (config_after w.config (step.BgpDown a b)) (anew w.peerings a.0 b.0) (edges t))
+    (all_news t w.config w.peerings (config_after w.config (step.BgpDown a b)) (bgp_restarted w.peerings a.0 b.0) (edges t)) order
+    (each-edge t w.config w.peerings (config_after w.config (step.BgpDown a b)) (bgp_restarted w.peerings a.0 b.0) (edges t))
     (λ e. absurd (no e)) (λ _. refl) (λ edge peer d e. refl) h
 peers_go t w k (step.HearBgp a b) order full h =
     let parts = or_both _ _ full in
     let alive : peers_live w.config a.0 b.0 ≡ true = not_false _ parts.0 in
     let back : peers_live w.config b.0 a.0 ≡ true = sym (live_sym w.config a.0 b.0 order) ∙ alive in
     subst (λ st. PeersAreInTurn w.config
-        (with_told (counted w.peerings (step.HearBgp a b))
-        (told_to b.0 a.0 (reply st (slice_index_or (w.peerings.told a.0 b.0) (w.peerings.heard b.0 a.0) Open) (exports_of t w.config b.0)) ++ all_news t
-        w.config w.peerings w.config (counted w.peerings (step.HearBgp a b)) (edges t))))
+    (with_told (bgp_counted w.peerings (step.HearBgp a b))
+    (told_to b.0 a.0 (reply st (slice_index_or (w.peerings.told a.0 b.0) (w.peerings.heard b.0 a.0) Open) (exports_of t w.config b.0)) ++ all_news t
+    w.config w.peerings w.config (bgp_counted w.peerings (step.HearBgp a b)) (edges t))))
     (sym (state_alive w.config w.peerings b.0 a.0 back))
-    (hear_step t w.config w.peerings (counted w.peerings (step.HearBgp a b)) a.0 b.0 order refl back (above _ _ parts.1) alive h)
+    (hear_step t w.config w.peerings (bgp_counted w.peerings (step.HearBgp a b)) a.0 b.0 order refl back (above _ _ parts.1) alive h)
 peers_go t w k (step.AddRoute s prefix) order full h = config_step t w.config (config_after w.config (step.AddRoute s prefix)) w.peerings (λ a b. refl) h
 peers_go t w k (step.DelRoute s prefix) order full h = config_step t w.config (config_after w.config (step.DelRoute s prefix)) w.peerings (λ a b. refl) h
 peers_go t w k (step.Import v target on) order full h = config_step t w.config (config_after w.config (step.Import v target on)) w.peerings (λ a b. refl) h

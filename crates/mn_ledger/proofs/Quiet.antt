@@ -13,8 +13,8 @@ use Rattle.mn_topo.specs.Steps.{fits}
 use Rattle.mn_topo.specs.declared.steps.Step.{Step}
 use Rattle.mn_topo.specs.declared.steps.Step.TheVariants as step
 use Rattle.mn_ledger.specs.World.{World, Config, Views, Sessions, Initialization}
-use Rattle.mn_ledger.specs.Transport.{Said, Knowledge, known, lives, knowledge_of, hearing, hearing_at, is_active, said_on, opening, replies, answered}
-use Rattle.mn_ledger.specs.Transport.{news, speakers, counted, views_after}
+use Rattle.mn_ledger.specs.Transport.{Said, Knowledge, known, lives, knowledge_of, hearing, hearing_at, is_active, said_on, opening, ldp_replies, answered}
+use Rattle.mn_ledger.specs.Transport.{news, speakers, ldp_counted, views_after}
 use Rattle.mn_ledger.specs.Ledger.{config_after}
 use Rattle.mn_ledger.specs.Refusal.{is_unchanged, agree}
 use Rattle.mn_ledger.specs.Quiet.{known_after, said_by}
@@ -94,11 +94,11 @@ was_off true true false a h = absurd (clash (sym h))
 was_off false was on a h = refl
 
 no_replies : (t : Network) (w : World) (s : Step) (node : ℕ) → fits t s ≡ true → is_unchanged w.config s ≡ false → known t w node ≡ known_after t w s node →
-    filter (λ said. said.end == node) (replies t (config_after w.config s) w.sessions s) ≡ []
+    filter (λ said. said.end == node) (ldp_replies t (config_after w.config s) w.sessions s) ≡ []
 no_replies t w (step.LinkUp l) node fit new e =
     no_opening t w.config (config_after w.config (step.LinkUp l)) w.views (views_after w.views (step.LinkUp l)) w.sessions
-        (counted t w.sessions (step.LinkUp l)) l.0 node (less_tells l.0 (length t.links) fit)
-        (and_off_left (w.config.is_up l.0) (w.config.ldp_on l.0) new) e
+    (ldp_counted t w.sessions (step.LinkUp l)) l.0 node (less_tells l.0 (length t.links) fit)
+    (and_off_left (w.config.is_up l.0) (w.config.ldp_on l.0) new) e
 no_replies t w (step.LdpAdmin l on) node fit new e = by_life (lives (config_after w.config (step.LdpAdmin l on)) l.0) refl
   where
     by_life : (alive : Bool) → lives (config_after w.config (step.LdpAdmin l on)) l.0 ≡ alive →
@@ -108,18 +108,18 @@ no_replies t w (step.LdpAdmin l on) node fit new e = by_life (lives (config_afte
         (elim b as (λ _. List Said) [ true ↦ said_on l.0 (opener t l.0) (Initialization ∷ []) | false ↦ [] ])) a
     by_life true a =
         no_opening t w.config (config_after w.config (step.LdpAdmin l on)) w.views (views_after w.views (step.LdpAdmin l on)) w.sessions
-            (counted t w.sessions (step.LdpAdmin l on)) l.0 node (less_tells l.0 (length t.links) fit)
+        (ldp_counted t w.sessions (step.LdpAdmin l on)) l.0 node (less_tells l.0 (length t.links) fit)
         (was_off (w.config.is_up l.0) (w.config.ldp_on l.0) on new (sym (ap (λ b. w.config.is_up l.0 && b) (put_here w.config.ldp_on l.0 on)) ∙ a)) e
 no_replies t w (step.HearLdp l dir) node fit new e =
-    no_answer t w.config w.config w.views w.views w.sessions (counted t w.sessions (step.HearLdp l dir)) l.0 (receiver (wiring_of t) l.0 dir)
-        (sender (wiring_of t) l.0 dir) node (less_tells l.0 (length t.links) fit)
+    no_answer t w.config w.config w.views w.views w.sessions (ldp_counted t w.sessions (step.HearLdp l dir)) l.0 (receiver (wiring_of t) l.0 dir)
+    (sender (wiring_of t) l.0 dir) node (less_tells l.0 (length t.links) fit)
     (pair_here w.sessions.heard l.0 (receiver (wiring_of t) l.0 dir) (w.sessions.heard l.0 (receiver (wiring_of t) l.0 dir) + 1)) e
 no_replies t w _ node fit new e = refl
 
 pub says_nothing : (t : Network) (w : World) (s : Step) (node : ℕ) → fits t s ≡ true → is_unchanged w.config s ≡ false →
     known t w node ≡ known_after t w s node → said_by t w s node ≡ []
 says_nothing t w s node fit new e =
-    filter-append (λ (said : Said). said.end == node) (replies t (config_after w.config s) w.sessions s) _
+    filter-append (λ (said : Said). said.end == node) (ldp_replies t (config_after w.config s) w.sessions s) _
     ∙ ap (λ xs. xs ++ filter (λ said. said.end == node)
-        (flat_map (λ n. news (wiring_of t) (known t w n) (known_after t w s n) n) (speakers (wiring_of t) s))) (no_replies t w s node fit new e)
+    (flat_map (λ n. news (wiring_of t) (known t w n) (known_after t w s n) n) (speakers (wiring_of t) s))) (no_replies t w s node fit new e)
     ∙ no_news_by (wiring_of t) (known t w) (known_after t w s) node (speakers (wiring_of t) s) e

@@ -44,13 +44,13 @@ free t w k n s b h =
     let two = none_first (where_holds (is_empty t w k s) why.Empty) (limits t w k n s b) one.1 in
     let three = none_first (static_refusal t w.config s)
     (where_holds (is_targets_full w.config s) why.TargetsFull ∷ where_holds (is_spent t w.config s) why.LabelsSpent
-        ∷ where_holds (is_full t w k s b) why.NetFull ∷ where_holds (nat_le 4000000 n) why.TooManySteps ∷ []) two.1 in
+    ∷ where_holds (is_full t w k s b) why.NetFull ∷ where_holds (nat_le 4000000 n) why.TooManySteps ∷ []) two.1 in
     let four = none_first (where_holds (is_targets_full w.config s) why.TargetsFull)
     (where_holds (is_spent t w.config s) why.LabelsSpent ∷ where_holds (is_full t w k s b) why.NetFull ∷ where_holds (nat_le 4000000 n) why.TooManySteps
-        ∷ []) three.1 in
+    ∷ []) three.1 in
     let five =
-        none_first (where_holds (is_spent t w.config s) why.LabelsSpent) (where_holds (is_full t w k s b) why.NetFull
-        ∷ where_holds (nat_le 4000000 n) why.TooManySteps ∷ []) four.1 in
+    none_first (where_holds (is_spent t w.config s) why.LabelsSpent) (where_holds (is_full t w k s b) why.NetFull
+    ∷ where_holds (nat_le 4000000 n) why.TooManySteps ∷ []) four.1 in
     let six = none_first (where_holds (is_full t w k s b) why.NetFull) (where_holds (nat_le 4000000 n) why.TooManySteps ∷ []) five.1 in
     let seven = none_first (where_holds (nat_le 4000000 n) why.TooManySteps) [] six.1 in
     record {
@@ -70,7 +70,7 @@ few_from t (e ∷ es) tick w k n ps l h =
     let b : List ℕ = next_of ps in
     let here : n < 4000000 = (free t w k n e.step b l.2).steps in
     let rest : n + 1 + length es ≤ 4000000 =
-        few_from t es e.tick (after t w e.step) (packets_after t (after t w e.step) k e.step b) (n + 1) (left_by e.step ps) l.3 (omega (arith, here)) in
+    few_from t es e.tick (after t w e.step) (packets_after t (after t w e.step) k e.step b) (n + 1) (left_by e.step ps) l.3 (omega (arith, here)) in
     omega (arith, rest)
 
 pub few_entries : (t : Network) (es : List JournalEntry) (ps : List (List ℕ)) → IsLawfulJournal t es ps → length es ≤ 4000000

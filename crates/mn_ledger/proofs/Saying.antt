@@ -19,9 +19,10 @@ use Rattle.mn_topo.specs.declared.steps.Step.TheVariants as step
 use Rattle.mn_topo.specs.declared.steps.JournalEntry.{JournalEntry}
 use Rattle.mn_ledger.specs.Tables.{put}
 use Rattle.mn_ledger.specs.World.{World, Config, Views, Sessions, Message, Initialization, KeepAlive, Address, Mapping, Withdraw, Release}
-use Rattle.mn_ledger.specs.Transport.{Said, Knowledge, knowledge_of, lives, state_of, spoken, is_by, messages_of, said_on, answer, mention, mentioned_on}
-use Rattle.mn_ledger.specs.Transport.{mentioned_from, offers, offered, by_neighbour, is_operational, news, opening, replies, ends_first, speakers, counted}
-use Rattle.mn_ledger.specs.Transport.{anew, sessions_after}
+use Rattle.mn_ledger.specs.Transport.{Said, Knowledge, knowledge_of, lives, ldp_state_of, spoken, is_by, messages_of, said_on, answer, mention, mentioned_on}
+use Rattle.mn_ledger.specs.Transport.{mentioned_from, offers, offered, by_neighbour, is_operational, news, opening, ldp_replies, ends_first, speakers}
+use Rattle.mn_ledger.specs.Transport.{ldp_counted}
+use Rattle.mn_ledger.specs.Transport.{ldp_restarted, sessions_after}
 use Rattle.mn_ledger.specs.Packets.{Packets, packets_after}
 use Rattle.mn_ledger.specs.Ledger.{after, start, no_packets, next_of, left_by, world_from, world_of}
 use Rattle.mn_ledger.specs.Lawful.{IsLawfulFrom, IsLawfulJournal}
@@ -67,7 +68,7 @@ pub once-neighbours : (w : Wiring) (n l a k : ℕ) → IsOnce l (flat_map (joini
 once-neighbours w n l a zero = tt
 once-neighbours w n l a (suc k) =
     once-append l (joining w n a) (flat_map (joining w n) (range_with_len (a + 1) k))
-        (once-filter _ l _ (once-filter _ l _ (once-range l 0 (length w.ends)))) (once-neighbours w n l (a + 1) k)
+    (once-filter _ l _ (once-filter _ l _ (once-range l 0 (length w.ends)))) (once-neighbours w n l (a + 1) k)
     (λ i j. beyond (leads i) (later j))
   where
     leads : {b : ℕ} → In (joining w n b) l → across w l n ≡ b
@@ -132,11 +133,20 @@ module _ (before after : Knowledge) (l n : ℕ) where
   over-links : (q : ℕ) (was is : Bool) (ks : List ℕ) → IsOnce l ks → length (messages_of l n (flat_map (mentioned_on before after n q was is) ks)) ≤ 1
   over-links q was is [] once = omega arith
   over-links q was is (j ∷ ks) once = elim (eqb_tells j l) [
-    | inl e ↦ omega
-        (arith, length-said l n (mentioned_on before after n q was is j) (flat_map (mentioned_on before after n q was is) ks), on-link q was is j, ap length
-        (no-link q was is ks (once.0 e.1)))
-    | inr e ↦ omega (arith, length-said l n (mentioned_on before after n q was is j) (flat_map (mentioned_on before after n q was is) ks), ap length
-        (other-link q was is j e.1), over-links q was is ks once.1)
+    | inl e ↦ omega (
+      arith,
+      length-said l n (mentioned_on before after n q was is j) (flat_map (mentioned_on before after n q was is) ks),
+      on-link q was is j,
+      ap length
+          (no-link q was is ks (once.0 e.1)),
+    )
+    | inr e ↦ omega (
+      arith,
+      length-said l n (mentioned_on before after n q was is j) (flat_map (mentioned_on before after n q was is) ks),
+      ap length
+          (other-link q was is j e.1),
+      over-links q was is ks once.1,
+    )
   ]
 
   of-all : (ks : List ℕ) (q : ℕ) (weres ares : List Bool) → IsOnce l ks →
@@ -211,8 +221,11 @@ module _ (w : Wiring) (before after : ℕ → Knowledge) (l n : ℕ) where
 once-first : (w : Wiring) (l n : ℕ) → (link w l).a.0 ≢ (link w l).b.0 → IsOnce n (ends_first w l)
 once-first w l n d = (
   λ e i. elim i [ inl f ↦ d (e ∙ sym f) | inr j ↦ clash (sym (ends e) ∙ no_end (in_filter (λ node. not (is_end w l node)) (nodes_of w) n j).1) ],
-  (λ f j. clash (sym (ends_too f) ∙ no_end (in_filter (λ node. not (is_end w l node)) (nodes_of w) n j).1), once-filter (λ node. not (is_end w l node)) n
-      (nodes_of w) (once-range n 0 (length w.loopbacks))),
+  (
+    λ f j. clash (sym (ends_too f) ∙ no_end (in_filter (λ node. not (is_end w l node)) (nodes_of w) n j).1),
+    once-filter (λ node. not (is_end w l node)) n
+        (nodes_of w) (once-range n 0 (length w.loopbacks)),
+  ),
 )
   where
     no_end : not (is_end w l n) ≡ true → is_end w l n ≡ false
@@ -269,20 +282,24 @@ few-opening t c k l n = either (lives c k)
     either true = omega (arith, few-said l n k (opener t k) (Initialization ∷ []))
     either false = omega arith
 
-few-replies : (t : Network) (c : Config) (s : Sessions) (done : Step) (l n : ℕ) → length (messages_of l n (replies t c s done)) ≤ 2
+few-replies : (t : Network) (c : Config) (s : Sessions) (done : Step) (l n : ℕ) → length (messages_of l n (ldp_replies t c s done)) ≤ 2
 few-replies t c s (step.LinkUp k) l n = few-opening t c k.0 l n
 few-replies t c s (step.LdpAdmin k on) l n = few-opening t c k.0 l n
 few-replies t c s (step.HearLdp k dir) l n =
     let answers : List Message =
-        answer (state_of t s k.0 (receiver (wiring_of t) k.0 dir))
-        (slice_index_or (s.said k.0 (sender (wiring_of t) k.0 dir)) (s.heard k.0 (receiver (wiring_of t) k.0 dir)) Address) in
-    omega (arith, few-said l n k.0 (receiver (wiring_of t) k.0 dir) answers, few-answers (state_of t s k.0 (receiver (wiring_of t) k.0 dir))
-        (slice_index_or (s.said k.0 (sender (wiring_of t) k.0 dir)) (s.heard k.0 (receiver (wiring_of t) k.0 dir)) Address))
+    answer (ldp_state_of t s k.0 (receiver (wiring_of t) k.0 dir))
+    (slice_index_or (s.said k.0 (sender (wiring_of t) k.0 dir)) (s.heard k.0 (receiver (wiring_of t) k.0 dir)) Address) in
+    omega (
+      arith,
+      few-said l n k.0 (receiver (wiring_of t) k.0 dir) answers,
+      few-answers (ldp_state_of t s k.0 (receiver (wiring_of t) k.0 dir))
+          (slice_index_or (s.said k.0 (sender (wiring_of t) k.0 dir)) (s.heard k.0 (receiver (wiring_of t) k.0 dir)) Address),
+    )
 few-replies t c s _ l n = omega arith
 
 -- 5. A step
 
-cleared : (s : Sessions) (at l n : ℕ) → length ((anew s at).said l n) ≤ length (s.said l n)
+cleared : (s : Sessions) (at l n : ℕ) → length ((ldp_restarted s at).said l n) ≤ length (s.said l n)
 cleared s at l n = elim (eqb_tells l at) [
   | inl p ↦ subst (λ (f : ℕ → List Message). length (f n) ≤ length (s.said l n)) (sym (ap (put s.said at (λ m. [])) p.1 ∙ put_here s.said at (λ m. [])))
       (omega arith)
@@ -290,7 +307,7 @@ cleared s at l n = elim (eqb_tells l at) [
 ]
 
 -- a life that begins or ends has said nothing
-not-more : (t : Network) (s : Sessions) (done : Step) (l n : ℕ) → length ((counted t s done).said l n) ≤ length (s.said l n)
+not-more : (t : Network) (s : Sessions) (done : Step) (l n : ℕ) → length ((ldp_counted t s done).said l n) ≤ length (s.said l n)
 not-more t s (step.LinkUp k) l n = cleared s k.0 l n
 not-more t s (step.LinkDown k) l n = cleared s k.0 l n
 not-more t s (step.LdpAdmin k on) l n = cleared s k.0 l n
@@ -300,14 +317,14 @@ said-more : (t : Network) (c : Config) (v : Views) (new : Config) (nv : Views) (
     fits t done ≡ true
     → length ((spoken t c v new nv s done).said l n) ≤ length (s.said l n) + (length t.loopbacks + 2)
 said-more t c v new nv s done l n differ fit =
-    let k : Sessions = counted t s done in
+    let k : Sessions = ldp_counted t s done in
     let w : Wiring = wiring_of t in
     let ns : List Said = flat_map (λ m. news w (knowledge_of w c v s m) (knowledge_of w new nv k m) m) (speakers w done) in
     omega (
       arith,
       not-more t s done l n,
-      length-append (k.said l n) (messages_of l n (replies t new s done ++ ns)),
-      length-said l n (replies t new s done) ns,
+      length-append (k.said l n) (messages_of l n (ldp_replies t new s done ++ ns)),
+      length-said l n (ldp_replies t new s done) ns,
       few-replies t new s done l n,
       speak-once w (λ m. knowledge_of w c v s m) (λ m. knowledge_of w new nv k m) l n (speakers w done) (once-speaker t done n differ fit),
     )
@@ -354,9 +371,9 @@ pub bounded : (t : Network) (es : List JournalEntry) (ps : List (List ℕ)) → 
 bounded t es ps lawful journal =
     let steps : length es ≤ 4000000 = few_entries t es ps journal in
     let all : (l n : ℕ) → length ((world_of t es).sessions.said l n) ≤ (length t.loopbacks + 2) * length es =
-        λ l n. none_before _ _ (said-from t es 0 (start t) no_packets 0 ps l n lawful.ends_differ journal) in
+    λ l n. none_before _ _ (said-from t es 0 (start t) no_packets 0 ps l n lawful.ends_differ journal) in
     let most : (length t.loopbacks + 2) * length es ≤ 258 * 4000000 =
-        mul-le (length t.loopbacks + 2) (length es) 258 4000000 (more (length t.loopbacks) lawful.few_nodes) steps in
+    mul-le (length t.loopbacks + 2) (length es) 258 4000000 (more (length t.loopbacks) lawful.few_nodes) steps in
     record {
       steps = steps;
       changes = λ l. subst (λ n. n ≤ length es) (sym ((last_steps_decide t es).changes l)) (not-so-often (turns l) es);

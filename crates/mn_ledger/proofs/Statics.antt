@@ -52,7 +52,7 @@ alike_same : (t : Network) (x y : SiteRoute) → SameStatic t x y → same_stati
 unfolding keyed
 alike_same t x y a =
     ap (λ v. (vrf_of t x.site == v) && same_prefix x.prefix y.prefix) (sym a.0)
-        ∙ ap (λ p. (vrf_of t x.site == vrf_of t x.site) && same_prefix x.prefix p) (sym a.1)
+    ∙ ap (λ p. (vrf_of t x.site == vrf_of t x.site) && same_prefix x.prefix p) (sym a.1)
     ∙ ap (λ b. b && same_prefix x.prefix x.prefix) (same_test (vrf_of t x.site)) ∙ same_to_itself x.prefix
 
 distinct_apart : (t : Network) (xs : List SiteRoute) → IsDistinct same_static (map (keyed t) xs) → AreApart (SameStatic t) xs
@@ -80,9 +80,9 @@ keyed_statics t k [] h = refl
 keyed_statics t k (site ∷ sites) h =
     map-append (keyed t) (map (λ prefix. record { site = k; prefix = prefix }) site.prefixes) (statics_from (k + 1) sites)
     ∙ ap (λ xs. xs ++ map (keyed t) (statics_from (k + 1) sites))
-        (of_site t k site.vrf.0 site.prefixes (ap (λ (s : SiteDef). s.vrf.0) (ap (site_at t) plus ∙ sym (h 0 site (omega arith)))))
+    (of_site t k site.vrf.0 site.prefixes (ap (λ (s : SiteDef). s.vrf.0) (ap (site_at t) plus ∙ sym (h 0 site (omega arith)))))
     ∙ ap (λ xs. in_vrf site.vrf.0 site.prefixes ++ xs)
-        (keyed_statics t (k + 1) sites (λ i d below. h (suc i) d (omega (arith, below)) ∙ ap (site_at t) (next i)))
+    (keyed_statics t (k + 1) sites (λ i d below. h (suc i) d (omega (arith, below)) ∙ ap (site_at t) (next i)))
   where
     plus : k ≡ k + 0
     plus = omega arith
@@ -143,8 +143,8 @@ none_taken t v p (y ∷ ys) h x i e f = split ((vrf_of t y.site == v) && same_pr
     split false q more g = elim i [
       | inl r ↦
           clash (sym (ap (λ w. (w == v) && same_prefix y.prefix p) (ap (λ (z : SiteRoute). vrf_of t z.site) r ∙ e)
-              ∙ ap (λ z. (v == v) && same_prefix z p) (ap (λ (z : SiteRoute). z.prefix) r ∙ f) ∙ ap (λ c. c && same_prefix p p) (same_test v)
-              ∙ same_to_itself p) ∙ q)
+          ∙ ap (λ z. (v == v) && same_prefix z p) (ap (λ (z : SiteRoute). z.prefix) r ∙ f) ∙ ap (λ c. c && same_prefix p p) (same_test v)
+          ∙ same_to_itself p) ∙ q)
       | inr j ↦ more g j
     ]
 
@@ -153,7 +153,7 @@ pub statics_go : (t : Network) (w : World) (k : Packets) (i : ℕ) (s : Step) (b
 statics_go t w k i (AddRoute s p) b none h = record {
   apart = apart_push (SameStatic t) w.config.statics (record { site = s.0; prefix = p }) h.apart
       (λ x j a. none_taken t (vrf_of t s.0) p w.config.statics
-          (not_taken (taken_by t (vrf_of t s.0) p w.config.statics) (length w.config.statics) (free t w k i (AddRoute s p) b none).statics) x j a.0 a.1);
+      (not_taken (taken_by t (vrf_of t s.0) p w.config.statics) (length w.config.statics) (free t w k i (AddRoute s p) b none).statics) x j a.0 a.1);
 }
 statics_go t w k i (DelRoute s p) b none h = record {
   apart = apart_filter (SameStatic t) (λ static. not (is_static s.0 p static)) w.config.statics h.apart;
@@ -164,8 +164,11 @@ pub forms_go : (t : Network) (w : World) (s : Step) → fits t s ≡ true → Ha
 forms_go t w (AddRoute s p) fit h = record {
   formed = λ x j. elim (in_append w.config.statics (record { site = s.0; prefix = p } ∷ []) x j) [
     | inl l ↦ h.formed x l
-    | inr l ↦ elim l [ inl e ↦ subst (λ (z : SiteRoute). IsPrefix z.prefix.address z.prefix.length) e
-        (prefix_is p (and_parts (has_site t s) (is_lawful_prefix p) fit).1) | inr n ↦ absurd n ]
+    | inr l ↦ elim l [
+      | inl e ↦ subst (λ (z : SiteRoute). IsPrefix z.prefix.address z.prefix.length) e
+          (prefix_is p (and_parts (has_site t s) (is_lawful_prefix p) fit).1)
+      | inr n ↦ absurd n
+    ]
   ];
 }
 forms_go t w (DelRoute s p) fit h = record {

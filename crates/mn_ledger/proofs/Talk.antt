@@ -65,9 +65,12 @@ pub talk-heard : (a : Bool) (k : ℕ) (xs : List Message) (x : Message) (ms : Li
 talk-heard true zero xs x ms t e q m = rw (t, e, q refl) refl
 talk-heard false zero xs x ms t e q m = rw (t, e, q refl) refl
 talk-heard a (suc zero) xs x ms t e q m = (ms, rw (t, e) refl, m)
-talk-heard a (suc (suc n)) xs x ms t e q m =
-    (t.0 ++ (answer Operational x ++ ms), ap (λ ys. ys ++ (answer Operational x ++ ms)) t.1, all_append IsLabelMessage t.0 (answer Operational x ++ ms) t.2
-        (all_append IsLabelMessage (answer Operational x) ms (answer-mentions n x e) m))
+talk-heard a (suc (suc n)) xs x ms t e q m = (
+  t.0 ++ (answer Operational x ++ ms),
+  ap (λ ys. ys ++ (answer Operational x ++ ms)) t.1,
+  all_append IsLabelMessage t.0 (answer Operational x ++ ms) t.2
+      (all_append IsLabelMessage (answer Operational x) ms (answer-mentions n x e) m),
+)
 
 -- an end that hears nothing says only mentions, and those only where it is OPERATIONAL
 pub talk-said : (a : Bool) (k : ℕ) (xs ms : List Message) → IsTalk a k xs → (k < 2 → ms ≡ []) → AreLabelMessages ms → IsTalk a k (xs ++ ms)

@@ -12,9 +12,9 @@ use Rattle.mn_topo.specs.Network.{Network}
 use Rattle.mn_ledger.specs.Tables.{put_pair}
 use Rattle.mn_ledger.specs.Places.{edge_of, vrfs_at, edges}
 use Rattle.mn_ledger.specs.World.{SiteRoute, Config, Export, Telling, Open, Alive, Announce, Unreach, Peerings, World}
-use Rattle.mn_ledger.specs.Vpn.{Told, comes_before, placed, in_order, is_present, export_of, present_with, exports_with, exports_of, is_between}
-use Rattle.mn_ledger.specs.Vpn.{tellings_of, told_to, reply, replies, is_for, same_export, withdrawn, announced, changed, steady_peers, news, told_in}
-use Rattle.mn_ledger.specs.Vpn.{counted, peerings_after}
+use Rattle.mn_ledger.specs.Vpn.{Told, comes_before, placed, in_order, is_present, export_of, present_with, exports_with, exports_of, is_from_to}
+use Rattle.mn_ledger.specs.Vpn.{tellings_of, told_to, reply, bgp_replies, is_for, same_export, withdrawn, announced, changed, steady_peers, route_news, told_in}
+use Rattle.mn_ledger.specs.Vpn.{bgp_counted, peerings_after}
 use Rattle.mn_ledger.specs.Ledger.{config_after, after}
 use Rattle.mn_ledger.proofs.GoingBy.{pair_here, pair_off}
 use Rattle.mn_ledger.proofs.Members.{In, in_append, in_map, in_filter, in_flat_map, in_range}
@@ -42,7 +42,7 @@ pub behind : (t : Network) (c : Config) (v : ℕ) (targets : List ℕ) (e : Expo
 unfolding Behind
 behind t c v targets e i =
     let m = in_map (export_of c v targets) (filter (is_present t c v) c.statics) e
-        (in_in_order (map (export_of c v targets) (filter (is_present t c v) c.statics)) e i) in
+    (in_in_order (map (export_of c v targets) (filter (is_present t c v) c.statics)) e i) in
     let f = in_filter (is_present t c v) c.statics m.0 m.1 in
     (m.0, f.0, f.1, m.2)
 
@@ -101,7 +101,7 @@ good_told_to t a b ms h x i = let f = in_map (λ telling. record { teller = a; p
 pub join_told : (t : Network) (xs ys : List Told) → AllTold t xs → AllTold t ys → AllTold t (xs ++ ys)
 join_told t xs ys h g x i = elim (in_append xs ys x i) [ inl j ↦ h x j | inr j ↦ g x j ]
 
-good_replies : (t : Network) (c : Config) (k : Peerings) (s : Step) → HasForms c.statics → AllTold t (replies t c k s)
+good_replies : (t : Network) (c : Config) (k : Peerings) (s : Step) → HasForms c.statics → AllTold t (bgp_replies t c k s)
 good_replies t c k (step.BgpUp a b) h =
     join_told t (told_to a.0 b.0 (Open ∷ [])) (told_to b.0 a.0 (Open ∷ [])) (good_told_to t a.0 b.0 (Open ∷ []) (one_good t Open tt))
     (good_told_to t b.0 a.0 (Open ∷ []) (one_good t Open tt))
@@ -118,17 +118,17 @@ good_changed t before now h m i = elim (in_append (withdrawn before now) (announ
       (λ e k. h e (in_filter (λ export. not (list_any (same_export export) before)) now e k).0) m j
 ]
 
-good_news : (t : Network) (c : Config) (p : Peerings) (new : Config) (k : Peerings) (edge : ℕ) → HasForms new.statics → AllTold t (news t c p new k edge)
+good_news : (t : Network) (c : Config) (p : Peerings) (new : Config) (k : Peerings) (edge : ℕ) → HasForms new.statics → AllTold t (route_news t c p new k edge)
 good_news t c p new k edge h x i =
     let f = in_flat_map (λ telling. map (λ peer. record { teller = edge; peer = peer; telling = telling }) (steady_peers t c p new k edge))
-        (changed (exports_of t c edge) (exports_of t new edge)) x i in
+    (changed (exports_of t c edge) (exports_of t new edge)) x i in
     let g = in_map (λ peer. record { teller = edge; peer = peer; telling = f.0 }) (steady_peers t c p new k edge) x f.2 in
     subst (λ (y : Told). IsGood t y.telling) g.2 (good_changed t (exports_of t c edge) (exports_of t new edge) (good_export t new edge h) f.0 f.1)
 
 good_told : (t : Network) (c : Config) (p : Peerings) (new : Config) (k : Peerings) (s : Step) → HasForms new.statics → AllTold t (told_in t c p new k s)
 good_told t c p new k s h =
-    join_told t (replies t new p s) (flat_map (news t c p new k) (edges t)) (good_replies t new p s h)
-    (λ x i. let f = in_flat_map (news t c p new k) (edges t) x i in good_news t c p new k f.0 h x f.2)
+    join_told t (bgp_replies t new p s) (flat_map (route_news t c p new k) (edges t)) (good_replies t new p s h)
+    (λ x i. let f = in_flat_map (route_news t c p new k) (edges t) x i in good_news t c p new k f.0 h x f.2)
 
 -- 3. A step
 
@@ -137,8 +137,8 @@ AllGood t p = (edge peer : ℕ) (m : Telling) → In (p.told edge peer) m → Is
 
 pub in_tellings : (a b : ℕ) (xs : List Told) (m : Telling) → In (tellings_of a b xs) m → (x : Told) × In xs x × (x.telling ≡ m)
 in_tellings a b xs m i =
-    let f = in_map (λ (told : Told). told.telling) (filter (is_between a b) xs) m i in
-    (f.0, (in_filter (is_between a b) xs f.0 f.1).0, f.2)
+    let f = in_map (λ (told : Told). told.telling) (filter (is_from_to a b) xs) m i in
+    (f.0, (in_filter (is_from_to a b) xs f.0 f.1).0, f.2)
 
 pub in_cleared : (f : ℕ → ℕ → List Telling) (a b edge peer : ℕ) (m : Telling) → In (put_pair f a b [] edge peer) m → In (f edge peer) m
 in_cleared f a b edge peer m i = elim (eqb_tells edge a) [
@@ -149,7 +149,7 @@ in_cleared f a b edge peer m i = elim (eqb_tells edge a) [
   ]
 ]
 
-pub still_good : (t : Network) (p : Peerings) (s : Step) → AllGood t p → AllGood t (counted p s)
+pub still_good : (t : Network) (p : Peerings) (s : Step) → AllGood t p → AllGood t (bgp_counted p s)
 still_good t p (step.BgpUp a b) h =
     λ edge peer m i. h edge peer m (in_cleared p.told a.0 b.0 edge peer m (in_cleared (put_pair p.told a.0 b.0 []) b.0 a.0 edge peer m i))
 still_good t p (step.BgpDown a b) h =
@@ -164,8 +164,9 @@ more_good t k xs h g edge peer m i = elim (in_append (k.told edge peer) (telling
 ]
 
 told_go_on : (t : Network) (c new : Config) (p : Peerings) (s : Step) → HasForms new.statics → AllGood t p →
-    (edge peer : ℕ) (m : Telling) → In ((counted p s).told edge peer ++ tellings_of edge peer (told_in t c p new (counted p s) s)) m → IsGood t m
-told_go_on t c new p s h g = more_good t (counted p s) (told_in t c p new (counted p s) s) (still_good t p s g) (good_told t c p new (counted p s) s h)
+    (edge peer : ℕ) (m : Telling) → In ((bgp_counted p s).told edge peer ++ tellings_of edge peer (told_in t c p new (bgp_counted p s) s)) m → IsGood t m
+told_go_on t c new p s h g =
+    more_good t (bgp_counted p s) (told_in t c p new (bgp_counted p s) s) (still_good t p s g) (good_told t c p new (bgp_counted p s) s h)
 
 pub tellings_go : (t : Network) (w : World) (s : Step) → HasForms (config_after w.config s).statics → AllGood t w.peerings → AllGood t (after t w s).peerings
 unfolding peerings_after

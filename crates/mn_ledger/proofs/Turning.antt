@@ -75,16 +75,16 @@ pub said-own : (l node : ℕ) (ms : List Message) → messages_of l node (said_o
 said-own l node [] = refl
 said-own l node (m ∷ ms) =
     ap (λ b. map (λ (said : Said). said.message)
-        (cond b ((record { link = l; end = node; message = m }) ∷ filter (is_by l node) (said_on l node ms)) (filter (is_by l node) (said_on l node ms))))
-        (ap (λ b. b && (node == node)) (same_test l) ∙ same_test node)
+    (cond b ((record { link = l; end = node; message = m }) ∷ filter (is_by l node) (said_on l node ms)) (filter (is_by l node) (said_on l node ms))))
+    (ap (λ b. b && (node == node)) (same_test l) ∙ same_test node)
     ∙ ap (λ rest. m ∷ rest) (said-own l node ms)
 
 pub said-other : (l node k other : ℕ) (ms : List Message) → (k ≢ l) ⊎ (other ≢ node) → messages_of l node (said_on k other ms) ≡ []
 said-other l node k other [] d = refl
 said-other l node k other (m ∷ ms) d =
     ap (λ b. map (λ (said : Said). said.message)
-        (cond b ((record { link = k; end = other; message = m }) ∷ filter (is_by l node) (said_on k other ms))
-        (filter (is_by l node) (said_on k other ms)))) (off d)
+    (cond b ((record { link = k; end = other; message = m }) ∷ filter (is_by l node) (said_on k other ms))
+    (filter (is_by l node) (said_on k other ms)))) (off d)
     ∙ said-other l node k other ms d
   where
     and_off : (b : Bool) → (b && false) ≡ false

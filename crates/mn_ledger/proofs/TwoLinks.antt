@@ -59,14 +59,28 @@ two_links = record {
   bgp_delay = 3;
   node_names = (112 ∷ 101 ∷ 49 ∷ []) ∷ (112 ∷ []) ∷ (112 ∷ 101 ∷ 50 ∷ []) ∷ [];
   loopbacks = 3221225985 ∷ 3221225986 ∷ 3221225987 ∷ [];
-  links = record { a = node_no 0; b = node_no 1; cost = 10; delay = 2; loss = 0 } ∷ record { a = node_no 1; b = node_no 2; cost = 10; delay = 2; loss =
-      0 } ∷ [];
+  links = record { a = node_no 0; b = node_no 1; cost = 10; delay = 2; loss = 0 } ∷ record {
+    a = node_no 1;
+    b = node_no 2;
+    cost = 10;
+    delay = 2;
+    loss =
+        0;
+  } ∷ [];
   vrf_names = (114 ∷ 49 ∷ []) ∷ (114 ∷ 50 ∷ []) ∷ [];
-  vrfs = record { node = node_no 0; rd = record { 0 = 279172874240001 }; «import» = target ∷ []; export = target ∷ [] } ∷ record { node = node_no 2; rd =
-      record { 0 = 279172874240002 }; «import» = target ∷ []; export = target ∷ [] } ∷ [];
+  vrfs = record { node = node_no 0; rd = record { 0 = 279172874240001 }; «import» = target ∷ []; export = target ∷ [] } ∷ record {
+    node = node_no 2;
+    rd =
+        record { 0 = 279172874240002 };
+    «import» = target ∷ [];
+    export = target ∷ [];
+  } ∷ [];
   site_names = (97 ∷ []) ∷ (98 ∷ []) ∷ [];
-  sites = record { vrf = vrf_no 0; prefixes = record { address = 167837696; length = 16 } ∷ [] } ∷ record { vrf = vrf_no 1; prefixes =
-      record { address = 167903232; length = 16 } ∷ [] } ∷ [];
+  sites = record { vrf = vrf_no 0; prefixes = record { address = 167837696; length = 16 } ∷ [] } ∷ record {
+    vrf = vrf_no 1;
+    prefixes =
+        record { address = 167903232; length = 16 } ∷ [];
+  } ∷ [];
 }
 
 abbrev pub at_start : Step → JournalEntry

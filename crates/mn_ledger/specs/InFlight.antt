@@ -33,7 +33,7 @@ pub record IsInFlight (topology : Network) (world : World) (packets : Packets) (
       world.views.learned node l + length (loads_on (Notices l node) flight.items) ≡ world.views.changes l
   pub messages : (l node : ℕ) → l < length topology.links → is_end (wiring_of topology) l node ≡ true
       → loads_on (Messages l node) flight.items ≡ map (λ message. Says message)
-          (drop (world.sessions.heard l (across (wiring_of topology) l node)) (world.sessions.said l node))
+      (drop (world.sessions.heard l (across (wiring_of topology) l node)) (world.sessions.said l node))
   pub routes : (edge peer : ℕ) → edge ≢ peer
       → loads_on (Routes edge peer) flight.items ≡ map (λ telling. Tells telling) (drop (world.peerings.heard peer edge) (world.peerings.told edge peer))
   pub frames : (l : ℕ) (dir : Dir) → loads_on (Frames l dir) flight.items ≡ map (λ token. Carries token) (flying_on packets l dir)

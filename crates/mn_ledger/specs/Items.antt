@@ -11,7 +11,7 @@ use Rattle.mn_topo.specs.declared.steps.JournalEntry.{JournalEntry}
 use Rattle.mn_ledger.specs.declared.verdict.Verdict.{Verdict}
 use Rattle.mn_ledger.specs.declared.verdict.Verdict.TheVariants.{Flying}
 use Rattle.mn_ledger.specs.World.{World, Message, Telling}
-use Rattle.mn_ledger.specs.Transport.{Said, is_transport, said_in, counted}
+use Rattle.mn_ledger.specs.Transport.{Said, is_transport, said_in, ldp_counted}
 use Rattle.mn_ledger.specs.Vpn as vpn
 use Rattle.mn_ledger.specs.Vpn.{Told, is_routing, told_in}
 use Rattle.mn_ledger.specs.Packets.{Token, Packets, channel, flying_on, packets_after}
@@ -72,14 +72,14 @@ message_of said = (Messages said.link said.end, Says said.message)
 abbrev pub messages_in : Network → World → World → Step → List (Channel × Load)
 messages_in topology world later step =
     if is_transport step then map message_of
-        (said_in topology world.config world.views world.sessions later.config later.views (counted topology world.sessions step) step) else []
+    (said_in topology world.config world.views world.sessions later.config later.views (ldp_counted topology world.sessions step) step) else []
 
 abbrev pub route_of : Told → Channel × Load
 route_of told = (Routes told.teller told.peer, Tells told.telling)
 
 abbrev pub routes_in : Network → World → World → Step → List (Channel × Load)
 routes_in topology world later step =
-    if is_routing step then map route_of (told_in topology world.config world.peerings later.config (vpn.counted world.peerings step) step) else []
+    if is_routing step then map route_of (told_in topology world.config world.peerings later.config (vpn.bgp_counted world.peerings step) step) else []
 
 abbrev pub last_of : List Token → List Token
 last_of [] = []

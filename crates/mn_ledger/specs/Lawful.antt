@@ -17,7 +17,7 @@ IsLawfulFrom topology tick world packets count (entry ∷ entries) inputs =
     × (refusal_at topology world packets count entry.step (next_of inputs) ≡ None)
     × (let world_then : World = after topology world entry.step in
     IsLawfulFrom topology entry.tick world_then (packets_after topology world_then packets entry.step (next_of inputs)) (count + 1) entries
-        (left_by entry.step inputs))
+    (left_by entry.step inputs))
 
 abbrev pub IsLawfulJournal : Network → List JournalEntry → List (List ℕ) → Type 0
 IsLawfulJournal topology entries inputs = IsLawfulFrom topology 0 (start topology) no_packets 0 entries inputs

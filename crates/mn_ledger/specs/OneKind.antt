@@ -8,4 +8,4 @@ use Rattle.mn_ledger.specs.Vpn.{exports_of, withdrawn, announced}
 abbrev pub TellsOneKind : Network → Config → Config → ℕ → Type 0
 TellsOneKind topology before after edge =
     (withdrawn (exports_of topology before edge) (exports_of topology after edge) ≡ []) ⊎
-        (announced (exports_of topology before edge) (exports_of topology after edge) ≡ [])
+    (announced (exports_of topology before edge) (exports_of topology after edge) ≡ [])

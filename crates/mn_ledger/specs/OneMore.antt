@@ -38,10 +38,10 @@ pub record GoesOnByOneStep (topology : Network) (entries : List JournalEntry) (i
   pub made : made_by topology (entries ++ entry ∷ []) (with_packet entry.step bytes inputs)
       ≡ made_by topology entries inputs
       ++ numbered topology entry.tick (length (made_by topology entries inputs))
-          (made_then topology (world_of topology entries) (packets_of topology entries inputs) entry.step bytes)
+      (made_then topology (world_of topology entries) (packets_of topology entries inputs) entry.step bytes)
   pub flight : flight_of topology (entries ++ entry ∷ []) (with_packet entry.step bytes inputs)
       ≡ with_made topology entry.tick (made_then topology (world_of topology entries) (packets_of topology entries inputs) entry.step bytes) entry.step
-          (flight_of topology entries inputs)
+      (flight_of topology entries inputs)
   pub lawful : IsLawfulJournal topology (entries ++ entry ∷ []) (with_packet entry.step bytes inputs)
       ↔ (IsLawfulJournal topology entries inputs × (fits topology entry.step ≡ true) × (tick_from 0 entries ≤ entry.tick)
-          × (refusal topology entries inputs entry.step bytes ≡ None))
+      × (refusal topology entries inputs entry.step bytes ≡ None))

@@ -78,8 +78,10 @@ abbrev pub hop_over : Network → Packets → Token → ℕ → Rule → Option 
 hop_over topology packets token node cause None = drop_at packets token.packet cause node
 hop_over topology packets token node cause (Some hop) =
     let dir = away_from topology hop.1 node in
-    record (judged packets token.packet (Flying (record { 0 = hop.1 }) dir)) { flying =
-        put packets.flying (channel hop.1 dir) (flying_on packets hop.1 dir ++ token ∷ []) }
+    record (judged packets token.packet (Flying (record { 0 = hop.1 }) dir)) {
+      flying =
+          put packets.flying (channel hop.1 dir) (flying_on packets hop.1 dir ++ token ∷ []);
+    }
 
 abbrev pub hop : Network → World → Packets → Token → ℕ → Rule → Packets
 hop topology world packets token node cause =
@@ -101,8 +103,16 @@ entry_rules attachment bytes =
 
 -- the token that is bound to the route's edge and attachment
 abbrev pub bound : ℕ → HeldRoute → List ℕ → Token
-bound packet route bytes = record { packet = packet; edge = route.edge; site = route.site; attachment = route.attachment; pushed = ttl_of bytes - 1; ttl =
-    ttl_of bytes - 1; bytes = aged bytes 1 }
+bound packet route bytes = record {
+  packet = packet;
+  edge = route.edge;
+  site = route.site;
+  attachment = route.attachment;
+  pushed = ttl_of bytes - 1;
+  ttl =
+      ttl_of bytes - 1;
+  bytes = aged bytes 1;
+}
 
 -- no route, a site of the same edge, or another edge
 abbrev pub route_by : Network → World → Packets → ℕ → List ℕ → ℕ → Option HeldRoute → Packets
@@ -126,7 +136,7 @@ one_more packets edge =
 abbrev pub enter : Network → World → Packets → ℕ → List ℕ → Packets
 enter topology world packets s bytes =
     enter_by topology world (one_more packets (home_of topology s)) (length packets.verdicts) bytes (home_of topology s) (vrf_of topology s)
-        (first_rule (entry_rules (world.config.attached s) bytes))
+    (first_rule (entry_rules (world.config.attached s) bytes))
 
 -- 4. Arrival at a node, loss, and a link that is cut
 

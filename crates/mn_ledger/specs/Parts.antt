@@ -49,7 +49,7 @@ pub record KeepsOtherParts (topology : Network) (world : World) (packets : Packe
   pub knows : is_transport step ≡ false → (node : ℕ) → known topology (after topology world step) node ≡ known topology world node
   pub sends : is_transport step ≡ false → (node fec : ℕ)
       → usable topology (after topology world step).config (after topology world step).views
-          (after topology world step).sessions node fec ≡ usable topology world.config world.views world.sessions node fec
+      (after topology world step).sessions node fec ≡ usable topology world.config world.views world.sessions node fec
   pub exports : is_routing step ≡ false → (edge : ℕ) → exports_of topology (after topology world step).config edge ≡ exports_of topology world.config edge
   pub holds : is_routing step ≡ false →
       (edge v : ℕ) →

@@ -44,7 +44,7 @@ abbrev pub is_empty : Network → World → Packets → Step → Bool
 is_empty topology world packets (Learn node l) = nat_le (world.views.changes l.0) (world.views.learned node.0 l.0)
 is_empty topology world packets (HearLdp l dir) =
     not (lives world.config l.0) || nat_le (length (world.sessions.said l.0 (sender (wiring_of topology) l.0 dir)))
-        (world.sessions.heard l.0 (receiver (wiring_of topology) l.0 dir))
+    (world.sessions.heard l.0 (receiver (wiring_of topology) l.0 dir))
 is_empty topology world packets (HearBgp a b) =
     not (peers_live world.config a.0 b.0) || nat_le (length (world.peerings.told a.0 b.0)) (world.peerings.heard b.0 a.0)
 is_empty topology world packets (Carry l dir place) = nat_le (length (flying_on packets l.0 dir)) place
@@ -133,7 +133,7 @@ limits topology world packets count step bytes =
 abbrev pub refusal_at : Network → World → Packets → ℕ → Step → List ℕ → Option Refused
 refusal_at topology world packets count step bytes =
     first_cause (where_holds (is_unchanged world.config step) Unchanged ∷ where_holds (is_empty topology world packets step) Empty
-        ∷ limits topology world packets count step bytes)
+    ∷ limits topology world packets count step bytes)
 
 -- why the step is refused after these entries, and none where it is done
 abbrev pub refusal : Network → List JournalEntry → List (List ℕ) → Step → List ℕ → Option Refused

@@ -39,8 +39,11 @@ pub record IsSteady (topology : Network) (before entries : List JournalEntry) : 
 abbrev pub hops_from : Network → World → ℕ → ℕ → ℕ → List ℕ
 hops_from topology world zero node to = node ∷ []
 hops_from topology world (suc more) node to =
-    elim (next (wiring_of topology) (view_of (wiring_of topology) world.views node) node to) [ None ↦ node ∷ [] | Some hop ↦ node
-    ∷ hops_from topology world more hop.0 to ]
+    elim (next (wiring_of topology) (view_of (wiring_of topology) world.views node) node to) [
+      | None ↦ node ∷ []
+      | Some hop ↦ node
+          ∷ hops_from topology world more hop.0 to
+    ]
 
 -- the route from a node to an edge
 abbrev pub route : Network → World → ℕ → ℕ → List ℕ

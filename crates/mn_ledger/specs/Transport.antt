@@ -39,8 +39,8 @@ abbrev pub is_active : Network → ℕ → ℕ → Bool
 is_active topology l node = speaks_first (wiring_of topology) l node
 
 -- of an end whose session lives; of another it says nothing
-abbrev pub state_of : Network → Sessions → ℕ → ℕ → LdpState
-state_of topology sessions l node = state_by (is_active topology l node) (sessions.heard l node)
+abbrev pub ldp_state_of : Network → Sessions → ℕ → ℕ → LdpState
+ldp_state_of topology sessions l node = state_by (is_active topology l node) (sessions.heard l node)
 
 -- what an end has heard of the other
 abbrev pub heard_by : Wiring → Sessions → ℕ → ℕ → List Message
@@ -78,14 +78,15 @@ opening topology config l =
 -- the end hears the other's next message, and answers it
 abbrev pub answered : Network → Sessions → ℕ → ℕ → ℕ → List Said
 answered topology sessions l node other =
-    said_on l node (answer (state_of topology sessions l node) (slice_index_or (sessions.said l other) (sessions.heard l node) Address))
+    said_on l node (answer (ldp_state_of topology sessions l node) (slice_index_or (sessions.said l other) (sessions.heard l node) Address))
 
 -- what the step itself makes its ends say, with the sessions as they were and switches as they are now
-abbrev pub replies : Network → Config → Sessions → Step → List Said
-replies topology config sessions (LinkUp l) = opening topology config l.0
-replies topology config sessions (LdpAdmin l on) = opening topology config l.0
-replies topology config sessions (HearLdp l dir) = answered topology sessions l.0 (receiver (wiring_of topology) l.0 dir) (sender (wiring_of topology) l.0 dir)
-replies topology config sessions _ = []
+abbrev pub ldp_replies : Network → Config → Sessions → Step → List Said
+ldp_replies topology config sessions (LinkUp l) = opening topology config l.0
+ldp_replies topology config sessions (LdpAdmin l on) = opening topology config l.0
+ldp_replies topology config sessions (HearLdp l dir) =
+    answered topology sessions l.0 (receiver (wiring_of topology) l.0 dir) (sender (wiring_of topology) l.0 dir)
+ldp_replies topology config sessions _ = []
 
 -- all nodes, in the order in which they speak: where a session begins or ends the link's end `a` first, and then its end `b`
 abbrev pub ends_first : Wiring → ℕ → List ℕ
@@ -101,24 +102,24 @@ speakers wiring _ = nodes_of wiring
 abbrev pub said_in : Network → Config → Views → Sessions → Config → Views → Sessions → Step → List Said
 said_in topology config views sessions new_config new_views new_sessions step =
     let wiring = wiring_of topology in
-    replies topology new_config sessions step
+    ldp_replies topology new_config sessions step
     ++ flat_map (λ node. news wiring (knowledge_of wiring config views sessions node) (knowledge_of wiring new_config new_views new_sessions node) node)
-        (speakers wiring step)
+    (speakers wiring step)
 
 -- 5. The sessions after a step
 
 -- a life of the link's session ends, or begins: nothing is said or heard in it
-abbrev pub anew : Sessions → ℕ → Sessions
-anew sessions l = record { said = put sessions.said l (λ node. []); heard = put sessions.heard l (λ node. 0) }
+abbrev pub ldp_restarted : Sessions → ℕ → Sessions
+ldp_restarted sessions l = record { said = put sessions.said l (λ node. []); heard = put sessions.heard l (λ node. 0) }
 
 -- lives and counts, before anything is said
-abbrev pub counted : Network → Sessions → Step → Sessions
-counted topology sessions (LinkUp l) = anew sessions l.0
-counted topology sessions (LinkDown l) = anew sessions l.0
-counted topology sessions (LdpAdmin l on) = anew sessions l.0
-counted topology sessions (HearLdp l dir) = let node = receiver (wiring_of topology) l.0 dir in
+abbrev pub ldp_counted : Network → Sessions → Step → Sessions
+ldp_counted topology sessions (LinkUp l) = ldp_restarted sessions l.0
+ldp_counted topology sessions (LinkDown l) = ldp_restarted sessions l.0
+ldp_counted topology sessions (LdpAdmin l on) = ldp_restarted sessions l.0
+ldp_counted topology sessions (HearLdp l dir) = let node = receiver (wiring_of topology) l.0 dir in
     record sessions { heard = put_pair sessions.heard l.0 node (sessions.heard l.0 node + 1) }
-counted topology sessions _ = sessions
+ldp_counted topology sessions _ = sessions
 
 -- the sessions once all these are said
 abbrev pub with_said : Sessions → List Said → Sessions
@@ -126,7 +127,7 @@ with_said sessions sayings = record sessions { said = λ l node. sessions.said l
 
 abbrev pub spoken : Network → Config → Views → Config → Views → Sessions → Step → Sessions
 spoken topology config views new_config new_views sessions step =
-    with_said (counted topology sessions step) (said_in topology config views sessions new_config new_views (counted topology sessions step) step)
+    with_said (ldp_counted topology sessions step) (said_in topology config views sessions new_config new_views (ldp_counted topology sessions step) step)
 
 -- the steps that change sessions
 abbrev pub is_transport : Step → Bool

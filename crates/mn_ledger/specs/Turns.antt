@@ -1,7 +1,7 @@
 -- Messages in turn: what the two ends of a living session have said goes by the state tables, so that no end ever hears a
--- message for which its table has no row. RFC 5036, section 2.5.4; RFC 4271, section 8.2.2. In the RFCs such a message ends its
--- session; here none ever comes, since what is said goes by the tables and no channel loses or changes it: so no step ends a session
--- for it.
+-- message for which its table has no row. RFC 5036, section 2.5.4; RFC 4271, section 8.2.2. In the RFCs such a message ends a
+-- session of BGP, and one of LDP before OPERATIONAL; here none ever comes, since what is said goes by the tables and no channel
+-- loses or changes it: so no step ends a session for it.
 use Rattle.std.specs.Prelude.{◌≡◌, ◌≤◌, ◌<◌, ◌≢◌, ℕ, zero, suc, Bool, true, false, List, [], ◌∷◌, length, slice_index_or, ⊤}
 use Rattle.std.specs.List.{AllByRecursion}
 use Rattle.mn_base.specs.Wiring.{is_end, across}
@@ -11,7 +11,7 @@ use Rattle.mn_topo.specs.Network.{Network, wiring_of}
 pub use Rattle.mn_node.specs.Ldp.{has_ldp_row}
 use Rattle.mn_ledger.specs.World.{Config, Sessions, Peerings, World, Message, Initialization, KeepAlive, Address, Mapping, Withdraw, Release, Telling, Open}
 use Rattle.mn_ledger.specs.World.{Alive, Announce, Unreach}
-use Rattle.mn_ledger.specs.Transport.{lives, is_active, state_of}
+use Rattle.mn_ledger.specs.Transport.{lives, is_active, ldp_state_of}
 use Rattle.mn_ledger.specs.Vpn.{peers_live}
 use Rattle.mn_ledger.specs.Vpn as vpn
 
@@ -92,8 +92,8 @@ pub record IsInTurn (topology : Network) (world : World) : Type 0 where
 pub record HasRows (topology : Network) (world : World) : Type 0 where
   pub ldp : (l node : ℕ) → l < length topology.links → is_end (wiring_of topology) l node ≡ true → lives world.config l ≡ true →
       world.sessions.heard l node < length (world.sessions.said l (across (wiring_of topology) l node))
-      → has_ldp_row (state_of topology world.sessions l node)
-          (slice_index_or (world.sessions.said l (across (wiring_of topology) l node)) (world.sessions.heard l node) Address) ≡ true
+      → has_ldp_row (ldp_state_of topology world.sessions l node)
+      (slice_index_or (world.sessions.said l (across (wiring_of topology) l node)) (world.sessions.heard l node) Address) ≡ true
   pub bgp : (edge peer : ℕ) → edge ≢ peer → peers_live world.config edge peer ≡ true → world.peerings.heard edge peer < length (world.peerings.told peer edge)
-      → has_bgp_row (vpn.state_of world.config world.peerings edge peer)
-          (slice_index_or (world.peerings.told peer edge) (world.peerings.heard edge peer) Open) ≡ true
+      → has_bgp_row (vpn.bgp_state_of world.config world.peerings edge peer)
+      (slice_index_or (world.peerings.told peer edge) (world.peerings.heard edge peer) Open) ≡ true

@@ -75,8 +75,8 @@ state_heard zero = OpenSent
 state_heard (suc zero) = OpenConfirm
 state_heard (suc (suc more)) = Established
 
-abbrev pub state_of : Config → Peerings → ℕ → ℕ → BgpState
-state_of config peerings edge peer = if peers_live config edge peer then state_heard (peerings.heard edge peer) else Idle
+abbrev pub bgp_state_of : Config → Peerings → ℕ → ℕ → BgpState
+bgp_state_of config peerings edge peer = if peers_live config edge peer then state_heard (peerings.heard edge peer) else Idle
 
 abbrev pub is_established : Config → Peerings → ℕ → ℕ → Bool
 is_established config peerings edge peer = peers_live config edge peer && nat_le 2 (peerings.heard edge peer)
@@ -87,11 +87,11 @@ pub record Told : Type 0 where
   pub peer : ℕ
   pub telling : Telling
 
-abbrev pub is_between : ℕ → ℕ → Told → Bool
-is_between teller peer told = (told.teller == teller) && (told.peer == peer)
+abbrev pub is_from_to : ℕ → ℕ → Told → Bool
+is_from_to teller peer told = (told.teller == teller) && (told.peer == peer)
 
 abbrev pub tellings_of : ℕ → ℕ → List Told → List Telling
-tellings_of teller peer tolds = map (λ told. told.telling) (filter (is_between teller peer) tolds)
+tellings_of teller peer tolds = map (λ told. told.telling) (filter (is_from_to teller peer) tolds)
 
 abbrev pub told_to : ℕ → ℕ → List Telling → List Told
 told_to teller peer tellings = map (λ telling. record { teller = teller; peer = peer; telling = telling }) tellings
@@ -104,12 +104,12 @@ reply OpenConfirm Alive exports = map (λ export. Announce export) exports
 reply _ _ exports = []
 
 -- what the step itself makes its edges tell; where a session begins, the lesser number comes first
-abbrev pub replies : Network → Config → Peerings → Step → List Told
-replies topology config peerings (step.BgpUp a b) = told_to a.0 b.0 (Open ∷ []) ++ told_to b.0 a.0 (Open ∷ [])
-replies topology config peerings (step.HearBgp a b) =
+abbrev pub bgp_replies : Network → Config → Peerings → Step → List Told
+bgp_replies topology config peerings (step.BgpUp a b) = told_to a.0 b.0 (Open ∷ []) ++ told_to b.0 a.0 (Open ∷ [])
+bgp_replies topology config peerings (step.HearBgp a b) =
     told_to b.0 a.0
-        (reply (state_of config peerings b.0 a.0) (slice_index_or (peerings.told a.0 b.0) (peerings.heard b.0 a.0) Open) (exports_of topology config b.0))
-replies topology config peerings _ = []
+    (reply (bgp_state_of config peerings b.0 a.0) (slice_index_or (peerings.told a.0 b.0) (peerings.heard b.0 a.0) Open) (exports_of topology config b.0))
+bgp_replies topology config peerings _ = []
 
 -- of the same VRF and prefix
 abbrev pub is_for : ℕ → AddressBlock → Export → Bool
@@ -137,27 +137,27 @@ steady_peers topology config peerings new_config new_peerings edge =
     filter (λ peer. is_established config peerings edge peer && is_established new_config new_peerings edge peer) (nodes_of (wiring_of topology))
 
 -- what an edge tells of the change of its exports: export by export, and each to peer after peer
-abbrev pub news : Network → Config → Peerings → Config → Peerings → ℕ → List Told
-news topology config peerings new_config new_peerings edge =
+abbrev pub route_news : Network → Config → Peerings → Config → Peerings → ℕ → List Told
+route_news topology config peerings new_config new_peerings edge =
     flat_map (λ telling. map (λ peer. record { teller = edge; peer = peer; telling = telling })
-        (steady_peers topology config peerings new_config new_peerings edge))
+    (steady_peers topology config peerings new_config new_peerings edge))
     (changed (exports_of topology config edge) (exports_of topology new_config edge))
 
 -- all that is told in a step, in the order of telling
 abbrev pub told_in : Network → Config → Peerings → Config → Peerings → Step → List Told
 told_in topology config peerings new_config new_peerings done =
-    replies topology new_config peerings done ++ flat_map (news topology config peerings new_config new_peerings) (edges topology)
+    bgp_replies topology new_config peerings done ++ flat_map (route_news topology config peerings new_config new_peerings) (edges topology)
 
 -- both directions of a session begin anew
-abbrev pub anew : Peerings → ℕ → ℕ → Peerings
-anew peerings a b = record { told = put_pair (put_pair peerings.told a b []) b a []; heard = put_pair (put_pair peerings.heard a b 0) b a 0 }
+abbrev pub bgp_restarted : Peerings → ℕ → ℕ → Peerings
+bgp_restarted peerings a b = record { told = put_pair (put_pair peerings.told a b []) b a []; heard = put_pair (put_pair peerings.heard a b 0) b a 0 }
 
 -- lives and counts, before anything is told
-abbrev pub counted : Peerings → Step → Peerings
-counted peerings (step.BgpUp a b) = anew peerings a.0 b.0
-counted peerings (step.BgpDown a b) = anew peerings a.0 b.0
-counted peerings (step.HearBgp a b) = record peerings { heard = put_pair peerings.heard b.0 a.0 (peerings.heard b.0 a.0 + 1) }
-counted peerings _ = peerings
+abbrev pub bgp_counted : Peerings → Step → Peerings
+bgp_counted peerings (step.BgpUp a b) = bgp_restarted peerings a.0 b.0
+bgp_counted peerings (step.BgpDown a b) = bgp_restarted peerings a.0 b.0
+bgp_counted peerings (step.HearBgp a b) = record peerings { heard = put_pair peerings.heard b.0 a.0 (peerings.heard b.0 a.0 + 1) }
+bgp_counted peerings _ = peerings
 
 -- the sessions once all these are told
 abbrev pub with_told : Peerings → List Told → Peerings
@@ -165,7 +165,7 @@ with_told peerings tolds = record peerings { told = λ teller peer. peerings.tol
 
 abbrev pub told_all : Network → Config → Config → Peerings → Step → Peerings
 told_all topology config new_config peerings done =
-    with_told (counted peerings done) (told_in topology config peerings new_config (counted peerings done) done)
+    with_told (bgp_counted peerings done) (told_in topology config peerings new_config (bgp_counted peerings done) done)
 
 -- the steps that change BGP sessions
 abbrev pub is_routing : Step → Bool
@@ -256,7 +256,7 @@ believed config peerings edge peer = if peers_live config edge peer then believe
 abbrev pub far_routes : Network → Config → Peerings → ℕ → ℕ → ℕ → List HeldRoute
 far_routes topology config peerings edge v peer =
     map (λ export. held_by peer (Far (loopback topology peer) (vrf_at topology export.vrf).rd.0) export)
-        (imported config v (believed config peerings edge peer))
+    (imported config v (believed config peerings edge peer))
 
 -- the routes that a VRF of an edge holds
 unfoldable pub held : Network → Config → Peerings → ℕ → ℕ → List HeldRoute

@@ -19,6 +19,7 @@
 //! - `specs/Items`: what is in flight, with numbers and due ticks; `specs/Settled`: settled worlds
 //! - `specs/Verdicts`, `specs/Parts`, `specs/OneMore`, `specs/Turns`, `specs/Tidy`, `specs/Bounds`, `specs/Quiet`,
 //!   `specs/Nearer`, `specs/InFlight`, `specs/Best`, `specs/OneKind`: what the laws say
+//! - `verdict`, `refused`: verdicts and causes as values
 //! - `laws`: the laws of all these; `proofs/TwoLinks`, `proofs/MoreRuns`, `proofs/Flights`: runs that are computed
 //!   step by step
 #![tactic(auto)]
@@ -29,10 +30,9 @@ mod verdict;
 
 pub use laws::{
     a_step_keeps_other_parts, a_step_withdraws_or_announces, best_names_one_held_route,
-    every_message_has_a_row, journals_are_bounded,
-    last_steps_decide, lists_are_tidy, memory_refuses_nothing, one_entry_more,
-    packets_are_in_one_place, sessions_are_in_turn, the_next_hop_is_nearer,
-    what_flies_has_not_arrived, who_learns_nothing_says_nothing,
+    every_message_has_a_row, journals_are_bounded, last_steps_decide, lists_are_tidy,
+    memory_refuses_nothing, one_entry_more, packets_are_in_one_place, sessions_are_in_turn,
+    the_next_hop_is_nearer, what_flies_has_not_arrived, who_learns_nothing_says_nothing,
 };
 pub use refused::Refused;
 pub use verdict::Verdict;

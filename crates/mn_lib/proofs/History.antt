@@ -1,5 +1,6 @@
 -- What is kept is what was said last. The proof goes by the events from the newest to the oldest, and then reads them in order.
-use Rattle.std.proofs.Common.{ℕ, zero, suc, ◌≡◌, ◌<◌, Bool, true, false, cond, List, [], ◌∷◌, ◌++◌, reverse, length, get_or, set, slice_index_or, replicate, refl, sym, ◌∙◌, ap, subst, inl, inr, Option, Some, None, arith}
+use Rattle.std.proofs.Common.{ℕ, zero, suc, ◌≡◌, ◌<◌, Bool, true, false, cond, List, [], ◌∷◌, ◌++◌, reverse, length, get_or, set, slice_index_or, replicate}
+use Rattle.std.proofs.Common.{refl, sym, ◌∙◌, ap, subst, inl, inr, Option, Some, None, arith}
 use Rattle.std.specs.Prelude.{is_some, ◌==◌, ◌&&◌, ⊤}
 use Rattle.std.proofs.lemmas.List.{length-set, length-replicate, get_or-set_same, get_or-set_other, get_or-replicate}
 use Rattle.std.proofs.lemmas.Bool.Decides.{eqb_tells}
@@ -58,14 +59,35 @@ fits-none : (n m h : ℕ) → RowFits n (get_or (replicate m None) h None)
 fits-none n m h = subst (λ r. RowFits n r) (sym (none-row m h)) tt
 
 -- rows after one of them is written
-rows-set : (n : ℕ) (b : Bindings) (k : ℕ) (x : Option (List (Option ℕ))) → HasShape n b → k < n → RowFits n x → (h : ℕ) → RowFits n (get_or (set b.heard k x) h None)
-rows-set n b k x s l f h = subst (λ r. RowFits n r) (sym (get_or-set_cond b.heard k h x None (omega (arith, s.heard, l)))) (fits_cond n (k == h) x (row_of b h) f (s.rows h))
+rows-set : (n : ℕ) (b : Bindings) (k : ℕ) (x : Option (List (Option ℕ))) → HasShape n b → k < n → RowFits n x →
+    (h : ℕ) → RowFits n (get_or (set b.heard k x) h None)
+rows-set n b k x s l f h =
+    subst (λ r. RowFits n r) (sym (get_or-set_cond b.heard k h x None (omega (arith, s.heard, l)))) (fits_cond n (k == h) x (row_of b h) f (s.rows h))
 
 shape-event : (n : ℕ) (b : Bindings) (e : LibEvent) → HasShape n b → EventFits b e → HasShape n (after_event b e)
-shape-event n b (Opened k) s f = record { hops = s.hops; heard = length-set b.heard k.0 _ ∙ s.heard; rows = rows-set n b k.0 (Some (replicate (nodes b) None)) s (omega (arith, f.0, s.hops)) (length-replicate (nodes b) None ∙ s.hops) }
-shape-event n b (Closed k) s f = record { hops = s.hops; heard = length-set b.heard k.0 _ ∙ s.heard; rows = rows-set n b k.0 None s (omega (arith, f.0, s.hops)) tt }
-shape-event n b (Map k q l) s f = record { hops = s.hops; heard = length-set b.heard k.0 _ ∙ s.heard; rows = rows-set n b k.0 (with_label (row_of b k.0) q.0 (Some l)) s (omega (arith, f.0, s.hops)) (fits-label n (row_of b k.0) q.0 (Some l) (s.rows k.0)) }
-shape-event n b (Withdraw k q) s f = record { hops = s.hops; heard = length-set b.heard k.0 _ ∙ s.heard; rows = rows-set n b k.0 (with_label (row_of b k.0) q.0 None) s (omega (arith, f.0, s.hops)) (fits-label n (row_of b k.0) q.0 None (s.rows k.0)) }
+shape-event n b (Opened k) s f =
+    record {
+      hops = s.hops;
+      heard = length-set b.heard k.0 _ ∙ s.heard;
+      rows =
+          rows-set n b k.0 (Some (replicate (nodes b) None)) s (omega (arith, f.0, s.hops)) (length-replicate (nodes b) None ∙ s.hops);
+    }
+shape-event n b (Closed k) s f =
+    record { hops = s.hops; heard = length-set b.heard k.0 _ ∙ s.heard; rows = rows-set n b k.0 None s (omega (arith, f.0, s.hops)) tt }
+shape-event n b (Map k q l) s f =
+    record {
+      hops = s.hops;
+      heard = length-set b.heard k.0 _ ∙ s.heard;
+      rows =
+          rows-set n b k.0 (with_label (row_of b k.0) q.0 (Some l)) s (omega (arith, f.0, s.hops)) (fits-label n (row_of b k.0) q.0 (Some l) (s.rows k.0));
+    }
+shape-event n b (Withdraw k q) s f =
+    record {
+      hops = s.hops;
+      heard = length-set b.heard k.0 _ ∙ s.heard;
+      rows =
+          rows-set n b k.0 (with_label (row_of b k.0) q.0 None) s (omega (arith, f.0, s.hops)) (fits-label n (row_of b k.0) q.0 None (s.rows k.0));
+    }
 shape-event n b (Next q k) s f = record { hops = length-set b.hops q.0 k ∙ s.hops; heard = s.heard; rows = s.rows }
 
 shape-all : (me : NodeNo) (n : ℕ) (es : List LibEvent) → AllFit (nothing_heard me n) es → HasShape n (after_all (nothing_heard me n) es)
@@ -77,9 +99,11 @@ cell_cond : (b : Bool) (x y : Option (List (Option ℕ))) (p : ℕ) → cell (co
 cell_cond true x y p = refl
 cell_cond false x y p = refl
 
-cell-label : (n : ℕ) (r : Option (List (Option ℕ))) (q p : ℕ) (l : Option ℕ) → RowFits n r → is_some r ≡ true → q < n → cell (with_label r q l) p ≡ cond (q == p) (Some l) (cell r p)
+cell-label : (n : ℕ) (r : Option (List (Option ℕ))) (q p : ℕ) (l : Option ℕ) → RowFits n r → is_some r ≡ true → q < n →
+    cell (with_label r q l) p ≡ cond (q == p) (Some l) (cell r p)
 cell-label n None q p l f i h = cc
-cell-label n (Some row) q p l f i h = ap (λ x. let o : Option (Option ℕ) = Some x in o) (get_or-set_cond row q p l None (omega (arith, f, h))) ∙ some_cond (q == p) l (get_or row p None)
+cell-label n (Some row) q p l f i h =
+    ap (λ x. let o : Option (Option ℕ) = Some x in o) (get_or-set_cond row q p l None (omega (arith, f, h))) ∙ some_cond (q == p) l (get_or row p None)
   where
     some_cond : (b : Bool) (x y : Option ℕ) → (let o : Option (Option ℕ) = Some (cond b x y) in o) ≡ cond b (Some x) (Some y)
     some_cond true x y = refl
@@ -96,7 +120,8 @@ cell-open n p h = ap (λ x. let o : Option (Option ℕ) = Some x in o) (get_or-r
 row-event : (n : ℕ) (b : Bindings) (k h p : ℕ) (x : Option (List (Option ℕ))) (z : Option (Option ℕ)) → HasShape n b → k < n → cell x p ≡ z →
     cell (get_or (set b.heard k x) h None) p ≡ cond (k == h) z (cell (row_of b h) p)
 row-event n b k h p x z s l e =
-    ap (λ r. cell r p) (get_or-set_cond b.heard k h x None (omega (arith, s.heard, l))) ∙ cell_cond (k == h) x (row_of b h) p ∙ ap (λ y. cond (k == h) y (cell (row_of b h) p)) e
+    ap (λ r. cell r p) (get_or-set_cond b.heard k h x None (omega (arith, s.heard, l))) ∙ cell_cond (k == h) x (row_of b h) p
+    ∙ ap (λ y. cond (k == h) y (cell (row_of b h) p)) e
 
 -- one label is written
 label-event : (n : ℕ) (b : Bindings) (k q h p : ℕ) (l : Option ℕ) → HasShape n b → k < n → q < n → is_some (row_of b k) ≡ true →
@@ -105,7 +130,8 @@ label-event n b k q h p l s a c o =
     row-event n b k h p (with_label (row_of b k) q l) (cond (q == p) (Some l) (cell (row_of b k) p)) s a (cell-label n (row_of b k) q p l (s.rows k) o c)
     ∙ and_cond (k == h) (q == p) (Some l) (cell (row_of b h) p) (cell (row_of b k) p) (λ e. ap (λ y. cell (row_of b y) p) (same_numbers k h e))
 
-said : (me : NodeNo) (n : ℕ) (es : List LibEvent) → AllFit (nothing_heard me n) es → (h p : ℕ) → h < n → p < n → cell (row_of (after_all (nothing_heard me n) es) h) p ≡ said_last h p es
+said : (me : NodeNo) (n : ℕ) (es : List LibEvent) → AllFit (nothing_heard me n) es →
+    (h p : ℕ) → h < n → p < n → cell (row_of (after_all (nothing_heard me n) es) h) p ≡ said_last h p es
 said me n [] f h p i j = ap (λ r. cell r p) (none-row n h)
 said me n (Opened k ∷ es) f h p i j =
     let b : Bindings = after_all (nothing_heard me n) es in
@@ -128,7 +154,8 @@ said me n (Withdraw k q ∷ es) f h p i j =
     ∙ ap (cond ((k.0 == h) && (q.0 == p)) (Some None)) (said me n es f.1 h p i j)
 said me n (Next q k ∷ es) f h p i j = said me n es f.1 h p i j
 
-hop : (me : NodeNo) (n : ℕ) (es : List LibEvent) → AllFit (nothing_heard me n) es → (p : ℕ) → p < n → slice_index_or (after_all (nothing_heard me n) es).hops p None ≡ hop_last p es
+hop : (me : NodeNo) (n : ℕ) (es : List LibEvent) → AllFit (nothing_heard me n) es →
+    (p : ℕ) → p < n → slice_index_or (after_all (nothing_heard me n) es).hops p None ≡ hop_last p es
 hop me n [] f p j = none-hop n p
 hop me n (Opened k ∷ es) f p j = hop me n es f.1 p j
 hop me n (Closed k ∷ es) f p j = hop me n es f.1 p j

@@ -46,9 +46,11 @@ all_undone-push b [] u = refl
 all_undone-push b (x ∷ xs) u = ap (λ z. undone z x) (all_undone-push b xs u)
 
 -- one more event, and one more to put back
-pub all_undone-more : (b b' : Bindings) (u : Undo) (us us' us'' : List Undo) (z : Bindings) → undone b' u ≡ b → us' ≡ us → us'' ≡ us' ++ u ∷ [] → all_undone b us ≡ z → all_undone b' us'' ≡ z
+pub all_undone-more : (b b' : Bindings) (u : Undo) (us us' us'' : List Undo) (z : Bindings) → undone b' u ≡ b → us' ≡ us → us'' ≡ us' ++ u ∷ [] →
+    all_undone b us ≡ z → all_undone b' us'' ≡ z
 all_undone-more b b' u us us' us'' z e f g h =
     ap (all_undone b') (g ∙ ap (λ xs. xs ++ u ∷ []) f) ∙ all_undone-push b' us u ∙ ap (λ c. all_undone c us) e ∙ h
 
-pub all_undone-less : (b b' : Bindings) (u : Undo) (us us' : List Undo) (z : Bindings) → b' ≡ undone b u → us ≡ us' ++ u ∷ [] → all_undone b us ≡ z → all_undone b' us' ≡ z
+pub all_undone-less : (b b' : Bindings) (u : Undo) (us us' : List Undo) (z : Bindings) → b' ≡ undone b u → us ≡ us' ++ u ∷ [] → all_undone b us ≡ z →
+    all_undone b' us' ≡ z
 all_undone-less b b' u us us' z e f h = ap (λ c. all_undone c us') e ∙ sym (all_undone-push b us' u) ∙ ap (all_undone b) (sym f) ∙ h

@@ -1,5 +1,6 @@
 -- What a node has heard of labels, and what it may use: RFC 5036, section 2.6.2.2 (what is heard from any neighbour is kept).
-use Rattle.std.specs.Prelude.{ℕ, ◌≡◌, ◌<◌, ◌≢◌, ◌==◌, ◌||◌, Bool, true, false, List, [], ◌∷◌, length, slice_index_or, slice_set, replicate, Option, Some, None, is_some, ⊤}
+use Rattle.std.specs.Prelude.{ℕ, ◌≡◌, ◌<◌, ◌≢◌, ◌==◌, ◌||◌, Bool, true, false, List, [], ◌∷◌, length, slice_index_or, slice_set, replicate, Option, Some}
+use Rattle.std.specs.Prelude.{None, is_some, ⊤}
 use Rattle.mn_base.specs.declared.numbers.NodeNo.{NodeNo}
 use Rattle.mn_lib.specs.declared.event.LibEvent.{LibEvent}
 use Rattle.mn_lib.specs.declared.event.LibEvent.TheVariants.{Opened, Closed, Map, Withdraw, Next}

@@ -28,7 +28,8 @@ cell (Some row) fec = Some (slice_index_or row fec None)
 
 -- after these events, from the start on, what is kept is what was said last
 pub record IsLast (me : NodeNo) (count : ℕ) (events : List LibEvent) : Type 0 where
-  pub said : (neighbour fec : ℕ) → neighbour < count → fec < count → cell (row_of (after_events (nothing_heard me count) events) neighbour) fec ≡ said_last neighbour fec (reverse events)
+  pub said : (neighbour fec : ℕ) → neighbour < count → fec < count →
+      cell (row_of (after_events (nothing_heard me count) events) neighbour) fec ≡ said_last neighbour fec (reverse events)
   pub hop : (fec : ℕ) → fec < count → slice_index_or (after_events (nothing_heard me count) events).hops fec None ≡ hop_last fec (reverse events)
 
 -- events that come in two lists are those of one: what is kept, and whether they may happen

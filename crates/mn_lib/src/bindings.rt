@@ -1,11 +1,13 @@
 ghost use Rattle.std.specs.Prelude.{ℕ, ◌≡◌, ◌≤◌, ◌<◌, ◌++◌, ◌==◌, ◌||◌, List, length, slice_index_or, slice_set, replicate, map, IfOk, OnOk, OnErr, is_some, true, false, Bool};
-ghost use Rattle.std.specs.List.{flat_map, range_with_len};
+ghost use Rattle.std.specs.List.{All, flat_map, range_with_len};
 ghost use Rattle.mn_lib.specs.Bindings.{nothing_heard, nodes, is_open, usable, offers, after_event, after_events, EventFits, EventsFit, row_of, with_label, label_in};
 ghost use Rattle.mn_lib.specs.declared.undo.Undo.TheVariants.{Label};
 ghost use Rattle.mn_lib.specs.Undoing.{heard_label, undone, all_undone, undo_of};
-ghost use Rattle.mn_lib.specs.Tells.{tells, told, told_of, changes, releases, closes, opens, offered};
+ghost use Rattle.mn_lib.specs.Tells.{tells, told, told_of, releases, closes, opens};
+ghost use Rattle.mn_lib.specs.News.{fecs_in, InOrder, AreBelow, so_far, so_far_in, told_since, AreAllNews};
 
 use crate::event::{LibEvent, Tell, TellKind, closes, opens, opens_any};
+use crate::news::{SoFar, are_of_fecs};
 use crate::row::Row;
 use crate::undo::Undo;
 use mn_base::NodeNo;
@@ -110,15 +112,54 @@ impl Lib {
         self.me == fec || self.usable(fec).is_some()
     }
 
-    /// Which FECs are offered, in node order.
-    fn offered(&self) -> Result<Vec<bool>, AllocError>
-        ensures { IfOk result (λ fecs. fecs.items ≡ offered self.now) }
+    /// Whether a FEC is offered as long as nothing happens.
+    fn so_far(&self, fec: NodeNo) -> SoFar
+        requires { fec.0 < nodes self.now }
+        ensures { result ≡ so_far self.now fec.0 }
     {
-        let mut offered = Vec::new(self.alloc);
-        for fec in 0..self.hops.len() {
-            offered.push(self.offers(NodeNo(fec as u16)))?;
+        SoFar {
+            fec,
+            offered: self.offers(fec),
         }
-        Ok(offered)
+    }
+
+    /// All FECs, in node order.
+    fn every(&self) -> Result<Vec<SoFar>, AllocError>
+        ensures { IfOk result (λ all. all.items ≡ map (so_far self.now) (range_with_len 0 (nodes self.now))) }
+    {
+        let mut all = Vec::new(self.alloc);
+        for fec in 0..self.hops.len() {
+            all.push(self.so_far(NodeNo(fec as u16)))?;
+        }
+        Ok(all)
+    }
+
+    /// The FECs that the events are of.
+    fn named(&self, events: &[LibEvent]) -> Result<Vec<SoFar>, AllocError>
+        requires { AreBelow (nodes self.now) (fecs_in events.now) }
+        ensures { IfOk result (λ all. all.items ≡ flat_map (so_far_in self.now) events.now) }
+    {
+        let mut all = Vec::new(self.alloc);
+        for event in events {
+            if let Some(fec) = event.fec() {
+                all.push(self.so_far(fec))?;
+            }
+        }
+        Ok(all)
+    }
+
+    /// The FECs of which something may have to be told, in node order: where each event is of a FEC, in node order and none
+    /// twice, these alone.
+    fn may_change(&self, events: &[LibEvent]) -> Result<Vec<SoFar>, AllocError>
+        requires { EventsFit self.now events.now }
+        ensures all { IfOk result (λ all. AreAllNews self.now events.now all.items) }
+        ensures alone { InOrder 0 events.now → IfOk result (λ all. all.items ≡ flat_map (so_far_in self.now) events.now) }
+    {
+        if are_of_fecs(events) {
+            self.named(events)
+        } else {
+            self.every()
+        }
     }
 
     /// Takes an event, and says what puts it back.
@@ -264,21 +305,20 @@ impl Lib {
         Ok(())
     }
 
-    /// Tells the changes of all FECs since these were offered. A FEC whose offer stayed is news for a new neighbour alone.
+    /// Tells the changes of these FECs since then. A FEC whose offer stayed is news for a new neighbour alone.
     fn changes(
         &self,
         events: &[LibEvent],
-        before: &[bool],
+        before: &[SoFar],
         tells: &mut Vec<Tell>,
     ) -> Result<(), AllocError>
-        requires { length before.now ≡ nodes self.now }
-        ensures { OnOk result (tells.new.items ≡ tells.old.items ++ changes before.now self.now events.now) }
+        requires { All (λ one. one.fec.0 < nodes self.now) before.now }
+        ensures { OnOk result (tells.new.items ≡ tells.old.items ++ flat_map (told_since self.now events.now) before.now) }
     {
         let fresh = opens_any(events);
-        for at in 0..self.hops.len() {
-            let fec = NodeNo(at as u16);
-            if fresh || before[at] != self.offers(fec) {
-                self.tell(events, fec, before[at], tells)?;
+        for one in before {
+            if fresh || one.offered != self.offers(one.fec) {
+                self.tell(events, one.fec, one.offered, tells)?;
             }
         }
         Ok(())
@@ -295,7 +335,7 @@ impl Lib {
         ensures after { OnOk result (self.new ≡ after_events self.old events.now) }
         ensures kept { OnErr result (self.new ≡ self.old) }
     {
-        let before = self.offered()?;
+        let before = self.may_change(events)?;
         let mut undos = Vec::new(self.alloc);
         match self.take(events, &before, &mut undos) {
             Ok(tells) => Ok(tells),
@@ -310,11 +350,11 @@ impl Lib {
     fn take(
         &mut self,
         events: &[LibEvent],
-        before: &[bool],
+        before: &[SoFar],
         undos: &mut Vec<Undo>,
     ) -> Result<Vec<Tell>, AllocError>
         requires fit { EventsFit self.old events.now }
-        requires before { before.now ≡ offered self.old }
+        requires before { AreAllNews self.old events.now before.now }
         ensures tells { IfOk result (λ all. all.items ≡ tells self.old events.now) }
         ensures after { OnOk result (self.new ≡ after_events self.old events.now) }
         ensures undo { all_undone self.new undos.new.items ≡ all_undone self.old undos.old.items }

@@ -18,6 +18,7 @@
 //!
 //! - `event`: what happens, and what must be told
 //! - `bindings`: what is kept, and how a list of events is taken
+//! - `news`: which FECs are looked at
 //! - `row`: what one neighbour said of each FEC
 //! - `undo`: what puts an event back
 //! - `laws`: what is kept is what was said last; two lists of events are one
@@ -26,6 +27,7 @@
 mod bindings;
 mod event;
 mod laws;
+mod news;
 mod row;
 #[cfg(test)]
 mod tests;
@@ -34,3 +36,4 @@ mod undo;
 pub use bindings::Lib;
 pub use event::{LibEvent, Tell, TellKind};
 pub use laws::{lists_of_events_join, what_is_kept_was_said_last};
+pub use news::are_of_fecs;

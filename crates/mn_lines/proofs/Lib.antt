@@ -1,4 +1,3 @@
 pub mod Putting
 mod Waiting
-mod Pieces
-mod Naming
+pub mod Pieces

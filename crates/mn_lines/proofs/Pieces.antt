@@ -1,7 +1,6 @@
 -- Pieces of text, appended one after another.
-use Rattle.std.proofs.Common.{◌≡◌, ◌+◌, ◌<◌, ◌≤◌, ℕ, List, [], ◌∷◌, ◌++◌, length, take, drop, get_or, Bor, refl, ap, sym, ◌∙◌, append_assoc, append-nil}
-use Rattle.std.proofs.lemmas.List.{at_drop_more, at_drop_all, flat_map_more, take_more}
-use Rattle.std.specs.List.{flat_map}
+use Rattle.std.proofs.Common.{◌≡◌, ◌+◌, ◌<◌, ◌≤◌, ℕ, List, [], ◌∷◌, ◌++◌, length, drop, get_or, Bor, refl, ap, sym, ◌∙◌, append_assoc, append-nil}
+use Rattle.std.proofs.lemmas.List.{at_drop_more, at_drop_all}
 use Rattle.mn_edge.specs.Written.{IsPrefix}
 use Rattle.mn_lines.specs.Lines.{text, pieces_of}
 
@@ -24,12 +23,6 @@ pub pieces_put : (out goal : List ℕ) (pieces : List (Bor (List ℕ))) (i : ℕ
 pieces_put out goal pieces i past before =
     sym (append-nil out) ∙ sym (ap (λ l. out ++ l) (at_drop_all (λ ps. text (pieces_of ps)) pieces i past)) ∙ before
 
--- a piece for one more of a list
-pub one_more : {A : Type 0} (f : A → List ℕ) (old mid new : List ℕ) (xs : List A) (i : ℕ) (d : A) → i < length xs → mid ≡ old ++ flat_map f (take i xs)
-    → new ≡ mid ++ f (get_or xs i d) → new ≡ old ++ flat_map f (take (i + 1) xs)
-one_more f old mid new xs i d within before then =
-    then ∙ ap (λ l. l ++ f (get_or xs i d)) before ∙ flat_map_more f old (take i xs) (get_or xs i d) ∙ ap (λ l. old ++ flat_map f l) (sym (take_more xs i d within))
-
 -- one text behind another
 pub text_then : (old mid new one two : List ℕ) → mid ≡ old ++ one → new ≡ mid ++ two → new ≡ old ++ (one ++ two)
 text_then old mid new one two first then = then ∙ ap (λ l. l ++ two) first ∙ append_assoc old one two
@@ -39,7 +32,8 @@ pub six_put : (old l1 l2 l3 l4 l5 new a b c d e f : List ℕ) → l1 ≡ old ++ 
     → new ≡ old ++ (a ++ (b ++ (c ++ (d ++ (e ++ f)))))
 six_put old l1 l2 l3 l4 l5 new a b c d e f h1 h2 h3 h4 h5 h6 =
     text_then old l1 new a (b ++ (c ++ (d ++ (e ++ f)))) h1
-    (text_then l1 l2 new b (c ++ (d ++ (e ++ f))) h2 (text_then l2 l3 new c (d ++ (e ++ f)) h3 (text_then l3 l4 new d (e ++ f) h4 (text_then l4 l5 new e f h5 h6))))
+    (text_then l1 l2 new b (c ++ (d ++ (e ++ f))) h2
+    (text_then l2 l3 new c (d ++ (e ++ f)) h3 (text_then l3 l4 new d (e ++ f) h4 (text_then l4 l5 new e f h5 h6))))
 
 -- what stood before stands at the beginning
 pub begins_with_itself : (old : List ℕ) → IsPrefix old old
@@ -53,11 +47,3 @@ begins_still old mid new p is = (p.0, p.1 ∙ sym is)
 
 pub begins_then : (old mid new : List ℕ) → IsPrefix old mid → IsPrefix mid new → IsPrefix old new
 begins_then old mid new p q = (p.0 ++ q.0, sym (append_assoc old p.0 q.0) ∙ ap (λ l. l ++ q.0) p.1 ∙ q.1)
-
--- what was appended is taken back
-pub taken_back : (old mid : List ℕ) → IsPrefix old mid → take (length old) mid ≡ old
-taken_back old mid p = ap (take (length old)) (sym p.1) ∙ taken old p.0
-  where
-    taken : (old rest : List ℕ) → take (length old) (old ++ rest) ≡ old
-    taken [] rest = refl
-    taken (x ∷ xs) rest = ap (λ l. x ∷ l) (taken xs rest)

@@ -21,10 +21,6 @@ part_of_more before text more written p = (p.0, (p.1.0 ++ more, sym (append_asso
 pub puts_nothing : (waits : List ℕ) (written : Option (List ℕ)) → Puts [] waits waits written written
 puts_nothing waits written = λ before so_far on. record { part = on.part; told = on.told; whole = on.whole ∙ sym (append-nil so_far) }
 
--- the call did nothing, and was cut off
-pub puts_no_part : (text waits : List ℕ) (written : Option (List ℕ)) → PutsPart text waits written written
-puts_no_part text waits written = λ before so_far on. part_of_more before so_far text written (part_of before so_far waits written on)
-
 -- one text behind the other
 pub puts_then : (one two waits0 waits1 waits2 : List ℕ) (written0 written1 written2 : Option (List ℕ))
     → Puts one waits0 waits1 written0 written1 → Puts two waits1 waits2 written1 written2 → Puts (one ++ two) waits0 waits2 written0 written2
@@ -33,7 +29,8 @@ puts_then one two waits0 waits1 waits2 written0 written1 written2 first second =
     record { part = then.part; told = then.told; whole = then.whole ∙ append_assoc so_far one two }
 
 -- the first call was cut off, or the second
-pub cut_in_first : (one two waits0 : List ℕ) (written0 written1 : Option (List ℕ)) → PutsPart one waits0 written0 written1 → PutsPart (one ++ two) waits0 written0 written1
+pub cut_in_first : (one two waits0 : List ℕ) (written0 written1 : Option (List ℕ)) → PutsPart one waits0 written0 written1 →
+    PutsPart (one ++ two) waits0 written0 written1
 cut_in_first one two waits0 written0 written1 first = λ before so_far on.
     let p = part_of_more before (so_far ++ one) two written1 (first before so_far on) in
     (p.0, (p.1.0, p.1.1 ∙ append_assoc so_far one two), p.2)

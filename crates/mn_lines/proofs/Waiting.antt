@@ -4,13 +4,9 @@ use Rattle.std.proofs.lemmas.List.{take-append-drop}
 use Rattle.std.specs.Option.{ForSome}
 use Rattle.mn_lines.specs.Putting.{Puts, PutsPart}
 
--- a piece waits behind the others
-pub holds : (piece waits : List ℕ) (written : Option (List ℕ)) → Puts piece waits (waits ++ piece) written written
-holds piece waits written = λ before so_far on.
-    record { part = on.part; told = on.told; whole = sym (append_assoc on.part waits piece) ∙ ap (λ l. l ++ piece) on.whole }
-
 -- the sink took all that waits and a text
-pub all_put : (text waits piece : List ℕ) (written now : Option (List ℕ)) → piece ≡ waits ++ text → ForSome written (λ t. now ≡ Some (t ++ piece)) → Puts text waits [] written now
+pub all_put : (text waits piece : List ℕ) (written now : Option (List ℕ)) → piece ≡ waits ++ text → ForSome written (λ t. now ≡ Some (t ++ piece)) →
+    Puts text waits [] written now
 all_put text waits piece written now is put = λ before so_far on.
     record {
       part = on.part ++ piece;
@@ -19,11 +15,16 @@ all_put text waits piece written now is put = λ before so_far on.
     }
 
 -- it took a first part of them
-pub some_put : (text waits piece : List ℕ) (written now : Option (List ℕ)) → piece ≡ waits ++ text → ForSome written (λ t. (n : ℕ) × (now ≡ Some (t ++ take n piece))) → PutsPart text waits written now
+pub some_put : (text waits piece : List ℕ) (written now : Option (List ℕ)) → piece ≡ waits ++ text →
+    ForSome written (λ t. (n : ℕ) × (now ≡ Some (t ++ take n piece))) → PutsPart text waits written now
 some_put text waits piece written now is put = λ before so_far on.
     let some = put (before ++ on.part) on.told in (
       on.part ++ take some.0 piece,
-      (drop some.0 piece, append_assoc on.part (take some.0 piece) (drop some.0 piece) ∙ ap (λ l. on.part ++ l) (take-append-drop some.0 piece ∙ is) ∙ sym (append_assoc on.part waits text) ∙ ap (λ l. l ++ text) on.whole),
+      (
+        drop some.0 piece,
+        append_assoc on.part (take some.0 piece) (drop some.0 piece) ∙ ap (λ l. on.part ++ l) (take-append-drop some.0 piece ∙ is)
+            ∙ sym (append_assoc on.part waits text) ∙ ap (λ l. l ++ text) on.whole,
+      ),
       some.1 ∙ ap Some (append_assoc before on.part (take some.0 piece)),
     )
 

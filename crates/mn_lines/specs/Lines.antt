@@ -4,7 +4,8 @@ use Rattle.std.specs.Borrow.{Bor}
 use Rattle.std.specs.List.{flat_map}
 use Rattle.std.specs.Fmt.{decimal}
 use Rattle.mn_base.specs.declared.drops.Rule.{Rule}
-use Rattle.mn_base.specs.declared.drops.Rule.TheVariants.{SiteDown, NotIpv4, Malformed, Truncated, BadChecksum, TtlExpired, NotUnicast, NoRoute, NoLsp, NoEntry, SiteGone, Lost, LinkCut}
+use Rattle.mn_base.specs.declared.drops.Rule.TheVariants.{SiteDown, NotIpv4, Malformed, Truncated, BadChecksum, TtlExpired, NotUnicast, NoRoute, NoLsp}
+use Rattle.mn_base.specs.declared.drops.Rule.TheVariants.{NoEntry, SiteGone, Lost, LinkCut}
 use Rattle.mn_base.specs.declared.numbers.NodeNo.{NodeNo}
 use Rattle.mn_ledger.specs.declared.refused.Refused.{Refused}
 use Rattle.mn_ledger.specs.declared.refused.Refused.TheVariants as why
@@ -60,7 +61,8 @@ cause_text sites cause = cause_name cause
 
 -- what became of a packet
 unfoldable pub verdict_text : NameLists → Verdict → List ℕ
-verdict_text names (Delivered site ttl copy) = text (codes "delivered " ∷ name_at names.sites site.0 ∷ codes " ttl " ∷ decimal ttl ∷ codes " copy " ∷ decimal copy ∷ [])
+verdict_text names (Delivered site ttl copy) =
+    text (codes "delivered " ∷ name_at names.sites site.0 ∷ codes " ttl " ∷ decimal ttl ∷ codes " copy " ∷ decimal copy ∷ [])
 verdict_text names (Dropped rule node) = text (codes "dropped " ∷ rule_name rule ∷ codes " at " ∷ name_at names.nodes node.0 ∷ [])
 verdict_text names (Flying link dir) =
     let ends = ends_at names.links link.0 in
@@ -72,11 +74,14 @@ path_text names path = flat_map (λ node. 32 ∷ name_at names.nodes node.0) pat
 
 -- which packet it is: its number, from 1, and what sent it
 unfoldable pub sent_text : NameLists → ℕ → Sent → List ℕ
-sent_text names number sent = text (codes "packet " ∷ decimal number ∷ codes " line " ∷ decimal sent.line ∷ codes " site " ∷ name_at names.sites sent.site.0 ∷ codes " record " ∷ decimal sent.record ∷ [])
+sent_text names number sent =
+    text (codes "packet " ∷ decimal number ∷ codes " line " ∷ decimal sent.line ∷ codes " site " ∷ name_at names.sites sent.site.0 ∷ codes " record "
+    ∷ decimal sent.record ∷ [])
 
 -- the line of a packet
 unfoldable pub packet_line : NameLists → ℕ → Sent → Verdict → List NodeNo → List ℕ
-packet_line names number sent verdict path = text (sent_text names number sent ∷ codes " " ∷ verdict_text names verdict ∷ codes " path" ∷ path_text names path ∷ codes "\n" ∷ [])
+packet_line names number sent verdict path =
+    text (sent_text names number sent ∷ codes " " ∷ verdict_text names verdict ∷ codes " path" ∷ path_text names path ∷ codes "\n" ∷ [])
 
 -- the line of a script's line whose step was refused
 unfoldable pub refused_line : ℕ → List ℕ → List ℕ
@@ -84,8 +89,12 @@ refused_line number cause = text (codes "line " ∷ decimal number ∷ codes " r
 
 -- how many packets there were, and of each kind of verdict
 unfoldable pub verdicts_text : Totals → List ℕ
-verdicts_text totals = text (codes "packets " ∷ decimal totals.packets ∷ codes " delivered " ∷ decimal totals.delivered ∷ codes " dropped " ∷ decimal totals.dropped ∷ codes " flying " ∷ decimal totals.flying ∷ [])
+verdicts_text totals =
+    text (codes "packets " ∷ decimal totals.packets ∷ codes " delivered " ∷ decimal totals.delivered ∷ codes " dropped " ∷ decimal totals.dropped
+    ∷ codes " flying " ∷ decimal totals.flying ∷ [])
 
 -- the last line
 unfoldable pub total_line : Totals → List ℕ
-total_line totals = text (codes "total " ∷ verdicts_text totals ∷ codes " steps " ∷ decimal totals.steps ∷ codes " refused " ∷ decimal totals.refused ∷ codes " tick " ∷ decimal totals.tick ∷ codes "\n" ∷ [])
+total_line totals =
+    text (codes "total " ∷ verdicts_text totals ∷ codes " steps " ∷ decimal totals.steps ∷ codes " refused " ∷ decimal totals.refused ∷ codes " tick "
+    ∷ decimal totals.tick ∷ codes "\n" ∷ [])

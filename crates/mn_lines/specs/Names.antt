@@ -1,6 +1,5 @@
 -- The names of a network.
-use Rattle.std.specs.Prelude.{ℕ, List, [], map, slice_index_or, String, string_bytes}
-use Rattle.std.specs.declared.alloc.Global.{Global}
+use Rattle.std.specs.Prelude.{ℕ, List, [], map, slice_index_or}
 use Rattle.mn_base.specs.declared.links.LinkEnds.{LinkEnds}
 use Rattle.mn_base.specs.declared.links.Dir.{Dir}
 use Rattle.mn_base.specs.declared.links.Dir.TheVariants.{Forth, Back}
@@ -11,9 +10,6 @@ pub record NameLists : Type 0 where
   pub nodes : List (List ℕ)
   pub sites : List (List ℕ)
   pub links : List (ℕ × ℕ)
-
-abbrev pub texts : List (String Global) → List (List ℕ)
-texts names = map string_bytes names
 
 abbrev pub pairs_of : List LinkEnds → List (ℕ × ℕ)
 pairs_of links = map (λ link. (link.a.0, link.b.0)) links

@@ -13,8 +13,8 @@
 //!
 //! - `write`: the lines, appended to bytes
 //! - `page`: text that waits to be put
-//! - `lines`: what the lines tell of, and the lines as strings
-//! - `names`: the names of a network
+//! - `lines`: what the lines tell of
+//! - `names`: nodes and sites by their names
 #![tactic(auto)]
 
 mod lines;
@@ -24,7 +24,7 @@ mod page;
 mod tests;
 mod write;
 
-pub use lines::{Sent, Totals, cause_name, packet_line, refused_line, rule_name, total_line};
-pub use names::Names;
+pub use lines::{Sent, Totals, cause_name, rule_name};
+pub use names::{node_name, site_name};
 pub use page::Page;
-pub use write::{write_packet, write_refusal, write_refused, write_total};
+pub use write::{put_pieces, write_packet, write_refusal, write_refused, write_total};

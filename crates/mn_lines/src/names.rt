@@ -1,67 +1,53 @@
 ghost use Rattle.std.specs.Prelude.{◌≡◌};
-ghost use Rattle.mn_lines.specs.Names.{texts, pairs_of, name_at, ends_at, sender_of, hearer_of};
+ghost use Rattle.mn_lines.specs.Names.{ends_at, hearer_of, name_at, pairs_of, sender_of};
 
-use mn_base::{Dir, LinkEnds};
-use std::marker::Model;
+use mn_base::{Dir, LinkEnds, NodeNo, SiteNo};
+use mn_topo::Topology;
 
-/// The names of a network: of its nodes and sites by their numbers, and which nodes each link joins.
-#[derive(Drop)]
-pub struct Names<'a> {
-    pub nodes: &'a [String],
-    pub sites: &'a [String],
-    pub links: &'a [LinkEnds],
-}
-
-impl<'a> Model for Names<'a> {
-    ghost use Rattle.mn_lines.specs.Names.{NameLists, texts, pairs_of};
-
-    ghost Value = { NameLists };
-
-    ghost view = { λ n. record { nodes = texts n.nodes.now; sites = texts n.sites.now; links = pairs_of n.links.now } };
-}
-
-/// The name of this number, and the empty text where there is none.
-fn name_at(names: &[String], number: u16) -> &str
-    ensures { result.now ≡ name_at (texts names.now) number }
+/// The name of a node, and the empty text where there is no such node.
+pub fn node_name(topology: &Topology, node: NodeNo) -> &[u8]
+    ensures { result.now ≡ name_at topology.now.node_names node.0 }
 {
-    match names.get(number as usize) {
-        Some(name) => name.as_str(),
-        None => "",
+    topology.laws();
+    if usize::from(node.0) < topology.nodes().len() {
+        topology.node_name(node)
+    } else {
+        b""
+    }
+}
+
+/// The name of a site, and the empty text where there is no such site.
+pub fn site_name(topology: &Topology, site: SiteNo) -> &[u8]
+    ensures { result.now ≡ name_at topology.now.site_names site.0 }
+{
+    topology.laws();
+    if usize::from(site.0) < topology.sites().len() {
+        topology.site_name(site)
+    } else {
+        b""
     }
 }
 
 /// The two ends of the link of this number, `a` first, and twice node 0 where there is none.
-pub(crate) fn ends_at(links: &[LinkEnds], number: u16) -> (u16, u16)
-    ensures { result ≡ ends_at (pairs_of links.now) number }
+fn ends_at(links: &[LinkEnds], number: u16) -> (NodeNo, NodeNo)
+    ensures { (result.0.0, result.1.0) ≡ ends_at (pairs_of links.now) number }
 {
-    match links.get(number as usize) {
-        Some(link) => (link.a.0, link.b.0),
-        None => (0, 0),
+    match links.get(usize::from(number)) {
+        Some(link) => (link.a, link.b),
+        None => (NodeNo(0), NodeNo(0)),
     }
 }
 
-impl<'a> Names<'a> {
-    pub(crate) fn node(&self, number: u16) -> &str
-        ensures { result.now ≡ name_at self.now.nodes number }
-    {
-        name_at(self.nodes, number)
-    }
-
-    pub(crate) fn site(&self, number: u16) -> &str
-        ensures { result.now ≡ name_at self.now.sites number }
-    {
-        name_at(self.sites, number)
-    }
-
-    /// The node that sends in this direction of the link, and the one that hears.
-    pub(crate) fn direction(&self, link: u16, dir: Dir) -> (&str, &str)
-        ensures sender { result.0.now ≡ name_at self.now.nodes (sender_of (ends_at self.now.links link) dir) }
-        ensures hearer { result.1.now ≡ name_at self.now.nodes (hearer_of (ends_at self.now.links link) dir) }
-    {
-        let (a, b) = ends_at(self.links, link);
-        match dir {
-            Dir::Forth => (name_at(self.nodes, a), name_at(self.nodes, b)),
-            Dir::Back => (name_at(self.nodes, b), name_at(self.nodes, a)),
-        }
+/// The names of the node that sends in this direction of the link, and of the one that hears.
+pub(crate) fn direction(topology: &Topology, link: u16, dir: Dir) -> (&[u8], &[u8])
+    ensures sender { result.0.now ≡
+        name_at topology.now.node_names (sender_of (ends_at (pairs_of topology.now.links) link) dir) }
+    ensures hearer { result.1.now ≡
+        name_at topology.now.node_names (hearer_of (ends_at (pairs_of topology.now.links) link) dir) }
+{
+    let (a, b) = ends_at(topology.links(), link);
+    match dir {
+        Dir::Forth => (node_name(topology, a), node_name(topology, b)),
+        Dir::Back => (node_name(topology, b), node_name(topology, a)),
     }
 }

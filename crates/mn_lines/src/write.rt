@@ -1,57 +1,19 @@
 // The lines, appended to bytes.
-ghost use Rattle.std.specs.Prelude.{◌≡◌, ◌≤◌, ◌++◌, ◌∷◌, [], OnOk, OnErr, codes, length, take};
+ghost use Rattle.std.specs.Prelude.{◌≡◌, ◌++◌, ◌∷◌, [], OnOk, OnErr, codes, take};
 ghost use Rattle.mn_edge.specs.Written.{IsPrefix};
-ghost use Rattle.mn_lines.specs.Names.{ends_at, hearer_of, name_at, names_of, pairs_of, sender_of};
+ghost use Rattle.mn_lines.specs.Names.{names_of};
 ghost use Rattle.mn_lines.specs.Lines.{cause_text, packet_line, path_text, pieces_of, refused_line, sent_text, text, total_line, verdict_text, verdicts_text};
 
 use crate::lines::{Sent, Totals, cause_name, rule_name};
-use crate::names::ends_at;
+use crate::names::{direction, node_name, site_name};
 use itoa::Buffer;
-use mn_base::{Dir, NodeNo, SiteNo};
+use mn_base::{NodeNo, SiteNo};
 use mn_ledger::{Refused, Verdict};
 use mn_topo::Topology;
 use std::alloc::AllocError;
 
-/// The name of the node of this number, and the empty text where there is none.
-fn node_name(topology: &Topology, number: u16) -> &[u8]
-    ensures { result.now ≡ name_at topology.now.node_names number }
-{
-    topology.laws();
-    if (number as usize) < topology.nodes().len() {
-        topology.node_name(NodeNo(number))
-    } else {
-        b""
-    }
-}
-
-/// The name of the site of this number, and the empty text where there is none.
-fn site_name(topology: &Topology, number: u16) -> &[u8]
-    ensures { result.now ≡ name_at topology.now.site_names number }
-{
-    topology.laws();
-    if (number as usize) < topology.sites().len() {
-        topology.site_name(SiteNo(number))
-    } else {
-        b""
-    }
-}
-
-/// The names of the node that sends in this direction of the link, and of the one that hears.
-fn direction(topology: &Topology, link: u16, dir: Dir) -> (&[u8], &[u8])
-    ensures sender { result.0.now ≡
-        name_at topology.now.node_names (sender_of (ends_at (pairs_of topology.now.links) link) dir) }
-    ensures hearer { result.1.now ≡
-        name_at topology.now.node_names (hearer_of (ends_at (pairs_of topology.now.links) link) dir) }
-{
-    let (a, b) = ends_at(topology.links(), link);
-    match dir {
-        Dir::Forth => (node_name(topology, a), node_name(topology, b)),
-        Dir::Back => (node_name(topology, b), node_name(topology, a)),
-    }
-}
-
-/// Appends pieces, or a first part of them.
-fn put_pieces(line: &mut Vec<u8>, pieces: &[&[u8]]) -> Result<(), AllocError>
+/// Appends pieces, by an `Err` a first part of them.
+pub fn put_pieces(line: &mut Vec<u8>, pieces: &[&[u8]]) -> Result<(), AllocError>
     ensures ok { OnOk result (line.new.items ≡ line.old.items ++ text (pieces_of pieces.now)) }
     ensures begins { IsPrefix line.old.items line.new.items }
 {
@@ -97,7 +59,7 @@ fn put_sent(
             b" line ",
             script.format(sent.line).as_bytes(),
             b" site ",
-            site_name(topology, sent.site.0),
+            site_name(topology, sent.site),
             b" record ",
             record.format(sent.record).as_bytes(),
         ],
@@ -122,7 +84,7 @@ fn put_delivered(
         line,
         &[
             b"delivered ",
-            site_name(topology, site.0),
+            site_name(topology, site),
             b" ttl ",
             left.format(ttl).as_bytes(),
             b" copy ",
@@ -149,7 +111,7 @@ fn put_verdict(line: &mut Vec<u8>, topology: &Topology, verdict: Verdict) -> Res
     match verdict {
         Verdict::Delivered { site, ttl, copy } => put_delivered(line, topology, site, ttl, copy),
         Verdict::Dropped { rule, node } => {
-            put_dropped(line, rule_name(rule), node_name(topology, node.0))
+            put_dropped(line, rule_name(rule), node_name(topology, node))
         }
         Verdict::Flying { link, dir } => {
             let (sender, hearer) = direction(topology, link.0, dir);
@@ -165,7 +127,7 @@ fn put_path(line: &mut Vec<u8>, topology: &Topology, path: &[NodeNo]) -> Result<
     ensures begins { IsPrefix line.old.items line.new.items }
 {
     for node in path {
-        put_pieces(line, &[b" ", node_name(topology, node.0)])?;
+        put_pieces(line, &[b" ", node_name(topology, *node)])?;
     }
     Ok(())
 }
@@ -250,7 +212,7 @@ fn put_taken(
             b"line ",
             digits.format(number).as_bytes(),
             b" refused PrefixTaken ",
-            site_name(topology, site.0),
+            site_name(topology, site),
             b"\n",
         ],
     )

@@ -24,7 +24,7 @@ same_by_entries xs ys d e h =
 same_table : (a b : PathTable) → a.dists ≡ b.dists → a.nexts ≡ b.nexts → a ≡ b
 same_table a b e f =
     ap (λ (ds : List (Option ℕ)). let t : PathTable = record { dists = ds; nexts = a.nexts } in
-        t) e ∙ ap (λ (ns : List (Option NodeNo)). let t : PathTable = record { dists = b.dists; nexts = ns } in t) f
+    t) e ∙ ap (λ (ns : List (Option NodeNo)). let t : PathTable = record { dists = b.dists; nexts = ns } in t) f
 
 within : {X : Type 0} (xs : List X) (k : ℕ) {n : ℕ} → length xs ≡ n → k < length xs → k < n
 within xs k e p = omega (arith, e, p)
@@ -36,7 +36,7 @@ module _ (wiring : Wiring) (view : View) (from to : ℕ) where
   one_dist None (Some n) h k = absurd (h k.walk.0 k.walk.1)
   one_dist (Some m) (Some n) h k =
       ap (λ (d : ℕ). let o : Option ℕ = Some d in
-          o) (same_number m n (le_cost _ _ _ (h.least k.walk.0 k.walk.1) k.walk.2) (le_cost _ _ _ (k.least h.walk.0 h.walk.1) h.walk.2))
+      o) (same_number m n (le_cost _ _ _ (h.least k.walk.0 k.walk.1) k.walk.2) (le_cost _ _ _ (k.least h.walk.0 h.walk.1) h.walk.2))
 
   abbrev node : ℕ → Option NodeNo
   node n = Some (record { 0 = n })
@@ -77,8 +77,11 @@ module _ (wiring : Wiring) (view : View) (root : ℕ) where
     pub computed : IsTree wiring view root (computed_tree wiring view root)
     computed =
         record {
-          one_each = record { dists = length-map-range_with_len (λ to. dist_in (dists_to wiring view to) root) 0 (length wiring.loopbacks); nexts =
-              length-map-range_with_len (λ to. hop_alone (next wiring view root to)) 0 (length wiring.loopbacks) };
+          one_each = record {
+            dists = length-map-range_with_len (λ to. dist_in (dists_to wiring view to) root) 0 (length wiring.loopbacks);
+            nexts =
+                length-map-range_with_len (λ to. hop_alone (next wiring view root to)) 0 (length wiring.loopbacks);
+          };
           dists = λ to p. subst (IsDist wiring view root to) (sym (dist_of to p)) (dist_is to);
           nexts = λ to p q. subst (IsNextHop wiring view root to) (sym (next_of to p)) (next_alone to (next wiring view root to) (next_is to (λ e. q (sym e))));
           root_itself = next_of root here ∙ ap hop_alone (no_next_here root refl);
@@ -95,8 +98,8 @@ module _ (wiring : Wiring) (view : View) (root : ℕ) where
   one_tree a b s t =
       same_table a b
       (same_by_entries a.dists b.dists None (s.one_each.dists ∙ sym t.one_each.dists)
-          (λ to p. one_dist wiring view root to _ _ (s.dists to (within a.dists to s.one_each.dists p))
-          (t.dists to (within a.dists to s.one_each.dists p))))
+      (λ to p. one_dist wiring view root to _ _ (s.dists to (within a.dists to s.one_each.dists p))
+      (t.dists to (within a.dists to s.one_each.dists p))))
       (same_by_entries a.nexts b.nexts None (s.one_each.nexts ∙ sym t.one_each.nexts) (λ to p. same_at a b s t to (within a.nexts to s.one_each.nexts p)))
 
   -- so a tree's entries are the computed ones

@@ -25,5 +25,8 @@ hop_alone None = None
 -- the tree as it can be computed, node by node
 abbrev pub computed_tree : Wiring → View → ℕ → PathTable
 computed_tree wiring view root =
-    record { dists = map (λ to. dist_in (dists_to wiring view to) root) (nodes_of wiring); nexts =
-        map (λ to. hop_alone (next wiring view root to)) (nodes_of wiring) }
+    record {
+      dists = map (λ to. dist_in (dists_to wiring view to) root) (nodes_of wiring);
+      nexts =
+          map (λ to. hop_alone (next wiring view root to)) (nodes_of wiring);
+    }

@@ -103,7 +103,7 @@ module _ {T : Type 0} where
   none_below size (level ∷ levels) p h =
       value_append p (of_length size level.entries) (pairs_from (suc size) levels)
       ∙ ap (λ o. option_or o (value_at p (pairs_from (suc size) levels)))
-          (value_of_length p size level.entries ∙ ap (λ b. cond b (get nat_cmp level p.address) None) (other_test p.length size (omega (arith, h))))
+      (value_of_length p size level.entries ∙ ap (λ b. cond b (get nat_cmp level p.address) None) (other_test p.length size (omega (arith, h))))
       ∙ none_below (suc size) levels p (omega (arith, h))
 
   none_above : (size : ℕ) (levels : List (BTreeMap ℕ T)) (p : AddressBlock) → size + length levels ≤ p.length → value_at p (pairs_from size levels) ≡ None
@@ -111,7 +111,7 @@ module _ {T : Type 0} where
   none_above size (level ∷ levels) p h =
       value_append p (of_length size level.entries) (pairs_from (suc size) levels)
       ∙ ap (λ o. option_or o (value_at p (pairs_from (suc size) levels)))
-          (value_of_length p size level.entries ∙ ap (λ b. cond b (get nat_cmp level p.address) None) (other_test p.length size (omega (arith, h))))
+      (value_of_length p size level.entries ∙ ap (λ b. cond b (get nat_cmp level p.address) None) (other_test p.length size (omega (arith, h))))
       ∙ none_above (suc size) levels p (omega (arith, h))
 
   or_none : (o : Option T) → option_or o None ≡ o
@@ -125,13 +125,13 @@ module _ {T : Type 0} where
   value_from size (level ∷ levels) zero d p h e =
       value_append p (of_length size level.entries) (pairs_from (suc size) levels)
       ∙ ap (λ o. option_or o (value_at p (pairs_from (suc size) levels)))
-          (value_of_length p size level.entries ∙ ap (λ b. cond b (get nat_cmp level p.address) None) (test_same p.length size (omega (arith, e))))
+      (value_of_length p size level.entries ∙ ap (λ b. cond b (get nat_cmp level p.address) None) (test_same p.length size (omega (arith, e))))
       ∙ ap (option_or (get nat_cmp level p.address)) (none_below (suc size) levels p (omega (arith, e)))
       ∙ or_none (get nat_cmp level p.address)
   value_from size (level ∷ levels) (suc i) d p h e =
       value_append p (of_length size level.entries) (pairs_from (suc size) levels)
       ∙ ap (λ o. option_or o (value_at p (pairs_from (suc size) levels)))
-          (value_of_length p size level.entries ∙ ap (λ b. cond b (get nat_cmp level p.address) None) (other_test p.length size (omega (arith, e))))
+      (value_of_length p size level.entries ∙ ap (λ b. cond b (get nat_cmp level p.address) None) (other_test p.length size (omega (arith, e))))
       ∙ value_from (suc size) levels i d p (omega (arith, h)) (omega (arith, e))
 
   pub level_value : (levels : List (BTreeMap ℕ T)) (d : BTreeMap ℕ T) (p : AddressBlock) → p.length < length levels →
@@ -141,7 +141,7 @@ module _ {T : Type 0} where
   -- as the calls of the table cite it
   pub value_there : (levels : List (BTreeMap ℕ T)) (pairs : List (AddressBlock × T)) (i a : ℕ) (d : BTreeMap ℕ T) (p : AddressBlock) (found : Option T)
       → pairs_from 0 levels ≡ pairs → AreLevels levels → p.length ≤ 32 → i ≡ p.length → a ≡ p.address → found ≡ get nat_cmp (get_or levels i d) a →
-          found ≡ value_at p pairs
+      found ≡ value_at p pairs
   value_there levels pairs i a d p found view are short at address value =
       value
       ∙ ap (get nat_cmp (get_or levels i d)) address
@@ -154,12 +154,12 @@ module _ {T : Type 0} where
   longer_from size [] = tt
   longer_from size (level ∷ levels) =
       subst (AllByRecursion (λ p. size ≤ p.length))
-          (sym (map-append (λ (e : AddressBlock × T). e.0) (of_length size level.entries) (pairs_from (suc size) levels)))
+      (sym (map-append (λ (e : AddressBlock × T). e.0) (of_length size level.entries) (pairs_from (suc size) levels)))
       (all_append (λ p. size ≤ p.length) (keys_of (of_length size level.entries)) (keys_of (pairs_from (suc size) levels))
       (subst (AllByRecursion (λ p. size ≤ p.length)) (sym (keys_of_length size level.entries))
-          (all_at_size (λ p. size ≤ p.length) size (keys level) (everywhere (λ k. size ≤ size) (keys level) (λ k. omega arith))))
+      (all_at_size (λ p. size ≤ p.length) size (keys level) (everywhere (λ k. size ≤ size) (keys level) (λ k. omega arith))))
       (all_turned (λ p. suc size ≤ p.length) (λ p. size ≤ p.length) (λ p h. omega (arith, h)) (keys_of (pairs_from (suc size) levels))
-          (longer_from (suc size) levels)))
+      (longer_from (suc size) levels)))
 
   -- 3. Levels make a table
   table_from : (size : ℕ) (levels : List (BTreeMap ℕ T)) →
@@ -171,24 +171,24 @@ module _ {T : Type 0} where
       let rest = table_from (suc size) levels (λ i n d k e. h (suc i) n d (omega (arith, k)) (omega (arith, e))) in
       let both = map-append (λ (e : AddressBlock × T). e.0) (of_length size level.entries) (pairs_from (suc size) levels) in
       let form : AllByRecursion (λ k. IsPrefix k size) (keys level) =
-          recursion_from_All (λ k. IsPrefix k size) (keys level) (λ k d g. here.prefixes _ (All-keys_found nat_cmp_total level here.ascends k d g)) in
+      recursion_from_All (λ k. IsPrefix k size) (keys level) (λ k d g. here.prefixes _ (All-keys_found nat_cmp_total level here.ascends k d g)) in
       record {
         distinct = subst (IsDistinct same_prefix) (sym both)
             (distinct_append (keys_of (of_length size level.entries)) (keys_of (pairs_from (suc size) levels))
             (subst (IsDistinct same_prefix) (sym (keys_of_length size level.entries))
-                (distinct_at size (keys level) (IsDistinct-from_sorted nat_cmp (keys level) here.ascends)))
+            (distinct_at size (keys level) (IsDistinct-from_sorted nat_cmp (keys level) here.ascends)))
             rest.distinct
             (subst (AllByRecursion (λ x. AllByRecursion (λ y. same_prefix x y ≡ false) (keys_of (pairs_from (suc size) levels))))
-                (sym (keys_of_length size level.entries))
+            (sym (keys_of_length size level.entries))
             (all_at_size (λ x. AllByRecursion (λ y. same_prefix x y ≡ false) (keys_of (pairs_from (suc size) levels))) size (keys level)
             (everywhere (λ k. AllByRecursion (λ y. same_prefix (at_size size k) y ≡ false) (keys_of (pairs_from (suc size) levels))) (keys level)
             (λ k. all_turned (λ y. suc size ≤ y.length) (λ y. same_prefix (at_size size k) y ≡ false)
-                (λ y g. and_off_right (k == y.address) (size == y.length) (other_test size y.length (omega (arith, g))))
-                (keys_of (pairs_from (suc size) levels)) (longer_from (suc size) levels))))));
+            (λ y g. and_off_right (k == y.address) (size == y.length) (other_test size y.length (omega (arith, g))))
+            (keys_of (pairs_from (suc size) levels)) (longer_from (suc size) levels))))));
         prefixes = subst (AllByRecursion (λ p. IsPrefix p.address p.length)) (sym both)
             (all_append (λ p. IsPrefix p.address p.length) (keys_of (of_length size level.entries)) (keys_of (pairs_from (suc size) levels))
             (subst (AllByRecursion (λ p. IsPrefix p.address p.length)) (sym (keys_of_length size level.entries))
-                (all_at_size (λ p. IsPrefix p.address p.length) size (keys level) form))
+            (all_at_size (λ p. IsPrefix p.address p.length) size (keys level) form))
             rest.prefixes);
       }
 
@@ -248,8 +248,11 @@ module _ {T : Type 0} where
             ((size == p.length) ≡ true) ⊎ ((size == p.length) ≡ false) → IsLevel size (get_or (slice_set levels p.length new) size d)
         by_place size d k (inl same) =
             subst (λ n. IsLevel n (get_or (slice_set levels p.length new) n d)) (sym (same_numbers size p.length same))
-            (subst (IsLevel p.length) (sym (get_or-set_same levels p.length new d h)) (record { ascends = sorted; prefixes =
-                λ a there. at_new a there (two_ways (is_eq (nat_cmp p.address a))) }))
+            (subst (IsLevel p.length) (sym (get_or-set_same levels p.length new d h)) (record {
+              ascends = sorted;
+              prefixes =
+                  λ a there. at_new a there (two_ways (is_eq (nat_cmp p.address a)));
+            }))
         by_place size d k (inr other) =
             subst (IsLevel size) (sym (get_or-set_other levels p.length size new d (other_numbers size p.length other)))
             (are.each size d (subst (λ n. size < n) (length-set levels p.length new) k))
@@ -276,7 +279,7 @@ module _ {T : Type 0} where
     call_changes u =
         subst (λ xs. ChangesOnly xs (pairs_from 0 (slice_set levels i new)) p value) view
         (subst (λ n. ChangesOnly (pairs_from 0 levels) (pairs_from 0 (slice_set levels n new)) p value) (sym at)
-            (change_only levels p old new value there is_old (updates u)))
+        (change_only levels p old new value there is_old (updates u)))
 
     pub call_keeps : IsOrdered nat_cmp new → Updates nat_cmp (get_or levels i d) new a value → AreLevels (slice_set levels i new)
     call_keeps sorted u =
@@ -306,22 +309,22 @@ module _ {T : Type 0} where
   level_append n xs ys =
       ap (λ es. map (λ (e : AddressBlock × T). (e.0.address, e.1)) es) (filter-append (λ (e : AddressBlock × T). e.0.length == n) xs ys)
       ∙ map-append (λ (e : AddressBlock × T). (e.0.address, e.1)) (filter (λ (e : AddressBlock × T). e.0.length == n) xs)
-          (filter (λ (e : AddressBlock × T). e.0.length == n) ys)
+      (filter (λ (e : AddressBlock × T). e.0.length == n) ys)
 
   level_same : (n size : ℕ) (es : List (ℕ × T)) → size ≡ n → level_of n (of_length size es) ≡ es
   level_same n size [] h = refl
   level_same n size (e ∷ es) h =
       ap (λ b. map (λ (e : AddressBlock × T). (e.0.address, e.1))
-          (cond b ((at_size size e.0, e.1) ∷ filter (λ (e : AddressBlock × T). e.0.length == n) (of_length size es))
-          (filter (λ (e : AddressBlock × T). e.0.length == n) (of_length size es)))) (test_same size n h)
+      (cond b ((at_size size e.0, e.1) ∷ filter (λ (e : AddressBlock × T). e.0.length == n) (of_length size es))
+      (filter (λ (e : AddressBlock × T). e.0.length == n) (of_length size es)))) (test_same size n h)
       ∙ ap (λ xs. e ∷ xs) (level_same n size es h)
 
   level_other : (n size : ℕ) (es : List (ℕ × T)) → size ≢ n → level_of n (of_length size es) ≡ []
   level_other n size [] h = refl
   level_other n size (e ∷ es) h =
       ap (λ b. map (λ (e : AddressBlock × T). (e.0.address, e.1))
-          (cond b ((at_size size e.0, e.1) ∷ filter (λ (e : AddressBlock × T). e.0.length == n) (of_length size es))
-          (filter (λ (e : AddressBlock × T). e.0.length == n) (of_length size es)))) (other_test size n h)
+      (cond b ((at_size size e.0, e.1) ∷ filter (λ (e : AddressBlock × T). e.0.length == n) (of_length size es))
+      (filter (λ (e : AddressBlock × T). e.0.length == n) (of_length size es)))) (other_test size n h)
       ∙ level_other n size es h
 
   level_below : (n size : ℕ) (levels : List (BTreeMap ℕ T)) → n < size → level_of n (pairs_from size levels) ≡ []

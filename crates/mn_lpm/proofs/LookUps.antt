@@ -84,7 +84,7 @@ module _ {T : Type 0} where
       by_size (inl h) = grind (arith, nat_tests, h)
       by_size (inr h) =
           absurd (apart (value_at p pairs) v (ap (λ q. value_at q pairs) (its_prefix p address form covers)
-              ∙ none p.length (grind (arith, nat_tests, h)) form.short) held)
+          ∙ none p.length (grind (arith, nat_tests, h)) form.short) held)
 
   pub first_is_longest : (address size : ℕ) (pairs : List (AddressBlock × T)) (v : T) → IsTable pairs → NoneLonger size address pairs →
       value_at (prefix_at size address) pairs ≡ Some v → longest_match address pairs ≡ Some (prefix_at size address, v)

@@ -1,5 +1,6 @@
 -- A site is attached once more, or an attachment ends.
-use Rattle.std.proofs.Common.{ℕ, suc, ◌≡◌, ◌≢◌, ◌+◌, ◌<◌, ◌≤◌, ◌^◌, ◌⊎◌, inl, inr, Bool, true, false, List, [], ◌∷◌, ◌++◌, length, filter, refl, arith, sym, ◌∙◌, ap, subst, Option, Some, None, Vec, Global}
+use Rattle.std.proofs.Common.{ℕ, suc, ◌≡◌, ◌≢◌, ◌+◌, ◌<◌, ◌≤◌, ◌^◌, ◌⊎◌, inl, inr, Bool, true, false, List, [], ◌∷◌, ◌++◌, length, filter, refl, arith, sym}
+use Rattle.std.proofs.Common.{◌∙◌, ap, subst, Option, Some, None, Vec, Global}
 use Rattle.std.specs.Prelude.{◌-◌, ◌==◌, nat_lt, slice_get, slice_index_or, slice_set, if◌then◌else◌}
 use Rattle.std.proofs.lemmas.Bool.Decides.{eqb_tells}
 use Rattle.std.proofs.lemmas.List.{get_or-set_same, get_or-set_other, length-append}
@@ -17,7 +18,7 @@ use Rattle.mn_lfib.specs.Uses.{use_of}
 use Rattle.mn_lib.specs.Bindings as lib
 use Rattle.mn_node.specs.Node.{label_of}
 use Rattle.mn_lsr.specs.declared.parts.Parts.{Parts}
-use Rattle.mn_lsr.specs.Standing.{AreGiven, IsUseOf, IsAttachment, is_of, attachments}
+use Rattle.mn_lsr.specs.Standing.{IsUseOf, IsAttachment, is_of, attachments}
 use Rattle.mn_lsr.specs.Parts.{Stands}
 
 no_more : {A : Type 0} (p : A → Bool) (xs : List A) → length (filter p xs) ≤ length xs
@@ -53,9 +54,12 @@ given_small given label few is = by (two_ways (nat_lt label 16))
 
     by : (nat_lt label 16 ≡ true) ⊎ (nat_lt label 16 ≡ false) → label < 2 ^ 20
     by (inl e) = absurd (subst (λ (b : Bool). IsAttachment (if b then None else slice_get given (label - 16))) e is)
-    by (inr e) = small (length given) (within (slice_get given (label - 16)) refl (subst (λ (b : Bool). IsAttachment (if b then None else slice_get given (label - 16))) e is)) few
+    by (inr e) =
+        small (length given)
+        (within (slice_get given (label - 16)) refl (subst (λ (b : Bool). IsAttachment (if b then None else slice_get given (label - 16))) e is)) few
 
-one_counted : (other : ℕ) (site : SiteNo) (number : ℕ) (given : List Bind) → attachments other (given ++ bind.Site site number ∷ []) ≡ attachments other given + (if site.0 == other then 1 else 0)
+one_counted : (other : ℕ) (site : SiteNo) (number : ℕ) (given : List Bind) →
+    attachments other (given ++ bind.Site site number ∷ []) ≡ attachments other given + (if site.0 == other then 1 else 0)
 one_counted other site number given =
     ap length (filter-append (is_of other) given (bind.Site site number ∷ []))
     ∙ length-append (filter (is_of other) given) (filter (is_of other) (bind.Site site number ∷ []))
@@ -65,11 +69,13 @@ one_counted other site number given =
     by true = refl
     by false = refl
 
-counted : (site : SiteNo) (number : ℕ) (given : List Bind) (xs : List ℕ) → site.0 < length xs → ((other : ℕ) → slice_index_or xs other 0 ≡ attachments other given)
+counted : (site : SiteNo) (number : ℕ) (given : List Bind) (xs : List ℕ) → site.0 < length xs →
+    ((other : ℕ) → slice_index_or xs other 0 ≡ attachments other given)
     → (other : ℕ) → slice_index_or (slice_set xs site.0 (slice_index_or xs site.0 0 + 1)) other 0 ≡ attachments other (given ++ bind.Site site number ∷ [])
 counted site number given xs there so_many other = elim (eqb_tells site.0 other) [
   | inl p ↦
-      subst (λ k. slice_index_or (slice_set xs site.0 (slice_index_or xs site.0 0 + 1)) k 0 ≡ slice_index_or xs k 0 + 1) p.1 (get_or-set_same xs site.0 (slice_index_or xs site.0 0 + 1) 0 there)
+      subst (λ k. slice_index_or (slice_set xs site.0 (slice_index_or xs site.0 0 + 1)) k 0 ≡ slice_index_or xs k 0 + 1) p.1
+      (get_or-set_same xs site.0 (slice_index_or xs site.0 0 + 1) 0 there)
       ∙ ap (λ n. n + 1) (so_many other)
       ∙ ap (λ b. attachments other given + (if b then 1 else 0)) (sym p.0)
       ∙ sym (one_counted other site number given)
@@ -84,8 +90,10 @@ counted site number given xs there so_many other = elim (eqb_tells site.0 other)
     none : (n : ℕ) → n ≡ n + 0
     none n = omega arith
 
-pub counted_once_more : (site : SiteNo) (number at count : ℕ) (given then_given : List Bind) (xs ys : List ℕ) → then_given ≡ given ++ bind.Site site number ∷ [] → at ≡ site.0 → count ≡ slice_index_or ys site.0 0
-    → ((other : ℕ) → slice_index_or xs other 0 ≡ slice_index_or ys other 0) → site.0 < length xs → ((other : ℕ) → slice_index_or ys other 0 ≡ attachments other given)
+pub counted_once_more : (site : SiteNo) (number at count : ℕ) (given then_given : List Bind) (xs ys : List ℕ) →
+    then_given ≡ given ++ bind.Site site number ∷ [] → at ≡ site.0 → count ≡ slice_index_or ys site.0 0
+    → ((other : ℕ) → slice_index_or xs other 0 ≡ slice_index_or ys other 0) → site.0 < length xs →
+    ((other : ℕ) → slice_index_or ys other 0 ≡ attachments other given)
     → (other : ℕ) → slice_index_or (slice_set xs at (count + 1)) other 0 ≡ attachments other then_given
 counted_once_more site number at count given then_given xs ys given_is at_is count_is same there so_many other =
     ap (λ k. slice_index_or (slice_set xs k (count + 1)) other 0) at_is
@@ -95,12 +103,25 @@ counted_once_more site number at count given then_given xs ys given_is at_is cou
 
 module _ (p : Parts) (st : Stands p) where
   -- a site has been attached, and its label is new
-  pub attached : (site : SiteNo) (label number : ℕ) (labels : LabelTable) (uses : List (ℕ × Use)) (counts : Vec ℕ Global) → label ≡ 16 + length p.labels.given → length p.labels.given ≢ 1048560
-      → labels.given ≡ p.labels.given ++ bind.Site site number ∷ [] → meaning_of p.labels.given label ≡ None → meaning_of labels.given label ≡ Some (bind.Site site number)
+  pub attached : (site : SiteNo) (label number : ℕ) (labels : LabelTable) (uses : List (ℕ × Use)) (counts : Vec ℕ Global) →
+      label ≡ 16 + length p.labels.given → length p.labels.given ≢ 1048560
+      → labels.given ≡ p.labels.given ++ bind.Site site number ∷ [] → meaning_of p.labels.given label ≡ None →
+      meaning_of labels.given label ≡ Some (bind.Site site number)
       → ((other : ℕ) → other ≢ label → meaning_of labels.given other ≡ meaning_of p.labels.given other)
       → use_of uses label ≡ Some (use_kind.Site site) → ((other : ℕ) → other ≢ label → use_of uses other ≡ use_of p.lfib other)
       → ((other : ℕ) → slice_index_or counts.items other 0 ≡ attachments other labels.given)
-      → Stands (record { me = p.me; loopbacks = p.loopbacks; view = p.view; tree = p.tree; sessions = p.sessions; lib = p.lib; labels = labels; lfib = uses; attached = counts })
+      → Stands (record {
+        me = p.me;
+        loopbacks = p.loopbacks;
+        view = p.view;
+        tree = p.tree;
+        sessions = p.sessions;
+        lib = p.lib;
+        labels = labels;
+        lfib =
+            uses;
+        attached = counts;
+      })
   attached site label number labels uses counts label_is room given_is fresh means others used uses_others so_many = record {
     view = st.view;
     nodes = st.nodes;
@@ -112,15 +133,19 @@ module _ (p : Parts) (st : Stands p) where
     tied = st.tied;
     fit = st.fit;
     given = record {
-      each = λ fec h d. others (label_of p.me.0 fec) (λ e. clash (sym fresh ∙ ap (meaning_of p.labels.given) (sym e) ∙ st.given.each fec h d)) ∙ st.given.each fec h d;
+      each = λ fec h d. others (label_of p.me.0 fec) (λ e. clash (sym fresh ∙ ap (meaning_of p.labels.given) (sym e) ∙ st.given.each fec h d))
+          ∙ st.given.each fec h d;
       only = λ at fec e. st.given.only at fec (sym (others at (λ f. differ (sym means ∙ ap (meaning_of labels.given) (sym f) ∙ e))) ∙ e);
     };
-    few = subst (λ (gs : List Bind). length gs ≤ 1048560) (sym given_is) (subst (λ n. n ≤ 1048560) (sym (length-append p.labels.given (bind.Site site number ∷ []))) (up (length p.labels.given) st.few room));
+    few = subst (λ (gs : List Bind). length gs ≤ 1048560) (sym given_is)
+        (subst (λ n. n ≤ 1048560) (sym (length-append p.labels.given (bind.Site site number ∷ []))) (up (length p.labels.given) st.few room));
     attached = so_many;
     table = λ at. elim (eqb_tells at label) [
       | inl e ↦ subst (λ k. IsUseOf (lib.usable p.lib) (meaning_of labels.given k) (use_of uses k)) (sym e.1)
-          (subst (λ m. IsUseOf (lib.usable p.lib) m (use_of uses label)) (sym means) (subst (IsUseOf (lib.usable p.lib) (Some (bind.Site site number))) (sym used) refl))
-      | inr e ↦ subst (λ m. IsUseOf (lib.usable p.lib) m (use_of uses at)) (sym (others at e.1)) (subst (IsUseOf (lib.usable p.lib) (meaning_of p.labels.given at)) (sym (uses_others at e.1)) (st.table at))
+          (subst (λ m. IsUseOf (lib.usable p.lib) m (use_of uses label)) (sym means)
+          (subst (IsUseOf (lib.usable p.lib) (Some (bind.Site site number))) (sym used) refl))
+      | inr e ↦ subst (λ m. IsUseOf (lib.usable p.lib) m (use_of uses at)) (sym (others at e.1))
+          (subst (IsUseOf (lib.usable p.lib) (meaning_of p.labels.given at)) (sym (uses_others at e.1)) (st.table at))
     ];
   }
     where
@@ -134,8 +159,20 @@ module _ (p : Parts) (st : Stands p) where
       up n h d = omega (arith, h, d)
 
   -- an attachment has ended
-  pub detached : (label : ℕ) (uses : List (ℕ × Use)) → IsAttachment (meaning_of p.labels.given label) → use_of uses label ≡ Some use_kind.Ended → ((other : ℕ) → other ≢ label → use_of uses other ≡ use_of p.lfib other)
-      → Stands (record { me = p.me; loopbacks = p.loopbacks; view = p.view; tree = p.tree; sessions = p.sessions; lib = p.lib; labels = p.labels; lfib = uses; attached = p.attached })
+  pub detached : (label : ℕ) (uses : List (ℕ × Use)) → IsAttachment (meaning_of p.labels.given label) → use_of uses label ≡ Some use_kind.Ended →
+      ((other : ℕ) → other ≢ label → use_of uses other ≡ use_of p.lfib other)
+      → Stands (record {
+        me = p.me;
+        loopbacks = p.loopbacks;
+        view = p.view;
+        tree = p.tree;
+        sessions = p.sessions;
+        lib = p.lib;
+        labels = p.labels;
+        lfib =
+            uses;
+        attached = p.attached;
+      })
   detached label uses is ended others = record {
     view = st.view;
     nodes = st.nodes;
@@ -150,7 +187,8 @@ module _ (p : Parts) (st : Stands p) where
     few = st.few;
     attached = st.attached;
     table = λ at. elim (eqb_tells at label) [
-      | inl e ↦ subst (λ k. IsUseOf (lib.usable p.lib) (meaning_of p.labels.given k) (use_of uses k)) (sym e.1) (subst (IsUseOf (lib.usable p.lib) (meaning_of p.labels.given label)) (sym ended) (over (meaning_of p.labels.given label) is))
+      | inl e ↦ subst (λ k. IsUseOf (lib.usable p.lib) (meaning_of p.labels.given k) (use_of uses k)) (sym e.1)
+          (subst (IsUseOf (lib.usable p.lib) (meaning_of p.labels.given label)) (sym ended) (over (meaning_of p.labels.given label) is))
       | inr e ↦ subst (IsUseOf (lib.usable p.lib) (meaning_of p.labels.given at)) (sym (others at e.1)) (st.table at)
     ];
   }

@@ -42,18 +42,22 @@ leads w me h l e = is_it (across w l me) h (first_passes (λ k. across w k me ==
         clash q = cc
 
 -- one neighbour's session and its row change together
-pub tied-one : (w : Wiring) (n : Node) (b : Bindings) (h l : ℕ) (session : Option Session) (row : Option (List (Option ℕ))) → AreTied w n b → joining w n.me h ≡ l ∷ [] → h < length w.loopbacks → length b.heard ≡ length w.loopbacks → l < length n.sessions
-    → is_some row ≡ is_up session → ((fec : ℕ) → is_some row ≡ true → lib.label_in row fec ≡ label_in session fec) → AreTied w (with_session n l session) (record b { heard = slice_set b.heard h row })
+pub tied-one : (w : Wiring) (n : Node) (b : Bindings) (h l : ℕ) (session : Option Session) (row : Option (List (Option ℕ))) → AreTied w n b →
+    joining w n.me h ≡ l ∷ [] → h < length w.loopbacks → length b.heard ≡ length w.loopbacks → l < length n.sessions
+    → is_some row ≡ is_up session → ((fec : ℕ) → is_some row ≡ true → lib.label_in row fec ≡ label_in session fec) →
+    AreTied w (with_session n l session) (record b { heard = slice_set b.heard h row })
 tied-one w n b h l session row tied joins below rows there up labels = record {
   one_each = tied.one_each;
   me = tied.me;
   hops = tied.hops;
   open_is = λ k m k_below j. elim (eqb_tells k h) [
     | inl p ↦ ap is_some (row_here k p.1) ∙ up ∙ sym (operational-is (with_session n l session) m ∙ ap is_up (session_here k m p.1 j))
-    | inr p ↦ ap is_some (get_or-set_other b.heard h k row None p.1) ∙ tied.open_is k m k_below j ∙ operational-is n m ∙ sym (operational-is (with_session n l session) m ∙ ap is_up (session_off k m p.1 j))
+    | inr p ↦ ap is_some (get_or-set_other b.heard h k row None p.1) ∙ tied.open_is k m k_below j ∙ operational-is n m
+        ∙ sym (operational-is (with_session n l session) m ∙ ap is_up (session_off k m p.1 j))
   ];
   labels = λ k m fec k_below j on. elim (eqb_tells k h) [
-    | inl p ↦ ap (λ r. lib.label_in r fec) (row_here k p.1) ∙ labels fec (sym (ap is_some (row_here k p.1)) ∙ on) ∙ sym (ap (λ s. label_in s fec) (session_here k m p.1 j))
+    | inl p ↦ ap (λ r. lib.label_in r fec) (row_here k p.1) ∙ labels fec (sym (ap is_some (row_here k p.1)) ∙ on)
+        ∙ sym (ap (λ s. label_in s fec) (session_here k m p.1 j))
     | inr p ↦ ap (λ r. lib.label_in r fec) (get_or-set_other b.heard h k row None p.1)
         ∙ tied.labels k m fec k_below j (sym (ap is_some (get_or-set_other b.heard h k row None p.1)) ∙ on)
         ∙ sym (ap (λ s. label_in s fec) (session_off k m p.1 j))
@@ -70,10 +74,12 @@ tied-one w n b h l session row tied joins below rows there up labels = record {
         head g = cc
 
     session_here : (k m : ℕ) → k ≡ h → joining w n.me k ≡ m ∷ [] → session_at (with_session n l session) m ≡ session
-    session_here k m e j = ap (λ x. slice_index_or (slice_set n.sessions l session) x None) (same_link k m e j) ∙ get_or-set_same n.sessions l session None there
+    session_here k m e j =
+        ap (λ x. slice_index_or (slice_set n.sessions l session) x None) (same_link k m e j) ∙ get_or-set_same n.sessions l session None there
 
     session_off : (k m : ℕ) → k ≢ h → joining w n.me k ≡ m ∷ [] → session_at (with_session n l session) m ≡ session_at n m
-    session_off k m d j = get_or-set_other n.sessions l m session None (λ e. d (sym (leads w n.me k m j) ∙ ap (λ x. across w x n.me) e ∙ leads w n.me h l joins))
+    session_off k m d j =
+        get_or-set_other n.sessions l m session None (λ e. d (sym (leads w n.me k m j) ∙ ap (λ x. across w x n.me) e ∙ leads w n.me h l joins))
 
 -- a session that opens changes no binding
 pub tied-opens : (w : Wiring) (n : Node) (b : Bindings) (l : ℕ) → session_at n l ≡ None → AreTied w n b → AreTied w (changed w n (Opens l)) b

@@ -1,5 +1,6 @@
 -- A fresh node and bindings of which nothing was heard are tied.
-use Rattle.std.proofs.Common.{ℕ, zero, suc, ◌≡◌, ◌+◌, ◌<◌, ◌≤◌, inl, inr, true, false, List, [], ◌∷◌, length, map, refl, arith, sym, ◌∙◌, ap, subst, Option, Some, None, Vec, Global}
+use Rattle.std.proofs.Common.{ℕ, zero, suc, ◌≡◌, ◌+◌, ◌<◌, ◌≤◌, inl, inr, true, false, List, [], ◌∷◌, length, map, refl, arith, sym, ◌∙◌, ap, subst, Option}
+use Rattle.std.proofs.Common.{Some, None, Vec, Global}
 use Rattle.std.specs.Prelude.{◌==◌, ◌&&◌, ◌%◌, nat_le, is_some, slice_index_or, replicate}
 use Rattle.std.specs.List.{range_with_len}
 use Rattle.std.proofs.lemmas.Bool.Decides.{eqb_tells}
@@ -70,8 +71,12 @@ pub fresh_tied : (w : Wiring) (me : NodeNo) → JoinsNodes w → me.0 < length w
 fresh_tied w me joins below = record {
   one_each = so_many (length w.loopbacks) None;
   me = refl;
-  hops = sym (map_below (λ fec. hop_alone (next w (view_in (fresh_node w me.0)) me.0 fec)) (λ fec. None) (length w.loopbacks) 0 (λ fec low high. no_hop w me.0 fec joins below) ∙ nones (length w.loopbacks) 0);
-  open_is = λ h l h_below j. ap is_some (none_there (length w.loopbacks) h) ∙ sym (ap (λ x. x.alive && nat_le 2 x.count) (hearing-in (fresh_node w me.0) l ∙ ap hearing_in (none_there (length w.ends) l)));
+  hops = sym
+      (map_below (λ fec. hop_alone (next w (view_in (fresh_node w me.0)) me.0 fec)) (λ fec. None) (length w.loopbacks) 0
+      (λ fec low high. no_hop w me.0 fec joins below) ∙ nones (length w.loopbacks) 0);
+  open_is =
+      λ h l h_below j. ap is_some (none_there (length w.loopbacks) h)
+      ∙ sym (ap (λ x. x.alive && nat_le 2 x.count) (hearing-in (fresh_node w me.0) l ∙ ap hearing_in (none_there (length w.ends) l)));
   labels = λ h l fec h_below j on. absurd (clash (sym on ∙ ap is_some (none_there (length w.loopbacks) h)));
 }
   where
@@ -94,8 +99,10 @@ no_machines zero = refl
 no_machines (suc n) = ap (λ ss. let o : List (Option Machine) = None ∷ ss in o) (no_machines n)
 
 -- the parts of a node that has learned nothing stand
-module _ (me : NodeNo) (loopbacks : Vec ℕ Global) (ends : List LinkEnds) (tree : PathTable) (sessions : Vec (Option Open) Global) (labels : LabelTable) (attached : Vec ℕ Global)
-    (below : me.0 < length loopbacks.items) (wired : IsWired (record { loopbacks = loopbacks.items; ends = ends })) (sessions_are : sessions.items ≡ replicate (length ends) None)
+module _ (me : NodeNo) (loopbacks : Vec ℕ Global) (ends : List LinkEnds) (tree : PathTable) (sessions : Vec (Option Open) Global) (labels : LabelTable)
+    (attached : Vec ℕ Global)
+    (below : me.0 < length loopbacks.items) (wired : IsWired (record { loopbacks = loopbacks.items; ends = ends }))
+    (sessions_are : sessions.items ≡ replicate (length ends) None)
     (given_are : labels.given ≡ fecs_given (length loopbacks.items) me.0) (none_attached_yet : attached.items ≡ []) where
   abbrev pub w : Wiring
   w = record { loopbacks = loopbacks.items; ends = ends }
@@ -115,7 +122,8 @@ module _ (me : NodeNo) (loopbacks : Vec ℕ Global) (ends : List LinkEnds) (tree
 
   pub node-is : node_in parts ≡ fresh_node w me.0
   node-is = ap (λ ss. let o : Node = record { me = me.0; learned = replicate (length ends) 0; sessions = ss } in o)
-      (ap (sessions_from w me.0 (nothing_heard me (length loopbacks.items)) 0) sessions_are ∙ no_sessions w me.0 (nothing_heard me (length loopbacks.items)) 0 (length ends))
+      (ap (sessions_from w me.0 (nothing_heard me (length loopbacks.items)) 0) sessions_are
+      ∙ no_sessions w me.0 (nothing_heard me (length loopbacks.items)) 0 (length ends))
 
   machines : machines_of sessions.items ≡ replicate (length ends) None
   machines = ap machines_of sessions_are ∙ no_machines (length ends)
@@ -127,13 +135,20 @@ module _ (me : NodeNo) (loopbacks : Vec ℕ Global) (ends : List LinkEnds) (tree
     me = below;
     wired = wired;
     tree = tree_is;
-    ends = record { one_each = ap length machines ∙ so_many (length ends) None; own = λ l s e. absurd (clash (sym (ap (λ ms. slice_index_or ms l None) machines ∙ none_there (length ends) l) ∙ e)) };
+    ends = record {
+      one_each = ap length machines ∙ so_many (length ends) None;
+      own =
+          λ l s e. absurd (clash (sym (ap (λ ms. slice_index_or ms l None) machines ∙ none_there (length ends) l) ∙ e));
+    };
     rows = so_many (length loopbacks.items) None;
     tied = subst (λ n. AreTied w n (nothing_heard me (length loopbacks.items))) (sym node-is) (fresh_tied w me wired.joins below);
     fit = λ neighbour fec. subst FitsLabel (sym (none_heard me (length loopbacks.items) neighbour fec)) tt;
     given = subst (AreGiven (length loopbacks.items) me.0) (sym given_are) (are_given (length loopbacks.items) me.0 below);
-    few = subst (λ n. n ≤ 1048560) (ap length (sym given_are)) (small (length (fecs_given (length loopbacks.items) me.0)) (length loopbacks.items) (few_given (length loopbacks.items) me.0) wired.spelled.few);
-    attached = λ site. ap (λ xs. slice_index_or xs site 0) none_attached_yet ∙ sym (ap (attachments site) given_are ∙ none_attached site (length loopbacks.items) me.0);
+    few = subst (λ n. n ≤ 1048560) (ap length (sym given_are))
+        (small (length (fecs_given (length loopbacks.items) me.0)) (length loopbacks.items) (few_given (length loopbacks.items) me.0) wired.spelled.few);
+    attached =
+        λ site. ap (λ xs. slice_index_or xs site 0) none_attached_yet
+        ∙ sym (ap (attachments site) given_are ∙ none_attached site (length loopbacks.items) me.0);
     table = λ label. unused label (meaning_of labels.given label) refl;
   }
     where
@@ -146,7 +161,8 @@ module _ (me : NodeNo) (loopbacks : Vec ℕ Global) (ends : List LinkEnds) (tree
       unused : (label : ℕ) (m : Option Bind) → meaning_of labels.given label ≡ m → IsUseOf (usable (nothing_heard me (length loopbacks.items))) m None
       unused label None e = refl
       unused label (Some (bind.Fec fec)) e = ap fec_use (sym (none_usable me (length loopbacks.items) fec.0))
-      unused label (Some (bind.Site site number)) e = absurd (no_site (length loopbacks.items) me.0 below label site number (ap (λ gs. meaning_of gs label) (sym given_are) ∙ e))
+      unused label (Some (bind.Site site number)) e =
+          absurd (no_site (length loopbacks.items) me.0 below label site number (ap (λ gs. meaning_of gs label) (sym given_are) ∙ e))
 
 -- the same of parts that are made so
 pub record IsMade (root : NodeNo) (addresses : List ℕ) (links : List LinkEnds) (p : Parts) : Type 0 where
@@ -160,7 +176,8 @@ pub record IsMade (root : NodeNo) (addresses : List ℕ) (links : List LinkEnds)
   pub uses : p.lfib ≡ []
   pub attached : p.attached.items ≡ []
 
-module _ (me : NodeNo) (loopbacks : List ℕ) (ends : List LinkEnds) (p : Parts) (below : me.0 < length loopbacks) (wired : IsWired (record { loopbacks = loopbacks; ends = ends })) (h : IsMade me loopbacks ends p) where
+module _ (me : NodeNo) (loopbacks : List ℕ) (ends : List LinkEnds) (p : Parts) (below : me.0 < length loopbacks)
+    (wired : IsWired (record { loopbacks = loopbacks; ends = ends })) (h : IsMade me loopbacks ends p) where
   here : me.0 < length p.loopbacks.items
   here = subst (λ xs. me.0 < length xs) (sym h.loopbacks) below
 
@@ -168,7 +185,8 @@ module _ (me : NodeNo) (loopbacks : List ℕ) (ends : List LinkEnds) (p : Parts)
   wired-here = subst (λ xs. IsWired (record { loopbacks = xs; ends = ends })) (sym h.loopbacks) wired
 
   view-is : p.view ≡ record { nodes = length p.loopbacks.items; ends = ends; counts = replicate (length ends) 0 }
-  view-is = h.view ∙ ap (λ (xs : List ℕ). let o : Learned = record { nodes = length xs; ends = ends; counts = replicate (length ends) 0 } in o) (sym h.loopbacks)
+  view-is = h.view ∙ ap (λ (xs : List ℕ). let o : Learned = record { nodes = length xs; ends = ends; counts = replicate (length ends) 0 } in
+      o) (sym h.loopbacks)
 
   lib-is : p.lib ≡ nothing_heard me (length p.loopbacks.items)
   lib-is = h.bindings ∙ ap (λ (xs : List ℕ). nothing_heard me (length xs)) (sym h.loopbacks)
@@ -179,21 +197,49 @@ module _ (me : NodeNo) (loopbacks : List ℕ) (ends : List LinkEnds) (p : Parts)
   is_of : IsOf (record { loopbacks = p.loopbacks.items; ends = ends }) p.view
   is_of = subst (IsOf (record { loopbacks = p.loopbacks.items; ends = ends })) (sym view-is) (record { nodes = refl; ends = refl })
 
-  tree-is : IsTree (record { loopbacks = p.loopbacks.items; ends = ends }) (links_up (record { nodes = length p.loopbacks.items; ends = ends; counts = replicate (length ends) 0 })) me.0 p.tree
-  tree-is = subst (λ v. IsTree (record { loopbacks = p.loopbacks.items; ends = ends }) (links_up v) me.0 p.tree) view-is (h.tree (record { loopbacks = p.loopbacks.items; ends = ends }) is_of)
+  tree-is : IsTree (record { loopbacks = p.loopbacks.items; ends = ends })
+      (links_up (record { nodes = length p.loopbacks.items; ends = ends; counts = replicate (length ends) 0 })) me.0 p.tree
+  tree-is =
+      subst (λ v. IsTree (record { loopbacks = p.loopbacks.items; ends = ends }) (links_up v) me.0 p.tree) view-is
+      (h.tree (record { loopbacks = p.loopbacks.items; ends = ends }) is_of)
 
   abbrev as_made : Parts
   as_made = parts me p.loopbacks ends p.tree p.sessions p.labels p.attached here wired-here h.sessions given-is h.attached
 
   made-is : p ≡ as_made
   made-is =
-      ap (λ (m : NodeNo). let o : Parts = record { me = m; loopbacks = p.loopbacks; view = p.view; tree = p.tree; sessions = p.sessions; lib = p.lib; labels = p.labels; lfib = p.lfib; attached = p.attached } in o) h.me
-      ∙ ap (λ (v : Learned). let o : Parts = record { me = me; loopbacks = p.loopbacks; view = v; tree = p.tree; sessions = p.sessions; lib = p.lib; labels = p.labels; lfib = p.lfib; attached = p.attached } in o) view-is
+      ap (λ (m : NodeNo). let o : Parts =
+      record {
+        me = m;
+        loopbacks = p.loopbacks;
+        view = p.view;
+        tree = p.tree;
+        sessions = p.sessions;
+        lib = p.lib;
+        labels = p.labels;
+        lfib =
+            p.lfib;
+        attached = p.attached;
+      } in o) h.me
+      ∙ ap (λ (v : Learned). let o : Parts =
+      record {
+        me = me;
+        loopbacks = p.loopbacks;
+        view = v;
+        tree = p.tree;
+        sessions = p.sessions;
+        lib = p.lib;
+        labels = p.labels;
+        lfib =
+            p.lfib;
+        attached = p.attached;
+      } in o) view-is
       ∙ ap (λ (b : Bindings). let o : Parts = record as_made { lib = b; lfib = p.lfib } in o) lib-is
       ∙ ap (λ (us : List (ℕ × Use)). let o : Parts = record as_made { lfib = us } in o) h.uses
 
   pub made-stands : Stands p
-  made-stands = subst Stands (sym made-is) (stands me p.loopbacks ends p.tree p.sessions p.labels p.attached here wired-here h.sessions given-is h.attached tree-is)
+  made-stands =
+      subst Stands (sym made-is) (stands me p.loopbacks ends p.tree p.sessions p.labels p.attached here wired-here h.sessions given-is h.attached tree-is)
 
   pub made-node : node_in p ≡ fresh_node (record { loopbacks = loopbacks; ends = ends }) me.0
   made-node =

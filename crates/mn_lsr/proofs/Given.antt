@@ -1,5 +1,6 @@
 -- The labels of FECs as they are given at the start.
-use Rattle.std.proofs.Common.{ℕ, zero, suc, ◌≡◌, ◌≢◌, ◌+◌, ◌<◌, ◌≤◌, ◌⊎◌, inl, inr, Bool, true, false, List, [], ◌∷◌, ◌++◌, length, map, filter, refl, arith, sym, ◌∙◌, ap, subst, append-nil, Option, Some, None}
+use Rattle.std.proofs.Common.{ℕ, zero, suc, ◌≡◌, ◌≢◌, ◌+◌, ◌<◌, ◌≤◌, ◌⊎◌, inl, inr, Bool, true, false, List, [], ◌∷◌, ◌++◌, length, map, filter, refl}
+use Rattle.std.proofs.Common.{arith, sym, ◌∙◌, ap, subst, append-nil, Option, Some, None}
 use Rattle.std.specs.Prelude.{◌-◌, ◌==◌, not, nat_lt, slice_get, if◌then◌else◌}
 use Rattle.std.specs.List.{range_with_len}
 use Rattle.std.proofs.lemmas.Bool.Decides.{eqb_tells}
@@ -27,12 +28,18 @@ given_from me q n = map fec_bind (filter (λ node. not (node == me)) (range_with
 one_more : (me q n : ℕ) → q ≢ me → given_from me q (suc n) ≡ fec_bind q ∷ given_from me (q + 1) n
 one_more me q n d = elim (eqb_tells q me) [
   | inl p ↦ absurd (d p.1)
-  | inr p ↦ ap (λ b. map fec_bind (if not b then q ∷ filter (λ node. not (node == me)) (range_with_len (q + 1) n) else filter (λ node. not (node == me)) (range_with_len (q + 1) n))) p.0
+  | inr p ↦ ap
+      (λ b. map fec_bind
+      (if not b then q ∷ filter (λ node. not (node == me)) (range_with_len (q + 1) n) else filter (λ node. not (node == me)) (range_with_len (q + 1) n)))
+      p.0
 ]
 
 none_here : (me q n : ℕ) → q ≡ me → given_from me q (suc n) ≡ given_from me (q + 1) n
 none_here me q n e = elim (eqb_tells q me) [
-  | inl p ↦ ap (λ b. map fec_bind (if not b then q ∷ filter (λ node. not (node == me)) (range_with_len (q + 1) n) else filter (λ node. not (node == me)) (range_with_len (q + 1) n))) p.0
+  | inl p ↦ ap
+      (λ b. map fec_bind
+      (if not b then q ∷ filter (λ node. not (node == me)) (range_with_len (q + 1) n) else filter (λ node. not (node == me)) (range_with_len (q + 1) n)))
+      p.0
   | inr p ↦ absurd (p.1 e)
 ]
 
@@ -76,7 +83,8 @@ length_less : (me q n : ℕ) → q ≤ me → me < q + n → length (given_from 
 length_less me q zero h g = absurd (none_below 0 (omega (arith, h, g)))
 length_less me q (suc n) h g = elim (eqb_tells q me) [
   | inl p ↦ subst (λ xs. length xs + 1 ≤ suc n) (sym (none_here me q n p.1)) (up (length (given_from me (q + 1) n)) n (few_from me (q + 1) n))
-  | inr p ↦ subst (λ xs. length xs + 1 ≤ suc n) (sym (one_more me q n p.1)) (next (length (given_from me (q + 1) n)) n (length_less me (q + 1) n (below q me h p.1) (omega (arith, g))))
+  | inr p ↦ subst (λ xs. length xs + 1 ≤ suc n) (sym (one_more me q n p.1))
+      (next (length (given_from me (q + 1) n)) n (length_less me (q + 1) n (below q me h p.1) (omega (arith, g))))
 ]
   where
     up : (a b : ℕ) → a ≤ b → a + 1 ≤ suc b
@@ -92,14 +100,17 @@ length_less me q (suc n) h g = elim (eqb_tells q me) [
 
 past : (me q n k : ℕ) → me < q → k < n → slice_get (given_from me q n) k ≡ Some (fec_bind (q + k))
 past me q zero k h g = absurd (none_below k g)
-past me q (suc n) zero h g = ap (λ xs. slice_get xs zero) (one_more me q n (λ e. off q me h e)) ∙ ap (λ x. let o : Option Bind = Some (fec_bind x) in o) (same q)
+past me q (suc n) zero h g = ap (λ xs. slice_get xs zero) (one_more me q n (λ e. off q me h e)) ∙ ap (λ x. let o : Option Bind = Some (fec_bind x) in
+    o) (same q)
   where
     off : (q me : ℕ) → me < q → q ≡ me → ⊥
     off q me h e = omega (arith, h, e)
 
     same : (q : ℕ) → q ≡ q + 0
     same q = omega arith
-past me q (suc n) (suc k) h g = ap (λ xs. slice_get xs (suc k)) (one_more me q n (λ e. off q me h e)) ∙ past me (q + 1) n k (omega (arith, h)) (omega (arith, g)) ∙ ap (λ x. let o : Option Bind = Some (fec_bind x) in o) (same q k)
+past me q (suc n) (suc k) h g =
+    ap (λ xs. slice_get xs (suc k)) (one_more me q n (λ e. off q me h e)) ∙ past me (q + 1) n k (omega (arith, h)) (omega (arith, g))
+    ∙ ap (λ x. let o : Option Bind = Some (fec_bind x) in o) (same q k)
   where
     off : (q me : ℕ) → me < q → q ≡ me → ⊥
     off q me h e = omega (arith, h, e)
@@ -109,7 +120,8 @@ past me q (suc n) (suc k) h g = ap (λ xs. slice_get xs (suc k)) (one_more me q 
 
 before : (me q n k : ℕ) → q + k < me → k < n → slice_get (given_from me q n) k ≡ Some (fec_bind (q + k))
 before me q zero k h g = absurd (none_below k g)
-before me q (suc n) zero h g = ap (λ xs. slice_get xs zero) (one_more me q n (λ e. off q me h e)) ∙ ap (λ x. let o : Option Bind = Some (fec_bind x) in o) (same q)
+before me q (suc n) zero h g = ap (λ xs. slice_get xs zero) (one_more me q n (λ e. off q me h e)) ∙ ap (λ x. let o : Option Bind = Some (fec_bind x) in
+    o) (same q)
   where
     off : (q me : ℕ) → q + 0 < me → q ≡ me → ⊥
     off q me h e = omega (arith, h, e)
@@ -117,7 +129,8 @@ before me q (suc n) zero h g = ap (λ xs. slice_get xs zero) (one_more me q n (�
     same : (q : ℕ) → q ≡ q + 0
     same q = omega arith
 before me q (suc n) (suc k) h g =
-    ap (λ xs. slice_get xs (suc k)) (one_more me q n (λ e. off q me k h e)) ∙ before me (q + 1) n k (omega (arith, h)) (omega (arith, g)) ∙ ap (λ x. let o : Option Bind = Some (fec_bind x) in o) (same q k)
+    ap (λ xs. slice_get xs (suc k)) (one_more me q n (λ e. off q me k h e)) ∙ before me (q + 1) n k (omega (arith, h)) (omega (arith, g))
+    ∙ ap (λ x. let o : Option Bind = Some (fec_bind x) in o) (same q k)
   where
     off : (q me k : ℕ) → q + suc k < me → q ≡ me → ⊥
     off q me k h e = omega (arith, h, e)
@@ -127,7 +140,9 @@ before me q (suc n) (suc k) h g =
 
 after : (me q n k : ℕ) → q ≤ me → me ≤ q + k → k + 1 < n → slice_get (given_from me q n) k ≡ Some (fec_bind (q + k + 1))
 after me q zero k h f g = absurd (none_below (k + 1) g)
-after me q (suc n) zero h f g = ap (λ xs. slice_get xs zero) (none_here me q n (here q me h f)) ∙ past me (q + 1) n zero (omega (arith, f)) (omega (arith, g)) ∙ ap (λ x. let o : Option Bind = Some (fec_bind x) in o) (turn q)
+after me q (suc n) zero h f g =
+    ap (λ xs. slice_get xs zero) (none_here me q n (here q me h f)) ∙ past me (q + 1) n zero (omega (arith, f)) (omega (arith, g))
+    ∙ ap (λ x. let o : Option Bind = Some (fec_bind x) in o) (turn q)
   where
     here : (q me : ℕ) → q ≤ me → me ≤ q + 0 → q ≡ me
     here q me h f = omega (arith, h, f)
@@ -135,9 +150,11 @@ after me q (suc n) zero h f g = ap (λ xs. slice_get xs zero) (none_here me q n 
     turn : (q : ℕ) → q + 1 + 0 ≡ q + 0 + 1
     turn q = omega arith
 after me q (suc n) (suc k) h f g = elim (eqb_tells q me) [
-  | inl p ↦ ap (λ xs. slice_get xs (suc k)) (none_here me q n p.1) ∙ past me (q + 1) n (suc k) (here q me p.1) (omega (arith, g)) ∙ ap (λ x. let o : Option Bind = Some (fec_bind x) in o) (turn q k)
+  | inl p ↦ ap (λ xs. slice_get xs (suc k)) (none_here me q n p.1) ∙ past me (q + 1) n (suc k) (here q me p.1) (omega (arith, g))
+      ∙ ap (λ x. let o : Option Bind = Some (fec_bind x) in o) (turn q k)
   | inr p ↦
-      ap (λ xs. slice_get xs (suc k)) (one_more me q n p.1) ∙ after me (q + 1) n k (below q me h p.1) (omega (arith, f)) (omega (arith, g)) ∙ ap (λ x. let o : Option Bind = Some (fec_bind x) in o) (last q k)
+      ap (λ xs. slice_get xs (suc k)) (one_more me q n p.1) ∙ after me (q + 1) n k (below q me h p.1) (omega (arith, f)) (omega (arith, g))
+      ∙ ap (λ x. let o : Option Bind = Some (fec_bind x) in o) (last q k)
 ]
   where
     here : (q me : ℕ) → q ≡ me → me < q + 1
@@ -165,13 +182,16 @@ second_part n me k h g = after me 0 n k (omega arith) (omega (arith, h)) g ∙ a
     same k = omega arith
 
 meant_at : (given : List Bind) (k : ℕ) → meaning_of given (16 + k) ≡ slice_get given k
-meant_at given k = ap (λ (b : Bool). let o : Option Bind = if b then None else slice_get given (16 + k - 16) in o) (not_less (16 + k) 16 (omega arith)) ∙ ap (slice_get given) (back k)
+meant_at given k =
+    ap (λ (b : Bool). let o : Option Bind = if b then None else slice_get given (16 + k - 16) in
+    o) (not_less (16 + k) 16 (omega arith)) ∙ ap (slice_get given) (back k)
   where
     back : (k : ℕ) → 16 + k - 16 ≡ k
     back k = omega arith
 
 -- what a label at a place was given for, and which place that is
-fec_at : (n me k : ℕ) → me < n → k < length (fecs_given n me) → (fec : ℕ) × (slice_get (fecs_given n me) k ≡ Some (fec_bind fec)) × (fec < n) × (fec ≢ me) × (16 + k ≡ label_of me fec)
+fec_at : (n me k : ℕ) → me < n → k < length (fecs_given n me) →
+    (fec : ℕ) × (slice_get (fecs_given n me) k ≡ Some (fec_bind fec)) × (fec < n) × (fec ≢ me) × (16 + k ≡ label_of me fec)
 fec_at n me k below within = elim (two_ways (nat_lt k me)) [
   | inl e ↦
       let h : k < me = less_tells k me e in
@@ -212,7 +232,8 @@ each_at n me fec me_below below apart = by (label_is me fec)
     by (Own p q) = absurd (apart (sym p))
     by (Below h q) = ap (meaning_of (fecs_given n me)) q ∙ meant_at (fecs_given n me) fec ∙ first_part n me fec h below
     by (Above h q) =
-        ap (meaning_of (fecs_given n me)) (q ∙ place fec h) ∙ meant_at (fecs_given n me) (fec - 1) ∙ second_part n me (fec - 1) (omega (arith, h)) (omega (arith, h, below))
+        ap (meaning_of (fecs_given n me)) (q ∙ place fec h) ∙ meant_at (fecs_given n me) (fec - 1)
+        ∙ second_part n me (fec - 1) (omega (arith, h)) (omega (arith, h, below))
         ∙ ap (λ x. let o : Option Bind = Some (fec_bind x) in o) (pred fec h)
       where
         place : (k : ℕ) → me < k → 15 + k ≡ 16 + (k - 1)
@@ -236,10 +257,13 @@ are_given n me below = record {
     back : (label : ℕ) → 16 ≤ label → 16 + (label - 16) ≡ label
     back label h = omega (arith, h)
 
-    only : (label : ℕ) (fec : NodeNo) → (nat_lt label 16 ≡ true) ⊎ (nat_lt label 16 ≡ false) → meaning_of (fecs_given n me) label ≡ Some (bind.Fec fec) → Is label fec
-    only label fec (inl t) e = absurd (none (sym (ap (λ (b : Bool). let o : Option Bind = if b then None else slice_get (fecs_given n me) (label - 16) in o) t) ∙ e))
+    only : (label : ℕ) (fec : NodeNo) → (nat_lt label 16 ≡ true) ⊎ (nat_lt label 16 ≡ false) → meaning_of (fecs_given n me) label ≡ Some (bind.Fec fec) →
+        Is label fec
+    only label fec (inl t) e =
+        absurd (none (sym (ap (λ (b : Bool). let o : Option Bind = if b then None else slice_get (fecs_given n me) (label - 16) in o) t) ∙ e))
     only label fec (inr t) e =
-        let there : slice_get (fecs_given n me) (label - 16) ≡ Some (bind.Fec fec) = sym (ap (λ (b : Bool). let o : Option Bind = if b then None else slice_get (fecs_given n me) (label - 16) in o) t) ∙ e in
+        let there : slice_get (fecs_given n me) (label - 16) ≡ Some (bind.Fec fec) =
+        sym (ap (λ (b : Bool). let o : Option Bind = if b then None else slice_get (fecs_given n me) (label - 16) in o) t) ∙ e in
         let at = fec_at n me (label - 16) below (slice_get_within (fecs_given n me) (label - 16) (bind.Fec fec) there) in
         subst (Is label) (same (sym at.1 ∙ there)) (at.2, at.3, sym (back label (not_less_tells label 16 t)) ∙ at.4)
 
@@ -256,7 +280,8 @@ no_site n me below label site number e = by (two_ways (nat_lt label 16))
     by : (nat_lt label 16 ≡ true) ⊎ (nat_lt label 16 ≡ false) → ⊥
     by (inl t) = none (sym (ap (λ (b : Bool). let o : Option Bind = if b then None else slice_get (fecs_given n me) (label - 16) in o) t) ∙ e)
     by (inr t) =
-        let there : slice_get (fecs_given n me) (label - 16) ≡ Some (bind.Site site number) = sym (ap (λ (b : Bool). let o : Option Bind = if b then None else slice_get (fecs_given n me) (label - 16) in o) t) ∙ e in
+        let there : slice_get (fecs_given n me) (label - 16) ≡ Some (bind.Site site number) =
+        sym (ap (λ (b : Bool). let o : Option Bind = if b then None else slice_get (fecs_given n me) (label - 16) in o) t) ∙ e in
         let at = fec_at n me (label - 16) below (slice_get_within (fecs_given n me) (label - 16) (bind.Site site number) there) in
         differ (sym at.1 ∙ there)
 

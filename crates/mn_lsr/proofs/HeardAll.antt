@@ -1,11 +1,10 @@
 -- A node that hears messages one after another.
-use Rattle.std.proofs.Common.{ℕ, suc, ◌≡◌, ◌+◌, ◌<◌, List, [], ◌∷◌, ◌++◌, length, drop, refl, arith, sym, ◌∙◌, ap, subst, Option, Some, None}
+use Rattle.std.proofs.Common.{ℕ, suc, ◌≡◌, ◌+◌, ◌<◌, List, ◌∷◌, ◌++◌, length, drop, refl, arith, sym, ◌∙◌, ap, subst, Option, Some, None}
 use Rattle.std.specs.Prelude.{slice_index_or, option_map}
 use Rattle.std.proofs.Math.Seq.{drop-cons}
 use Rattle.std.proofs.lemmas.List.{append_assoc}
 use Rattle.mn_base.specs.Wiring.{Wiring}
 use Rattle.mn_ldp_wire.specs.declared.message.LdpId.{LdpId}
-use Rattle.mn_ldp_wire.specs.declared.message.LdpBody.{LdpBody}
 use Rattle.mn_ldp_wire.specs.declared.message.LdpMessage.{LdpMessage}
 use Rattle.mn_ldp_session.specs.declared.refusal.SessionBad.{SessionBad}
 use Rattle.mn_ldp_session.specs.declared.session.Session.{Session as Machine}
@@ -24,12 +23,15 @@ module _ (messages : List LdpMessage) (i : ℕ) (d : LdpMessage) (below : i < le
   seam : drop i messages ≡ slice_index_or messages i d ∷ drop (i + 1) messages
   seam = drop-cons messages i d below ∙ ap (λ k. slice_index_or messages i d ∷ drop k messages) (next i)
 
-  pub said-step : (w : Wiring) (l : ℕ) (n then_n : Node) (out then_out : List Pdu) → then_n ≡ (after_message w l n (message_in w (slice_index_or messages i d).body)).node
-      → then_out ≡ out ++ (after_message w l n (message_in w (slice_index_or messages i d).body)).said → then_out ++ (after_messages w l then_n (drop (i + 1) messages)).said ≡ out ++ (after_messages w l n (drop i messages)).said
+  pub said-step : (w : Wiring) (l : ℕ) (n then_n : Node) (out then_out : List Pdu) →
+      then_n ≡ (after_message w l n (message_in w (slice_index_or messages i d).body)).node
+      → then_out ≡ out ++ (after_message w l n (message_in w (slice_index_or messages i d).body)).said →
+      then_out ++ (after_messages w l then_n (drop (i + 1) messages)).said ≡ out ++ (after_messages w l n (drop i messages)).said
   said-step w l n then_n out then_out e f =
       ap (λ xs. xs ++ (after_messages w l then_n (drop (i + 1) messages)).said) f
       ∙ ap (λ m. (out ++ (after_message w l n (message_in w (slice_index_or messages i d).body)).said) ++ (after_messages w l m (drop (i + 1) messages)).said) e
-      ∙ append_assoc out (after_message w l n (message_in w (slice_index_or messages i d).body)).said (after_messages w l (after_message w l n (message_in w (slice_index_or messages i d).body)).node (drop (i + 1) messages)).said
+      ∙ append_assoc out (after_message w l n (message_in w (slice_index_or messages i d).body)).said
+      (after_messages w l (after_message w l n (message_in w (slice_index_or messages i d).body)).node (drop (i + 1) messages)).said
       ∙ ap (λ ms. out ++ (after_messages w l n ms).said) (sym seam)
 
   pub node-step : (w : Wiring) (l : ℕ) (n then_n : Node) → then_n ≡ (after_message w l n (message_in w (slice_index_or messages i d).body)).node
@@ -37,12 +39,23 @@ module _ (messages : List LdpMessage) (i : ℕ) (d : LdpMessage) (below : i < le
   node-step w l n then_n e = ap (λ m. (after_messages w l m (drop (i + 1) messages)).node) e ∙ ap (λ ms. (after_messages w l n ms).node) (sym seam)
 
   both : (session : Machine) (from : LdpId) → first_refusal session from (slice_index_or messages i d ∷ drop (i + 1) messages) ≡ None
-      → (refusal session from (slice_index_or messages i d).body ≡ None) × (first_refusal (record session { state = then_state session.state (kind_of (slice_index_or messages i d).body) }) from (drop (i + 1) messages) ≡ None)
+      → (refusal session from (slice_index_or messages i d).body ≡ None)
+      × (first_refusal (record session { state = then_state session.state (kind_of (slice_index_or messages i d).body) }) from
+      (drop (i + 1) messages) ≡ None)
   both session from e = by (refusal session from (slice_index_or messages i d).body) refl e
     where
       by : (o : Option SessionBad) → refusal session from (slice_index_or messages i d).body ≡ o
-          → (let r : Option SessionBad = elim o [ Some why ↦ Some why | None ↦ first_refusal (record session { state = then_state session.state (kind_of (slice_index_or messages i d).body) }) from (drop (i + 1) messages) ] in r) ≡ None
-          → (refusal session from (slice_index_or messages i d).body ≡ None) × (first_refusal (record session { state = then_state session.state (kind_of (slice_index_or messages i d).body) }) from (drop (i + 1) messages) ≡ None)
+          → (let r : Option SessionBad =
+          elim o [
+            | Some why ↦ Some why
+            | None ↦ first_refusal (record session {
+              state =
+                  then_state session.state (kind_of (slice_index_or messages i d).body);
+            }) from (drop (i + 1) messages)
+          ] in r) ≡ None
+          → (refusal session from (slice_index_or messages i d).body ≡ None)
+          × (first_refusal (record session { state = then_state session.state (kind_of (slice_index_or messages i d).body) }) from
+          (drop (i + 1) messages) ≡ None)
       by None f g = (f, g)
       by (Some why) f g = cc
 
@@ -51,10 +64,13 @@ module _ (messages : List LdpMessage) (i : ℕ) (d : LdpMessage) (below : i < le
   split None from a = absurd a
   split (Some end) from a = let two = both end.session from (ap (first_refusal end.session from) (sym seam) ∙ a) in (two.0, two.1)
 
-  pub accepts-one : (ends : List (Option Open)) (l : ℕ) (from : LdpId) → AcceptsAll (slice_index_or (machines_of ends) l None) from (drop i messages) → Accepts (slice_index_or ends l None) from (slice_index_or messages i d).body
+  pub accepts-one : (ends : List (Option Open)) (l : ℕ) (from : LdpId) → AcceptsAll (slice_index_or (machines_of ends) l None) from (drop i messages) →
+      Accepts (slice_index_or ends l None) from (slice_index_or messages i d).body
   accepts-one ends l from a = (split (slice_index_or ends l None) from (subst (λ o. AcceptsAll o from (drop i messages)) (machine-at ends l) a)).0
 
   pub accepts-rest : (ends then_ends : List (Option Open)) (l : ℕ) (from : LdpId) → AcceptsAll (slice_index_or (machines_of ends) l None) from (drop i messages)
-      → slice_index_or (machines_of then_ends) l None ≡ machine_then (slice_index_or ends l None) (slice_index_or messages i d).body → AcceptsAll (slice_index_or (machines_of then_ends) l None) from (drop (i + 1) messages)
+      → slice_index_or (machines_of then_ends) l None ≡ machine_then (slice_index_or ends l None) (slice_index_or messages i d).body →
+      AcceptsAll (slice_index_or (machines_of then_ends) l None) from (drop (i + 1) messages)
   accepts-rest ends then_ends l from a e =
-      subst (λ o. AcceptsAll o from (drop (i + 1) messages)) (sym e) (split (slice_index_or ends l None) from (subst (λ o. AcceptsAll o from (drop i messages)) (machine-at ends l) a)).1
+      subst (λ o. AcceptsAll o from (drop (i + 1) messages)) (sym e)
+      (split (slice_index_or ends l None) from (subst (λ o. AcceptsAll o from (drop i messages)) (machine-at ends l) a)).1

@@ -1,5 +1,6 @@
 -- A node that hears a message.
-use Rattle.std.proofs.Common.{ℕ, ◌≡◌, ◌≢◌, ◌+◌, ◌<◌, ◌≤◌, ◌^◌, ◌⊎◌, inl, inr, Bool, true, false, cond, List, [], ◌∷◌, ◌++◌, length, refl, arith, sym, ◌∙◌, ap, subst, append-nil, replicate, Option, Some, None}
+use Rattle.std.proofs.Common.{ℕ, ◌≡◌, ◌≢◌, ◌<◌, ◌^◌, inl, inr, Bool, true, false, List, [], ◌∷◌, ◌++◌, length, refl, arith, sym, ◌∙◌, ap, subst, replicate}
+use Rattle.std.proofs.Common.{Option, Some, None}
 use Rattle.std.specs.Prelude.{◌==◌, ◌||◌, not, nat_le, is_some, slice_index_or, slice_set, option_map, position, if◌then◌else◌, ⊤}
 use Rattle.std.specs.List.{flat_map}
 use Rattle.std.proofs.lemmas.Bool.Decides.{eqb_tells}
@@ -10,7 +11,7 @@ use Rattle.std.proofs.lemmas.List.Quantifiers.{position-Some}
 use Rattle.mn_base.specs.declared.numbers.NodeNo.{NodeNo}
 use Rattle.mn_base.specs.declared.states.LdpState.{LdpState}
 use Rattle.mn_base.specs.declared.states.LdpState.TheVariants.{Initialized, OpenSent, OpenRec, Operational}
-use Rattle.mn_base.specs.Wiring.{Wiring, is_end, across, joining}
+use Rattle.mn_base.specs.Wiring.{Wiring, is_end, across}
 use Rattle.mn_prefix.specs.Prefix.{AddressBlock}
 use Rattle.mn_ldp_wire.specs.declared.message.LdpBody.{LdpBody}
 use Rattle.mn_ldp_wire.specs.declared.message.LdpBody.TheVariants as says
@@ -20,9 +21,9 @@ use Rattle.mn_lib.specs.declared.event.LibEvent.TheVariants as event
 use Rattle.mn_lib.specs.Bindings.{row_of, is_open, with_label, nodes, EventsFit, after_events}
 use Rattle.mn_lib.specs.Bindings as lib
 use Rattle.mn_lib.specs.Tells.{opens, releases}
-use Rattle.mn_node.specs.Ldp.{Message, Initialization, KeepAlive, Address, Mapping, Withdraw, Release, Said, said_on, state_after, answer}
-use Rattle.mn_node.specs.Node.{Session, Node, session_at, count_by}
-use Rattle.mn_node.specs.Machine.{loopback_of, Hears, with_session, labels_after, session_after, changed, answers, answer_in}
+use Rattle.mn_node.specs.Ldp.{Message, Initialization, KeepAlive, Address, Mapping, Withdraw, Release, said_on, state_after, answer}
+use Rattle.mn_node.specs.Node.{Session, session_at, count_by}
+use Rattle.mn_node.specs.Machine.{loopback_of, Hears, with_session, labels_after, session_after, answer_in}
 use Rattle.mn_node.proofs.Lists.{none_there}
 use Rattle.mn_ldp_session.specs.declared.kind.LdpKind.{LdpKind}
 use Rattle.mn_ldp_session.specs.declared.kind.LdpKind.TheVariants as kind
@@ -40,7 +41,7 @@ use Rattle.mn_lsr.specs.Parts.{FitsLabel, IsOwn, machines_of, wiring_in, node_in
 use Rattle.mn_lsr.proofs.Changing.{is_up}
 use Rattle.mn_lsr.proofs.Saying.{at-is}
 use Rattle.mn_lsr.proofs.Sessions.{IsOwnAt, own-at, machine-at, machines-set}
-use Rattle.mn_lsr.proofs.Closing.{only, below, same_row, row-at, operational-at, session-is, session_with, one}
+use Rattle.mn_lsr.proofs.Closing.{only, below, same_row, row-at, operational-at, session-is, one}
 use Rattle.mn_lsr.proofs.After.{Happens}
 
 -- 1. What a body says
@@ -69,34 +70,64 @@ some_same e = cc
 node-below : (w : Wiring) (prefix : AddressBlock) (fec : ℕ) → node_of w prefix ≡ Some fec → fec < length w.loopbacks
 node-below w prefix fec e = by (prefix.length == 32) e
   where
-    by : (b : Bool) → (let o : Option ℕ = if b then position (λ loopback. loopback == prefix.address) w.loopbacks else None in o) ≡ Some fec → fec < length w.loopbacks
+    by : (b : Bool) → (let o : Option ℕ = if b then position (λ loopback. loopback == prefix.address) w.loopbacks else None in o) ≡ Some fec →
+        fec < length w.loopbacks
     by true f = (position-Some (λ loopback. loopback == prefix.address) w.loopbacks fec 0 f).0
     by false f = cc
 
-pub meant-is : (w : Wiring) (body : LdpBody) (message : Message) (label : ℕ) → IsLawful body → message_in w body ≡ Some (message, label) → IsMeant w body message label
+pub meant-is : (w : Wiring) (body : LdpBody) (message : Message) (label : ℕ) → IsLawful body → message_in w body ≡ Some (message, label) →
+    IsMeant w body message label
 meant-is w (says.Notification status about k) message label lawful e = absurd (none e)
   where
     none : {x : Message × ℕ} → None ≡ Some x → ⊥
     none f = cc
 meant-is w (says.Initialization version keepalive flags limit greatest receiver) message label lawful e =
-    subst (λ (x : Message × ℕ). IsMeant w (says.Initialization version keepalive flags limit greatest receiver) x.0 x.1) (some_same e) (record { kind_is = refl; node = tt; label_fits = tt })
-meant-is w says.KeepAlive message label lawful e = subst (λ (x : Message × ℕ). IsMeant w says.KeepAlive x.0 x.1) (some_same e) (record { kind_is = refl; node = tt; label_fits = tt })
-meant-is w (says.Address addresses) message label lawful e = subst (λ (x : Message × ℕ). IsMeant w (says.Address addresses) x.0 x.1) (some_same e) (record { kind_is = refl; node = tt; label_fits = tt })
+    subst (λ (x : Message × ℕ). IsMeant w (says.Initialization version keepalive flags limit greatest receiver) x.0 x.1) (some_same e) (record {
+      kind_is =
+          refl;
+      node = tt;
+      label_fits = tt;
+    })
+meant-is w says.KeepAlive message label lawful e =
+    subst (λ (x : Message × ℕ). IsMeant w says.KeepAlive x.0 x.1) (some_same e) (record { kind_is = refl; node = tt; label_fits = tt })
+meant-is w (says.Address addresses) message label lawful e =
+    subst (λ (x : Message × ℕ). IsMeant w (says.Address addresses) x.0 x.1) (some_same e) (record { kind_is = refl; node = tt; label_fits = tt })
 meant-is w (says.Mapping prefix given) message label lawful e = by (node_of w prefix) refl e
   where
-    by : (o : Option ℕ) → node_of w prefix ≡ o → option_map (λ (fec : ℕ). let x : Message × ℕ = (Mapping fec, given) in x) o ≡ Some (message, label) → IsMeant w (says.Mapping prefix given) message label
+    by : (o : Option ℕ) → node_of w prefix ≡ o → option_map (λ (fec : ℕ). let x : Message × ℕ = (Mapping fec, given) in x) o ≡ Some (message, label) →
+        IsMeant w (says.Mapping prefix given) message label
     by None f g = cc
-    by (Some fec) f g = subst (λ (x : Message × ℕ). IsMeant w (says.Mapping prefix given) x.0 x.1) (some_same g) (record { kind_is = refl; node = node-below w prefix fec f; label_fits = lawful.is_label })
+    by (Some fec) f g =
+        subst (λ (x : Message × ℕ). IsMeant w (says.Mapping prefix given) x.0 x.1) (some_same g) (record {
+          kind_is = refl;
+          node =
+              node-below w prefix fec f;
+          label_fits = lawful.is_label;
+        })
 meant-is w (says.Withdraw prefix given) message label lawful e = by (node_of w prefix) refl e
   where
-    by : (o : Option ℕ) → node_of w prefix ≡ o → option_map (λ (fec : ℕ). let x : Message × ℕ = (Withdraw fec, given) in x) o ≡ Some (message, label) → IsMeant w (says.Withdraw prefix given) message label
+    by : (o : Option ℕ) → node_of w prefix ≡ o → option_map (λ (fec : ℕ). let x : Message × ℕ = (Withdraw fec, given) in x) o ≡ Some (message, label) →
+        IsMeant w (says.Withdraw prefix given) message label
     by None f g = cc
-    by (Some fec) f g = subst (λ (x : Message × ℕ). IsMeant w (says.Withdraw prefix given) x.0 x.1) (some_same g) (record { kind_is = refl; node = node-below w prefix fec f; label_fits = lawful.is_label })
+    by (Some fec) f g =
+        subst (λ (x : Message × ℕ). IsMeant w (says.Withdraw prefix given) x.0 x.1) (some_same g) (record {
+          kind_is = refl;
+          node =
+              node-below w prefix fec f;
+          label_fits = lawful.is_label;
+        })
 meant-is w (says.Release prefix given) message label lawful e = by (node_of w prefix) refl e
   where
-    by : (o : Option ℕ) → node_of w prefix ≡ o → option_map (λ (fec : ℕ). let x : Message × ℕ = (Release fec, 0) in x) o ≡ Some (message, label) → IsMeant w (says.Release prefix given) message label
+    by : (o : Option ℕ) → node_of w prefix ≡ o → option_map (λ (fec : ℕ). let x : Message × ℕ = (Release fec, 0) in x) o ≡ Some (message, label) →
+        IsMeant w (says.Release prefix given) message label
     by None f g = cc
-    by (Some fec) f g = subst (λ (x : Message × ℕ). IsMeant w (says.Release prefix given) x.0 x.1) (some_same g) (record { kind_is = refl; node = node-below w prefix fec f; label_fits = tt })
+    by (Some fec) f g =
+        subst (λ (x : Message × ℕ). IsMeant w (says.Release prefix given) x.0 x.1) (some_same g) (record {
+          kind_is = refl;
+          node =
+              node-below w prefix fec f;
+          label_fits = tt;
+        })
 
 -- 2. Labels
 
@@ -104,7 +135,8 @@ label-small : (label : ℕ) → IsLabel label → label < 2 ^ 20
 label-small label (inl e) = omega (arith, e)
 label-small label (inr h) = h.1
 
-fit-set : (labels : List (Option ℕ)) (fec : ℕ) (x : Option ℕ) → FitsLabel x → ((k : ℕ) → FitsLabel (slice_index_or labels k None)) → (k : ℕ) → FitsLabel (slice_index_or (slice_set labels fec x) k None)
+fit-set : (labels : List (Option ℕ)) (fec : ℕ) (x : Option ℕ) → FitsLabel x → ((k : ℕ) → FitsLabel (slice_index_or labels k None)) →
+    (k : ℕ) → FitsLabel (slice_index_or (slice_set labels fec x) k None)
 fit-set labels fec x h fit k = elim (eqb_tells k fec) [
   | inl p ↦ elim (leb_tells (length labels) fec) [
     | inl q ↦ subst FitsLabel (sym (get_or_past (slice_set labels fec x) k None (omega (arith, q.1, p.1, length-set labels fec x)))) tt
@@ -113,7 +145,8 @@ fit-set labels fec x h fit k = elim (eqb_tells k fec) [
   | inr p ↦ subst FitsLabel (sym (get_or-set_other labels fec k x None p.1)) (fit k)
 ]
 
-fit-with : (r : Option (List (Option ℕ))) (fec : ℕ) (x : Option ℕ) → FitsLabel x → ((k : ℕ) → FitsLabel (lib.label_in r k)) → (k : ℕ) → FitsLabel (lib.label_in (with_label r fec x) k)
+fit-with : (r : Option (List (Option ℕ))) (fec : ℕ) (x : Option ℕ) → FitsLabel x → ((k : ℕ) → FitsLabel (lib.label_in r k)) →
+    (k : ℕ) → FitsLabel (lib.label_in (with_label r fec x) k)
 fit-with None fec x h fit k = tt
 fit-with (Some labels) fec x h fit k = fit-set labels fec x h fit k
 
@@ -121,7 +154,8 @@ some-with : (r : Option (List (Option ℕ))) (fec : ℕ) (x : Option ℕ) → is
 some-with None fec x = refl
 some-with (Some labels) fec x = refl
 
-labels-with : (n : ℕ) (r : Option (List (Option ℕ))) (fec : ℕ) (x : Option ℕ) → is_some r ≡ true → slice_set (labels_in n r) fec x ≡ labels_in n (with_label r fec x)
+labels-with : (n : ℕ) (r : Option (List (Option ℕ))) (fec : ℕ) (x : Option ℕ) → is_some r ≡ true →
+    slice_set (labels_in n r) fec x ≡ labels_in n (with_label r fec x)
 labels-with n None fec x e = cc
 labels-with n (Some labels) fec x e = refl
 
@@ -162,16 +196,25 @@ module _ (p : Parts) (st : Stands p) (l : ℕ) (there : l < length p.view.ends) 
   heard_end next = record { session = record end.session { state = next }; said = end.said }
 
   own_then : (next : LdpState) → IsOwnAt (wiring_in p) p.me.0 l (Some (heard_end next))
-  own_then next x e = record { at_end = at_end; me_is = ap (λ (m : Machine). m.me) (sym (same e)) ∙ ours.me_is; peer_is = ap (λ (m : Machine). m.peer) (sym (same e)) ∙ ours.peer_is }
+  own_then next x e =
+      record {
+        at_end = at_end;
+        me_is = ap (λ (m : Machine). m.me) (sym (same e)) ∙ ours.me_is;
+        peer_is =
+            ap (λ (m : Machine). m.peer) (sym (same e)) ∙ ours.peer_is;
+      }
     where
       same : Some (heard_end next) ≡ Some x → record end.session { state = next } ≡ x.session
       same f = ap (λ (o : Open). o.session) (some_same f)
 
   -- the message changes the session and the row to these
-  heard : (m : Message) (label : ℕ) (next : LdpState) (es : List LibEvent) (new_row : Option (List (Option ℕ))) (reply : Reply) → state_after end.session.state m ≡ next
+  heard : (m : Message) (label : ℕ) (next : LdpState) (es : List LibEvent) (new_row : Option (List (Option ℕ))) (reply : Reply) →
+      state_after end.session.state m ≡ next
       → after_events p.lib es ≡ record p.lib { heard = slice_set p.lib.heard (across (wiring_in p) l p.me.0) new_row }
-      → labels_after (labels_in (length p.loopbacks.items) (row_of p.lib (across (wiring_in p) l p.me.0))) m label ≡ labels_in (length p.loopbacks.items) new_row
-      → is_some new_row ≡ nat_le 2 (count_by next) → (nat_le 2 (count_by next) ≡ true → nat_le 2 (count_by end.session.state) ≡ not (opens es (across (wiring_in p) l p.me.0)))
+      → labels_after (labels_in (length p.loopbacks.items) (row_of p.lib (across (wiring_in p) l p.me.0))) m label ≡ labels_in
+      (length p.loopbacks.items) new_row
+      → is_some new_row ≡ nat_le 2 (count_by next) →
+      (nat_le 2 (count_by next) ≡ true → nat_le 2 (count_by end.session.state) ≡ not (opens es (across (wiring_in p) l p.me.0)))
       → ((h : ℕ) → h ≢ across (wiring_in p) l p.me.0 → opens es h ≡ false)
       → said_on l p.me.0 (answer end.session.state m) ≡ said_on l p.me.0 (replied reply) ++ flat_map (said_by_tell (wiring_in p) p.me.0) (releases es)
       → ((fec : ℕ) → FitsLabel (lib.label_in new_row fec)) → EventsFit p.lib es
@@ -179,27 +222,40 @@ module _ (p : Parts) (st : Stands p) (l : ℕ) (there : l < length p.view.ends) 
   heard m label next es new_row reply next_is lib_is labels_are up was off answered fit fits =
       one p st l there at_end (Hears l m label) es (Some (heard_end next)) new_row (replied reply) lib_is
       (ap (λ s. with_session (node_in p) l (option_map (session_after m label) s)) session_there
-      ∙ ap (λ s. with_session (node_in p) l (let o : Option Session = Some (record { state = s; said = end.said; labels = labels_after (labels_in (length p.loopbacks.items) (row_of p.lib (across (wiring_in p) l p.me.0))) m label }) in o)) next_is
+      ∙ ap (λ s. with_session (node_in p) l (let o : Option Session =
+      Some (record {
+        state = s;
+        said = end.said;
+        labels =
+            labels_after (labels_in (length p.loopbacks.items) (row_of p.lib (across (wiring_in p) l p.me.0))) m label;
+      }) in o)) next_is
       ∙ ap (λ ls. with_session (node_in p) l (let o : Option Session = Some (record { state = next; said = end.said; labels = ls }) in o))
       (labels_are ∙ ap (labels_in (length p.loopbacks.items)) (sym (row-at p st l there at_end new_row))))
       up (λ on. up-is ∙ was on) off (ap (λ s. said_on l p.me.0 (answer_in s m)) session_there ∙ answered) (own_then next) fit fits
 
   -- a message before the session is OPERATIONAL changes no row
-  before : (m : Message) (label : ℕ) (next : LdpState) (reply : Reply) → state_after end.session.state m ≡ next → nat_le 2 (count_by end.session.state) ≡ false → nat_le 2 (count_by next) ≡ false
-      → ((labels : List (Option ℕ)) → labels_after labels m label ≡ labels) → said_on l p.me.0 (answer end.session.state m) ≡ said_on l p.me.0 (replied reply) ++ []
+  before : (m : Message) (label : ℕ) (next : LdpState) (reply : Reply) → state_after end.session.state m ≡ next →
+      nat_le 2 (count_by end.session.state) ≡ false → nat_le 2 (count_by next) ≡ false
+      → ((labels : List (Option ℕ)) → labels_after labels m label ≡ labels) →
+      said_on l p.me.0 (answer end.session.state m) ≡ said_on l p.me.0 (replied reply) ++ []
       → Happens p (Hears l m label) p.view.counts [] (slice_set p.sessions.items l (Some (heard_end next))) l (replied reply)
   before m label next reply next_is off off_then same answered =
-      heard m label next [] old_row reply next_is (same_row p st l there at_end) (same (labels_in (length p.loopbacks.items) old_row)) (open-is ∙ off ∙ sym off_then) (λ on. absurd (clash (sym on ∙ off_then))) (λ h d. refl) answered
+      heard m label next [] old_row reply next_is (same_row p st l there at_end) (same (labels_in (length p.loopbacks.items) old_row))
+      (open-is ∙ off ∙ sym off_then) (λ on. absurd (clash (sym on ∙ off_then))) (λ h d. refl) answered
       (λ fec. st.fit (across (wiring_in p) l p.me.0) fec) tt
 
   -- the session begins
-  began : (label : ℕ) → end.session.state ≡ OpenRec → Happens p (Hears l KeepAlive label) p.view.counts (event.Opened (record { 0 = across (wiring_in p) l p.me.0 }) ∷ []) (slice_set p.sessions.items l (Some (heard_end Operational))) l (replied begins)
+  began : (label : ℕ) → end.session.state ≡ OpenRec →
+      Happens p (Hears l KeepAlive label) p.view.counts (event.Opened (record { 0 = across (wiring_in p) l p.me.0 }) ∷ [])
+      (slice_set p.sessions.items l (Some (heard_end Operational))) l (replied begins)
   began label e =
       let off : nat_le 2 (count_by end.session.state) ≡ false = ap (λ s. nat_le 2 (count_by s)) e in
       let row_none : old_row ≡ None = none old_row (open-is ∙ off) in
-      heard KeepAlive label Operational (event.Opened (record { 0 = across (wiring_in p) l p.me.0 }) ∷ []) (Some (replicate (nodes p.lib) None)) begins (ap (λ s. state_after s KeepAlive) e) refl
+      heard KeepAlive label Operational (event.Opened (record { 0 = across (wiring_in p) l p.me.0 }) ∷ []) (Some (replicate (nodes p.lib) None)) begins
+      (ap (λ s. state_after s KeepAlive) e) refl
       (ap (labels_in (length p.loopbacks.items)) row_none ∙ ap (λ k. let o : List (Option ℕ) = replicate k None in o) (sym st.tied.one_each)) refl
-      (λ on. off ∙ sym (ap (λ b. not (b || false)) (test_same (across (wiring_in p) l p.me.0)))) (λ h d. ap (λ b. b || false) (test_other (across (wiring_in p) l p.me.0) h d))
+      (λ on. off ∙ sym (ap (λ b. not (b || false)) (test_same (across (wiring_in p) l p.me.0))))
+      (λ h d. ap (λ b. b || false) (test_other (across (wiring_in p) l p.me.0) h d))
       (ap (λ s. said_on l p.me.0 (answer s KeepAlive)) e) (λ fec. subst FitsLabel (sym (none_there (nodes p.lib) fec)) tt)
       ((omega (arith, below p st l there at_end, st.tied.one_each), open-is ∙ off), tt)
     where
@@ -215,48 +271,75 @@ module _ (p : Parts) (st : Stands p) (l : ℕ) (there : l < length p.view.ends) 
     fits_far = omega (arith, below p st l there at_end, st.tied.one_each)
 
     -- a message that says nothing of labels
-    idle : (m : Message) (label : ℕ) → state_after Operational m ≡ Operational → ((labels : List (Option ℕ)) → labels_after labels m label ≡ labels) → answer Operational m ≡ []
+    idle : (m : Message) (label : ℕ) → state_after Operational m ≡ Operational →
+        ((labels : List (Option ℕ)) → labels_after labels m label ≡ labels) → answer Operational m ≡ []
         → Happens p (Hears l m label) p.view.counts [] (slice_set p.sessions.items l (Some (heard_end Operational))) l (replied says_nothing)
     idle m label stays same quiet =
-        heard m label Operational [] old_row says_nothing (ap (λ s. state_after s m) up ∙ stays) (same_row p st l there at_end) (same (labels_in (length p.loopbacks.items) old_row)) (open-is ∙ on) (λ f. on) (λ h d. refl)
+        heard m label Operational [] old_row says_nothing (ap (λ s. state_after s m) up ∙ stays) (same_row p st l there at_end)
+        (same (labels_in (length p.loopbacks.items) old_row)) (open-is ∙ on) (λ f. on) (λ h d. refl)
         (ap (λ s. said_on l p.me.0 (answer s m)) up ∙ ap (said_on l p.me.0) quiet) (λ fec. st.fit (across (wiring_in p) l p.me.0) fec) tt
 
     mapped : (fec label : ℕ) → fec < length p.loopbacks.items → IsLabel label
-        → Happens p (Hears l (Mapping fec) label) p.view.counts (event.Map (record { 0 = across (wiring_in p) l p.me.0 }) (record { 0 = fec }) label ∷ []) (slice_set p.sessions.items l (Some (heard_end Operational))) l (replied says_nothing)
+        → Happens p (Hears l (Mapping fec) label) p.view.counts (event.Map (record { 0 = across (wiring_in p) l p.me.0 }) (record { 0 = fec }) label ∷ [])
+        (slice_set p.sessions.items l (Some (heard_end Operational))) l (replied says_nothing)
     mapped fec label fec_below is_label =
-        heard (Mapping fec) label Operational (event.Map (record { 0 = across (wiring_in p) l p.me.0 }) (record { 0 = fec }) label ∷ []) (with_label old_row fec (Some label)) says_nothing (ap (λ s. state_after s (Mapping fec)) up) refl
-        (labels-with (length p.loopbacks.items) old_row fec (Some label) (open-is ∙ on)) (some-with old_row fec (Some label) ∙ open-is ∙ on) (λ f. on) (λ h d. refl) (ap (λ s. said_on l p.me.0 (answer s (Mapping fec))) up)
-        (fit-with old_row fec (Some label) (label-small label is_label) (λ k. st.fit (across (wiring_in p) l p.me.0) k)) ((fits_far, open-is ∙ on, omega (arith, fec_below, st.tied.one_each)), tt)
+        heard (Mapping fec) label Operational (event.Map (record { 0 = across (wiring_in p) l p.me.0 }) (record { 0 = fec }) label ∷ [])
+        (with_label old_row fec (Some label)) says_nothing (ap (λ s. state_after s (Mapping fec)) up) refl
+        (labels-with (length p.loopbacks.items) old_row fec (Some label) (open-is ∙ on)) (some-with old_row fec (Some label) ∙ open-is ∙ on) (λ f. on)
+        (λ h d. refl) (ap (λ s. said_on l p.me.0 (answer s (Mapping fec))) up)
+        (fit-with old_row fec (Some label) (label-small label is_label) (λ k. st.fit (across (wiring_in p) l p.me.0) k))
+        ((fits_far, open-is ∙ on, omega (arith, fec_below, st.tied.one_each)), tt)
 
     withdrawn : (fec label : ℕ) → fec < length p.loopbacks.items
-        → Happens p (Hears l (Withdraw fec) label) p.view.counts (event.Withdraw (record { 0 = across (wiring_in p) l p.me.0 }) (record { 0 = fec }) ∷ []) (slice_set p.sessions.items l (Some (heard_end Operational))) l (replied says_nothing)
+        → Happens p (Hears l (Withdraw fec) label) p.view.counts (event.Withdraw (record { 0 = across (wiring_in p) l p.me.0 }) (record { 0 = fec }) ∷ [])
+        (slice_set p.sessions.items l (Some (heard_end Operational))) l (replied says_nothing)
     withdrawn fec label fec_below =
-        heard (Withdraw fec) label Operational (event.Withdraw (record { 0 = across (wiring_in p) l p.me.0 }) (record { 0 = fec }) ∷ []) (with_label old_row fec None) says_nothing (ap (λ s. state_after s (Withdraw fec)) up) refl
+        heard (Withdraw fec) label Operational (event.Withdraw (record { 0 = across (wiring_in p) l p.me.0 }) (record { 0 = fec }) ∷ [])
+        (with_label old_row fec None) says_nothing (ap (λ s. state_after s (Withdraw fec)) up) refl
         (labels-with (length p.loopbacks.items) old_row fec None (open-is ∙ on)) (some-with old_row fec None ∙ open-is ∙ on) (λ f. on) (λ h d. refl)
-        (ap (λ s. said_on l p.me.0 (answer s (Withdraw fec))) up ∙ sym (ap (λ ls. flat_map (λ k. said_on k p.me.0 (Release fec ∷ [])) ls ++ []) (only p st l there at_end)))
-        (fit-with old_row fec None tt (λ k. st.fit (across (wiring_in p) l p.me.0) k)) ((fits_far, open-is ∙ on, omega (arith, fec_below, st.tied.one_each)), tt)
+        (ap (λ s. said_on l p.me.0 (answer s (Withdraw fec))) up
+        ∙ sym (ap (λ ls. flat_map (λ k. said_on k p.me.0 (Release fec ∷ [])) ls ++ []) (only p st l there at_end)))
+        (fit-with old_row fec None tt (λ k. st.fit (across (wiring_in p) l p.me.0) k))
+        ((fits_far, open-is ∙ on, omega (arith, fec_below, st.tied.one_each)), tt)
 
   abbrev IsHearing : Message → ℕ → Reply → LdpState → Type 0
-  IsHearing m label reply next = Happens p (Hears l m label) p.view.counts (heard_by (record { 0 = across (wiring_in p) l p.me.0 }) reply.became_operational m label) (slice_set p.sessions.items l (Some (heard_end next))) l (replied reply)
+  IsHearing m label reply next =
+      Happens p (Hears l m label) p.view.counts (heard_by (record { 0 = across (wiring_in p) l p.me.0 }) reply.became_operational m label)
+      (slice_set p.sessions.items l (Some (heard_end next))) l (replied reply)
 
-  by_table : (state : LdpState) (m : Message) (label : ℕ) → end.session.state ≡ state → SpeaksOfNode (wiring_in p) m → BringsLabel m label → (o : Option (Reply × LdpState)) → row state (kind_as m) ≡ o → (reply : Reply) (next : LdpState)
+  by_table : (state : LdpState) (m : Message) (label : ℕ) → end.session.state ≡ state → SpeaksOfNode (wiring_in p) m → BringsLabel m label →
+      (o : Option (Reply × LdpState)) → row state (kind_as m) ≡ o → (reply : Reply) (next : LdpState)
       → o ≡ Some (reply, next) → IsHearing m label reply next
   by_table Initialized Initialization label e node fits o f reply next g =
-      subst (λ (x : Reply × LdpState). IsHearing Initialization label x.0 x.1) (some_same (f ∙ g)) (before Initialization label OpenRec says_both (ap (λ s. state_after s Initialization) e) (ap (λ s. nat_le 2 (count_by s)) e) refl (λ ls. refl) (ap (λ s. said_on l p.me.0 (answer s Initialization)) e))
+      subst (λ (x : Reply × LdpState). IsHearing Initialization label x.0 x.1) (some_same (f ∙ g))
+      (before Initialization label OpenRec says_both (ap (λ s. state_after s Initialization) e) (ap (λ s. nat_le 2 (count_by s)) e) refl (λ ls. refl)
+      (ap (λ s. said_on l p.me.0 (answer s Initialization)) e))
   by_table OpenSent Initialization label e node fits o f reply next g =
-      subst (λ (x : Reply × LdpState). IsHearing Initialization label x.0 x.1) (some_same (f ∙ g)) (before Initialization label OpenRec says_keep (ap (λ s. state_after s Initialization) e) (ap (λ s. nat_le 2 (count_by s)) e) refl (λ ls. refl) (ap (λ s. said_on l p.me.0 (answer s Initialization)) e))
-  by_table OpenRec KeepAlive label e node fits o f reply next g = subst (λ (x : Reply × LdpState). IsHearing KeepAlive label x.0 x.1) (some_same (f ∙ g)) (began label e)
-  by_table Operational KeepAlive label e node fits o f reply next g = subst (λ (x : Reply × LdpState). IsHearing KeepAlive label x.0 x.1) (some_same (f ∙ g)) (idle e KeepAlive label refl (λ ls. refl) refl)
-  by_table Operational Address label e node fits o f reply next g = subst (λ (x : Reply × LdpState). IsHearing Address label x.0 x.1) (some_same (f ∙ g)) (idle e Address label refl (λ ls. refl) refl)
-  by_table Operational (Release fec) label e node fits o f reply next g = subst (λ (x : Reply × LdpState). IsHearing (Release fec) label x.0 x.1) (some_same (f ∙ g)) (idle e (Release fec) label refl (λ ls. refl) refl)
-  by_table Operational (Mapping fec) label e node fits o f reply next g = subst (λ (x : Reply × LdpState). IsHearing (Mapping fec) label x.0 x.1) (some_same (f ∙ g)) (mapped e fec label node fits)
-  by_table Operational (Withdraw fec) label e node fits o f reply next g = subst (λ (x : Reply × LdpState). IsHearing (Withdraw fec) label x.0 x.1) (some_same (f ∙ g)) (withdrawn e fec label node)
+      subst (λ (x : Reply × LdpState). IsHearing Initialization label x.0 x.1) (some_same (f ∙ g))
+      (before Initialization label OpenRec says_keep (ap (λ s. state_after s Initialization) e) (ap (λ s. nat_le 2 (count_by s)) e) refl (λ ls. refl)
+      (ap (λ s. said_on l p.me.0 (answer s Initialization)) e))
+  by_table OpenRec KeepAlive label e node fits o f reply next g =
+      subst (λ (x : Reply × LdpState). IsHearing KeepAlive label x.0 x.1) (some_same (f ∙ g)) (began label e)
+  by_table Operational KeepAlive label e node fits o f reply next g =
+      subst (λ (x : Reply × LdpState). IsHearing KeepAlive label x.0 x.1) (some_same (f ∙ g)) (idle e KeepAlive label refl (λ ls. refl) refl)
+  by_table Operational Address label e node fits o f reply next g =
+      subst (λ (x : Reply × LdpState). IsHearing Address label x.0 x.1) (some_same (f ∙ g)) (idle e Address label refl (λ ls. refl) refl)
+  by_table Operational (Release fec) label e node fits o f reply next g =
+      subst (λ (x : Reply × LdpState). IsHearing (Release fec) label x.0 x.1) (some_same (f ∙ g)) (idle e (Release fec) label refl (λ ls. refl) refl)
+  by_table Operational (Mapping fec) label e node fits o f reply next g =
+      subst (λ (x : Reply × LdpState). IsHearing (Mapping fec) label x.0 x.1) (some_same (f ∙ g)) (mapped e fec label node fits)
+  by_table Operational (Withdraw fec) label e node fits o f reply next g =
+      subst (λ (x : Reply × LdpState). IsHearing (Withdraw fec) label x.0 x.1) (some_same (f ∙ g)) (withdrawn e fec label node)
   by_table state m label e node fits o f reply next g = cc
 
-  pub hearing : (body : LdpBody) (m : Message) (label : ℕ) (reply : Reply) (next : LdpState) → IsMeant (wiring_in p) body m label → row end.session.state (kind_of body) ≡ Some (reply, next) → IsHearing m label reply next
-  hearing body m label reply next meant f = by_table end.session.state m label refl meant.node meant.label_fits (row end.session.state (kind_as m)) refl reply next (ap (row end.session.state) (sym meant.kind_is) ∙ f)
+  pub hearing : (body : LdpBody) (m : Message) (label : ℕ) (reply : Reply) (next : LdpState) → IsMeant (wiring_in p) body m label →
+      row end.session.state (kind_of body) ≡ Some (reply, next) → IsHearing m label reply next
+  hearing body m label reply next meant f =
+      by_table end.session.state m label refl meant.node meant.label_fits (row end.session.state (kind_as m)) refl reply next
+      (ap (row end.session.state) (sym meant.kind_is) ∙ f)
 
-  pub may_release : (m : Message) (label : ℕ) (began : Bool) → SpeaksOfNode (wiring_in p) m → BringsLabel m label → MayTell (length p.loopbacks.items) label (releases (heard_by (record { 0 = across (wiring_in p) l p.me.0 }) began m label))
+  pub may_release : (m : Message) (label : ℕ) (began : Bool) → SpeaksOfNode (wiring_in p) m → BringsLabel m label →
+      MayTell (length p.loopbacks.items) label (releases (heard_by (record { 0 = across (wiring_in p) l p.me.0 }) began m label))
   may_release Initialization label true node fits = tt
   may_release Initialization label false node fits = tt
   may_release KeepAlive label true node fits = tt
@@ -271,42 +354,56 @@ module _ (p : Parts) (st : Stands p) (l : ℕ) (there : l < length p.view.ends) 
   may_release (Release fec) label false node fits = tt
 
   -- the same by the state machine that the session has then, and by the events that were made
-  pub hearing-as : (body : LdpBody) (m : Message) (label : ℕ) (reply : Reply) (machine : Machine) (to : NodeNo) (es : List LibEvent) (ends : List (Option Open)) → IsMeant (wiring_in p) body m label
-      → row end.session.state (kind_of body) ≡ Some (reply, machine.state) → machine ≡ record end.session { state = machine.state } → to.0 ≡ across (wiring_in p) l p.me.0 → es ≡ heard_by to reply.became_operational m label
+  pub hearing-as : (body : LdpBody) (m : Message) (label : ℕ) (reply : Reply) (machine : Machine) (to : NodeNo) (es : List LibEvent)
+      (ends : List (Option Open)) → IsMeant (wiring_in p) body m label
+      → row end.session.state (kind_of body) ≡ Some (reply, machine.state) → machine ≡ record end.session { state = machine.state } →
+      to.0 ≡ across (wiring_in p) l p.me.0 → es ≡ heard_by to reply.became_operational m label
       → ends ≡ slice_set p.sessions.items l (Some (record { session = machine; said = end.said }))
       → Happens p (Hears l m label) p.view.counts es ends l (replied reply) × MayTell (length p.loopbacks.items) label (releases es)
   hearing-as body m label reply machine to es ends meant f e g i j =
-      let es_are : es ≡ heard_by (record { 0 = across (wiring_in p) l p.me.0 }) reply.became_operational m label = i ∙ ap (λ k. heard_by (let o : NodeNo = record { 0 = k } in o) reply.became_operational m label) g in
-      let ends_are : ends ≡ slice_set p.sessions.items l (Some (heard_end machine.state)) = j ∙ ap (λ x. slice_set p.sessions.items l (let o : Option Open = Some (record { session = x; said = end.said }) in o)) e in (
+      let es_are : es ≡ heard_by (record { 0 = across (wiring_in p) l p.me.0 }) reply.became_operational m label =
+      i ∙ ap (λ k. heard_by (let o : NodeNo = record { 0 = k } in o) reply.became_operational m label) g in
+      let ends_are : ends ≡ slice_set p.sessions.items l (Some (heard_end machine.state)) =
+      j ∙ ap (λ x. slice_set p.sessions.items l (let o : Option Open = Some (record { session = x; said = end.said }) in o)) e in (
         subst (λ xs. Happens p (Hears l m label) p.view.counts xs ends l (replied reply)) (sym es_are)
-            (subst (λ xs. Happens p (Hears l m label) p.view.counts (heard_by (record { 0 = across (wiring_in p) l p.me.0 }) reply.became_operational m label) xs l (replied reply)) (sym ends_are) (hearing body m label reply machine.state meant f)),
-        subst (λ xs. MayTell (length p.loopbacks.items) label (releases xs)) (sym es_are) (may_release m label reply.became_operational meant.node meant.label_fits),
+            (subst (λ xs. Happens p (Hears l m label) p.view.counts
+            (heard_by (record { 0 = across (wiring_in p) l p.me.0 }) reply.became_operational m label) xs l (replied reply)) (sym ends_are)
+            (hearing body m label reply machine.state meant f)),
+        subst (λ xs. MayTell (length p.loopbacks.items) label (releases xs)) (sym es_are)
+            (may_release m label reply.became_operational meant.node meant.label_fits),
       )
 
   -- the state machine then
-  pub machine-heard : (body : LdpBody) (reply : Reply) (machine : Machine) (ends : List (Option Open)) → row end.session.state (kind_of body) ≡ Some (reply, machine.state) → machine ≡ record end.session { state = machine.state }
-      → ends ≡ slice_set p.sessions.items l (Some (record { session = machine; said = end.said })) → slice_index_or (machines_of ends) l None ≡ machine_then (slice_index_or p.sessions.items l None) body
+  pub machine-heard : (body : LdpBody) (reply : Reply) (machine : Machine) (ends : List (Option Open)) →
+      row end.session.state (kind_of body) ≡ Some (reply, machine.state) → machine ≡ record end.session { state = machine.state }
+      → ends ≡ slice_set p.sessions.items l (Some (record { session = machine; said = end.said })) →
+      slice_index_or (machines_of ends) l None ≡ machine_then (slice_index_or p.sessions.items l None) body
   machine-heard body reply machine ends f e j =
-      ap (λ xs. slice_index_or (machines_of xs) l None) j ∙ ap (λ ms. slice_index_or ms l None) (machines-set p.sessions.items l (Some (record { session = machine; said = end.said })))
+      ap (λ xs. slice_index_or (machines_of xs) l None) j
+      ∙ ap (λ ms. slice_index_or ms l None) (machines-set p.sessions.items l (Some (record { session = machine; said = end.said })))
       ∙ get_or-set_same (machines_of p.sessions.items) l (Some machine) None (omega (arith, there, st.ends.one_each))
-      ∙ ap (λ m. let o : Option Machine = Some m in o) (e ∙ ap (λ s. let o : Machine = record end.session { state = s } in o) (sym (ap (state_by end.session.state) f)))
+      ∙ ap (λ m. let o : Option Machine = Some m in
+      o) (e ∙ ap (λ s. let o : Machine = record end.session { state = s } in o) (sym (ap (state_by end.session.state) f)))
       ∙ sym (ap (λ o. machine_then o body) is)
 
 -- the state machine of a session is that of the node's end
-pub machine-over : (p : Parts) (st : Stands p) (l : ℕ) (session : Session) → session_at (node_in p) l ≡ Some session → slice_index_or (machines_of p.sessions.items) l None ≡ Some (session_over (wiring_in p) l (node_in p) session)
+pub machine-over : (p : Parts) (st : Stands p) (l : ℕ) (session : Session) → session_at (node_in p) l ≡ Some session →
+    slice_index_or (machines_of p.sessions.items) l None ≡ Some (session_over (wiring_in p) l (node_in p) session)
 machine-over p st l session e = by (slice_index_or p.sessions.items l None) refl
   where
     at : session_at (node_in p) l ≡ option_map (session_in (wiring_in p) p.me.0 p.lib l) (slice_index_or p.sessions.items l None)
     at = at-is (wiring_in p) p.me.0 p.lib p.sessions.items 0 l l (omega arith)
 
-    by : (o : Option Open) → slice_index_or p.sessions.items l None ≡ o → slice_index_or (machines_of p.sessions.items) l None ≡ Some (session_over (wiring_in p) l (node_in p) session)
+    by : (o : Option Open) → slice_index_or p.sessions.items l None ≡ o →
+        slice_index_or (machines_of p.sessions.items) l None ≡ Some (session_over (wiring_in p) l (node_in p) session)
     by None f = absurd (none (sym (at ∙ ap (option_map (session_in (wiring_in p) p.me.0 p.lib l)) f) ∙ e))
       where
         none : None ≡ Some session → ⊥
         none g = cc
     by (Some end) f =
         let own : IsOwn (wiring_in p) p.me.0 l end.session = (own-at (wiring_in p) p.me.0 p.sessions.items l end st.ends f).0 in
-        let same : session_in (wiring_in p) p.me.0 p.lib l end ≡ session = some_same (sym (at ∙ ap (option_map (session_in (wiring_in p) p.me.0 p.lib l)) f) ∙ e) in
+        let same : session_in (wiring_in p) p.me.0 p.lib l end ≡ session =
+        some_same (sym (at ∙ ap (option_map (session_in (wiring_in p) p.me.0 p.lib l)) f) ∙ e) in
         machine-at p.sessions.items l ∙ ap (option_map (λ (x : Open). x.session)) f
         ∙ ap (λ a. let o : Option Machine = Some (record { me = a; peer = end.session.peer; state = end.session.state }) in o) own.me_is
         ∙ ap (λ a. let o : Option Machine = Some (record { me = loopback_of (wiring_in p) p.me.0; peer = a; state = end.session.state }) in o) own.peer_is

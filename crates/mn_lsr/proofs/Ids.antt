@@ -4,7 +4,6 @@ use Rattle.std.specs.Int.{byte_at, bytes_high_first}
 use Rattle.std.specs.Prelude.{◌/◌, ◌%◌}
 use Rattle.mn_ldp_wire.specs.declared.message.LdpBody.{LdpBody}
 use Rattle.mn_ldp_wire.specs.declared.message.LdpId.{LdpId}
-use Rattle.mn_ldp_wire.specs.declared.message.LdpMessage.{LdpMessage}
 use Rattle.mn_ldp_wire.specs.Grammar.{written, written_message, framed, type_of, mandatory_tlvs, ldp_id}
 
 four_bytes : (n : ℕ) → bytes_high_first 4 (n % 4294967296) ≡ bytes_high_first 4 n
@@ -26,7 +25,9 @@ four_bytes n = ap (λ a. a ∷ byte_at 2 m ∷ byte_at 1 m ∷ byte_at 0 m ∷ [
     fourth : (n : ℕ) → n % 4294967296 / 16777216 % 256 ≡ n / 16777216 % 256
     fourth n = omega arith
 
-pub written_low : (from : LdpId) (body : LdpBody) (n : ℕ) → written from (record { id = n % 4294967296; body = body }) ≡ written from (record { id = n; body = body })
+pub written_low : (from : LdpId) (body : LdpBody) (n : ℕ) →
+    written from (record { id = n % 4294967296; body = body }) ≡ written from (record { id = n; body = body })
 unfolding written written_message
 written_low from body n =
-    ap (λ (id : List ℕ). bytes_high_first 2 1 ++ bytes_high_first 2 (6 + length (framed (type_of body) (id ++ mandatory_tlvs body))) ++ ldp_id from ++ framed (type_of body) (id ++ mandatory_tlvs body)) (four_bytes n)
+    ap (λ (id : List ℕ). bytes_high_first 2 1 ++ bytes_high_first 2 (6 + length (framed (type_of body) (id ++ mandatory_tlvs body))) ++ ldp_id from ++
+    framed (type_of body) (id ++ mandatory_tlvs body)) (four_bytes n)

@@ -1,27 +1,25 @@
 -- What a node says and hears inside the network.
-use Rattle.std.proofs.Common.{ℕ, zero, suc, ◌≡◌, ◌+◌, ◌<◌, ◌≤◌, Bool, true, false, List, [], ◌∷◌, ◌++◌, length, map, refl, arith, sym, ◌∙◌, ap, subst, append-nil, Option, Some, None, Ok, Result}
-use Rattle.std.specs.Prelude.{◌%◌, ◌&&◌, if◌then◌else◌, slice_index_or, ⊤}
+use Rattle.std.proofs.Common.{ℕ, suc, ◌≡◌, ◌+◌, ◌<◌, ◌≤◌, Bool, true, false, List, [], ◌∷◌, ◌++◌, length, refl, arith, sym, ◌∙◌, ap, subst, append-nil}
+use Rattle.std.proofs.Common.{Option, Some, None, Ok, Result}
+use Rattle.std.specs.Prelude.{◌%◌, ◌&&◌, if◌then◌else◌, ⊤}
 use Rattle.std.specs.List.{flat_map}
 use Rattle.std.proofs.lemmas.List.{length-map}
 use Rattle.std.proofs.lemmas.List.FromFn.{length-range_with_len}
 use Rattle.mn_base.specs.Wiring.{Wiring, across, nodes_of}
 use Rattle.mn_base.specs.declared.states.LdpState.{LdpState}
 use Rattle.mn_base.specs.declared.states.LdpState.TheVariants.{Initialized, OpenSent, OpenRec, Operational}
-use Rattle.mn_ldp_wire.specs.declared.message.LdpId.{LdpId}
 use Rattle.mn_ldp_wire.specs.declared.message.LdpBody.{LdpBody}
-use Rattle.mn_ldp_wire.specs.declared.refusal.WireBad.{WireBad}
 use Rattle.mn_ldp_wire.specs.Message.{PduContents}
 use Rattle.mn_ldp_wire.specs.Grammar.{written}
-use Rattle.mn_ldp_wire.specs.Reading.{pdu_of}
-use Rattle.mn_ldp_session.specs.declared.refusal.SessionBad.{SessionBad}
 use Rattle.mn_ldp_session.specs.Table.{refusal}
-use Rattle.mn_ldp_session.specs.Spelling.{Pdu, pdu, pdus, pdu_in_network, withdrawn_by, body_of, id_of, message_in, count_of, one_said, AreSpelled, SpeaksOfNode, IsHeardAsSaid}
+use Rattle.mn_ldp_session.specs.Spelling.{Pdu, pdus, pdu_in_network, withdrawn_by, body_of, id_of, count_of, one_said, AreSpelled, SpeaksOfNode, IsHeardAsSaid}
 use Rattle.mn_ldp_session.proofs.Hearable.{heard_as_said}
-use Rattle.mn_node.specs.Ldp.{Message, Initialization, KeepAlive, Address, Mapping, Withdraw, Release, Said, said_on, answer, Knowledge, is_operational, mention, mentioned_on, mentioned_from, offered, offers, by_neighbour, news}
+use Rattle.mn_node.specs.Ldp.{Message, Initialization, KeepAlive, Address, Mapping, Withdraw, Release, Said, said_on, answer, Knowledge, is_operational}
+use Rattle.mn_node.specs.Ldp.{mention, mentioned_on, mentioned_from, offered, offers, by_neighbour, news}
 use Rattle.mn_node.specs.Node.{Session, Node, session_at, knowledge_in, label_of, label_brought}
 use Rattle.mn_node.specs.Machine.{Event, Learns, Opens, Closes, Hears, loopback_of, speaks_first, changed, answers, answer_in, said, after_event}
 use Rattle.mn_lsr.proofs.Ids.{written_low}
-use Rattle.mn_lsr.specs.Hearing.{Heard, after_bytes, after_read, after_tried, after_messages, after_message, session_over, first_refusal}
+use Rattle.mn_lsr.specs.Hearing.{Heard, after_bytes, after_read, after_tried, after_message, session_over}
 use Rattle.mn_lsr.specs.declared.refusal.LsrBad.{LsrBad}
 use Rattle.mn_lsr.specs.InNetwork.{IsHeardInside, SpeakOfNodes, label_withdrawn, pdus_in_network, SpeaksInside, IsHeardAsOne, MayBeHeard}
 
@@ -40,7 +38,8 @@ abbrev AreInside : Wiring → ℕ → ℕ → List Said → Type 0
 AreInside w me withdrawn [] = ⊤
 AreInside w me withdrawn (x ∷ xs) = IsInside w me withdrawn x × AreInside w me withdrawn xs
 
-inside-append : (w : Wiring) (me withdrawn : ℕ) (xs ys : List Said) → AreInside w me withdrawn xs → AreInside w me withdrawn ys → AreInside w me withdrawn (xs ++ ys)
+inside-append : (w : Wiring) (me withdrawn : ℕ) (xs ys : List Said) → AreInside w me withdrawn xs → AreInside w me withdrawn ys →
+    AreInside w me withdrawn (xs ++ ys)
 inside-append w me withdrawn [] ys h g = g
 inside-append w me withdrawn (x ∷ xs) ys h g = (h.0, inside-append w me withdrawn xs ys h.1 g)
 
@@ -54,16 +53,20 @@ module _ (w : Wiring) (before after : Knowledge) (me withdrawn : ℕ) where
   of-mention true false true fec l h = ((h, tt), tt)
   of-mention true true false fec l h = ((h, tt), tt)
 
-  of-links : (fec : ℕ) (was is : Bool) (ls : List ℕ) → fec < length w.loopbacks → AreInside w me withdrawn (flat_map (mentioned_on before after me fec was is) ls)
+  of-links : (fec : ℕ) (was is : Bool) (ls : List ℕ) → fec < length w.loopbacks →
+      AreInside w me withdrawn (flat_map (mentioned_on before after me fec was is) ls)
   of-links fec was is [] h = tt
   of-links fec was is (l ∷ ls) h =
-      inside-append w me withdrawn (mentioned_on before after me fec was is l) (flat_map (mentioned_on before after me fec was is) ls) (of-mention (is_operational after l) (is_operational before l && was) is fec l h) (of-links fec was is ls h)
+      inside-append w me withdrawn (mentioned_on before after me fec was is l) (flat_map (mentioned_on before after me fec was is) ls)
+      (of-mention (is_operational after l) (is_operational before l && was) is fec l h) (of-links fec was is ls h)
 
-  of-fecs : (ls : List ℕ) (fec : ℕ) (weres ares : List Bool) → fec + length ares ≤ length w.loopbacks → AreInside w me withdrawn (mentioned_from before after me ls fec weres ares)
+  of-fecs : (ls : List ℕ) (fec : ℕ) (weres ares : List Bool) → fec + length ares ≤ length w.loopbacks →
+      AreInside w me withdrawn (mentioned_from before after me ls fec weres ares)
   of-fecs ls fec [] ares h = tt
   of-fecs ls fec (was ∷ weres) [] h = tt
   of-fecs ls fec (was ∷ weres) (is ∷ ares) h =
-      inside-append w me withdrawn (flat_map (mentioned_on before after me fec was is) ls) (mentioned_from before after me ls (fec + 1) weres ares) (of-links fec was is ls (first (length ares) h)) (of-fecs ls (fec + 1) weres ares (rest (length ares) h))
+      inside-append w me withdrawn (flat_map (mentioned_on before after me fec was is) ls) (mentioned_from before after me ls (fec + 1) weres ares)
+      (of-links fec was is ls (first (length ares) h)) (of-fecs ls (fec + 1) weres ares (rest (length ares) h))
     where
       first : (n : ℕ) → fec + suc n ≤ length w.loopbacks → fec < length w.loopbacks
       first n h = omega (arith, h)
@@ -73,7 +76,9 @@ module _ (w : Wiring) (before after : Knowledge) (me withdrawn : ℕ) where
 
   of-news : AreInside w me withdrawn (news w before after me)
   unfolding news
-  of-news = of-fecs (by_neighbour w me) 0 (offered w before me) (offered w after me) (as_many (length (offered w after me)) (length-map (nodes_of w) (offers w after me) ∙ length-range_with_len 0 (length w.loopbacks)))
+  of-news =
+      of-fecs (by_neighbour w me) 0 (offered w before me) (offered w after me)
+      (as_many (length (offered w after me)) (length-map (nodes_of w) (offers w after me) ∙ length-range_with_len 0 (length w.loopbacks)))
     where
       as_many : (n : ℕ) → n ≡ length w.loopbacks → 0 + n ≤ length w.loopbacks
       as_many n e = omega (arith, e)
@@ -84,7 +89,8 @@ of-first : (w : Wiring) (me l : ℕ) (b : Bool) → AreInside w me 0 (if b then 
 of-first w me l true = ((tt, tt), tt)
 of-first w me l false = tt
 
-of-answer : (w : Wiring) (me l : ℕ) (state : LdpState) (message : Message) → SpeaksOfNode w message → AreInside w me (label_brought (across w l me) message) (said_on l me (answer state message))
+of-answer : (w : Wiring) (me l : ℕ) (state : LdpState) (message : Message) → SpeaksOfNode w message →
+    AreInside w me (label_brought (across w l me) message) (said_on l me (answer state message))
 of-answer w me l Initialized Initialization h = ((tt, tt), ((tt, tt), tt))
 of-answer w me l OpenSent Initialization h = ((tt, tt), tt)
 of-answer w me l OpenRec Initialization h = tt
@@ -122,7 +128,8 @@ of-answers w n (Hears l message label) h = subst (λ k. AreInside w n.me k (said
 
 are-inside : (w : Wiring) (n : Node) (e : Event) → IsHeardInside w n e → AreInside w n.me (label_withdrawn e) (said w n e)
 are-inside w n e h =
-    inside-append w n.me (label_withdrawn e) (answers w n e) (news w (knowledge_in n) (knowledge_in (changed w n e)) n.me) (of-answers w n e h) (of-news w (knowledge_in n) (knowledge_in (changed w n e)) n.me (label_withdrawn e))
+    inside-append w n.me (label_withdrawn e) (answers w n e) (news w (knowledge_in n) (knowledge_in (changed w n e)) n.me) (of-answers w n e h)
+    (of-news w (knowledge_in n) (knowledge_in (changed w n e)) n.me (label_withdrawn e))
 
 -- 4. How it looks
 
@@ -130,7 +137,8 @@ nodes-of : (w : Wiring) (me withdrawn : ℕ) (xs : List Said) → AreInside w me
 nodes-of w me withdrawn [] h = tt
 nodes-of w me withdrawn (x ∷ xs) h = (h.0.0, nodes-of w me withdrawn xs h.1)
 
-same-body : (w : Wiring) (me l withdrawn : ℕ) (message : Message) → IsReleased w me withdrawn l message → body_of w me (across w l me) withdrawn message ≡ body_of w me (across w l me) (withdrawn_by (across w l me) message) message
+same-body : (w : Wiring) (me l withdrawn : ℕ) (message : Message) → IsReleased w me withdrawn l message →
+    body_of w me (across w l me) withdrawn message ≡ body_of w me (across w l me) (withdrawn_by (across w l me) message) message
 same-body w me l withdrawn Initialization h = refl
 same-body w me l withdrawn KeepAlive h = refl
 same-body w me l withdrawn Address h = refl
@@ -141,7 +149,9 @@ same-body w me l withdrawn (Release fec) h = ap (λ k. body_of w me (across w l 
 looks-alike : (w : Wiring) (withdrawn : ℕ) (n : Node) (xs : List Said) → AreInside w n.me withdrawn xs → pdus w withdrawn n xs ≡ pdus_in_network w n xs
 looks-alike w withdrawn n [] h = refl
 looks-alike w withdrawn n (x ∷ xs) h =
-    ap (λ (body : LdpBody). (let o : Pdu = record { link = x.link; bytes = written (id_of w n.me) (record { id = count_of (session_at n x.link) + 1; body = body }) } in o) ∷ pdus w withdrawn (one_said n x.link) xs) (same-body w n.me x.link withdrawn x.message h.0.1)
+    ap (λ (body : LdpBody). (let o : Pdu =
+    record { link = x.link; bytes = written (id_of w n.me) (record { id = count_of (session_at n x.link) + 1; body = body }) } in
+    o) ∷ pdus w withdrawn (one_said n x.link) xs) (same-body w n.me x.link withdrawn x.message h.0.1)
     ∙ ap (λ ps. pdu_in_network w x.link n.me (count_of (session_at n x.link) + 1) x.message ∷ ps) (looks-alike w withdrawn (one_said n x.link) xs h.1)
 
 me-stays : (w : Wiring) (n : Node) (e : Event) → (changed w n e).me ≡ n.me
@@ -153,20 +163,25 @@ me-stays w n (Hears l message label) = refl
 pub speaks : (w : Wiring) (n : Node) (e : Event) → IsHeardInside w n e → SpeaksInside w n e
 speaks w n e h = record {
   nodes = nodes-of w n.me (label_withdrawn e) (said w n e) (are-inside w n e h);
-  looks = looks-alike w (label_withdrawn e) (changed w n e) (said w n e) (subst (λ me. AreInside w me (label_withdrawn e) (said w n e)) (sym (me-stays w n e)) (are-inside w n e h));
+  looks = looks-alike w (label_withdrawn e) (changed w n e) (said w n e)
+      (subst (λ me. AreInside w me (label_withdrawn e) (said w n e)) (sym (me-stays w n e)) (are-inside w n e h));
 }
 
 -- 5. How it is heard
 
-pub heard : (w : Wiring) (l far id : ℕ) (message : Message) (n : Node) (s : Session) → AreSpelled w → MayBeHeard w l far message n s → IsHeardAsOne w l far id message n s
+pub heard : (w : Wiring) (l far id : ℕ) (message : Message) (n : Node) (s : Session) → AreSpelled w → MayBeHeard w l far message n s →
+    IsHeardAsOne w l far id message n s
 heard w l far id message n s spelled may =
     ap (λ k. after_bytes w l n s (written (id_of w far) (record { id = id; body = body_of w far k (withdrawn_by k message) message }))) may.this_end
     ∙ ap (after_bytes w l n s) (sym (written_low (id_of w far) body id))
     ∙ ap (after_read w l n (session_over w l n s)) is.read
     ∙ ap (after_tried w l n pdu) (ap (λ o. elim o [ Some why ↦ Some why | None ↦ None ]) accepted)
-    ∙ ap (λ (o : Option (Message × ℕ)). let r : Result Heard LsrBad = Ok (record { node = (after_message w l n o).node; said = (after_message w l n o).said ++ [] }) in r) is.meaning
+    ∙ ap (λ (o : Option (Message × ℕ)). let r : Result Heard LsrBad =
+    Ok (record { node = (after_message w l n o).node; said = (after_message w l n o).said ++ [] }) in r) is.meaning
     ∙ ap (λ (ps : List Pdu). let r : Result Heard LsrBad = Ok (record { node = after_event w n (Hears l message (label_brought far message)); said = ps }) in r)
-    (append-nil (pdus w (label_brought far message) (changed w n (Hears l message (label_brought far message))) (said w n (Hears l message (label_brought far message)))))
+    (append-nil
+    (pdus w (label_brought far message) (changed w n (Hears l message (label_brought far message)))
+    (said w n (Hears l message (label_brought far message)))))
   where
     body : LdpBody
     body = body_of w far n.me (withdrawn_by n.me message) message
@@ -178,4 +193,6 @@ heard w l far id message n s spelled may =
     pdu = record { from = id_of w far; messages = record { id = id % 4294967296; body = body } ∷ [] }
 
     accepted : refusal (session_over w l n s) (id_of w far) body ≡ None
-    accepted = ap (λ k. refusal (record { me = loopback_of w n.me; peer = loopback_of w k; state = s.state }) (id_of w far) body) may.other_end ∙ is.accepted s.state may.row
+    accepted =
+        ap (λ k. refusal (record { me = loopback_of w n.me; peer = loopback_of w k; state = s.state }) (id_of w far) body) may.other_end
+        ∙ is.accepted s.state may.row

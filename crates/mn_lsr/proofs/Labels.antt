@@ -17,8 +17,10 @@ pub label_is : (me fec : ℕ) → LabelIs me fec
 label_is me fec = elim (eqb_tells me fec) [
   | inl p ↦ Own p.1 (ap (λ b. if b then 3 else if nat_lt fec me then 16 + fec else 15 + fec) p.0)
   | inr p ↦ elim (leb_tells (fec + 1) me) [
-    | inl q ↦ Below (omega (arith, q.1)) (ap (λ b. if b then 3 else if nat_lt fec me then 16 + fec else 15 + fec) p.0 ∙ ap (λ b. if b then 16 + fec else 15 + fec) (less fec me (omega (arith, q.1))))
-    | inr q ↦ Above (above me fec q.1 p.1) (ap (λ b. if b then 3 else if nat_lt fec me then 16 + fec else 15 + fec) p.0 ∙ ap (λ b. if b then 16 + fec else 15 + fec) (not_less fec me q.1))
+    | inl q ↦ Below (omega (arith, q.1)) (ap (λ b. if b then 3 else if nat_lt fec me then 16 + fec else 15 + fec) p.0
+        ∙ ap (λ b. if b then 16 + fec else 15 + fec) (less fec me (omega (arith, q.1))))
+    | inr q ↦ Above (above me fec q.1 p.1) (ap (λ b. if b then 3 else if nat_lt fec me then 16 + fec else 15 + fec) p.0
+        ∙ ap (λ b. if b then 16 + fec else 15 + fec) (not_less fec me q.1))
   ]
 ]
   where
@@ -56,21 +58,21 @@ pub fec_is_no_site : (to : Option (NodeNo × ℕ)) → IsNotSite (fec_use to)
 fec_is_no_site None = tt
 fec_is_no_site (Some to) = tt
 
--- one FEC's use is set, and the others stay
-pub free_set : (me at count : ℕ) (old new : List (ℕ × Use)) (to : Option (NodeNo × ℕ)) → at ≢ me → ((fec : ℕ) → fec < count → fec ≢ me → IsNotSite (use_of old (label_of me fec)))
-    → use_of new (label_of me at) ≡ fec_use to → ((other : ℕ) → other ≢ label_of me at → use_of new other ≡ use_of old other)
+-- one FEC's use is set, unless it is the node's own, and the others stay
+pub free_set : (me at count : ℕ) (old new : List (ℕ × Use)) (to : Option (NodeNo × ℕ)) →
+    ((fec : ℕ) → fec < count → fec ≢ me → IsNotSite (use_of old (label_of me fec)))
+    → (at ≢ me → use_of new (label_of me at) ≡ fec_use to) → ((other : ℕ) → (at ≢ me → other ≢ label_of me at) → use_of new other ≡ use_of old other)
     → (fec : ℕ) → fec < count → fec ≢ me → IsNotSite (use_of new (label_of me fec))
-free_set me at count old new to d free set others fec h e = elim (eqb_tells fec at) [
-  | inl p ↦ subst IsNotSite (sym (ap (λ k. use_of new (label_of me k)) p.1 ∙ set)) (fec_is_no_site to)
-  | inr p ↦ subst IsNotSite (sym (others (label_of me fec) (labels_differ me fec at e d p.1))) (free fec h e)
+free_set me at count old new to free set others fec h e = elim (eqb_tells fec at) [
+  | inl p ↦ subst IsNotSite (sym (ap (λ k. use_of new (label_of me k)) p.1 ∙ set (λ g. e (p.1 ∙ g)))) (fec_is_no_site to)
+  | inr p ↦ subst IsNotSite (sym (others (label_of me fec) (λ d. labels_differ me fec at e d p.1))) (free fec h e)
 ]
 
-pub ways_set : (me at : ℕ) (old new : List (ℕ × Use)) (way : ℕ → Option (NodeNo × ℕ)) → at ≢ me → ((fec : ℕ) → fec < at → fec ≢ me → use_of old (label_of me fec) ≡ fec_use (way fec)) → use_of new (label_of me at) ≡ fec_use (way at)
-    → ((other : ℕ) → other ≢ label_of me at → use_of new other ≡ use_of old other) → (fec : ℕ) → fec < at + 1 → fec ≢ me → use_of new (label_of me fec) ≡ fec_use (way fec)
-ways_set me at old new way d ways set others fec h e = elim (eqb_tells fec at) [
-  | inl p ↦ ap (λ k. use_of new (label_of me k)) p.1 ∙ set ∙ ap (λ k. fec_use (way k)) (sym p.1)
-  | inr p ↦ others (label_of me fec) (labels_differ me fec at e d p.1) ∙ ways fec (below fec at h p.1) e
+-- the FEC's way is set, or another one's is and its own stood before
+pub way_set : (me at : ℕ) (old new : List (ℕ × Use)) (way : ℕ → Option (NodeNo × ℕ)) → (at ≢ me → use_of new (label_of me at) ≡ fec_use (way at))
+    → ((other : ℕ) → (at ≢ me → other ≢ label_of me at) → use_of new other ≡ use_of old other)
+    → (fec : ℕ) → fec ≢ me → (fec ≢ at → use_of old (label_of me fec) ≡ fec_use (way fec)) → use_of new (label_of me fec) ≡ fec_use (way fec)
+way_set me at old new way set others fec e stood = elim (eqb_tells fec at) [
+  | inl p ↦ ap (λ k. use_of new (label_of me k)) p.1 ∙ set (λ g. e (p.1 ∙ g)) ∙ ap (λ k. fec_use (way k)) (sym p.1)
+  | inr p ↦ others (label_of me fec) (λ d. labels_differ me fec at e d p.1) ∙ stood p.1
 ]
-  where
-    below : (fec at : ℕ) → fec < at + 1 → fec ≢ at → fec < at
-    below fec at h d = omega (arith, h, d)

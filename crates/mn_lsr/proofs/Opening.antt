@@ -1,12 +1,12 @@
 -- A node whose session begins.
-use Rattle.std.proofs.Common.{ℕ, ◌≡◌, ◌≢◌, ◌<◌, Bool, true, false, List, [], ◌∷◌, ◌++◌, length, refl, sym, ◌∙◌, ap, subst, replicate, Option, Some, None}
-use Rattle.std.specs.Prelude.{nat_le, nat_lt, is_some, slice_index_or, slice_set, if◌then◌else◌}
+use Rattle.std.proofs.Common.{ℕ, ◌≡◌, ◌<◌, Bool, true, false, List, [], ◌∷◌, ◌++◌, length, refl, sym, ◌∙◌, ap, subst, replicate, Option, Some, None}
+use Rattle.std.specs.Prelude.{nat_le, nat_lt, is_some, slice_set, if◌then◌else◌}
 use Rattle.mn_base.specs.declared.states.LdpState.TheVariants.{Initialized, OpenSent}
 use Rattle.mn_base.specs.Wiring.{is_end, across}
 use Rattle.mn_lib.specs.Bindings.{row_of}
 use Rattle.mn_lib.specs.Bindings as lib
-use Rattle.mn_node.specs.Ldp.{Message, Initialization, Said, said_on, state_by}
-use Rattle.mn_node.specs.Node.{Session, Node, session_at, count_by}
+use Rattle.mn_node.specs.Ldp.{Initialization, said_on, state_by}
+use Rattle.mn_node.specs.Node.{Session, session_at, count_by}
 use Rattle.mn_node.specs.Machine.{Opens, loopback_of, with_session}
 use Rattle.mn_ldp_session.specs.declared.session.Session.{Session as Machine}
 use Rattle.mn_ldp_session.specs.declared.session.Reply.{Reply}
@@ -17,7 +17,6 @@ use Rattle.mn_lsr.specs.Standing.{labels_in}
 use Rattle.mn_lsr.specs.Replies.{replied, first_reply}
 use Rattle.mn_lsr.specs.Parts.{FitsLabel, wiring_in, node_in, Stands}
 use Rattle.mn_lsr.proofs.Changing.{is_up}
-use Rattle.mn_lsr.proofs.Sessions.{IsOwnAt}
 use Rattle.mn_lsr.proofs.Closing.{same_row, row-at, operational-at, one}
 use Rattle.mn_lsr.proofs.After.{Happens}
 
@@ -32,11 +31,13 @@ not_up : (active : Bool) → nat_le 2 (count_by (if active then OpenSent else In
 not_up true = refl
 not_up false = refl
 
-first_said : (l me : ℕ) (active : Bool) → (if active then said_on l me (Initialization ∷ []) else []) ≡ said_on l me (replied (first_reply (if active then OpenSent else Initialized))) ++ []
+first_said : (l me : ℕ) (active : Bool) →
+    (if active then said_on l me (Initialization ∷ []) else []) ≡ said_on l me (replied (first_reply (if active then OpenSent else Initialized))) ++ []
 first_said l me true = refl
 first_said l me false = refl
 
-module _ (p : Parts) (st : Stands p) (l : ℕ) (there : l < length p.view.ends) (at_end : is_end (wiring_in p) l p.me.0 ≡ true) (closed : session_at (node_in p) l ≡ None) where
+module _ (p : Parts) (st : Stands p) (l : ℕ) (there : l < length p.view.ends) (at_end : is_end (wiring_in p) l p.me.0 ≡ true)
+    (closed : session_at (node_in p) l ≡ None) where
   abbrev active : Bool
   active = nat_lt (loopback_of (wiring_in p) (across (wiring_in p) l p.me.0)) (loopback_of (wiring_in p) p.me.0)
 
@@ -52,9 +53,12 @@ module _ (p : Parts) (st : Stands p) (l : ℕ) (there : l < length p.view.ends) 
 
   begins : Happens p (Opens l) p.view.counts [] (slice_set p.sessions.items l (Some end)) l (replied (first_reply end.session.state))
   begins =
-      one p st l there at_end (Opens l) [] (Some end) (row_of p.lib (across (wiring_in p) l p.me.0)) (replied (first_reply end.session.state)) (same_row p st l there at_end)
-      (ap (λ s. with_session (node_in p) l (let o : Option Session = Some (record { state = s; said = 0; labels = replicate (length p.loopbacks.items) None }) in o)) (state-is active)
-      ∙ ap (λ r. with_session (node_in p) l (let o : Option Session = Some (record { state = if active then OpenSent else Initialized; said = 0; labels = labels_in (length p.loopbacks.items) r }) in o))
+      one p st l there at_end (Opens l) [] (Some end) (row_of p.lib (across (wiring_in p) l p.me.0)) (replied (first_reply end.session.state))
+      (same_row p st l there at_end)
+      (ap (λ s. with_session (node_in p) l (let o : Option Session =
+      Some (record { state = s; said = 0; labels = replicate (length p.loopbacks.items) None }) in o)) (state-is active)
+      ∙ ap (λ r. with_session (node_in p) l (let o : Option Session =
+      Some (record { state = if active then OpenSent else Initialized; said = 0; labels = labels_in (length p.loopbacks.items) r }) in o))
       (sym (row-at p st l there at_end (row_of p.lib (across (wiring_in p) l p.me.0)) ∙ row_none)))
       (ap is_some row_none ∙ sym (not_up active)) (λ on. absurd (clash (sym (not_up active) ∙ on))) (λ h d. refl) (first_said l p.me.0 active)
       (λ x e. record { at_end = at_end; me_is = sym (ap (λ (m : Machine). m.me) (same e)); peer_is = sym (ap (λ (m : Machine). m.peer) (same e)) })
@@ -63,9 +67,11 @@ module _ (p : Parts) (st : Stands p) (l : ℕ) (there : l < length p.view.ends) 
       same : {x y : Open} → Some x ≡ Some y → x.session ≡ y.session
       same e = cc
 
-  pub opening : (machine : Machine) (me peer : ℕ) (reply : Reply) → machine ≡ opened me peer → me ≡ loopback_of (wiring_in p) p.me.0 → peer ≡ loopback_of (wiring_in p) (across (wiring_in p) l p.me.0) → reply ≡ first_reply machine.state
+  pub opening : (machine : Machine) (me peer : ℕ) (reply : Reply) → machine ≡ opened me peer → me ≡ loopback_of (wiring_in p) p.me.0 →
+      peer ≡ loopback_of (wiring_in p) (across (wiring_in p) l p.me.0) → reply ≡ first_reply machine.state
       → Happens p (Opens l) p.view.counts [] (slice_set p.sessions.items l (Some (record { session = machine; said = 0 }))) l (replied reply)
   opening machine me peer reply e f g r =
       let is : machine ≡ end.session = e ∙ ap (λ a. opened a peer) f ∙ ap (opened (loopback_of (wiring_in p) p.me.0)) g in
       subst (λ y. Happens p (Opens l) p.view.counts [] (slice_set p.sessions.items l (Some (record { session = machine; said = 0 }))) l (replied y)) (sym r)
-      (subst (λ m. Happens p (Opens l) p.view.counts [] (slice_set p.sessions.items l (Some (record { session = m; said = 0 }))) l (replied (first_reply m.state))) (sym is) begins)
+      (subst (λ m. Happens p (Opens l) p.view.counts [] (slice_set p.sessions.items l (Some (record { session = m; said = 0 }))) l
+      (replied (first_reply m.state))) (sym is) begins)

@@ -1,5 +1,6 @@
 -- Ids and counts by the ends of the sessions are those of the node.
-use Rattle.std.proofs.Common.{ℕ, zero, suc, ◌≡◌, ◌≢◌, ◌+◌, ◌++◌, ◌<◌, inl, inr, Bool, true, false, cond, List, [], ◌∷◌, length, map, filter, refl, arith, sym, ◌∙◌, ap, subst, Option, Some, None}
+use Rattle.std.proofs.Common.{ℕ, zero, suc, ◌≡◌, ◌≢◌, ◌+◌, ◌++◌, ◌<◌, inl, inr, Bool, true, false, cond, List, [], ◌∷◌, length, map, filter, refl, arith}
+use Rattle.std.proofs.Common.{sym, ◌∙◌, ap, subst, Option, Some, None}
 use Rattle.std.specs.Prelude.{◌==◌, ◌&&◌, slice_index_or, slice_set, option_map}
 use Rattle.std.proofs.lemmas.Bool.Decides.{eqb_tells}
 use Rattle.std.specs.List.{flat_map}
@@ -24,7 +25,8 @@ use Rattle.mn_lsr.specs.Parts.{said_in, one_more, bumped, pdus_by, ends_after}
 -- 1. One session by its end
 
 module _ (w : Wiring) (me : ℕ) (lib : Bindings) where
-  pub at-is : (ends : List (Option Open)) (q k l : ℕ) → q + k ≡ l → slice_index_or (sessions_from w me lib q ends) k None ≡ option_map (session_in w me lib l) (slice_index_or ends k None)
+  pub at-is : (ends : List (Option Open)) (q k l : ℕ) → q + k ≡ l →
+      slice_index_or (sessions_from w me lib q ends) k None ≡ option_map (session_in w me lib l) (slice_index_or ends k None)
   at-is [] q k l e = refl
   at-is (end ∷ ends) q zero l e = ap (λ x. option_map (session_in w me lib x) end) (same q ∙ e)
     where
@@ -32,7 +34,8 @@ module _ (w : Wiring) (me : ℕ) (lib : Bindings) where
       same q = omega arith
   at-is (end ∷ ends) q (suc k) l e = at-is ends (q + 1) k l (omega (arith, e))
 
-  pub set-is : (ends : List (Option Open)) (q k l : ℕ) (x : Option Open) → q + k ≡ l → slice_set (sessions_from w me lib q ends) k (option_map (session_in w me lib l) x) ≡ sessions_from w me lib q (slice_set ends k x)
+  pub set-is : (ends : List (Option Open)) (q k l : ℕ) (x : Option Open) → q + k ≡ l →
+      slice_set (sessions_from w me lib q ends) k (option_map (session_in w me lib l) x) ≡ sessions_from w me lib q (slice_set ends k x)
   set-is [] q k l x e = refl
   set-is (end ∷ ends) q zero l x e = ap (λ y. option_map (session_in w me lib y) x ∷ sessions_from w me lib (q + 1) ends) (sym (same q ∙ e))
     where
@@ -44,7 +47,8 @@ module _ (w : Wiring) (me : ℕ) (lib : Bindings) where
   count-is l None = refl
   count-is l (Some end) = refl
 
-  bump-is : (l : ℕ) (o : Option Open) → option_map (with_count 1) (option_map (session_in w me lib l) o) ≡ option_map (session_in w me lib l) (option_map one_more o)
+  bump-is : (l : ℕ) (o : Option Open) →
+      option_map (with_count 1) (option_map (session_in w me lib l) o) ≡ option_map (session_in w me lib l) (option_map one_more o)
   bump-is l None = refl
   bump-is l (Some end) = refl
 
@@ -53,15 +57,20 @@ module _ (w : Wiring) (me : ℕ) (lib : Bindings) where
 
   one-is : (learned : List ℕ) (ends : List (Option Open)) (l : ℕ) → one_said (with_ends learned ends) l ≡ with_ends learned (bumped ends l)
   one-is learned ends l =
-      ap (λ s. let o : Node = record { me = me; learned = learned; sessions = slice_set (sessions_from w me lib 0 ends) l (option_map (with_count 1) s) } in o) (at-is ends 0 l l (omega arith))
-      ∙ ap (λ s. let o : Node = record { me = me; learned = learned; sessions = slice_set (sessions_from w me lib 0 ends) l s } in o) (bump-is l (slice_index_or ends l None))
-      ∙ ap (λ ss. let o : Node = record { me = me; learned = learned; sessions = ss } in o) (set-is ends 0 l l (option_map one_more (slice_index_or ends l None)) (omega arith))
+      ap (λ s. let o : Node = record { me = me; learned = learned; sessions = slice_set (sessions_from w me lib 0 ends) l (option_map (with_count 1) s) } in
+      o) (at-is ends 0 l l (omega arith))
+      ∙ ap (λ s. let o : Node = record { me = me; learned = learned; sessions = slice_set (sessions_from w me lib 0 ends) l s } in
+      o) (bump-is l (slice_index_or ends l None))
+      ∙ ap (λ ss. let o : Node = record { me = me; learned = learned; sessions = ss } in
+      o) (set-is ends 0 l l (option_map one_more (slice_index_or ends l None)) (omega arith))
 
   -- the PDUs by the ends are the node's
-  pub pdus-by : (withdrawn : ℕ) (learned : List ℕ) (ends : List (Option Open)) (xs : List Said) → pdus_by w me withdrawn ends xs ≡ pdus w withdrawn (with_ends learned ends) xs
+  pub pdus-by : (withdrawn : ℕ) (learned : List ℕ) (ends : List (Option Open)) (xs : List Said) →
+      pdus_by w me withdrawn ends xs ≡ pdus w withdrawn (with_ends learned ends) xs
   pdus-by withdrawn learned ends [] = refl
   pdus-by withdrawn learned ends (x ∷ xs) =
-      ap (λ c. pdu w x.link me withdrawn (c + 1) x.message ∷ pdus_by w me withdrawn (bumped ends x.link) xs) (sym (ap count_of (at-is ends 0 x.link x.link (omega arith)) ∙ count-is x.link (slice_index_or ends x.link None)))
+      ap (λ c. pdu w x.link me withdrawn (c + 1) x.message ∷ pdus_by w me withdrawn (bumped ends x.link) xs)
+      (sym (ap count_of (at-is ends 0 x.link x.link (omega arith)) ∙ count-is x.link (slice_index_or ends x.link None)))
       ∙ ap (λ ps. pdu w x.link me withdrawn (count_of (session_at (with_ends learned ends) x.link) + 1) x.message ∷ ps)
       (pdus-by withdrawn learned (bumped ends x.link) xs ∙ ap (λ n. pdus w withdrawn n xs) (sym (one-is learned ends x.link)))
 
@@ -75,7 +84,9 @@ count_more k (Some s) = ap (λ n. let o : Option Session = Some (record s { said
     more a k = omega arith
 
 messages-here : (me : ℕ) (x : Said) (xs : List Said) → x.end ≡ me → length (messages_of x.link me (x ∷ xs)) ≡ suc (length (messages_of x.link me xs))
-messages-here me x xs e = ap (λ b. length (map (λ said. said.message) (cond b (x ∷ filter (is_by x.link me) xs) (filter (is_by x.link me) xs)))) (both (same x.link x.link refl) (same x.end me e))
+messages-here me x xs e =
+    ap (λ b. length (map (λ said. said.message) (cond b (x ∷ filter (is_by x.link me) xs) (filter (is_by x.link me) xs))))
+    (both (same x.link x.link refl) (same x.end me e))
   where
     same : (a b : ℕ) → a ≡ b → (a == b) ≡ true
     same a b e = elim (eqb_tells a b) [ inl p ↦ p.0 | inr p ↦ absurd (p.1 e) ]
@@ -84,7 +95,8 @@ messages-here me x xs e = ap (λ b. length (map (λ said. said.message) (cond b 
     both {a} {b} f g = ap (λ z. z && b) f ∙ g
 
 messages-off : (l me : ℕ) (x : Said) (xs : List Said) → x.link ≢ l → messages_of l me (x ∷ xs) ≡ messages_of l me xs
-messages-off l me x xs d = ap (λ b. map (λ (said : Said). said.message) (cond (b && (x.end == me)) (x ∷ filter (is_by l me) xs) (filter (is_by l me) xs))) (other x.link l d)
+messages-off l me x xs d =
+    ap (λ b. map (λ (said : Said). said.message) (cond (b && (x.end == me)) (x ∷ filter (is_by l me) xs) (filter (is_by l me) xs))) (other x.link l d)
   where
     other : (a b : ℕ) → a ≢ b → (a == b) ≡ false
     other a b d = elim (eqb_tells a b) [ inl p ↦ absurd (d p.1) | inr p ↦ p.0 ]
@@ -102,7 +114,8 @@ counted-one : (ss : List (Option Session)) (q k me : ℕ) (x : Said) (xs : List 
     → counted_from q me (x ∷ xs) ss ≡ counted_from q me xs (slice_set ss k (option_map (with_count 1) (slice_index_or ss k None)))
 counted-one [] q k me x xs e f = refl
 counted-one (s ∷ ss) q zero me x xs e f =
-    ap (λ n. option_map (with_count n) s ∷ counted_from (q + 1) me (x ∷ xs) ss) (ap (λ l. length (messages_of l me (x ∷ xs))) (at q x.link f) ∙ messages-here me x xs e ∙ ap (λ l. suc (length (messages_of l me xs))) (sym (at q x.link f)))
+    ap (λ n. option_map (with_count n) s ∷ counted_from (q + 1) me (x ∷ xs) ss) (ap (λ l. length (messages_of l me (x ∷ xs))) (at q x.link f)
+    ∙ messages-here me x xs e ∙ ap (λ l. suc (length (messages_of l me xs))) (sym (at q x.link f)))
     ∙ ap (λ t. t ∷ counted_from (q + 1) me (x ∷ xs) ss) (count_more (length (messages_of q me xs)) s)
     ∙ ap (λ ts. option_map (with_count (length (messages_of q me xs))) (option_map (with_count 1) s) ∷ ts) (counted-past (q + 1) me x xs ss (above q x.link f))
   where
@@ -135,7 +148,8 @@ counted_none q me (s ∷ ss) = ap (λ x. x ∷ counted_from (q + 1) me [] ss) (c
 -- the node by its ends, once all is said
 pub having-by : (w : Wiring) (me : ℕ) (lib : Bindings) (learned : List ℕ) (ends : List (Option Open)) (xs : List Said) → EachBy me xs
     → having_said (with_ends w me lib learned ends) xs ≡ with_ends w me lib learned (ends_after ends xs)
-having-by w me lib learned ends [] h = ap (λ ss. let o : Node = record { me = me; learned = learned; sessions = ss } in o) (counted_none 0 me (sessions_from w me lib 0 ends))
+having-by w me lib learned ends [] h =
+    ap (λ ss. let o : Node = record { me = me; learned = learned; sessions = ss } in o) (counted_none 0 me (sessions_from w me lib 0 ends))
 having-by w me lib learned ends (x ∷ xs) h =
     having-one (with_ends w me lib learned ends) x xs h.0
     ∙ ap (λ n. having_said n xs) (one-is w me lib learned ends x.link)
@@ -168,7 +182,9 @@ module _ (w : Wiring) (me withdrawn : ℕ) (f : Tell → List Said) (tells : Lis
 
   pub ends-one : (ends then_ends : List (Option Open)) → then_ends ≡ ends_after ends (f (slice_index_or tells i d))
       → ends_after then_ends (flat_map f (drop (i + 1) tells)) ≡ ends_after ends (flat_map f (drop i tells))
-  ends-one ends then_ends e = ap (λ es. ends_after es (flat_map f (drop (i + 1) tells))) e ∙ sym (ends_after-append ends (f (slice_index_or tells i d)) (flat_map f (drop (i + 1) tells))) ∙ ap (ends_after ends) (sym seam)
+  ends-one ends then_ends e =
+      ap (λ es. ends_after es (flat_map f (drop (i + 1) tells))) e
+      ∙ sym (ends_after-append ends (f (slice_index_or tells i d)) (flat_map f (drop (i + 1) tells))) ∙ ap (ends_after ends) (sym seam)
 
   pub said-one : (out then_out : List Pdu) (ends then_ends : List (Option Open)) → then_ends ≡ ends_after ends (f (slice_index_or tells i d))
       → then_out ≡ out ++ pdus_by w me withdrawn ends (f (slice_index_or tells i d))
@@ -177,11 +193,14 @@ module _ (w : Wiring) (me withdrawn : ℕ) (f : Tell → List Said) (tells : Lis
       ap (λ ps. ps ++ pdus_by w me withdrawn then_ends (flat_map f (drop (i + 1) tells))) o
       ∙ append_assoc out (pdus_by w me withdrawn ends (f (slice_index_or tells i d))) (pdus_by w me withdrawn then_ends (flat_map f (drop (i + 1) tells)))
       ∙ ap (λ es. out ++ (pdus_by w me withdrawn ends (f (slice_index_or tells i d)) ++ pdus_by w me withdrawn es (flat_map f (drop (i + 1) tells)))) e
-      ∙ ap (λ ps. out ++ ps) (sym (pdus_by-append w me withdrawn ends (f (slice_index_or tells i d)) (flat_map f (drop (i + 1) tells))) ∙ ap (pdus_by w me withdrawn ends) (sym seam))
+      ∙ ap (λ ps. out ++ ps) (sym (pdus_by-append w me withdrawn ends (f (slice_index_or tells i d)) (flat_map f (drop (i + 1) tells)))
+      ∙ ap (pdus_by w me withdrawn ends) (sym seam))
 
 -- each tell may be told, and then those after it
-pub may-rest : (nodes withdrawn : ℕ) (tells : List Tell) (i : ℕ) (d : Tell) → i < length tells → MayTell nodes withdrawn (drop i tells) → MayTell nodes withdrawn (drop (i + 1) tells)
-may-rest nodes withdrawn tells i d below may = subst (λ k. MayTell nodes withdrawn (drop k tells)) (next i) ((subst (MayTell nodes withdrawn) (drop-cons tells i d below) may).2)
+pub may-rest : (nodes withdrawn : ℕ) (tells : List Tell) (i : ℕ) (d : Tell) → i < length tells → MayTell nodes withdrawn (drop i tells) →
+    MayTell nodes withdrawn (drop (i + 1) tells)
+may-rest nodes withdrawn tells i d below may =
+    subst (λ k. MayTell nodes withdrawn (drop k tells)) (next i) ((subst (MayTell nodes withdrawn) (drop-cons tells i d below) may).2)
   where
     next : (i : ℕ) → suc i ≡ i + 1
     next i = omega arith

@@ -1,5 +1,6 @@
 -- A node's bindings, tied to its view and its sessions, tell what it can use and what it offers.
-use Rattle.std.proofs.Common.{ℕ, zero, suc, ◌≡◌, ◌≢◌, ◌+◌, ◌<◌, ◌≤◌, ◌⊎◌, inl, inr, Bool, true, false, cond, List, [], ◌∷◌, length, filter, refl, arith, sym, ◌∙◌, ap, subst, Option, Some, None}
+use Rattle.std.proofs.Common.{ℕ, zero, suc, ◌≡◌, ◌≢◌, ◌+◌, ◌<◌, ◌≤◌, ◌⊎◌, inl, inr, Bool, true, false, cond, List, [], ◌∷◌, length, filter, refl, arith}
+use Rattle.std.proofs.Common.{sym, ◌∙◌, ap, subst, Option, Some, None}
 use Rattle.std.specs.Prelude.{◌==◌, ◌&&◌, ◌||◌, is_some, slice_index_or, option_map}
 use Rattle.std.specs.List.{range_with_len}
 use Rattle.std.proofs.lemmas.Bool.Decides.{eqb_tells}
@@ -82,7 +83,8 @@ across-other w l n d at_end e = by ((link w l).a.0 == n) ((link w l).b.0 == n) r
     by false false f g o e = clash o
 
 -- a link at the node, and the neighbour at its other end
-pub link_hop : (w : Wiring) (me l : ℕ) → JoinsNodes w → JoinsOnce w → me < length w.loopbacks → l < length w.ends → is_end w l me ≡ true → IsHop w me (across w l me, l)
+pub link_hop : (w : Wiring) (me l : ℕ) → JoinsNodes w → JoinsOnce w → me < length w.loopbacks → l < length w.ends → is_end w l me ≡ true →
+    IsHop w me (across w l me, l)
 link_hop w me l joins once below there at_end =
     let node : across w l me < length w.loopbacks = across-below w l me joins there in
     record {
@@ -94,7 +96,8 @@ link_hop w me l joins once below there at_end =
       node = node;
     }
 
-hop_is : (w : Wiring) (view : List Bool) (me to : ℕ) (hop : ℕ × ℕ) → JoinsNodes w → JoinsOnce w → me < length w.loopbacks → me ≢ to → next w view me to ≡ Some hop → IsHop w me hop
+hop_is : (w : Wiring) (view : List Bool) (me to : ℕ) (hop : ℕ × ℕ) → JoinsNodes w → JoinsOnce w → me < length w.loopbacks → me ≢ to →
+    next w view me to ≡ Some hop → IsHop w me hop
 hop_is w view me to hop joins once below d e =
     let h : IsNext w view me to (Some hop) = subst (IsNext w view me to) e (next_is w view to joins me below d) in
     let node : hop.0 < length w.loopbacks = subst (λ n. n < length w.loopbacks) (sym h.0) (across-below w hop.1 me joins h.1.there) in
@@ -110,12 +113,15 @@ hop_is w view me to hop joins once below d e =
 -- 2. What can be used
 
 -- where the node is OPERATIONAL, what is mapped has a label
-mapped_has_label : (n : Node) (l fec : ℕ) → is_operational (knowledge_in n) l ≡ true → is_mapped false fec (hearing (knowledge_in n) l).messages ≡ is_some (label_in (session_at n l) fec)
+mapped_has_label : (n : Node) (l fec : ℕ) → is_operational (knowledge_in n) l ≡ true →
+    is_mapped false fec (hearing (knowledge_in n) l).messages ≡ is_some (label_in (session_at n l) fec)
 mapped_has_label n l fec on = by (session_at n l) refl
   where
     by : (o : Option Session) → session_at n l ≡ o → is_mapped false fec (hearing (knowledge_in n) l).messages ≡ is_some (label_in (session_at n l) fec)
     by None e = ap (λ h. is_mapped false fec h.messages) (hearing-in n l ∙ ap hearing_in e) ∙ sym (ap (λ o. is_some (label_in o fec)) e)
-    by (Some s) e = ap (λ h. is_mapped false fec h.messages) (hearing-in n l ∙ ap hearing_in e) ∙ mapped-is 0 fec fec s.labels (omega arith) ∙ sym (ap (λ o. is_some (label_in o fec)) e)
+    by (Some s) e =
+        ap (λ h. is_mapped false fec h.messages) (hearing-in n l ∙ ap hearing_in e) ∙ mapped-is 0 fec fec s.labels (omega arith)
+        ∙ sym (ap (λ o. is_some (label_in o fec)) e)
 
 module _ (w : Wiring) (n : Node) (b : Bindings) (joins : JoinsNodes w) (once : JoinsOnce w) (below : n.me < length w.loopbacks) (tied : AreTied w n b) where
   -- the label is there where what is heard says so
@@ -123,7 +129,8 @@ module _ (w : Wiring) (n : Node) (b : Bindings) (joins : JoinsNodes w) (once : J
       → lib.labelled (record { 0 = hop.0 }) (lib.label_in (row_of b hop.0) fec) ≡ labelled n fec (usable_over (knowledge_in n) fec (Some hop))
   over_hop fec hop h false e =
       ap (λ o. lib.labelled (record { 0 = hop.0 }) (lib.label_in o fec)) (closed (row_of b hop.0) (tied.open_is hop.0 hop.1 h.node h.joins ∙ e))
-      ∙ sym (ap (λ x. labelled n fec (elim x as (λ _. Option (ℕ × ℕ)) [ true ↦ Some hop | false ↦ None ])) (ap (λ x. x && is_mapped false fec (hearing (knowledge_in n) hop.1).messages) e))
+      ∙ sym (ap (λ x. labelled n fec (elim x as (λ _. Option (ℕ × ℕ)) [ true ↦ Some hop | false ↦ None ]))
+      (ap (λ x. x && is_mapped false fec (hearing (knowledge_in n) hop.1).messages) e))
     where
       closed : (o : Option (List (Option ℕ))) → is_some o ≡ false → o ≡ None
       closed None f = refl
@@ -132,16 +139,19 @@ module _ (w : Wiring) (n : Node) (b : Bindings) (joins : JoinsNodes w) (once : J
       ap (lib.labelled (record { 0 = hop.0 })) (tied.labels hop.0 hop.1 fec h.node h.joins (tied.open_is hop.0 hop.1 h.node h.joins ∙ e))
       ∙ either (label_in (session_at n hop.1) fec) refl
     where
-      scrutinee : (x : Bool) → is_some (label_in (session_at n hop.1) fec) ≡ x → (is_operational (knowledge_in n) hop.1 && is_mapped false fec (hearing (knowledge_in n) hop.1).messages) ≡ x
+      scrutinee : (x : Bool) → is_some (label_in (session_at n hop.1) fec) ≡ x →
+          (is_operational (knowledge_in n) hop.1 && is_mapped false fec (hearing (knowledge_in n) hop.1).messages) ≡ x
       scrutinee x f = ap (λ o. o && is_mapped false fec (hearing (knowledge_in n) hop.1).messages) e ∙ mapped_has_label n hop.1 fec e ∙ f
 
-      either : (o : Option ℕ) → label_in (session_at n hop.1) fec ≡ o → lib.labelled (record { 0 = hop.0 }) (label_in (session_at n hop.1) fec) ≡ labelled n fec (usable_over (knowledge_in n) fec (Some hop))
+      either : (o : Option ℕ) → label_in (session_at n hop.1) fec ≡ o →
+          lib.labelled (record { 0 = hop.0 }) (label_in (session_at n hop.1) fec) ≡ labelled n fec (usable_over (knowledge_in n) fec (Some hop))
       either None f =
           ap (lib.labelled (record { 0 = hop.0 })) f
           ∙ sym (ap (λ x. labelled n fec (elim x as (λ _. Option (ℕ × ℕ)) [ true ↦ Some hop | false ↦ None ])) (scrutinee false (ap is_some f)))
       either (Some label) f =
           ap (lib.labelled (record { 0 = hop.0 })) f
-          ∙ sym (ap (λ x. labelled n fec (elim x as (λ _. Option (ℕ × ℕ)) [ true ↦ Some hop | false ↦ None ])) (scrutinee true (ap is_some f)) ∙ ap (option_map (λ label. (record { 0 = hop.0 }, label))) f)
+          ∙ sym (ap (λ x. labelled n fec (elim x as (λ _. Option (ℕ × ℕ)) [ true ↦ Some hop | false ↦ None ])) (scrutinee true (ap is_some f))
+          ∙ ap (option_map (λ label. (record { 0 = hop.0 }, label))) f)
 
   hop_at : (fec : ℕ) → fec < length w.loopbacks → slice_index_or b.hops fec None ≡ hop_alone (next w (view_in n) n.me fec)
   hop_at fec h =
@@ -152,7 +162,8 @@ module _ (w : Wiring) (n : Node) (b : Bindings) (joins : JoinsNodes w) (once : J
   pub usable_same : (fec : ℕ) → fec < length w.loopbacks → n.me ≢ fec → lib.usable b fec ≡ way_to w n fec
   usable_same fec h d = ap (lib.usable_by b fec) (hop_at fec h) ∙ by (next w (view_in n) n.me fec) refl
     where
-      by : (o : Option (ℕ × ℕ)) → next w (view_in n) n.me fec ≡ o → lib.usable_by b fec (hop_alone (next w (view_in n) n.me fec)) ≡ labelled n fec (usable_over (knowledge_in n) fec (next w (view_in n) n.me fec))
+      by : (o : Option (ℕ × ℕ)) → next w (view_in n) n.me fec ≡ o →
+          lib.usable_by b fec (hop_alone (next w (view_in n) n.me fec)) ≡ labelled n fec (usable_over (knowledge_in n) fec (next w (view_in n) n.me fec))
       by None e = ap (λ o. lib.usable_by b fec (hop_alone o)) e ∙ sym (ap (λ o. labelled n fec (usable_over (knowledge_in n) fec o)) e)
       by (Some hop) e =
           ap (λ o. lib.usable_by b fec (hop_alone o)) e
@@ -164,8 +175,10 @@ module _ (w : Wiring) (n : Node) (b : Bindings) (joins : JoinsNodes w) (once : J
   way_some fec None = refl
   way_some fec (Some hop) = by (is_operational (knowledge_in n) hop.1) refl
     where
-      shown : (x : Bool) → (is_operational (knowledge_in n) hop.1 && is_mapped false fec (hearing (knowledge_in n) hop.1).messages) ≡ x → (x ≡ true → is_some (label_in (session_at n hop.1) fec) ≡ true)
-          → is_some (labelled n fec (elim x as (λ _. Option (ℕ × ℕ)) [ true ↦ Some hop | false ↦ None ])) ≡ is_some (elim x as (λ _. Option (ℕ × ℕ)) [ true ↦ Some hop | false ↦ None ])
+      shown : (x : Bool) → (is_operational (knowledge_in n) hop.1 && is_mapped false fec (hearing (knowledge_in n) hop.1).messages) ≡ x →
+          (x ≡ true → is_some (label_in (session_at n hop.1) fec) ≡ true)
+          → is_some (labelled n fec (elim x as (λ _. Option (ℕ × ℕ)) [ true ↦ Some hop | false ↦ None ])) ≡ is_some
+          (elim x as (λ _. Option (ℕ × ℕ)) [ true ↦ Some hop | false ↦ None ])
       shown false e f = refl
       shown true e f = has (label_in (session_at n hop.1) fec) (f refl)
         where
@@ -177,13 +190,16 @@ module _ (w : Wiring) (n : Node) (b : Bindings) (joins : JoinsNodes w) (once : J
       and_true true y e = (refl, e)
       and_true false y e = cc
 
-      by : (on : Bool) → is_operational (knowledge_in n) hop.1 ≡ on → is_some (labelled n fec (usable_over (knowledge_in n) fec (Some hop))) ≡ is_some (usable_over (knowledge_in n) fec (Some hop))
+      by : (on : Bool) → is_operational (knowledge_in n) hop.1 ≡ on →
+          is_some (labelled n fec (usable_over (knowledge_in n) fec (Some hop))) ≡ is_some (usable_over (knowledge_in n) fec (Some hop))
       by on e = shown (is_operational (knowledge_in n) hop.1 && is_mapped false fec (hearing (knowledge_in n) hop.1).messages) refl
-          (λ g. let both = and_true (is_operational (knowledge_in n) hop.1) (is_mapped false fec (hearing (knowledge_in n) hop.1).messages) g in sym (mapped_has_label n hop.1 fec both.0) ∙ both.1)
+          (λ g. let both = and_true (is_operational (knowledge_in n) hop.1) (is_mapped false fec (hearing (knowledge_in n) hop.1).messages) g in
+          sym (mapped_has_label n hop.1 fec both.0) ∙ both.1)
 
   pub offers_same : (fec : ℕ) → fec < length w.loopbacks → lib.offers b fec ≡ offers w (knowledge_in n) n.me fec
   offers_same fec h = elim (eqb_tells n.me fec) [
-    | inl p ↦ ap (λ m. (m == fec) || is_some (lib.usable b fec)) tied.me ∙ ap (λ x. x || is_some (lib.usable b fec)) p.0 ∙ sym (ap (λ x. x || is_some (usable_by w (knowledge_in n) n.me fec)) p.0)
+    | inl p ↦ ap (λ m. (m == fec) || is_some (lib.usable b fec)) tied.me ∙ ap (λ x. x || is_some (lib.usable b fec)) p.0
+        ∙ sym (ap (λ x. x || is_some (usable_by w (knowledge_in n) n.me fec)) p.0)
     | inr p ↦
         ap (λ m. (m == fec) || is_some (lib.usable b fec)) tied.me
         ∙ ap (λ o. (n.me == fec) || is_some o) (usable_same fec h p.1)

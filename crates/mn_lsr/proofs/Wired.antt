@@ -1,9 +1,8 @@
 -- Three routers in a row are wired as a node asks for.
-use Rattle.std.proofs.Common.{ℕ, zero, suc, ◌≡◌, ◌≢◌, ◌<◌, ◌≤◌, length, arith}
-use Rattle.std.specs.Prelude.{All, slice_index_or}
-use Rattle.mn_base.specs.declared.links.LinkEnds.{LinkEnds}
-use Rattle.mn_base.specs.Wiring.{link, joining, JoinsNodes, EndsDiffer, JoinsOnce}
-use Rattle.mn_linkdb.specs.Network.{IsLink, IsNetwork}
+use Rattle.std.proofs.Common.{zero, suc, arith}
+use Rattle.std.specs.Prelude.{All}
+use Rattle.mn_base.specs.Wiring.{JoinsNodes, EndsDiffer, JoinsOnce}
+use Rattle.mn_linkdb.specs.Network.{IsLink}
 use Rattle.mn_ldp_session.specs.Routers.{routers_in_a_row}
 use Rattle.mn_ldp_session.proofs.InARow.{spelled}
 use Rattle.mn_lsr.specs.Standing.{IsWired}

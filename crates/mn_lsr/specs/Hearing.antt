@@ -46,7 +46,11 @@ machine_then (Some end) body = Some (record end.session { state = then_state end
 abbrev pub after_message : Wiring → ℕ → Node → Option (Message × ℕ) → Heard
 after_message wiring l n None = record { node = n; said = [] }
 after_message wiring l n (Some message) =
-    record { node = after_event wiring n (Hears l message.0 message.1); said = pdus wiring message.1 (changed wiring n (Hears l message.0 message.1)) (said wiring n (Hears l message.0 message.1)) }
+    record {
+      node = after_event wiring n (Hears l message.0 message.1);
+      said =
+          pdus wiring message.1 (changed wiring n (Hears l message.0 message.1)) (said wiring n (Hears l message.0 message.1));
+    }
 
 abbrev pub after_messages : Wiring → ℕ → Node → List LdpMessage → Heard
 after_messages wiring l n [] = record { node = n; said = [] }

@@ -1,11 +1,11 @@
 -- What a node says and hears inside the network, where the other end of a session is a node too.
-use Rattle.std.specs.Prelude.{ℕ, ◌+◌, ◌≡◌, ◌<◌, ◌^◌, true, length, List, [], ◌∷◌, Some, Ok, ⊤}
+use Rattle.std.specs.Prelude.{ℕ, ◌+◌, ◌≡◌, ◌<◌, true, length, List, [], ◌∷◌, Ok, ⊤}
 use Rattle.std.specs.List.{AllByRecursion}
 use Rattle.mn_base.specs.Wiring.{Wiring, across}
 use Rattle.mn_node.specs.Ldp.{Message, Said, has_ldp_row}
 use Rattle.mn_node.specs.Node.{Session, Node, session_at, label_brought}
-use Rattle.mn_node.specs.Machine.{Event, Learns, Opens, Closes, Hears, changed, said, after_event}
-use Rattle.mn_ldp_session.specs.Spelling.{Pdu, pdus, pdu_in_network, count_of, one_said, AreSpelled, SpeaksOfNode}
+use Rattle.mn_node.specs.Machine.{Event, Hears, changed, said, after_event}
+use Rattle.mn_ldp_session.specs.Spelling.{Pdu, pdus, pdu_in_network, count_of, one_said, SpeaksOfNode}
 use Rattle.mn_lsr.specs.Hearing.{after_bytes}
 
 -- a message that is heard was said by the other end: it speaks of a node, and brings that end's label
@@ -25,19 +25,25 @@ label_withdrawn _ = 0
 abbrev pub pdus_in_network : Wiring → Node → List Said → List Pdu
 pdus_in_network wiring node [] = []
 pdus_in_network wiring node (saying ∷ sayings) =
-    pdu_in_network wiring saying.link node.me (count_of (session_at node saying.link) + 1) saying.message ∷ pdus_in_network wiring (one_said node saying.link) sayings
+    pdu_in_network wiring saying.link node.me (count_of (session_at node saying.link) + 1) saying.message
+    ∷ pdus_in_network wiring (one_said node saying.link) sayings
 
 -- a node speaks of nodes, and what it says looks as it does inside the network
 pub record SpeaksInside (wiring : Wiring) (node : Node) (event : Event) : Type 0 where
   pub nodes : SpeakOfNodes wiring (said wiring node event)
-  pub looks : pdus wiring (label_withdrawn event) (changed wiring node event) (said wiring node event) ≡ pdus_in_network wiring (changed wiring node event) (said wiring node event)
+  pub looks : pdus wiring (label_withdrawn event) (changed wiring node event) (said wiring node event) ≡ pdus_in_network wiring (changed wiring node event)
+      (said wiring node event)
 
 -- what one end says the other end hears as one change, where the table has a row for it
 abbrev pub IsHeardAsOne : Wiring → ℕ → ℕ → ℕ → Message → Node → Session → Type 0
 IsHeardAsOne wiring l far id message node session =
     let label : ℕ = label_brought far message in
     after_bytes wiring l node session (pdu_in_network wiring l far id message).bytes
-    ≡ Ok (record { node = after_event wiring node (Hears l message label); said = pdus wiring label (changed wiring node (Hears l message label)) (said wiring node (Hears l message label)) })
+    ≡ Ok (record {
+      node = after_event wiring node (Hears l message label);
+      said =
+          pdus wiring label (changed wiring node (Hears l message label)) (said wiring node (Hears l message label));
+    })
 
 -- an end of a link, the other end, and a message that the other end may say now
 pub record MayBeHeard (wiring : Wiring) (l far : ℕ) (message : Message) (node : Node) (session : Session) : Type 0 where

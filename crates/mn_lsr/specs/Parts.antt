@@ -1,7 +1,9 @@
 -- The parts of a node, what contracts see of them, and how they hang together.
-use Rattle.std.specs.Prelude.{◌≡◌, ◌≢◌, ◌<◌, ◌≤◌, ◌^◌, ℕ, ◌+◌, ◌==◌, true, if◌then◌else◌, List, [], ◌∷◌, length, map, slice_index_or, slice_set, Option, Some, None, option_map, ⊤}
+use Rattle.std.specs.Prelude.{◌≡◌, ◌≢◌, ◌<◌, ◌≤◌, ◌^◌, ℕ, ◌+◌, ◌==◌, ◌||◌, Bool, true, false, if◌then◌else◌, List, [], ◌∷◌, length, map, slice_index_or}
+use Rattle.std.specs.Prelude.{slice_set, Option, Some, None, option_map, ⊤}
 use Rattle.std.specs.List.{flat_map, range_with_len}
-use Rattle.mn_base.specs.Wiring.{Wiring, is_end, across, JoinsNodes, EndsDiffer, JoinsOnce}
+use Rattle.mn_base.specs.declared.numbers.NodeNo.{NodeNo}
+use Rattle.mn_base.specs.Wiring.{Wiring, is_end, across, JoinsNodes}
 use Rattle.mn_linkdb.specs.Learned.{links_up, IsView}
 use Rattle.mn_linkdb.specs.PathTable.{PathTable, next_at}
 use Rattle.mn_linkdb.specs.Trees.{IsTree}
@@ -15,7 +17,7 @@ use Rattle.mn_node.specs.Ldp.{Said}
 use Rattle.mn_node.specs.Node.{Node, label_of}
 use Rattle.mn_node.specs.Machine.{loopback_of}
 use Rattle.mn_ldp_session.specs.declared.session.Session.{Session}
-use Rattle.mn_ldp_session.specs.Spelling.{Pdu, pdu, AreSpelled}
+use Rattle.mn_ldp_session.specs.Spelling.{Pdu, pdu}
 use Rattle.mn_lsr.specs.declared.parts.Open.{Open}
 use Rattle.mn_lsr.specs.declared.parts.Parts.{Parts}
 use Rattle.mn_lsr.specs.Standing.{IsWired, AreGiven, IsUseOf, sessions_from, attachments}
@@ -83,12 +85,21 @@ pub record MayFollow (p : Parts) (withdrawn : ℕ) (events : List LibEvent) : Ty
   pub ways : (fec : ℕ) → fec < length p.loopbacks.items → fec ≢ p.me.0 → use_of p.lfib (label_of p.me.0 fec) ≡ fec_use (lib.usable p.lib fec)
   pub next : (fec : ℕ) → IsNextHop (lib.usable (lib.after_events p.lib events) fec)
 
--- the next hop towards each other node, as it is in the tree
-abbrev pub hop_event : ℕ → PathTable → ℕ → List LibEvent
-hop_event me table fec = if fec == me then [] else event.Next (record { 0 = fec }) (next_at table fec) ∷ []
+abbrev pub same_hop : Option NodeNo → Option NodeNo → Bool
+same_hop None None = true
+same_hop (Some one) (Some other) = one.0 == other.0
+same_hop _ _ = false
 
-abbrev pub hop_events : ℕ → PathTable → ℕ → List LibEvent
-hop_events me table nodes = flat_map (hop_event me table) (range_with_len 0 nodes)
+-- nothing happens to the node's own FEC, nor to one towards which the next hop is the same in both trees
+abbrev pub stays : ℕ → PathTable → PathTable → ℕ → Bool
+stays me before table fec = (fec == me) || same_hop (next_at before fec) (next_at table fec)
+
+-- the next hop towards each other FEC, as it is in the tree
+abbrev pub hop_event : (ℕ → Bool) → PathTable → ℕ → List LibEvent
+hop_event same table fec = if same fec then [] else event.Next (record { 0 = fec }) (next_at table fec) ∷ []
+
+abbrev pub hop_events : ℕ → PathTable → PathTable → ℕ → List LibEvent
+hop_events me before table nodes = flat_map (hop_event (stays me before table) table) (range_with_len 0 nodes)
 
 -- how much was said on a link, by its end
 abbrev pub said_in : Option Open → ℕ
@@ -106,7 +117,8 @@ bumped ends l = slice_set ends l (option_map one_more (slice_index_or ends l Non
 abbrev pub pdus_by : Wiring → ℕ → ℕ → List (Option Open) → List Said → List Pdu
 pdus_by wiring me withdrawn ends [] = []
 pdus_by wiring me withdrawn ends (said ∷ sayings) =
-    pdu wiring said.link me withdrawn (said_in (slice_index_or ends said.link None) + 1) said.message ∷ pdus_by wiring me withdrawn (bumped ends said.link) sayings
+    pdu wiring said.link me withdrawn (said_in (slice_index_or ends said.link None) + 1) said.message
+    ∷ pdus_by wiring me withdrawn (bumped ends said.link) sayings
 
 abbrev pub ends_after : List (Option Open) → List Said → List (Option Open)
 ends_after ends [] = ends

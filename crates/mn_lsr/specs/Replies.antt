@@ -2,7 +2,7 @@
 use Rattle.std.specs.Prelude.{ℕ, Bool, true, false, ◌++◌, if◌then◌else◌, List, [], ◌∷◌, Option, Some, None}
 use Rattle.mn_base.specs.declared.numbers.NodeNo.{NodeNo}
 use Rattle.mn_base.specs.declared.states.LdpState.{LdpState}
-use Rattle.mn_base.specs.declared.states.LdpState.TheVariants.{Initialized, OpenSent, OpenRec, Operational}
+use Rattle.mn_base.specs.declared.states.LdpState.TheVariants.{OpenSent, Operational}
 use Rattle.mn_ldp_session.specs.declared.session.Reply.{Reply}
 use Rattle.mn_lib.specs.declared.event.LibEvent.{LibEvent}
 use Rattle.mn_lib.specs.declared.event.LibEvent.TheVariants as event
@@ -10,7 +10,9 @@ use Rattle.mn_node.specs.Ldp.{Message, Initialization, KeepAlive, Address, Mappi
 use Rattle.mn_lsr.specs.declared.parts.Open.{Open}
 
 abbrev pub replied : Reply → List Message
-replied reply = (if reply.say_init then Initialization ∷ [] else []) ++ ((if reply.say_keep then KeepAlive ∷ [] else []) ++ (if reply.became_operational then Address ∷ [] else []))
+replied reply =
+    (if reply.say_init then Initialization ∷ [] else []) ++
+    ((if reply.say_keep then KeepAlive ∷ [] else []) ++ (if reply.became_operational then Address ∷ [] else []))
 
 abbrev pub first_reply : LdpState → Reply
 first_reply OpenSent = record { say_init = true; say_keep = false; became_operational = false }

@@ -1,5 +1,6 @@
 -- What contracts see of one node's transport.
-use Rattle.std.specs.Prelude.{◌==◌, if◌then◌else◌, ◌≡◌, ◌≢◌, ◌<◌, ◌≤◌, ◌^◌, ℕ, ◌+◌, Bool, false, not, List, [], ◌∷◌, length, map, filter, replicate, slice_index_or, Option, Some, None, option_map, ⊤}
+use Rattle.std.specs.Prelude.{◌==◌, if◌then◌else◌, ◌≡◌, ◌≢◌, ◌<◌, ◌≤◌, ◌^◌, ℕ, ◌+◌, Bool, false, not, List, [], ◌∷◌, length, map, filter, replicate}
+use Rattle.std.specs.Prelude.{slice_index_or, Option, Some, None, option_map, ⊤}
 use Rattle.std.specs.List.{range_with_len}
 use Rattle.mn_base.specs.Wiring.{Wiring, across, JoinsNodes, EndsDiffer, JoinsOnce}
 use Rattle.mn_base.specs.declared.numbers.NodeNo.{NodeNo}
@@ -32,7 +33,8 @@ labels_in nodes None = replicate nodes None
 labels_in nodes (Some row) = row
 
 abbrev pub session_in : Wiring → ℕ → Bindings → ℕ → Open → Session
-session_in wiring me lib l end = record { state = end.session.state; said = end.said; labels = labels_in (length wiring.loopbacks) (row_of lib (across wiring l me)) }
+session_in wiring me lib l end =
+    record { state = end.session.state; said = end.said; labels = labels_in (length wiring.loopbacks) (row_of lib (across wiring l me)) }
 
 abbrev pub sessions_from : Wiring → ℕ → Bindings → ℕ → List (Option Open) → List (Option Session)
 sessions_from wiring me lib l [] = []

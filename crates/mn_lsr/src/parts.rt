@@ -15,13 +15,13 @@ ghost use Rattle.mn_lsr.specs.Telling.{said_by_tell};
 ghost use Rattle.mn_lsr.specs.Message.{meaning, NamesNode, HasLabel};
 ghost use Rattle.mn_lsr.specs.Replies.{replied, first_reply, closing_events};
 ghost use Rattle.mn_lsr.specs.Said.{pdu_of};
-ghost use Rattle.mn_lsr.specs.Parts.{wiring_in, node_in, Stands, MayFollow, MaySpeak, hop_events, pdus_by, ends_after};
+ghost use Rattle.mn_lsr.specs.Parts.{wiring_in, node_in, Stands, MayFollow, MaySpeak, same_hop, stays, hop_events, pdus_by, ends_after};
 
 use crate::message::Message;
 use crate::refusal::LsrBad;
 use crate::said::Said;
 use crate::speaking::{across, say, say_all};
-use crate::ways::use_ways;
+use crate::ways::use_new_ways;
 use mn_base::{LdpState, LinkNo, NodeNo};
 use mn_labels::Labels;
 use mn_ldp_session::{Reply, Session};
@@ -54,21 +54,43 @@ pub struct Parts {
     pub attached: Vec<u32>,
 }
 
-/// The next hop towards each other node, as it is in the tree.
+/// Whether two next hops are the same.
+fn same_hop(one: Option<NodeNo>, other: Option<NodeNo>) -> bool
+    ensures { result ≡ same_hop one other }
+{
+    match (one, other) {
+        (None, None) => true,
+        (Some(one), Some(other)) => one.0 == other.0,
+        _ => false,
+    }
+}
+
+/// Whether nothing happens to a FEC: it is the node's own, or the next hop towards it is the same in both trees.
+fn stays(me: NodeNo, before: &Tree, tree: &Tree, fec: NodeNo) -> bool
+    requires before { fec.0 < length before.now.dists }
+    requires table { fec.0 < length tree.now.dists }
+    ensures { result ≡ stays me.0 before.now tree.now fec.0 }
+{
+    fec.0 == me.0 || same_hop(before.next(fec), tree.next(fec))
+}
+
+/// The next hop towards each other node, where it isn't as it was.
 fn next_hops(
     alloc: Global,
     me: NodeNo,
+    before: &Tree,
     tree: &Tree,
     nodes: u32,
 ) -> Result<Vec<LibEvent>, AllocError>
     requires few { nodes ≤ 256 }
+    requires before { IsTable nodes before.now }
     requires table { IsTable nodes tree.now }
-    ensures { IfOk result (λ events. events.items ≡ hop_events me.0 tree.now nodes) }
+    ensures { IfOk result (λ events. events.items ≡ hop_events me.0 before.now tree.now nodes) }
 {
     let mut events = Vec::new(alloc);
     for at in 0..nodes {
         let fec = NodeNo(at as u16);
-        if at != u32::from(me.0) {
+        if !stays(me, before, tree, fec) {
             events.push(LibEvent::Next(fec, tree.next(fec)))?;
         }
     }
@@ -107,7 +129,13 @@ impl Parts {
             &mut self.sessions,
             out,
         )?;
-        use_ways(&mut self.lfib, &self.lib, self.me, self.view.nodes())
+        use_new_ways(
+            &mut self.lfib,
+            &self.lib,
+            self.me,
+            self.view.nodes(),
+            events,
+        )
     }
 
     /// Learns the next change of a link, and says what its offers have become.
@@ -137,7 +165,7 @@ impl Parts {
         let Ok(tree) = tree(alloc, &self.view, self.me) else {
             return Err(LsrBad::NoMemory);
         };
-        let Ok(events) = next_hops(alloc, self.me, &tree, self.view.nodes()) else {
+        let Ok(events) = next_hops(alloc, self.me, &self.tree, &tree, self.view.nodes()) else {
             return Err(LsrBad::NoMemory);
         };
         let mut out = Vec::new(alloc);

@@ -1,11 +1,12 @@
 ghost use Rattle.std.specs.Prelude.{◌≡◌, ◌≢◌, ◌≤◌, ◌<◌, ℕ, OnOk};
 ghost use Rattle.mn_node.specs.Node.{label_of};
 ghost use Rattle.mn_lib.specs.Bindings.{nodes, usable};
+ghost use Rattle.mn_lib.specs.News.{InOrder, AreBelow, Apart, fecs_in};
 ghost use Rattle.mn_lfib.specs.Uses.{use_of, fec_use, IsNotSite, IsNextHop};
 
 use mn_base::NodeNo;
 use mn_lfib::Lfib;
-use mn_lib::Lib;
+use mn_lib::{Lib, LibEvent, are_of_fecs};
 use std::alloc::AllocError;
 
 /// Implicit null: a node's label for its own FEC (RFC 3032, section 2.1).
@@ -24,13 +25,23 @@ pub(crate) fn label_for(me: NodeNo, fec: NodeNo) -> u32
     }
 }
 
+/// Uses the label of a FEC for the way there, or for nothing, unless it is the node's own.
+fn use_way(lfib: &mut Lfib, bindings: &Lib, me: NodeNo, fec: NodeNo) -> Result<(), AllocError>
+    requires few { nodes bindings.now ≤ 256 }
+    requires there { fec.0 < nodes bindings.now }
+    requires free { fec.0 ≢ me.0 → IsNotSite (use_of lfib.old (label_of me.0 fec.0)) }
+    requires fit { IsNextHop (usable bindings.now fec.0) }
+    ensures way { OnOk result (fec.0 ≢ me.0 → use_of lfib.new (label_of me.0 fec.0) ≡ fec_use (usable bindings.now fec.0)) }
+    ensures others { OnOk result ((label : ℕ) → (fec.0 ≢ me.0 → label ≢ label_of me.0 fec.0) → use_of lfib.new label ≡ use_of lfib.old label) }
+{
+    if fec.0 != me.0 {
+        lfib.set_fec(label_for(me, fec), bindings.usable(fec))?;
+    }
+    Ok(())
+}
+
 /// Uses the label of each other node's FEC for the way there, or for nothing.
-pub(crate) fn use_ways(
-    lfib: &mut Lfib,
-    bindings: &Lib,
-    me: NodeNo,
-    count: u32,
-) -> Result<(), AllocError>
+fn use_ways(lfib: &mut Lfib, bindings: &Lib, me: NodeNo, count: u32) -> Result<(), AllocError>
     requires few { count ≤ 256 }
     requires all { count ≡ nodes bindings.now }
     requires free { (fec : ℕ) → fec < count → fec ≢ me.0 → IsNotSite (use_of lfib.old (label_of me.0 fec)) }
@@ -39,10 +50,56 @@ pub(crate) fn use_ways(
     ensures others { OnOk result ((label : ℕ) → ((fec : ℕ) → fec < count → fec ≢ me.0 → label ≢ label_of me.0 fec) → use_of lfib.new label ≡ use_of lfib.old label) }
 {
     for at in 0..count {
-        if at != u32::from(me.0) {
-            let fec = NodeNo(at as u16);
-            lfib.set_fec(label_for(me, fec), bindings.usable(fec))?;
+        use_way(lfib, bindings, me, NodeNo(at as u16))?;
+    }
+    Ok(())
+}
+
+/// The same for the FECs that the events are of, and for no other.
+fn use_ways_of(
+    lfib: &mut Lfib,
+    bindings: &Lib,
+    me: NodeNo,
+    events: &[LibEvent],
+) -> Result<(), AllocError>
+    requires few { nodes bindings.now ≤ 256 }
+    requires there { AreBelow (nodes bindings.now) (fecs_in events.now) }
+    requires free { (fec : ℕ) → fec < nodes bindings.now → fec ≢ me.0 → IsNotSite (use_of lfib.old (label_of me.0 fec)) }
+    requires fit { (fec : ℕ) → IsNextHop (usable bindings.now fec) }
+    ensures ways { OnOk result ((fec : ℕ) → fec ≢ me.0 → (Apart fec (fecs_in events.now) → use_of lfib.old (label_of me.0 fec) ≡ fec_use (usable bindings.now fec)) →
+        use_of lfib.new (label_of me.0 fec) ≡ fec_use (usable bindings.now fec)) }
+    ensures others { OnOk result ((label : ℕ) → ((fec : ℕ) → fec < nodes bindings.now → fec ≢ me.0 → label ≢ label_of me.0 fec) → use_of lfib.new label ≡ use_of lfib.old label) }
+{
+    for event in events {
+        if let Some(fec) = event.fec() {
+            use_way(lfib, bindings, me, fec)?;
         }
     }
     Ok(())
+}
+
+/// Uses the labels of FECs for the ways that are left after events. Where each event is of a FEC, in node order and none
+/// twice, no other FEC is looked at.
+pub(crate) fn use_new_ways(
+    lfib: &mut Lfib,
+    bindings: &Lib,
+    me: NodeNo,
+    count: u32,
+    events: &[LibEvent],
+) -> Result<(), AllocError>
+    requires few { count ≤ 256 }
+    requires all { count ≡ nodes bindings.now }
+    requires there { AreBelow count (fecs_in events.now) }
+    requires free { (fec : ℕ) → fec < count → fec ≢ me.0 → IsNotSite (use_of lfib.old (label_of me.0 fec)) }
+    requires fit { (fec : ℕ) → IsNextHop (usable bindings.now fec) }
+    ensures ways { OnOk result ((fec : ℕ) → fec < count → fec ≢ me.0 →
+        (InOrder 0 events.now → Apart fec (fecs_in events.now) → use_of lfib.old (label_of me.0 fec) ≡ fec_use (usable bindings.now fec)) →
+        use_of lfib.new (label_of me.0 fec) ≡ fec_use (usable bindings.now fec)) }
+    ensures others { OnOk result ((label : ℕ) → ((fec : ℕ) → fec < count → fec ≢ me.0 → label ≢ label_of me.0 fec) → use_of lfib.new label ≡ use_of lfib.old label) }
+{
+    if are_of_fecs(events) {
+        use_ways_of(lfib, bindings, me, events)
+    } else {
+        use_ways(lfib, bindings, me, count)
+    }
 }

@@ -17,7 +17,7 @@ use Rattle.mn_topo.specs.declared.vrfs.VrfDef.{VrfDef}
 use Rattle.mn_ledger.specs.World.{Config, Peerings}
 use Rattle.mn_ledger.specs.Ledger.{world_of}
 use Rattle.mn_ledger.specs.Places.{edge_of}
-use Rattle.mn_ledger.specs.Vpn.{peers_live, state_heard, state_of, HeldRoute, is_better, unbeaten, first_of, held, best}
+use Rattle.mn_ledger.specs.Vpn.{peers_live, state_heard, bgp_state_of, HeldRoute, is_better, unbeaten, first_of, held, best}
 use Rattle.mn_ledger.specs.Vpn as vpn
 use Rattle.mn_ledger.proofs.Held.{one_held}
 use Rattle.mn_laws.proofs.There.{edge_there}
@@ -51,14 +51,14 @@ use Rattle.mn_net.proofs.Prefixes.{place_told}
 
 -- 1. Sessions
 
-by_life : (c : Config) (p : Peerings) (a b : ℕ) (session : BgpSession) → session.state ≡ state_of c p a b → (live : Bool) → peers_live c a b ≡ live →
-    state_by (if live then Some session else None) ≡ state_of c p a b
+by_life : (c : Config) (p : Peerings) (a b : ℕ) (session : BgpSession) → session.state ≡ bgp_state_of c p a b → (live : Bool) → peers_live c a b ≡ live →
+    state_by (if live then Some session else None) ≡ bgp_state_of c p a b
 by_life c p a b session e true h = e
 by_life c p a b session e false h = sym (ap (λ l. if l then state_heard (p.heard a b) else Idle) h)
 
 pub session_told : (net : NetNow) → IsNet net → (a b : ℕ) → a < length net.topology.loopbacks → b < length net.topology.loopbacks →
     state_by (slice_index_or (slice_index_or net.routes.sessions a []) b None)
-    ≡ state_of (world_of net.topology net.journal).config (world_of net.topology net.journal).peerings a b
+    ≡ bgp_state_of (world_of net.topology net.journal).config (world_of net.topology net.journal).peerings a b
 session_told net is a b below other =
     let t : Network = net.topology in
     let c : Config = (world_of t net.journal).config in

@@ -2,7 +2,7 @@
 ghost use Rattle.std.specs.Prelude.{◌≡◌, ◌<◌, false, length, option_map};
 ghost use Rattle.mn_ledger.specs.Ledger.{world_of};
 ghost use Rattle.mn_ledger.specs.Places.{edge_of};
-ghost use Rattle.mn_ledger.specs.Vpn.{state_of, held, best};
+ghost use Rattle.mn_ledger.specs.Vpn.{bgp_state_of, held, best};
 ghost use Rattle.mn_frames.specs.Given.{given};
 ghost use Rattle.mn_frames.specs.Numbers.{labels_of};
 ghost use Rattle.mn_pe.specs.Entries.{as_held as given_held};
@@ -24,7 +24,7 @@ impl Net {
         requires works { self.now.failed ≡ false }
         requires at { at.0 < length self.now.topology.loopbacks }
         requires peer { peer.0 < length self.now.topology.loopbacks }
-        ensures told { result ≡ state_of (world_of self.now.topology self.now.journal).config (world_of self.now.topology self.now.journal).peerings at.0 peer.0 }
+        ensures told { result ≡ bgp_state_of (world_of self.now.topology self.now.journal).config (world_of self.now.topology self.now.journal).peerings at.0 peer.0 }
     {
         self.routes.bgp_state(at, peer)
     }

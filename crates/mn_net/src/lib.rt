@@ -18,6 +18,7 @@
 //! - `nodes`: what is told of links and of the transport of nodes
 //! - `edges`: what is told of sessions and routes
 //! - `flight`: what is told of items in flight
+//! - `ends`: ends of links, edges of sites and VRFs
 //! - `made`: a law: the items of a step are told by their numbers
 //! - `tell`: what became of packets
 #![tactic(auto)]

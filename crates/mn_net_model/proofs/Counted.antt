@@ -25,7 +25,7 @@ count_both c (x ∷ xs) ys = by (x.channel == c) (count_both c xs ys)
   where
     by : (b : Bool) → count_on c (xs ++ ys) ≡ count_on c xs + count_on c ys →
         length (cond b (x ∷ keys_by (λ n. n == c) (xs ++ ys)) (keys_by (λ n. n == c) (xs ++ ys))) ≡ length
-            (cond b (x ∷ keys_by (λ n. n == c) xs) (keys_by (λ n. n == c) xs)) + count_on c ys
+        (cond b (x ∷ keys_by (λ n. n == c) xs) (keys_by (λ n. n == c) xs)) + count_on c ys
     by true e = omega (arith, e)
     by false e = e
 
@@ -35,7 +35,7 @@ counted_in {T = T} c (x ∷ xs) = by (x.channel == c) (counted_in c xs)
   where
     by : (b : Bool) → length (on_channel c xs) ≡ count_on c (keys_in xs) →
         length (cond b (x ∷ on_channel c xs) (on_channel c xs)) ≡ length
-            (cond b (key_of x ∷ keys_by (λ n. n == c) (keys_in xs)) (keys_by (λ n. n == c) (keys_in xs)))
+        (cond b (key_of x ∷ keys_by (λ n. n == c) (keys_in xs)) (keys_by (λ n. n == c) (keys_in xs)))
     by true e = ap suc e
     by false e = e
 
@@ -45,7 +45,7 @@ counted_on l d (x ∷ xs) = one x.on (counted_on l d xs)
   where
     one : (on : Channel) → length (items_on (Frames l d) xs) ≡ count_on (channel l d) (keys_on of_frames xs) →
         length (cond (same_channel (Frames l d) on) (x ∷ items_on (Frames l d) xs) (items_on (Frames l d) xs)) ≡ count_on (channel l d)
-            (with_key (of_frames on) x (keys_on of_frames xs))
+        (with_key (of_frames on) x (keys_on of_frames xs))
     one (Notices k n) e = e
     one (Messages k n) e = e
     one (Routes k n) e = e
@@ -53,8 +53,8 @@ counted_on l d (x ∷ xs) = one x.on (counted_on l d xs)
       where
         by : (b : Bool) → length (items_on (Frames l d) xs) ≡ count_on (channel l d) (keys_on of_frames xs) →
             length (cond b (x ∷ items_on (Frames l d) xs) (items_on (Frames l d) xs)) ≡ length
-                (cond b (record { channel = channel k f; due = x.due; number = x.number } ∷ keys_by (λ n. n == channel l d) (keys_on of_frames xs))
-                (keys_by (λ n. n == channel l d) (keys_on of_frames xs)))
+            (cond b (record { channel = channel k f; due = x.due; number = x.number } ∷ keys_by (λ n. n == channel l d) (keys_on of_frames xs))
+            (keys_by (λ n. n == channel l d) (keys_on of_frames xs)))
         by true e = ap suc e
         by false e = e
 

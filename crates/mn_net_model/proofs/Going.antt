@@ -51,9 +51,12 @@ each_more es e b ps h = added_length (injects e.step) b ps ∙ ap (λ n. n + one
 
 pub flight_more : (t : Network) (es : List JournalEntry) (tick : ℕ) (s : Step) (b : List ℕ) (ps : List (List ℕ)) → length ps ≡ injections es →
     flight_of t (pushed es tick s) (with_packet s b ps)
-    ≡ record { made =
-        (flight_of t es ps).made + length (made_now t es ps s b); items =
-        left_in_flight t s (flight_of t es ps).items ++ numbered t tick (flight_of t es ps).made (made_now t es ps s b) }
+    ≡ record {
+      made =
+          (flight_of t es ps).made + length (made_now t es ps s b);
+      items =
+          left_in_flight t s (flight_of t es ps).items ++ numbered t tick (flight_of t es ps).made (made_now t es ps s b);
+    }
 flight_more t es tick s b ps h = flight_from-push t es (record { tick = tick; step = s }) b (start t) no_packets (record { made = 0; items = [] }) ps h
 
 pub packets_more : (t : Network) (es : List JournalEntry) (tick : ℕ) (s : Step) (b : List ℕ) (ps : List (List ℕ)) → length ps ≡ injections es →
@@ -70,7 +73,7 @@ pub labelled_more : (t : Network) (es : List JournalEntry) (tick : ℕ) (s : Ste
     transit.StandsFor t (given t (pushed es tick s)) m k
 labelled_more t es tick s m k h =
     stands_later t (given t es) (given t (pushed es tick s)) m k (has_fecs t es)
-        (λ node. (given_in t node (world_of t es).config s, gives_more t es (record { tick = tick; step = s }) node)) h
+    (λ node. (given_in t node (world_of t es).config s, gives_more t es (record { tick = tick; step = s }) node)) h
 
 -- 3. Each clause
 
@@ -87,7 +90,7 @@ edge_nodes t _ fit h = tt
 clause : (number : Channel → Option ℕ) (t : Network) (es : List JournalEntry) (tick : ℕ) (s : Step) (b : List ℕ) (ps : List (List ℕ))
     (left own now : List Key) → length ps ≡ injections es →
     keys_on number (left_in_flight t s (flight_of t es ps).items) ≡ left →
-        keys_on number (numbered t tick (flight_of t es ps).made (made_now t es ps s b)) ≡ own → now ≡ left ++ own →
+    keys_on number (numbered t tick (flight_of t es ps).made (made_now t es ps s b)) ≡ own → now ≡ left ++ own →
     now ≡ keys_on number (flight_of t (pushed es tick s) (with_packet s b ps)).items
 clause number t es tick s b ps left own now each e f h =
     h ∙ ap (λ k. k ++ own) (sym e) ∙ ap (λ k. keys_on number (left_in_flight t s (flight_of t es ps).items) ++ k) (sym f)

@@ -60,15 +60,18 @@ pub frames_counted : (t : Network) (es : List JournalEntry) (tick : ℕ) (s : St
 frames_counted t es tick s b ps old new before made h may moved one left makes =
     let f : Flight = flight_of t es ps in
     let made_items : List (Channel × Load) = made_now t es ps s b in
-    let flight : flight_of t (pushed es tick s) (with_packet s b ps) ≡ record { made = f.made + length made_items; items =
-        left_in_flight t s f.items ++ numbered t tick f.made made_items } = flight_more t es tick s b ps h.each in
+    let flight : flight_of t (pushed es tick s) (with_packet s b ps) ≡ record {
+      made = f.made + length made_items;
+      items =
+          left_in_flight t s f.items ++ numbered t tick f.made made_items;
+    } = flight_more t es tick s b ps h.each in
     let items : (flight_of t (pushed es tick s) (with_packet s b ps)).items ≡ left_in_flight t s f.items ++ numbered t tick old.made made_items =
     ap (λ (x : Flight). x.items) flight ∙ ap (λ m. left_in_flight t s f.items ++ numbered t tick m made_items) (sym h.made) in
     let same : keys_in before ≡ keys_on of_frames (left_in_flight t s f.items) = left ∙ ap (frames_leave s) h.frames ∙ sym (frames_left t s f.items) in
     let stands : transit.StandsFor t (given t (pushed es tick s)) new.moving (packets_of t (pushed es tick s) (with_packet s b ps)) =
-        subst (λ p. transit.StandsFor t (given t (pushed es tick s)) new.moving p) (sym (packets_more t es tick s b ps h.each)) moved in
+    subst (λ p. transit.StandsFor t (given t (pushed es tick s)) new.moving p) (sym (packets_more t es tick s b ps h.each)) moved in
     let counts =
-        as_many_fly t (pushed es tick s) (with_packet s b ps) new.moving may.topology_lawful (lawful_more t es tick s b ps h.each h.lawful may) stands in
+    as_many_fly t (pushed es tick s) (with_packet s b ps) new.moving may.topology_lawful (lawful_more t es tick s b ps h.each h.lawful may) stands in
     made_alike t tick old.made before new.moving.flying (left_in_flight t s f.items) made_items made one makes same
     (λ l d. counts l d ∙ ap (λ xs. length (items_on (Frames l d) xs)) items)
     ∙ ap (keys_on of_frames) (sym items)
@@ -86,21 +89,21 @@ made_length t tick n before after true m = ap (λ xs. length xs) (ap keys_in m.3
 pub made_counted : (t : Network) (es : List JournalEntry) (tick : ℕ) (s : Step) (b : List ℕ) (ps : List (List ℕ)) (old : Packed)
     (before after : List (ItemOf Flown)) (made : Bool) →
     StandsFor t es old ps → IsOneFrame (made_now t es ps s b) → keys_in before ≡ frames_leave s (keys_in old.moving.flying) →
-        Makes t tick old.made before after made →
+    Makes t tick old.made before after made →
     keys_in after ≡ keys_on of_frames (flight_of t (pushed es tick s) (with_packet s b ps)).items → one_if made ≡ length (made_now t es ps s b)
 made_counted t es tick s b ps old before after made h one left makes same =
     let f : Flight = flight_of t es ps in
     let new : List (Channel × Load) = made_now t es ps s b in
     let front : keys_in before ≡ keys_on of_frames (left_in_flight t s f.items) = left ∙ ap (frames_leave s) h.frames ∙ sym (frames_left t s f.items) in
     let items : keys_on of_frames (flight_of t (pushed es tick s) (with_packet s b ps)).items ≡ keys_on of_frames
-        (left_in_flight t s f.items) ++ keys_on of_frames (numbered t tick f.made new) =
+    (left_in_flight t s f.items) ++ keys_on of_frames (numbered t tick f.made new) =
     ap (λ (x : Flight). keys_on of_frames x.items) (flight_more t es tick s b ps h.each)
-        ∙ keys_more of_frames (left_in_flight t s f.items) (numbered t tick f.made new) in
+    ∙ keys_more of_frames (left_in_flight t s f.items) (numbered t tick f.made new) in
     let ours = made_length t tick old.made before after made makes in
     let theirs : length (keys_in after) ≡ length (keys_in before) + length new =
     ap length (same ∙ items) ∙ length-append (keys_on of_frames (left_in_flight t s f.items)) (keys_on of_frames (numbered t tick f.made new))
     ∙ ap (λ n. n + length (keys_on of_frames (numbered t tick f.made new))) (sym (ap length front))
-        ∙ ap (λ n. length (keys_in before) + n) (length_keys t tick f.made new one) in
+    ∙ ap (λ n. length (keys_in before) + n) (length_keys t tick f.made new one) in
     omega (arith, ours, theirs)
 
 -- 2. The clause of frames, where a step makes no frame
@@ -118,9 +121,9 @@ frames_quiet t es tick s b ps old new h none left =
     left ∙ ap (frames_leave s) h.frames ∙ sym (frames_left t s f.items)
     ∙ sym (append-nil (keys_on of_frames (left_in_flight t s f.items)))
     ∙ ap (λ k. keys_on of_frames (left_in_flight t s f.items) ++ k)
-        (sym (frames_made t w v k q s tick f.made
-        ∙ ap (λ xs. keys_on of_frames (numbered t tick (f.made + length (notices_in t s) + length (messages_in t w v s) + length (routes_in t w v s)) xs))
-        (none k q)))
+    (sym (frames_made t w v k q s tick f.made
+    ∙ ap (λ xs. keys_on of_frames (numbered t tick (f.made + length (notices_in t s) + length (messages_in t w v s) + length (routes_in t w v s)) xs))
+    (none k q)))
     ∙ sym (keys_more of_frames (left_in_flight t s f.items) (numbered t tick f.made made))
     ∙ sym (ap (λ (x : Flight). keys_on of_frames x.items) (flight_more t es tick s b ps h.each))
 

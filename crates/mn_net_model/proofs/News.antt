@@ -51,7 +51,7 @@ split_by_flight t n (x ∷ xs) = by x.on refl (split_by_flight t n xs)
         length (filter (λ item. not (is_frame item.on)) xs) ≡ length (keys_on (of_notices n) xs) + length (keys_on (of_messages t) xs) + length
         (keys_on (of_routes n) xs) →
         length (filter (λ item. not (is_frame item.on)) (x ∷ xs)) ≡ length (keys_on (of_notices n) (x ∷ xs)) + length
-            (keys_on (of_messages t) (x ∷ xs)) + length (keys_on (of_routes n) (x ∷ xs))
+        (keys_on (of_messages t) (x ∷ xs)) + length (keys_on (of_routes n) (x ∷ xs))
     by (Notices k m) e h = rw e (omega (arith, h))
     by (Messages k m) e h = rw e (omega (arith, h))
     by (Routes k m) e h = rw e (omega (arith, h))
@@ -61,6 +61,6 @@ pub is_counted : IsCounted
 is_counted t es packed ps lawful h =
     sym (flies_as_counted t es ps lawful h.lawful).counted ∙ split_by_flight t (length t.loopbacks) (flight_of t es ps).items
     ∙ ap (λ n. n + length (keys_on (of_messages t) (flight_of t es ps).items) + length (keys_on (of_routes (length t.loopbacks)) (flight_of t es ps).items))
-        (sym (ap length h.notices))
+    (sym (ap length h.notices))
     ∙ ap (λ n. length packed.notices + n + length (keys_on (of_routes (length t.loopbacks)) (flight_of t es ps).items)) (sym (ap length h.messages))
     ∙ ap (λ n. length packed.notices + length packed.messages + n) (sym (ap length h.routes))

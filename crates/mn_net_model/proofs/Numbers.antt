@@ -70,7 +70,7 @@ items_ascend : {T : Type 0} (low : ℕ) (xs : List (ItemOf T)) → KeysAscend lo
 items_ascend low [] h = λ i j d less below. absurd (none_below j below)
 items_ascend {T = T} low (x ∷ xs) h =
     AllPairs-cons (λ (a : ItemOf T) (b : ItemOf T). a.number < b.number) x xs (items_above (suc x.number) x.number xs (omega arith) h.1)
-        (items_ascend (suc x.number) xs h.1)
+    (items_ascend (suc x.number) xs h.1)
 
 pub flight_ascends : {T : Type 0} (number : Numbering) (t : Network) (es : List JournalEntry) (ps : List (List ℕ)) (xs : List (ItemOf T)) →
     keys_in xs ≡ keys_on number (flight_of t es ps).items → Ascends xs

@@ -139,7 +139,7 @@ quiet t es tick s b ps old new h may none said moved left =
       packets = moved;
       made = said.made ∙ ap (λ n. old.made + n) (three (notices_in t s) (messages_now t es s) (routes_now t es s)
           ∙ ap (λ fs. length (notices_in t s ++ (messages_now t es s ++ (routes_now t es s ++ fs))))
-              (sym (none (packets_of t es ps) (later_packets t es ps s b))));
+          (sym (none (packets_of t es ps) (later_packets t es ps s b))));
       notices = said.notices;
       messages = said.messages;
       routes = said.routes;
@@ -194,5 +194,5 @@ unmoved t es tick s b ps old new h may quiet_step said begun =
     quiet t es tick s b ps old new h may (no_frames s quiet_step) said
     (subst (λ k. transit.StandsFor t (given t (pushed es tick s)) new.moving k) (sym (none_moved t (later_world t es s) (packets_of t es ps) s b quiet_step))
     (labelled_more t es tick s new.moving (before_step (packets_of t es ps))
-        (stands_begun t (given t es) old.moving new.moving (packets_of t es ps) begun h.packets)))
+    (stands_begun t (given t es) old.moving new.moving (packets_of t es ps) begun h.packets)))
     (ap (λ (m : Moving). keys_in m.flying) begun ∙ none_leave s quiet_step (keys_in old.moving.flying))

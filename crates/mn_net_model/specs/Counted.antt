@@ -11,4 +11,4 @@ use Rattle.mn_net_model.specs.Stands.{Packed, StandsFor}
 abbrev pub IsCounted : Type 0
 IsCounted = (topology : Network) (journal : List JournalEntry) (packed : Packed) (inputs : List (List ℕ)) → IsLawful topology →
     StandsFor topology journal packed inputs →
-        in_flight topology (world_of topology journal) ≡ length packed.notices + length packed.messages + length packed.routes
+    in_flight topology (world_of topology journal) ≡ length packed.notices + length packed.messages + length packed.routes

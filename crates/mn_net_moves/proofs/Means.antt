@@ -6,7 +6,7 @@ use Rattle.mn_topo.specs.Network.{Network, wiring_of}
 use Rattle.mn_topo.specs.declared.steps.JournalEntry.{JournalEntry}
 use Rattle.mn_ledger.specs.World.{World, Message}
 use Rattle.mn_ledger.specs.Ledger.{world_of}
-use Rattle.mn_ledger.specs.Transport.{lives, state_of, heard_by}
+use Rattle.mn_ledger.specs.Transport.{lives, ldp_state_of, heard_by}
 use Rattle.mn_node.specs.Ldp.{is_mapped}
 use Rattle.mn_node.specs.Node.{Session, Node, session_at, label_of}
 use Rattle.mn_slice.specs.Slice.{node_at, session_of, label_heard}
@@ -33,7 +33,7 @@ kept_so t es w node l fec label there below e =
     let heard : List Message = heard_by (wiring_of t) w.sessions l node in
     of_some (is_mapped false fec heard) (label_of far fec) label
     (in_session (lives w.config l && is_end (wiring_of t) l node)
-    (record { state = state_of t w.sessions l node; said = length (w.sessions.said l node); labels = map (label_heard far heard) (nodes_of (wiring_of t)) })
+    (record { state = ldp_state_of t w.sessions l node; said = length (w.sessions.said l node); labels = map (label_heard far heard) (nodes_of (wiring_of t)) })
     fec label (label_heard far heard fec) (map_numbers_at (label_heard far heard) (length t.loopbacks) fec None below)
     (ap (λ s. label_in s fec) (sym (map_numbers_at (session_of t w.config w.sessions node) (length t.links) l None there)) ∙ e))
     ∙ sym (by_number t es far fec below)

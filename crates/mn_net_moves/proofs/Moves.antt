@@ -44,7 +44,7 @@ use Rattle.mn_ledger.specs.Packets.{entry_rules}
 use Rattle.mn_frames.specs.Entries.{IsFit, IsFall}
 use Rattle.mn_frames.proofs.Fit.{fits_or_falls}
 use Rattle.mn_pe.specs.Edge.{Edge}
-use Rattle.mn_pe.specs.Held.{label_of}
+use Rattle.mn_pe.specs.Held.{site_label}
 use Rattle.mn_pe.specs.Entries.{IsItsFate, entered_at, entered_by, route_for}
 use Rattle.mn_pe.specs.declared.entering.Entered.{Entered}
 use Rattle.mn_pe.specs.declared.entering.Entered.TheVariants.{Drop, Local, Tunnel}
@@ -292,7 +292,7 @@ room_by b None (Some (prefix, Near v site)) = tt
 room_by b None (Some (prefix, Far address rd edge label)) = (omega arith, omega arith)
 
 pub room_at : (edge : Edge) (site : ℕ) (b : List ℕ) (entered : Entered) → entered ≡ entered_at edge site b → HasRoom entered
-room_at edge site b entered e = subst HasRoom (sym e) (room_by b (first_rule (entry_rules (label_of edge site) b)) (route_for edge site (destination_of b)))
+room_at edge site b entered e = subst HasRoom (sym e) (room_by b (first_rule (entry_rules (site_label edge site) b)) (route_for edge site (destination_of b)))
 
 no_longer : (b : List ℕ) (packet : List ℕ) → IsGood b → packet ≡ aged b 1 → length packet ≤ length b
 no_longer b packet good e =

@@ -4,7 +4,7 @@ use Rattle.mn_base.specs.declared.numbers.NodeNo.{NodeNo}
 use Rattle.mn_base.specs.declared.states.LdpState.{LdpState}
 use Rattle.mn_topo.specs.Network.{Network}
 use Rattle.mn_ledger.specs.World.{World}
-use Rattle.mn_ledger.specs.Transport.{lives, state_of, usable}
+use Rattle.mn_ledger.specs.Transport.{lives, ldp_state_of, usable}
 
 -- the next hop from a node towards another where it can send there
 abbrev pub hop_to : Network → World → ℕ → ℕ → Option NodeNo
@@ -12,4 +12,4 @@ hop_to topology world node edge = option_map (λ hop. record { 0 = hop.0 }) (usa
 
 -- the state of an end of a link whose session lives: RFC 5036, section 2.5.4
 abbrev pub state_at : Network → World → ℕ → ℕ → Option LdpState
-state_at topology world l end = if lives world.config l then Some (state_of topology world.sessions l end) else None
+state_at topology world l end = if lives world.config l then Some (ldp_state_of topology world.sessions l end) else None

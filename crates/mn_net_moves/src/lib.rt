@@ -3,6 +3,7 @@
 //! - `proofs/Moves`: the steps that move packets
 //! - `proofs/Turns`: the steps of links, LDP, BGP, routes and targets; `proofs/Sites`: a site is attached or detached
 //! - `proofs/Starts`: the start; `proofs/Refused`: a refusal
+//! - `specs/Bound`: where a packet that leaves its edge is bound to
 //! - `proofs/Told`, `proofs/Means`: what is told of nodes, and what labels mean
 #![tactic(auto)]
 

@@ -5,5 +5,6 @@
 //! packets that led to what it holds.
 //!
 //! - `specs/Now`: what contracts see of a network, when it stands for the ledger, and what always holds of it
+//! - `specs/Labels`: what labels mean between any two steps
 //! - `specs/Done`: what a step answers, does and leaves
 #![tactic(auto)]

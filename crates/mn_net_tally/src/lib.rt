@@ -4,6 +4,7 @@
 //! many, whatever became of the others: so frames are counted as they are sent, and the numbers of those that are to be lost are
 //! kept, ascending. A frame may be carried past another, so that no counter tells it when the frame arrives.
 //!
+//! - `tally`: the counts, and what changes them; `count`: what a step changes of them; `laws`: what follows from the definitions
 //! - `specs/Tallies`: the counts, and when they are what the ledger has after a journal
 //! - `specs/Laws`: how they go on with each step; `specs/Rising`: the search for a number
 //! - `proofs/Sent`: the frames among what a step made; `proofs/Statics`, `Counting`: each step

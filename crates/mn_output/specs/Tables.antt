@@ -83,7 +83,7 @@ ldp_name ldp.Operational = codes "operational"
 
 -- where no session lives, no end has a state
 abbrev pub ldp_text : Network → World → ℕ → ℕ → List ℕ
-ldp_text topology world l node = if lives world.config l then ldp_name (transport.state_of topology world.sessions l node) else codes "none"
+ldp_text topology world l node = if lives world.config l then ldp_name (transport.ldp_state_of topology world.sessions l node) else codes "none"
 
 abbrev pub ldp_line : Network → World → ℕ → List ℕ
 ldp_line topology world l =
@@ -101,7 +101,7 @@ bgp_name bgp.OpenConfirm = codes "openconfirm"
 bgp_name bgp.Established = codes "established"
 
 abbrev pub bgp_text : World → ℕ → ℕ → List ℕ
-bgp_text world edge peer = bgp_name (vpn.state_of world.config world.peerings edge peer)
+bgp_text world edge peer = bgp_name (vpn.bgp_state_of world.config world.peerings edge peer)
 
 abbrev pub bgp_line : Network → World → ℕ → ℕ → List ℕ
 bgp_line topology world a b =

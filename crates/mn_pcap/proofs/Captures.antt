@@ -53,9 +53,11 @@ whole_read bytes form captured places None e s is =
     let same : map (bytes_at bytes) places ≡ captured = cc in
     let sp = spelled form.big bytes 24 places s.end s.within s.stand in
     let c = capture_up_to bytes form places s.end (header_spelled bytes form e) sp.before sp.are_records in
-    let all : take s.end bytes ≡ bytes = (let last = s.stops in take_all s.end bytes (omega arith)) in
-    (subst (λ (cs : List (List ℕ)). IsCapture form bytes cs) same (subst (λ (bs : List ℕ). IsCapture form bs (map (bytes_at bytes) places)) all c), sym
-        (ap length same) ∙ length-map places (bytes_at bytes))
+    let all : take s.end bytes ≡ bytes = (let last = s.stops in take_all s.end bytes (omega arith)) in (
+      subst (λ (cs : List (List ℕ)). IsCapture form bytes cs) same (subst (λ (bs : List ℕ). IsCapture form bs (map (bytes_at bytes) places)) all c),
+      sym
+          (ap length same) ∙ length-map places (bytes_at bytes),
+    )
 whole_read bytes form captured places (Some bad) e s is = cc
 
 read_with_count : (bytes : List ℕ) (form : Form) (captured : List (List ℕ)) → header_of bytes ≡ Ok form → captured_of bytes ≡ Ok captured →
@@ -63,7 +65,7 @@ read_with_count : (bytes : List ℕ) (form : Form) (captured : List (List ℕ)) 
 read_with_count bytes form captured e is =
     let size = (header_is_read bytes form e).size in
     let r = whole_read bytes form captured (all_records form.big bytes).0 (all_records form.big bytes).1 e
-        (standing (length bytes) form.big bytes 24 size (omega arith)) (sym (captured_behind bytes form e) ∙ is) in
+    (standing (length bytes) form.big bytes 24 size (omega arith)) (sym (captured_behind bytes form e) ∙ is) in
     (r.0, count_behind bytes form e ∙ sym r.1)
 
 pub read_is_capture : (bytes : List ℕ) (form : Form) (captured : List (List ℕ)) → header_of bytes ≡ Ok form → captured_of bytes ≡ Ok captured →
@@ -103,7 +105,7 @@ pub refused_behind : (bytes : List ℕ) (form : Form) (bad : PcapBad) → header
 refused_behind bytes form bad e is =
     let size = (header_is_read bytes form e).size in
     refused_read bytes form bad (all_records form.big bytes).0 (all_records form.big bytes).1 e (count_behind bytes form e)
-        (standing (length bytes) form.big bytes 24 size (omega arith)) (sym (records_behind bytes form e) ∙ is)
+    (standing (length bytes) form.big bytes 24 size (omega arith)) (sym (records_behind bytes form e) ∙ is)
 
 -- What is a capture is read.
 records_again : (bytes header body : List ℕ) (form : Form) (captured : List (List ℕ)) → header_of bytes ≡ Ok form → length header ≡ 24 →
@@ -112,7 +114,7 @@ records_again bytes header body form captured e size whole are =
     let behind : drop 24 bytes ≡ body = ap (λ (xs : List ℕ). drop 24 xs) whole ∙ drop_at header body 24 size in
     let long : 24 ≤ length bytes = (let l = ap length whole ∙ length-append header body in omega arith) in
     let r = read_again form.big bytes captured (length bytes) 24 long (omega arith)
-        (subst (λ (xs : List ℕ). AreRecords form.big xs captured) (sym behind) are) in
+    (subst (λ (xs : List ℕ). AreRecords form.big xs captured) (sym behind) are) in
     captured_behind bytes form e
     ∙ ap (λ (x : Option PcapBad). after (unless x (all_records form.big bytes).0) (λ places. Ok (map (bytes_at bytes) places))) r.whole
     ∙ ap Ok r.captured_are
@@ -139,9 +141,14 @@ one_written tick bytes within = record {
 all_written : (packets : List (ℕ × List ℕ)) → All (λ p. length p.1 ≤ snaplen) packets →
     AreRecords false (flat_map (λ p. record_of p.0 p.1) packets) (map (λ p. p.1) packets)
 all_written [] within = refl
-all_written (p ∷ packets) within =
-    (record_of p.0 p.1, flat_map (λ (p : ℕ × List ℕ). record_of p.0 p.1) packets, refl, one_written p.0 p.1 (within 0 p (omega arith)), all_written packets
-        (λ k d h. within (suc k) d (omega arith)))
+all_written (p ∷ packets) within = (
+  record_of p.0 p.1,
+  flat_map (λ (p : ℕ × List ℕ). record_of p.0 p.1) packets,
+  refl,
+  one_written p.0 p.1 (within 0 p (omega arith)),
+  all_written packets
+      (λ k d h. within (suc k) d (omega arith)),
+)
 
 header_written : (body : List ℕ) → header_of (header 228 ++ body) ≡ Ok (record { big = false; link = RawIpv4 })
 unfolding number
@@ -152,7 +159,7 @@ pub written_is_captured : (packets : List (ℕ × List ℕ)) → All (λ p. leng
 written_is_captured packets within =
     let body : List ℕ = flat_map (λ (p : ℕ × List ℕ). record_of p.0 p.1) packets in
     records_again (header 228 ++ body) (header 228) body (record { big = false; link = RawIpv4 }) (map (λ (p : ℕ × List ℕ). p.1) packets)
-        (header_written body) refl refl (all_written packets within)
+    (header_written body) refl refl (all_written packets within)
 
 raw_packets : (bytes : List ℕ) (captured : List (List ℕ)) → header_of bytes ≡ Ok (record { big = false; link = RawIpv4 }) →
     captured_of bytes ≡ Ok captured → packets_of bytes ≡ Ok captured

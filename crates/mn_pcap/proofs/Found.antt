@@ -41,10 +41,10 @@ counted_at FileHeader head at fed bytes done p =
     ap (λ (h : Result Form PcapBad). elim h [ Err bad ↦ 0 | Ok form ↦ length (all_records form.big bytes).0 ]) p.4 ∙ sym (ap length p.3)
 counted_at (RecordHeader form) head at fed bytes done p =
     counted bytes form done at (bad.Refused CutShort at) p.1.between.header (in_header_cut form bytes done at head p.1)
-        (between_continues form bytes done at p.1.between)
+    (between_continues form bytes done at p.1.between)
 counted_at (Captured form place left) head at fed bytes done p =
     counted bytes form done at (bad.Refused CutShort at) p.1.between.header (in_record_cut form bytes done at place left p.1 p.2)
-        (between_continues form bytes done at p.1.between)
+    (between_continues form bytes done at p.1.between)
 counted_at (Refused bad) head at fed bytes done p = sym (ap count_of (append-nil bytes)) ∙ p.count []
 
 pub counts : (cursor : Cursor) (bytes : List ℕ) (done : List Place) → Follows cursor bytes done → cursor.whole ≡ count_of bytes
@@ -71,7 +71,7 @@ cut_at form head at fed bytes done p apart =
     let b = p.1.between in
     let within = b.within in
     read_to bytes form done at (bad.Refused CutShort at) b.header (in_header_cut form bytes done at head p.1) (omega (arith, apart))
-        (between_continues form bytes done at b)
+    (between_continues form bytes done at b)
 
 cut_in : (form : Form) (place : Place) (left : ℕ) (head : List ℕ) (at fed : ℕ) (bytes : List ℕ) (done : List Place) →
     IsAt (Captured form place left) head at fed bytes done → records_of bytes ≡ Err (bad.Refused CutShort at)
@@ -79,7 +79,7 @@ cut_in form place left head at fed bytes done p =
     let b = p.1.between in
     let header = p.1.header in
     read_to bytes form done at (bad.Refused CutShort at) b.header (in_record_cut form bytes done at place left p.1 p.2) (omega arith)
-        (between_continues form bytes done at b)
+    (between_continues form bytes done at b)
 
 refused_at : (bad : PcapBad) (bytes : List ℕ) (done : List Place) → IsRefusedFor bad bytes done → records_of bytes ≡ Err bad
 refused_at bad bytes done p = sym (ap records_of (append-nil bytes)) ∙ p.refused []

@@ -85,15 +85,15 @@ pub header_again : (bytes header body : List ℕ) (form : Form) → IsBytes byte
 header_again bytes header body form fits r whole =
     let size = r.size in
     let field : (n at : ℕ) → at + n ≤ 24 → number form.big n (drop at bytes) ≡ number form.big n (drop at header) =
-        λ n at h. ap (λ (xs : List ℕ). number form.big n (drop at xs)) whole ∙ number-field form.big n at header body (omega arith) in
+    λ n at h. ap (λ (xs : List ℕ). number form.big n (drop at xs)) whole ∙ number-field form.big n at header body (omega arith) in
     let order = order_is bytes form.big fits (ap is_magic (field 4 0 (omega arith)) ∙ r.magic_says) in
     let kind =
-        kind_of_type (link_type bytes) form.link (ap (λ (big : Bool). number big 4 (drop 20 bytes) % 65536) order.0
-        ∙ ap (λ (n : ℕ). n % 65536) (field 4 20 (omega arith)) ∙ r.link_says) in
+    kind_of_type (link_type bytes) form.link (ap (λ (big : Bool). number big 4 (drop 20 bytes) % 65536) order.0
+    ∙ ap (λ (n : ℕ). n % 65536) (field 4 20 (omega arith)) ∙ r.link_says) in
     let first : number (is_big bytes) 2 (drop 4 bytes) ≡ major =
-        ap (λ (big : Bool). number big 2 (drop 4 bytes)) order.0 ∙ field 2 4 (omega arith) ∙ r.major_is in
+    ap (λ (big : Bool). number big 2 (drop 4 bytes)) order.0 ∙ field 2 4 (omega arith) ∙ r.major_is in
     let second : number (is_big bytes) 2 (drop 6 bytes) ≡ minor =
-        ap (λ (big : Bool). number big 2 (drop 6 bytes)) order.0 ∙ field 2 6 (omega arith) ∙ r.minor_is in
+    ap (λ (big : Bool). number big 2 (drop 6 bytes)) order.0 ∙ field 2 6 (omega arith) ∙ r.minor_is in
     let long : 24 ≤ length bytes = (let l = ap length whole ∙ length-append header body in omega arith) in
     header_ok bytes form long order.1 order.2 (rw (first, second) refl) kind.0
-        (same_form (is_big bytes) form.big (link_kind (link_type bytes)) form.link order.0 kind.1)
+    (same_form (is_big bytes) form.big (link_kind (link_type bytes)) form.link order.0 kind.1)

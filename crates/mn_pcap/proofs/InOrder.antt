@@ -29,7 +29,7 @@ pub header_is_read : (bytes : List ℕ) (form : Form) → header_of bytes ≡ Ok
 unfolding header_of
 header_is_read bytes form e =
     let p = header_passes (form_of bytes) form (nat_lt (length bytes) 4) (number true 4 bytes == pcapng) (not (is_big bytes || is_little bytes))
-        (nat_lt (length bytes) 24) (not (is_version bytes)) (not (is_link_type (link_type bytes))) e in
+    (nat_lt (length bytes) 24) (not (is_version bytes)) (not (is_link_type (link_type bytes))) e in
     let long : 24 ≤ length bytes = grind (arith, nat_tests, p.1) in
     record { known = p.0; size = long; version = p.2; kind = p.3; form_is = p.4 }
 
@@ -45,7 +45,7 @@ pub is_read : (big : Bool) (bytes : List ℕ) (at : ℕ) (place : Place) → rec
 unfolding record_at
 is_read big bytes at place e =
     let p = record_passes at (place_of big bytes at) place (nat_lt (length bytes) (at + 16)) (nat_lt snaplen (captured_length big bytes at))
-        (nat_lt (length bytes) (at + 16 + captured_length big bytes at)) e in
+    (nat_lt (length bytes) (at + 16 + captured_length big bytes at)) e in
     let h : at + 16 ≤ length bytes = grind (arith, nat_tests, p.0) in
     let l : captured_length big bytes at ≤ snaplen = grind (arith, nat_tests, p.1) in
     let w : at + 16 + captured_length big bytes at ≤ length bytes = grind (arith, nat_tests, p.2) in
@@ -69,8 +69,15 @@ pub record Continues (big : Bool) (bytes : List ℕ) (done : List Place) (at : �
 
 pub begins : (big : Bool) (bytes : List ℕ) → 24 ≤ length bytes → Continues big bytes [] 24
 begins big bytes h =
-    record { most = length bytes; within = h; enough = omega arith; places = refl; refused = refl; inside =
-    All-nil (λ (place : Place). end_of place ≤ length bytes) }
+    record {
+      most = length bytes;
+      within = h;
+      enough = omega arith;
+      places = refl;
+      refused = refl;
+      inside =
+          All-nil (λ (place : Place). end_of place ≤ length bytes);
+    }
 
 -- one more record
 pub next : (most : ℕ) (big : Bool) (bytes : List ℕ) (at : ℕ) (place : Place) →
@@ -147,7 +154,7 @@ pub continues_by : (big : Bool) (bytes : List ℕ) (done new : List Place) (at e
     end ≡ end_of place → new ≡ done ++ place ∷ [] → Continues big bytes done at → Continues big bytes new end
 continues_by big bytes done new at end place e after pushed c =
     subst (λ (x : ℕ). Continues big bytes new x) (sym after)
-        (subst (λ (d : List Place). Continues big bytes d (end_of place)) (sym pushed) (continues big bytes done at place e c))
+    (subst (λ (d : List Place). Continues big bytes d (end_of place)) (sym pushed) (continues big bytes done at place e c))
 
 -- what the records of a file are
 

@@ -43,10 +43,10 @@ not_lasting bad place is last = let same : Refused CutShort place ≡ bad = cc i
 -- the first three rules look at four bytes, and a file that is shorter than its header is refused by the fourth at the latest
 by_four : {X : Type 0} (x y : X) (bad : PcapBad) (a b c d e f a' b' c' d' e' f' : Bool) → a' ≡ false → b' ≡ b → c' ≡ c → d ≡ true
     → unless (first_refusal ((a, Refused CutShort 0) ∷ (b, Refused IsPcapng 0) ∷ (c, Refused BadMagic 0) ∷ (d, Refused CutShort 0)
-        ∷ (e, Refused BadVersion 4) ∷ (f, Refused BadLinkType 20) ∷ [])) x ≡ Err bad
+    ∷ (e, Refused BadVersion 4) ∷ (f, Refused BadLinkType 20) ∷ [])) x ≡ Err bad
     → lasts bad ≡ true
     → unless (first_refusal ((a', Refused CutShort 0) ∷ (b', Refused IsPcapng 0) ∷ (c', Refused BadMagic 0) ∷ (d', Refused CutShort 0)
-        ∷ (e', Refused BadVersion 4) ∷ (f', Refused BadLinkType 20) ∷ [])) y ≡ Err bad
+    ∷ (e', Refused BadVersion 4) ∷ (f', Refused BadLinkType 20) ∷ [])) y ≡ Err bad
 by_four x y bad true b c d e f a' b' c' d' e' f' long same also short is last = absurd (not_lasting bad 0 is last)
 by_four x y bad false true c d e f a' b' c' d' e' f' long same also short is last = rw (long, same) is
 by_four x y bad false false true d e f a' b' c' d' e' f' long same also short is last = rw (long, same, also) is
@@ -65,9 +65,9 @@ refused_early bytes more bad short is last = elim (cases_lt (length bytes) 4) [
       let low = number-append false 4 bytes more four in
       by_four (form_of bytes) (form_of (bytes ++ more)) bad
       (nat_lt (length bytes) 4) (number true 4 bytes == pcapng) (not (is_big bytes || is_little bytes)) (nat_lt (length bytes) 24) (not (is_version bytes))
-          (not (is_link_type (link_type bytes)))
+      (not (is_link_type (link_type bytes)))
       (nat_lt (length (bytes ++ more)) 4) (number true 4 (bytes ++ more) == pcapng) (not (is_big (bytes ++ more) || is_little (bytes ++ more)))
-          (nat_lt (length (bytes ++ more)) 24) (not (is_version (bytes ++ more))) (not (is_link_type (link_type (bytes ++ more))))
+      (nat_lt (length (bytes ++ more)) 24) (not (is_version (bytes ++ more))) (not (is_link_type (link_type (bytes ++ more))))
       a (ap (λ (n : ℕ). n == pcapng) high) (rw (high, low) refl) d is last
       )
 ]
@@ -94,7 +94,7 @@ pub header_cut : (bytes : List ℕ) (bad : PcapBad) → header_of bytes ≡ Err 
 unfolding header_of
 header_cut bytes bad is last =
     let c = cut_by (form_of bytes) bad (nat_lt (length bytes) 4) (number true 4 bytes == pcapng) (not (is_big bytes || is_little bytes))
-        (nat_lt (length bytes) 24) (not (is_version bytes)) (not (is_link_type (link_type bytes))) is last in
+    (nat_lt (length bytes) 24) (not (is_version bytes)) (not (is_link_type (link_type bytes))) is last in
     (c.0, let either = c.1 in grind (arith, nat_tests))
 
 -- A record.

@@ -78,7 +78,7 @@ one_spelled big bytes at place r =
     let end = ap end_of r.place_is in
     let whole = r.whole in
     let size : length (bytes_at bytes (place_of big bytes at)) ≡ captured_length big bytes at =
-        length-range bytes (at + 16) (at + 16 + captured_length big bytes at) (omega arith) (omega arith) ∙ omega arith in
+    length-range bytes (at + 16) (at + 16 + captured_length big bytes at) (omega arith) (omega arith) ∙ omega arith in
     let first : at + 16 - at ≡ 16 = omega arith in
     subst (λ (p : Place). IsRecord big (slice_range bytes at (end_of p)) (bytes_at bytes p)) (sym r.place_is) (record {
       header = slice_range bytes at (at + 16);
@@ -106,9 +106,14 @@ spelled big bytes at (place ∷ places) end within is =
     let high = more.before in
     record {
       before = omega arith;
-      are_records =
-          (slice_range bytes at (end_of place), slice_range bytes (end_of place) end, range_in_two bytes at (end_of place) end
-          (omega arith) high, one_spelled big bytes at place r, more.are_records);
+      are_records = (
+        slice_range bytes at (end_of place),
+        slice_range bytes (end_of place) end,
+        range_in_two bytes at (end_of place) end
+            (omega arith) high,
+        one_spelled big bytes at place r,
+        more.are_records,
+      );
     }
 
 -- What is spelled so is read.
@@ -141,10 +146,10 @@ first_is_read big bytes at first captured others low split r =
     ∙ number-field big 4 8 r.header (captured ++ others) (omega arith)
     ∙ r.length_says in
     let lengths : length bytes - at ≡ 16 + (length captured + length others) =
-        sym (length-drop at bytes) ∙ ap length parts ∙ length-append r.header (captured ++ others) ∙ (let l = length-append captured others in
-        omega arith) in
+    sym (length-drop at bytes) ∙ ap length parts ∙ length-append r.header (captured ++ others) ∙ (let l = length-append captured others in
+    omega arith) in
     let tail : drop (at + 16) bytes ≡ captured ++ others =
-        sym (drop-drop 16 at bytes) ∙ ap (λ (xs : List ℕ). drop 16 xs) parts ∙ drop_at r.header (captured ++ others) 16 header in
+    sym (drop-drop 16 at bytes) ∙ ap (λ (xs : List ℕ). drop 16 xs) parts ∙ drop_at r.header (captured ++ others) 16 header in
     let within = r.within in
     let count : at + 16 + captured_length big bytes at - (at + 16) ≡ length captured = omega arith in
     let end : at + 16 + captured_length big bytes at ≡ (at + 16) + length captured = omega arith in
@@ -186,6 +191,9 @@ read_again big bytes (one ∷ more) (suc most) at low enough is =
     let others : AreRecords big (drop (end_of (place_of big bytes at)) bytes) more = subst (λ (xs : List ℕ). AreRecords big xs more) (sym f.others_are) is.4 in
     let rest = read_again big bytes more most (end_of (place_of big bytes at)) w (omega arith) others in
     subst (λ (x : List Place × Option PcapBad). ReadAgain bytes (one ∷ more) x) (sym (next most big bytes at (place_of big bytes at) open_ f.is))
-    (record { captured_are =
-        ap (λ (c : List ℕ). c ∷ map (bytes_at bytes) (records_from most big bytes (end_of (place_of big bytes at))).0) f.bytes_are
-        ∙ ap (λ (cs : List (List ℕ)). one ∷ cs) rest.captured_are; whole = rest.whole })
+    (record {
+      captured_are =
+          ap (λ (c : List ℕ). c ∷ map (bytes_at bytes) (records_from most big bytes (end_of (place_of big bytes at))).0) f.bytes_are
+          ∙ ap (λ (cs : List (List ℕ)). one ∷ cs) rest.captured_are;
+      whole = rest.whole;
+    })

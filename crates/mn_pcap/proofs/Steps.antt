@@ -50,7 +50,7 @@ fed_more fed taken bytes rest is within =
 pub file_read : (old new : Cursor) (bytes rest : List ℕ) (done : List Place) (taken : ℕ) (head : List ℕ) (form : Form) → Follows old bytes done →
     old.stage ≡ FileHeader → taken ≤ length rest → head ≡ old.head ++ take taken rest → length head ≤ 24 → header_of head ≡ Ok form
     → new.stage ≡ RecordHeader form → new.head ≡ [] → new.at ≡ old.fed + taken → new.fed ≡ old.fed + taken → new.whole ≡ old.whole →
-        Follows new (bytes ++ take taken rest) (done ++ [])
+    Follows new (bytes ++ take taken rest) (done ++ [])
 file_read old new bytes rest done taken head form f stage within filled short is next none at fed whole =
     let p = at_stage old FileHeader bytes done stage f in
     let all = fed_more old.fed taken bytes rest p.0 within in
@@ -122,12 +122,14 @@ pub header_done : (old : Cursor) (bytes rest : List ℕ) (done : List Place) (ta
     old.stage ≡ RecordHeader form → taken ≤ length rest → head ≡ old.head ++ take taken rest → length head ≡ 16 → size ≡ number form.big 4 (drop 8 head) →
     size ≤ snaplen
     → (old.fed + taken ≡ length (bytes ++ take taken rest))
-        × IsInRecord form (bytes ++ take taken rest) done old.at (record { at = old.fed + taken; length = size }) size
+    × IsInRecord form (bytes ++ take taken rest) done old.at (record { at = old.fed + taken; length = size }) size
 header_done old bytes rest done taken form head size f stage within filled full is lawful =
     let p = at_stage old (RecordHeader form) bytes done stage f in
-    let all = fed_more old.fed taken bytes rest p.0 within in
-    (all, header_read_on form (bytes ++ take taken rest) done old.at head size (old.fed + taken) is lawful all
-        (whole_there old bytes rest done taken form head f stage filled full))
+    let all = fed_more old.fed taken bytes rest p.0 within in (
+      all,
+      header_read_on form (bytes ++ take taken rest) done old.at head size (old.fed + taken) is lawful all
+          (whole_there old bytes rest done taken form head f stage filled full),
+    )
 
 -- The bytes of a record.
 
@@ -136,9 +138,11 @@ pub captured_more : (old : Cursor) (bytes rest : List ℕ) (done : List Place) (
     → (old.fed + taken ≡ length (bytes ++ take taken rest)) × IsInRecord form (bytes ++ take taken rest) done old.at place (left - taken)
 captured_more old bytes rest done taken form place left f stage within few =
     let p = at_stage old (Captured form place left) bytes done stage f in
-    let t = length-take-le taken rest within in
-    (fed_more old.fed taken bytes rest p.0 within, subst (λ (n : ℕ). IsInRecord form (bytes ++ take taken rest) done old.at place (left - n)) t
-        (record_goes_on form bytes (take taken rest) done old.at place left (omega arith) p.1))
+    let t = length-take-le taken rest within in (
+      fed_more old.fed taken bytes rest p.0 within,
+      subst (λ (n : ℕ). IsInRecord form (bytes ++ take taken rest) done old.at place (left - n)) t
+          (record_goes_on form bytes (take taken rest) done old.at place left (omega arith) p.1),
+    )
 
 -- Behind a header.
 

@@ -27,7 +27,7 @@ snaplen = 262144
 abbrev pub header : ℕ → List ℕ
 header link =
     little_bytes 4 magic ++ little_bytes 2 major ++ little_bytes 2 minor ++ little_bytes 4 zone ++ little_bytes 4 sigfigs ++ little_bytes 4 snaplen ++
-        little_bytes 4 link
+    little_bytes 4 link
 
 -- a tick is a millisecond: the whole seconds of a time, and the microseconds past them
 abbrev pub seconds : ℕ → ℕ

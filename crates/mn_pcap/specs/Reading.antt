@@ -88,8 +88,11 @@ end_of place = place.at + place.length
 unfoldable pub records_from : ℕ → Bool → List ℕ → ℕ → List Place × Option PcapBad
 records_from zero big bytes at = ([], None)
 records_from (suc most) big bytes at =
-    if at == length bytes then ([], None) else elim (record_at big bytes at) [ Err bad ↦ ([], Some bad) | Ok place ↦ (let more =
-        records_from most big bytes (end_of place) in (place ∷ more.0, more.1)) ]
+    if at == length bytes then ([], None) else elim (record_at big bytes at) [
+      | Err bad ↦ ([], Some bad)
+      | Ok place ↦ (let more =
+          records_from most big bytes (end_of place) in (place ∷ more.0, more.1))
+    ]
 
 -- a record has at least a byte, so a file has no more of them than bytes
 abbrev pub all_records : Bool → List ℕ → List Place × Option PcapBad

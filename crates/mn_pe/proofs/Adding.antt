@@ -17,7 +17,7 @@ use Rattle.mn_vrf.specs.declared.refusal.VrfBad.TheVariants.{PrefixTaken}
 use Rattle.mn_vrf.specs.Vrf.{Static, VrfState, Holding, static_before, with_static, static_of, add_refused}
 use Rattle.mn_vrf.proofs.Orders.{static_order}
 use Rattle.mn_pe.specs.Edge.{Edge, on_vrf, after_vrf}
-use Rattle.mn_pe.specs.Held.{label_of, held_by}
+use Rattle.mn_pe.specs.Held.{site_label, held_by}
 use Rattle.mn_pe.specs.Pe.{InOrder, AllHold, IsSound, edge_of, found_in, by_number, IsAbsent, told}
 use Rattle.mn_pe.specs.Changes.{Change, changed, with_changes, spread_to, spread_over, spread_by, present_of, telling, IsSpread, NoVrf, OfVrf}
 use Rattle.mn_pe.proofs.Places.{told_map, absent_on, absent_telling, told_telling}
@@ -106,7 +106,7 @@ module _ (v : ℕ) (p : AddressBlock) (site : ℕ) where
         (home ∙ sym is) h) order
 
     abbrev came : List Static
-    came = present_of (label_of e site) new_static
+    came = present_of (site_label e site) new_static
 
     came_is : (x : Static) (o : Option ℕ) → In (present_of o new_static) x → (new_static ≡ x) × ((l : ℕ) × (o ≡ Some l))
     came_is x None i = absurd i
@@ -128,7 +128,7 @@ module _ (v : ℕ) (p : AddressBlock) (site : ℕ) where
             | inr k ↦ inl (r.0, k.0, r.2)
             | inl k ↦ inr (
               (alike w).number ∙ h.1 ∙ sym is,
-              subst (λ o. In (present_of o new_static) x) (sym (ap (λ (z : Static). label_of e z.site) k ∙ r.2)) (inl k),
+              subst (λ o. In (present_of o new_static) x) (sym (ap (λ (z : Static). site_label e z.site) k ∙ r.2)) (inl k),
             )
           ]
     ]
@@ -143,7 +143,7 @@ module _ (v : ℕ) (p : AddressBlock) (site : ℕ) where
           ((x : Static) → IsPresent more z x → IsPresent e w x ⊎ ((z.number ≡ teller.number) × In came x))) m.2
           (m.0, m.1, alike m.0, present_before m.0 teller is);
       here = λ u j same x c. let m = in_map later e.vrfs u j in
-          let k = came_is x (label_of e site) c in
+          let k = came_is x (site_label e site) c in
           let number : m.0.number ≡ v = sym (alike m.0).number ∙ ap (λ (z : VrfState). z.number) m.2 ∙ same ∙ is in
           subst (λ (z : VrfState). IsPresent more z x) (sym (later_on m.0 number) ∙ m.2)
           (subst (IsPresent more (with_static new_static m.0)) k.0 (k.1.0, in_with_new static_before new_static m.0.statics, k.1.1));

@@ -20,7 +20,7 @@ use Rattle.mn_vrf.specs.declared.refusal.VrfBad.TheVariants.{NoRouteThere}
 use Rattle.mn_vrf.specs.Vrf.{Static, VrfState, Holding, static_before, without_static, static_of, refused_over, del_refused}
 use Rattle.mn_vrf.proofs.Orders.{static_order}
 use Rattle.mn_pe.specs.Edge.{Edge, on_vrf, after_vrf}
-use Rattle.mn_pe.specs.Held.{label_of, held_by, far_over}
+use Rattle.mn_pe.specs.Held.{site_label, held_by, far_over}
 use Rattle.mn_pe.specs.Pe.{InOrder, AllHold, IsSound, edge_of, found_in, IsAbsent, told}
 use Rattle.mn_pe.specs.Changes.{changed, with_changes, spread_over, present_of, telling, IsSpread, NoVrf, OfVrf}
 use Rattle.mn_pe.proofs.Adding.{same_number, in_told, found_there, dummy, told_spread, index_map, length_map}
@@ -102,7 +102,7 @@ module _ (v : ℕ) (p : AddressBlock) (site : ℕ) where
         (λ y. static_before y old_static || static_before old_static y) u.statics h) order
 
     abbrev came : List Static
-    came = present_of (label_of e site) old_static
+    came = present_of (site_label e site) old_static
 
     came_is : (x : Static) (o : Option ℕ) → In (present_of o old_static) x → (old_static ≡ x) × ((l : ℕ) × (o ≡ Some l))
     came_is x None i = absurd i
@@ -132,7 +132,7 @@ module _ (v : ℕ) (p : AddressBlock) (site : ℕ) where
             (q.0, filter_in (λ y. static_before y old_static || static_before old_static y) w.statics x q.1 apart, q.2))
         | inr same ↦
             let k : old_static ≡ x = up w i h.1 x q.1 same in
-            inr (h.1 ∙ sym is, subst (λ o. In (present_of o old_static) x) (sym (ap (λ (z : Static). label_of e z.site) k ∙ q.2)) (inl k))
+            inr (h.1 ∙ sym is, subst (λ o. In (present_of o old_static) x) (sym (ap (λ (z : Static). site_label e z.site) k ∙ q.2)) (inl k))
       ]
     ]
 
@@ -143,7 +143,7 @@ module _ (v : ℕ) (p : AddressBlock) (site : ℕ) where
       forth = λ w i. let m = in_map later e.vrfs w i in
           (m.0, m.1, subst (λ u. AreAlike u m.0) m.2 (alike m.0), λ x q. rises m.0 x (subst (λ u. IsPresent less u x) (sym m.2) q));
       back = λ u j. (later u, map_in later e.vrfs u j, alike u, falls u j teller number);
-      here = λ u j same x c. let k = came_is x (label_of e site) c in
+      here = λ u j same x c. let k = came_is x (site_label e site) c in
           subst (IsPresent e u) k.0 (k.1.0, there u j (same ∙ number), k.1.1);
       told_at = λ x c. (
         first,
@@ -172,7 +172,7 @@ module _ (v : ℕ) (p : AddressBlock) (site : ℕ) where
         In (raw less w) z → ⊥
     unfolding far_list kind_of number_of
     out teller w is there_w x z c route i =
-        let k = came_is x (label_of e site) c in
+        let k = came_is x (site_label e site) c in
         let at_p : x.prefix ≡ p = ap (λ (y : Static). y.prefix) (sym k.0) in
         elim (raw_kinds less w z i) [
           | inl own ↦ elim route [

@@ -18,7 +18,7 @@ use Rattle.mn_frames.specs.Given.{Labelling}
 use Rattle.mn_frames.specs.Entries.{Stays, Leaves, fate, fate_by, fate_of, IsAged, IsFit, IsFall}
 use Rattle.mn_frames.proofs.Fit.{fits_or_falls}
 use Rattle.mn_pe.specs.Edge.{Edge}
-use Rattle.mn_pe.specs.Held.{label_of}
+use Rattle.mn_pe.specs.Held.{site_label}
 use Rattle.mn_pe.specs.Entries.{alone, entered_at, entered_by, entered_over, route_for, as_held, source_of, StandsAtEntry, IsItsFate}
 
 -- a route from the edge itself leads to a site of it, and one of a peer to another edge
@@ -91,6 +91,6 @@ module _ (t : Network) (g : Labelling) (w : World) (edge : Edge) (s : ℕ) (byte
   pub is_its_fate : IsItsFate t g w s bytes (entered_at edge s bytes)
   is_its_fate =
       subst (IsItsFate t g w s bytes)
-      (sym (ap (λ o. entered_by bytes o (route_for edge s (destination_of bytes))) (rules_same (label_of edge s) (w.config.attached s) bytes stands.attached)
+      (sym (ap (λ o. entered_by bytes o (route_for edge s (destination_of bytes))) (rules_same (site_label edge s) (w.config.attached s) bytes stands.attached)
       ∙ ap (entered_by bytes cause) stands.route))
       (by_cause cause refl found refl)

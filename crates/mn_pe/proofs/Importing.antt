@@ -16,7 +16,7 @@ use Rattle.mn_vrf.specs.declared.source.Source.{Source}
 use Rattle.mn_vrf.specs.declared.refusal.VrfBad.TheVariants.{Unchanged, TargetsFull}
 use Rattle.mn_vrf.specs.Vrf.{Static, VrfState, Holding, with_imports, set_refused}
 use Rattle.mn_pe.specs.Edge.{Edge, heard_of_peer, on_vrf, after_vrf}
-use Rattle.mn_pe.specs.Held.{Exported, label_of, export_at, exports_with, own_over, near_over, far_over, held_own, held_far, held_by, in_order}
+use Rattle.mn_pe.specs.Held.{Exported, site_label, export_at, exports_with, own_over, near_over, far_over, held_own, held_far, held_by, in_order}
 use Rattle.mn_pe.specs.Pe.{InOrder, AllHold, IsSound, edge_of, found_in, by_number, far_route, told}
 use Rattle.mn_pe.specs.Changes.{change_of, telling}
 use Rattle.mn_pe.specs.Switched.{meet_alone, after_vrfs, at_vrf, importing}
@@ -214,11 +214,12 @@ module _ (v : ℕ) (t : Rt) (e : Edge) (order : InOrder e) where
       ∙ ap (λ xs. exports_with e w w.exports ++ xs) (same_exports on ws)
     where
       present : (u : VrfState) (is ts : List Rt) (ss : List Static) →
-          flat_map (λ s. export_at (record u { imports = is }) ts s (label_of (later on) s.site)) ss ≡ flat_map (λ s. export_at u ts s (label_of e s.site)) ss
+          flat_map (λ s. export_at (record u { imports = is }) ts s (site_label (later on) s.site)) ss ≡ flat_map
+          (λ s. export_at u ts s (site_label e s.site)) ss
       present u is ts [] = refl
       present u is ts (s ∷ ss) =
-          ap (λ xs. xs ++ flat_map (λ s. export_at (record u { imports = is }) ts s (label_of (later on) s.site)) ss) (at_label (label_of e s.site))
-          ∙ ap (λ xs. export_at u ts s (label_of e s.site) ++ xs) (present u is ts ss)
+          ap (λ xs. xs ++ flat_map (λ s. export_at (record u { imports = is }) ts s (site_label (later on) s.site)) ss) (at_label (site_label e s.site))
+          ∙ ap (λ xs. export_at u ts s (site_label e s.site) ++ xs) (present u is ts ss)
         where
           at_label : (o : Option ℕ) → export_at (record u { imports = is }) ts s o ≡ export_at u ts s o
           at_label None = refl

@@ -16,7 +16,7 @@ use Rattle.mn_pe.specs.Edge.{Edge, heard_of_peer}
 use Rattle.mn_targets.specs.Targets.{meet}
 use Rattle.mn_vrf.specs.Routes.{route_before}
 use Rattle.mn_vrf.specs.declared.source.Source.{Source}
-use Rattle.mn_pe.specs.Held.{Exported, own_over, near_over, label_of, export_at, present_with, exports_with, exports_of, held_own, held_near, held_far}
+use Rattle.mn_pe.specs.Held.{Exported, own_over, near_over, site_label, export_at, present_with, exports_with, exports_of, held_own, held_near, held_far}
 use Rattle.mn_pe.proofs.Present.{export_before, present_ascends}
 use Rattle.mn_pe.proofs.Offers.{AreApart, HasOnePlaces, far_of}
 use Rattle.mn_pe.proofs.Retracts.{by_sources, by_addresses, by_places}
@@ -83,8 +83,8 @@ module _ (edge : Edge) (vrf : VrfState) (k : IsKept edge) (there : In edge.vrfs 
   number_is : (u : VrfState) (ts : List Rt) (x : Exported) → In (exports_with edge u ts) x → x.vrf ≡ u.number
   number_is u [] x i = absurd i
   number_is u (target ∷ ts) x i =
-      let f = in_flat_map (λ static. export_at u (target ∷ ts) static (label_of edge static.site)) u.statics x i in
-      number_at u (target ∷ ts) f.0 (label_of edge f.0.site) x f.2
+      let f = in_flat_map (λ static. export_at u (target ∷ ts) static (site_label edge static.site)) u.statics x i in
+      number_at u (target ∷ ts) f.0 (site_label edge f.0.site) x f.2
 
   one_export : (x y : Exported) → In (exports_of edge) x → In (exports_of edge) y → x.vrf ≡ y.vrf → ((export_before x y || export_before y x) ≡ true) ⊎ (y ≡ x)
   one_export x y i j e =

@@ -7,7 +7,7 @@ use Rattle.mn_base.specs.Ordered.{Ascends}
 use Rattle.mn_base.proofs.Places.{all_append}
 use Rattle.mn_vrf.specs.Vrf.{Static, VrfState, static_before}
 use Rattle.mn_pe.specs.Edge.{Edge}
-use Rattle.mn_pe.specs.Held.{Exported, label_of, export_at}
+use Rattle.mn_pe.specs.Held.{Exported, site_label, export_at}
 
 -- by prefix
 abbrev pub export_before : Exported → Exported → Bool
@@ -26,16 +26,16 @@ one_static vrf targets static (Some label) rest h up = (h, up)
 
 all_from : (edge : Edge) (vrf : VrfState) (targets : List Rt) (P : AddressBlock → Type 0) (xs : List Static) →
     AllByRecursion (λ (x : Static). P x.prefix) xs → AllByRecursion (λ (x : Exported). P x.prefix)
-    (flat_map (λ static. export_at vrf targets static (label_of edge static.site)) xs)
+    (flat_map (λ static. export_at vrf targets static (site_label edge static.site)) xs)
 all_from edge vrf targets P [] h = tt
 all_from edge vrf targets P (x ∷ xs) h =
-    all_append (λ (y : Exported). P y.prefix) (export_at vrf targets x (label_of edge x.site))
-    (flat_map (λ static. export_at vrf targets static (label_of edge static.site)) xs)
-    (from_static vrf targets x (label_of edge x.site) P h.0) (all_from edge vrf targets P xs h.1)
+    all_append (λ (y : Exported). P y.prefix) (export_at vrf targets x (site_label edge x.site))
+    (flat_map (λ static. export_at vrf targets static (site_label edge static.site)) xs)
+    (from_static vrf targets x (site_label edge x.site) P h.0) (all_from edge vrf targets P xs h.1)
 
 pub present_ascends : (edge : Edge) (vrf : VrfState) (targets : List Rt) (xs : List Static) → Ascends static_before xs →
-    Ascends export_before (flat_map (λ static. export_at vrf targets static (label_of edge static.site)) xs)
+    Ascends export_before (flat_map (λ static. export_at vrf targets static (site_label edge static.site)) xs)
 present_ascends edge vrf targets [] up = tt
 present_ascends edge vrf targets (x ∷ xs) up =
-    one_static vrf targets x (label_of edge x.site) (flat_map (λ static. export_at vrf targets static (label_of edge static.site)) xs)
+    one_static vrf targets x (site_label edge x.site) (flat_map (λ static. export_at vrf targets static (site_label edge static.site)) xs)
     (all_from edge vrf targets (λ p. prefix_before x.prefix p ≡ true) xs up.0) (present_ascends edge vrf targets xs up.1)

@@ -13,7 +13,7 @@ use Rattle.mn_targets.specs.Targets.{meet}
 use Rattle.mn_vrf.specs.declared.source.Source.{Source}
 use Rattle.mn_vrf.specs.Vrf.{Static, VrfState}
 use Rattle.mn_pe.specs.Edge.{Edge}
-use Rattle.mn_pe.specs.Held.{Exported, label_of, export_at, present_with, exports_with, exports_of, own_over, near_over, far_over, held_own, held_near}
+use Rattle.mn_pe.specs.Held.{Exported, site_label, export_at, present_with, exports_with, exports_of, own_over, near_over, far_over, held_own, held_near}
 use Rattle.mn_pe.specs.Held.{held_far}
 use Rattle.mn_pe.specs.Changes.{Change, Comes, Goes, change_of, spread_to, spread_over}
 use Rattle.mn_pe.proofs.Offers.{HasOnePlaces}
@@ -23,7 +23,7 @@ use Rattle.mn_pe.proofs.Folds.{AreChanges}
 
 -- a static of the VRF, whose site has a label
 abbrev pub IsPresent : Edge → VrfState → Static → Type 0
-IsPresent edge vrf static = (label : ℕ) × In vrf.statics static × (label_of edge static.site ≡ Some label)
+IsPresent edge vrf static = (label : ℕ) × In vrf.statics static × (site_label edge static.site ≡ Some label)
 
 abbrev made : VrfState → List Rt → Static → ℕ → Exported
 made vrf ts s label = record { vrf = vrf.number; rd = vrf.rd; prefix = s.prefix; label = label; site = s.site; targets = ts }
@@ -36,13 +36,13 @@ one_from vrf ts s (Some label) x i = elim i [ inl e ↦ (label, refl, e) | inr n
 present_from : (edge : Edge) (vrf : VrfState) (ts : List Rt) (x : Exported) → In (present_with edge vrf ts) x → (s : Static) × (p : IsPresent edge vrf s) ×
     (made vrf ts s p.0 ≡ x)
 present_from edge vrf ts x i =
-    let f = in_flat_map (λ s. export_at vrf ts s (label_of edge s.site)) vrf.statics x i in
-    let o = one_from vrf ts f.0 (label_of edge f.0.site) x f.2 in
+    let f = in_flat_map (λ s. export_at vrf ts s (site_label edge s.site)) vrf.statics x i in
+    let o = one_from vrf ts f.0 (site_label edge f.0.site) x f.2 in
     (f.0, (o.0, f.1, o.1), o.2)
 
 present_to : (edge : Edge) (vrf : VrfState) (ts : List Rt) (s : Static) (p : IsPresent edge vrf s) → In (present_with edge vrf ts) (made vrf ts s p.0)
 present_to edge vrf ts s p =
-    flat_map_in (λ s. export_at vrf ts s (label_of edge s.site)) vrf.statics s (made vrf ts s p.0) p.1
+    flat_map_in (λ s. export_at vrf ts s (site_label edge s.site)) vrf.statics s (made vrf ts s p.0) p.1
     (subst (λ o. In (export_at vrf ts s o) (made vrf ts s p.0)) (sym p.2) (inl refl))
 
 export_from : (edge : Edge) (vrf : VrfState) (ts : List Rt) (x : Exported) → In (exports_with edge vrf ts) x → In (present_with edge vrf ts) x

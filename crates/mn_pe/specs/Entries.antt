@@ -24,7 +24,7 @@ use Rattle.mn_vrf.specs.Vrf.{VrfState}
 use Rattle.mn_pe.specs.declared.entering.Entered.{Entered}
 use Rattle.mn_pe.specs.declared.entering.Entered.TheVariants.{Drop, Local, Tunnel}
 use Rattle.mn_pe.specs.Edge.{Edge, vrf_of_site}
-use Rattle.mn_pe.specs.Held.{label_of, held_by, own_over, near_over, far_over}
+use Rattle.mn_pe.specs.Held.{site_label, held_by, own_over, near_over, far_over}
 use Rattle.mn_pe.specs.Pe.{found_in}
 
 -- 1. By the edge
@@ -54,7 +54,7 @@ route_for edge site address = found_in (vrf_of_site edge site) (λ (vrf : VrfSta
 
 -- by the first rule that applies, and then by the best route
 abbrev pub entered_at : Edge → ℕ → List ℕ → Entered
-entered_at edge site bytes = entered_by bytes (first_rule (entry_rules (label_of edge site) bytes)) (route_for edge site (destination_of bytes))
+entered_at edge site bytes = entered_by bytes (first_rule (entry_rules (site_label edge site) bytes)) (route_for edge site (destination_of bytes))
 
 -- the header is the packet's, which is good and has a hop left
 pub record IsFit (bytes : List ℕ) (head : Head) : Type 0 where
@@ -86,7 +86,7 @@ as_held given route = (route.prefix, source_of given route route.source)
 -- Where the packet enters, the edge stands for the ledger's world: its site has a label while it is attached, the best route is the
 -- ledger's, and what would leave is sound.
 pub record StandsAtEntry (edge : Edge) (topology : Network) (given : Labelling) (world : World) (site : ℕ) (bytes : List ℕ) : Type 0 where
-  pub attached : is_none (label_of edge site) ≡ is_none (world.config.attached site)
+  pub attached : is_none (site_label edge site) ≡ is_none (world.config.attached site)
   pub route : route_for edge site (destination_of bytes)
       ≡ option_map (as_held given) (best (held topology world.config world.peerings (home_of topology site) (vrf_of topology site)) (destination_of bytes))
   pub sound : (route : HeldRoute) → fate topology world site bytes ≡ Leaves route → IsSound topology given (bound 0 route bytes)

@@ -44,7 +44,7 @@ export_by labels vrf targets None = None
 export_by labels vrf [] (Some static) = None
 export_by labels vrf (target ∷ targets) (Some static) =
     option_map (λ label. record { vrf = vrf.number; rd = vrf.rd; prefix = static.prefix; label = label; site = static.site; targets = target ∷ targets })
-        (slice_index_or labels static.site None)
+    (slice_index_or labels static.site None)
 
 -- an edge's exports of the VRFs of a number, of a site, and of a site's prefix
 abbrev pub exports_at : Edge → ℕ → List Exported

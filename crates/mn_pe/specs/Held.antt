@@ -21,8 +21,8 @@ pub record Exported : Type 0 where
   pub site : ℕ
   pub targets : List Rt
 
-abbrev pub label_of : Edge → ℕ → Option ℕ
-label_of edge site = slice_index_or edge.labels site None
+abbrev pub site_label : Edge → ℕ → Option ℕ
+site_label edge site = slice_index_or edge.labels site None
 
 abbrev pub export_at : VrfState → List Rt → Static → Option ℕ → List Exported
 export_at vrf targets static None = []
@@ -31,7 +31,7 @@ export_at vrf targets static (Some label) =
 
 -- the VRF's statics of attached sites, with these targets
 abbrev pub present_with : Edge → VrfState → List Rt → List Exported
-present_with edge vrf targets = flat_map (λ static. export_at vrf targets static (label_of edge static.site)) vrf.statics
+present_with edge vrf targets = flat_map (λ static. export_at vrf targets static (site_label edge static.site)) vrf.statics
 
 -- a VRF without an export target exports nothing
 abbrev pub exports_with : Edge → VrfState → List Rt → List Exported

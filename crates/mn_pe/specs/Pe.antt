@@ -61,8 +61,10 @@ pub record IsSound (edge : Edge) (holdings : List Holding) : Type 0 where
 -- a VRF holds a route of these targets if it imports one of them, and else nothing in its place
 abbrev pub taking : AddressBlock × Source → List Rt → Holding → Holding
 taking route targets holding =
-    record holding { held =
-    cond (meet targets holding.vrf.imports) (with_one route_before route holding.held) (without_one route_before route holding.held) }
+    record holding {
+      held =
+          cond (meet targets holding.vrf.imports) (with_one route_before route holding.held) (without_one route_before route holding.held);
+    }
 
 -- it holds nothing in the place of a route
 abbrev pub giving : AddressBlock × Source → Holding → Holding

@@ -159,10 +159,10 @@ module _ {T : Type 0} where
   one_top address es e f t te tf =
       let lengths : e.0.length ≡ f.0.length = omega (arith, te.most f tf.inside tf.covers, tf.most e te.inside te.covers) in
       let prefixes : e.0 ≡ f.0 =
-          one_of_length e.0 f.0 address (key_at (λ p. IsPrefix p.address p.length) e es t.prefixes te.inside)
-          (key_at (λ p. IsPrefix p.address p.length) f es t.prefixes tf.inside) lengths te.covers tf.covers in
+      one_of_length e.0 f.0 address (key_at (λ p. IsPrefix p.address p.length) e es t.prefixes te.inside)
+      (key_at (λ p. IsPrefix p.address p.length) f es t.prefixes tf.inside) lengths te.covers tf.covers in
       let values : e.1 ≡ f.1 =
-          same_Some e.1 f.1 (sym (in_value e es t.distinct te.inside) ∙ ap (λ p. value_at p es) prefixes ∙ in_value f es t.distinct tf.inside) in
+      same_Some e.1 f.1 (sym (in_value e es t.distinct te.inside) ∙ ap (λ p. value_at p es) prefixes ∙ in_value f es t.distinct tf.inside) in
       ap (λ p. (p, e.1)) prefixes ∙ ap (λ v. (f.0, v)) values
 
   top_match : (address : ℕ) (es : List (AddressBlock × T)) (e : AddressBlock × T) → IsTable es → IsTop address es e → longest_match address es ≡ Some e
@@ -265,7 +265,7 @@ module _ {T : Type 0} where
   place_longest address es i d t h =
       let e : AddressBlock × T = slice_index_or es i d in
       let all : list_all (λ x. not (contains x.0 address) || nat_le x.0.length e.0.length) es ≡ true =
-          subst (λ l. list_all (λ x. not (contains x.0 address) || nat_le x.0.length e.0.length) l ≡ true) (take-length es) (h.longest d) in
+      subst (λ l. list_all (λ x. not (contains x.0 address) || nat_le x.0.length e.0.length) l ≡ true) (take-length es) (h.longest d) in
       top_match address es e t (record {
         inside = at_in es i d h.there;
         covers = h.covers d;
@@ -296,7 +296,7 @@ module _ {T : Type 0} where
     covers = λ d. subst (λ (x : AddressBlock × T). contains x.0 address ≡ true) (q ∙ get_or_default es i e d h) c;
     longest = λ d. one_more (λ x. not (contains x.0 address) || nat_le x.0.length (slice_index_or es i d).0.length) es i d h
         (all_more (λ x. not (contains x.0 address)) (λ x. not (contains x.0 address) || nat_le x.0.length (slice_index_or es i d).0.length) (take i es)
-            (λ x k. first (contains x.0 address) _ k) b)
+        (λ x k. first (contains x.0 address) _ k) b)
         (within _ _ (at_most_is (slice_index_or es i d).0.length (slice_index_or es i d).0.length (omega arith)));
   }
 
@@ -309,13 +309,13 @@ module _ {T : Type 0} where
     covers = λ d. subst (λ (x : AddressBlock × T). contains x.0 address ≡ true) (q ∙ get_or_default es i e d h) c;
     longest = λ d.
         let old : f.0.length ≡ (slice_index_or es at d).0.length =
-            ap (λ (x : AddressBlock × T). x.0.length) (r ∙ get_or_default es at f d (omega (arith, b.there, h))) in
+        ap (λ (x : AddressBlock × T). x.0.length) (r ∙ get_or_default es at f d (omega (arith, b.there, h))) in
         let new : e.0.length ≡ (slice_index_or es i d).0.length = ap (λ (x : AddressBlock × T). x.0.length) (q ∙ get_or_default es i e d h) in
         one_more (λ x. not (contains x.0 address) || nat_le x.0.length (slice_index_or es i d).0.length) es i d h
         (all_more (λ x. not (contains x.0 address) || nat_le x.0.length (slice_index_or es at d).0.length)
-            (λ x. not (contains x.0 address) || nat_le x.0.length (slice_index_or es i d).0.length) (take i es)
-            (λ x k. raised (contains x.0 address) x.0.length (slice_index_or es at d).0.length (slice_index_or es i d).0.length
-            (omega (arith, old, new, l)) k) (b.longest d))
+        (λ x. not (contains x.0 address) || nat_le x.0.length (slice_index_or es i d).0.length) (take i es)
+        (λ x k. raised (contains x.0 address) x.0.length (slice_index_or es at d).0.length (slice_index_or es i d).0.length
+        (omega (arith, old, new, l)) k) (b.longest d))
         (within _ _ (at_most_is (slice_index_or es i d).0.length (slice_index_or es i d).0.length (omega arith)));
   }
 

@@ -59,7 +59,7 @@ prefix_again address bits p =
     let short = p.short in
     let split : 32 - bits ≡ (32 - bits - 8 * (4 - octets bits)) + 8 * (4 - octets bits) = omega arith in
     let clear : address % 2 ^ (8 * (4 - octets bits)) ≡ 0 =
-        clear_below address (32 - bits - 8 * (4 - octets bits)) (8 * (4 - octets bits)) (ap (λ (k : ℕ). address % 2 ^ k) (sym split) ∙ p.clear) in
+    clear_below address (32 - bits - 8 * (4 - octets bits)) (8 * (4 - octets bits)) (ap (λ (k : ℕ). address % 2 ^ k) (sym split) ∙ p.clear) in
     address_again (octets bits) address p.fits (omega arith) clear
 
 pub length-prefix_octets : (prefix : AddressBlock) → prefix.length ≤ 32 → length (prefix_octets prefix) ≡ octets prefix.length

@@ -52,7 +52,7 @@ module _ {T : Type 0} where
   held_at p [] d h = absurd (omega arith)
   held_at p (e ∷ es) d h =
       elim (same_prefix p e.0) as (λ b. cond (not b) (1 + position_or_len (λ e. same_prefix p e.0) es) 0 < suc (length es) →
-          cond b (Some e.1) (value_at p es) ≡ Some (slice_index_or (e ∷ es) (cond (not b) (1 + position_or_len (λ e. same_prefix p e.0) es) 0) d).1) [
+      cond b (Some e.1) (value_at p es) ≡ Some (slice_index_or (e ∷ es) (cond (not b) (1 + position_or_len (λ e. same_prefix p e.0) es) 0) d).1) [
         | true ↦ λ k. refl
         | false ↦ λ k. held_at p es d (omega arith) ∙ ap (λ n. Some (slice_index_or (e ∷ es) n d).1) (sym (more _))
       ] h
@@ -61,7 +61,7 @@ module _ {T : Type 0} where
   none_at p [] h = refl
   none_at p (e ∷ es) h =
       elim (same_prefix p e.0) as (λ b. suc (length es) ≤ cond (not b) (1 + position_or_len (λ e. same_prefix p e.0) es) 0 →
-          cond b (Some e.1) (value_at p es) ≡ None) [
+      cond b (Some e.1) (value_at p es) ≡ None) [
         | true ↦ λ k. absurd (omega arith)
         | false ↦ λ k. none_at p es (omega arith)
       ] h
@@ -72,9 +72,9 @@ module _ {T : Type 0} where
   set_at p [] d v h = absurd (omega arith)
   set_at p (e ∷ es) d v h =
       elim (same_prefix p e.0) as (λ b. cond (not b) (1 + position_or_len (λ e. same_prefix p e.0) es) 0 < suc (length es) →
-          slice_set (e ∷ es) (cond (not b) (1 + position_or_len (λ e. same_prefix p e.0) es) 0)
-          ((slice_index_or (e ∷ es) (cond (not b) (1 + position_or_len (λ e. same_prefix p e.0) es) 0) d).0, v) ≡ cond b ((e.0, v) ∷ es)
-          (e ∷ set_value (same_prefix p) es v)) [
+      slice_set (e ∷ es) (cond (not b) (1 + position_or_len (λ e. same_prefix p e.0) es) 0)
+      ((slice_index_or (e ∷ es) (cond (not b) (1 + position_or_len (λ e. same_prefix p e.0) es) 0) d).0, v) ≡ cond b ((e.0, v) ∷ es)
+      (e ∷ set_value (same_prefix p) es v)) [
         | true ↦ λ k. refl
         | false ↦ λ k. ap (λ n. slice_set (e ∷ es) n ((slice_index_or (e ∷ es) n d).0, v)) (more _) ∙ ap (λ l. e ∷ l) (set_at p es d v (omega arith))
       ] h
@@ -84,7 +84,7 @@ module _ {T : Type 0} where
   taken_at p [] h = absurd (omega arith)
   taken_at p (e ∷ es) h =
       elim (same_prefix p e.0) as (λ b. cond (not b) (1 + position_or_len (λ e. same_prefix p e.0) es) 0 < suc (length es) →
-          remove (e ∷ es) (cond (not b) (1 + position_or_len (λ e. same_prefix p e.0) es) 0) ≡ cond b es (e ∷ remove_entry (same_prefix p) es)) [
+      remove (e ∷ es) (cond (not b) (1 + position_or_len (λ e. same_prefix p e.0) es) 0) ≡ cond b es (e ∷ remove_entry (same_prefix p) es)) [
         | true ↦ λ k. refl
         | false ↦ λ k. ap (λ n. remove (e ∷ es) n) (more _) ∙ ap (λ l. e ∷ l) (taken_at p es (omega arith))
       ] h

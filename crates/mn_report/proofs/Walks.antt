@@ -1,11 +1,10 @@
 -- The least walks that a network's tree tells.
-use Rattle.std.proofs.Common.{◌≡◌, ◌<◌, ◌≢◌, ℕ, Bool, true, false, length, Option, Some, None, sym, ◌∙◌, subst}
-use Rattle.std.specs.Prelude.{◌==◌, if◌then◌else◌, IfSome}
-use Rattle.mn_base.specs.Wiring.{Wiring, View, JoinsNodes, link}
+use Rattle.std.proofs.Common.{◌≡◌, ◌<◌, ℕ, length, Option, ◌∙◌, subst}
+use Rattle.mn_base.specs.Wiring.{Wiring, View, JoinsNodes}
 use Rattle.mn_base.specs.Paths.{dist_in, dists_to, next}
 use Rattle.mn_base.specs.declared.numbers.NodeNo.{NodeNo}
 use Rattle.mn_linkdb.specs.PathTable.{PathTable, dist_at, next_at}
-use Rattle.mn_linkdb.specs.Trees.{IsTree, IsNextHop, hop_alone}
+use Rattle.mn_linkdb.specs.Trees.{IsTree, hop_alone}
 use Rattle.mn_topo.specs.Network.{Network, wiring_of}
 use Rattle.mn_topo.specs.Lawful.{IsLawful}
 use Rattle.mn_output.specs.Tables.{tree_line}
@@ -33,25 +32,3 @@ walk_told topology one other view node to tree dist hop s t r computed same_one 
     subst (PutsWalk node to dist hop s t r) same_other told view
     (is_dist ∙ computed.0 (wiring_of topology) view node to tree is joins from there)
     (is_hop ∙ computed.1 (wiring_of topology) view node to tree is joins from there)
-
-either_end : (n : ℕ) (b : Bool) (x y : ℕ) → x < n → y < n → (if b then y else x) < n
-either_end n true x y below other = other
-either_end n false x y below other = below
-
-hop_within : (wiring : Wiring) (view : View) (root to : ℕ) (hop : Option NodeNo) → JoinsNodes wiring → IsNextHop wiring view root to hop
-    → IfSome hop (λ near. near.0 < length wiring.loopbacks)
-hop_within wiring view root to None joins is = tt
-hop_within wiring view root to (Some near) joins is =
-    let ends = joins is.0 is.1.1.there in
-    subst (λ n. n < length wiring.loopbacks) (sym is.1.0)
-    (either_end (length wiring.loopbacks) ((link wiring is.0).a.0 == root) (link wiring is.0).a.0 (link wiring is.0).b.0 ends.0 ends.1)
-
--- the next hop is a node
-pub hop_there : (topology one other : Network) (view : View) (node to : ℕ) (tree : PathTable) (hop : Option NodeNo)
-    → one ≡ topology → other ≡ topology → IsLawful one → IsTree (wiring_of topology) view node tree
-    → to < length topology.loopbacks → to ≢ node → hop ≡ next_at tree to → IfSome hop (λ near. near.0 < length other.loopbacks)
-hop_there topology one other view node to tree hop same_one same_other lawful is there apart is_hop =
-    let joins : JoinsNodes (wiring_of topology) = (subst IsLawful same_one lawful).joins_nodes in
-    subst (λ (n : Network). IfSome hop (λ near. near.0 < length n.loopbacks)) (sym same_other)
-    (subst (λ h. IfSome h (λ near. near.0 < length topology.loopbacks)) (sym is_hop)
-    (hop_within (wiring_of topology) view node to (next_at tree to) joins (is.nexts to there apart)))

@@ -27,7 +27,7 @@ use Rattle.mn_bgp_spelling.specs.Spelling.{Labels}
 use Rattle.mn_vrf.specs.declared.source.Source.{Source}
 use Rattle.mn_vrf.specs.Vrf.{VrfState}
 use Rattle.mn_pe.specs.Edge.{Edge, vrf_of_site}
-use Rattle.mn_pe.specs.Held.{label_of, held_by, far_over}
+use Rattle.mn_pe.specs.Held.{site_label, held_by, far_over}
 use Rattle.mn_pe.specs.Entries as entry
 use Rattle.mn_pe.specs.Entries.{StandsAtEntry, route_for}
 use Rattle.mn_pe.specs.Pe.{found_in}

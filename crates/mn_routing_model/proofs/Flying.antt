@@ -10,7 +10,7 @@ use Rattle.mn_flight.specs.declared.Item.{Item}
 use Rattle.mn_flight.specs.Flying.{on_channel}
 use Rattle.mn_topo.specs.Network.{Network}
 use Rattle.mn_ledger.specs.World.{Telling, Peerings}
-use Rattle.mn_ledger.specs.Vpn.{Told, is_between, tellings_of, with_told}
+use Rattle.mn_ledger.specs.Vpn.{Told, is_from_to, tellings_of, with_told}
 use Rattle.mn_ledger.specs.Items.{numbered, route_of}
 use Rattle.mn_timetable.specs.Keys.{Key, keys_in, keys_on, of_routes}
 use Rattle.mn_timetable.proofs.OtherKeys.{both_tests}
@@ -45,8 +45,8 @@ bytes_more c xs ys = ap (map (λ (item : Item (List ℕ)). item.item)) (filter-a
 abbrev pub AreToNodes : Network → List Told → Type 0
 AreToNodes t xs = (x : Told) → In xs x → x.peer < length t.loopbacks
 
-by_channel : (t : Network) (l : Labels) (a c due number : ℕ) (x : Told) (xs : List Told) (rest : List (Item (List ℕ))) (q : Bool) (b : ℕ) → is_between a b x ≡ q
-    → (x.teller * length t.loopbacks + x.peer == c) ≡ is_between a b x → bytes_on c rest ≡ map (bytes_in t l a) (tellings_of a b xs)
+by_channel : (t : Network) (l : Labels) (a c due number : ℕ) (x : Told) (xs : List Told) (rest : List (Item (List ℕ))) (q : Bool) (b : ℕ) → is_from_to a b x ≡ q
+    → (x.teller * length t.loopbacks + x.peer == c) ≡ is_from_to a b x → bytes_on c rest ≡ map (bytes_in t l a) (tellings_of a b xs)
     → bytes_on c (record {
       channel = x.teller * length t.loopbacks + x.peer;
       due = due;
@@ -63,7 +63,7 @@ pub bytes_told : (t : Network) (l : Labels) (a b due number : ℕ) (xs : List To
     → bytes_on (a * length t.loopbacks + b) (put_all due number (map (parcel_of t l) xs)) ≡ map (bytes_in t l a) (tellings_of a b xs)
 bytes_told t l a b due number [] below nodes = refl
 bytes_told t l a b due number (x ∷ xs) below nodes =
-    by_channel t l a (a * length t.loopbacks + b) due number x xs (put_all due (number + 1) (map (parcel_of t l) xs)) (is_between a b x) b refl
+    by_channel t l a (a * length t.loopbacks + b) due number x xs (put_all due (number + 1) (map (parcel_of t l) xs)) (is_from_to a b x) b refl
     (sym (both_tests (length t.loopbacks) x.teller a x.peer b (nodes x (inl refl)) below))
     (bytes_told t l a b due (number + 1) xs below (λ y i. nodes y (inr i)))
 

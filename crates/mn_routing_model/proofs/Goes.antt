@@ -15,7 +15,7 @@ use Rattle.mn_topo.specs.declared.steps.JournalEntry.{JournalEntry}
 use Rattle.mn_bgp_wire.specs.Written.{update_bytes, announced}
 use Rattle.mn_ledger.specs.Places.{edges, loopback, vrf_at, edge_of}
 use Rattle.mn_ledger.specs.World.{Config, Peerings, World, Telling, Open, Alive, Announce, Unreach}
-use Rattle.mn_ledger.specs.Vpn.{Told, exports_of, changed, is_established, steady_peers, news, told_in, counted, with_told}
+use Rattle.mn_ledger.specs.Vpn.{Told, exports_of, changed, is_established, steady_peers, route_news, told_in, bgp_counted, with_told}
 use Rattle.mn_ledger.specs.Turns.{IsInTurn, PeersAreInTurn}
 use Rattle.mn_ledger.specs.Ledger.{config_after, after, world_of, packets_of}
 use Rattle.mn_ledger.specs.Items.{numbered, route_of}
@@ -116,7 +116,7 @@ count_then t l number next xs e = less_than number next _ _ e (as_many_told t l 
 
 -- all that is told in a step
 abbrev pub tolds : Network → World → Step → List Told
-tolds t w s = told_in t w.config w.peerings (config_after w.config s) (counted w.peerings s) s
+tolds t w s = told_in t w.config w.peerings (config_after w.config s) (bgp_counted w.peerings s) s
 
 -- what is known of a step that one edge is told: which edge, and how the ledger speaks of it
 pub record IsOfOne (t : Network) (l : Labels) (es : List JournalEntry) (s : Step) (f : Edge → Edge) : Type 0 where
@@ -128,12 +128,12 @@ pub record IsOfOne (t : Network) (l : Labels) (es : List JournalEntry) (s : Step
   pub among : In (edges t) (home_in t s)
   pub changes : routes_after t l (world_of t es) (routes_in t l (world_of t es).config (world_of t es).peerings) s ≡ at_edge (home_in t s) f
       (routes_in t l (world_of t es).config (world_of t es).peerings)
-  pub quiet : counted (world_of t es).peerings s ≡ (world_of t es).peerings
-  pub told : (after t (world_of t es) s).peerings ≡ with_told (counted (world_of t es).peerings s) (tolds t (world_of t es) s)
+  pub quiet : bgp_counted (world_of t es).peerings s ≡ (world_of t es).peerings
+  pub told : (after t (world_of t es) s).peerings ≡ with_told (bgp_counted (world_of t es).peerings s) (tolds t (world_of t es) s)
   pub no_replies : tolds t (world_of t es) s ≡ flat_map
-      (news t (world_of t es).config (world_of t es).peerings (config_after (world_of t es).config s) (counted (world_of t es).peerings s)) (edges t)
+      (route_news t (world_of t es).config (world_of t es).peerings (config_after (world_of t es).config s) (bgp_counted (world_of t es).peerings s)) (edges t)
   pub same : (q : ℕ) →
-      is_established (config_after (world_of t es).config s) (counted (world_of t es).peerings s) (home_in t s) q ≡ is_established (world_of t es).config
+      is_established (config_after (world_of t es).config s) (bgp_counted (world_of t es).peerings s) (home_in t s) q ≡ is_established (world_of t es).config
       (world_of t es).peerings (home_in t s) q
   pub now : routes_now t es s ≡ map route_of (tolds t (world_of t es) s)
 
@@ -159,21 +159,21 @@ module _ (t : Network) (lawful : IsLawful t) (es : List JournalEntry) (s : Step)
     to_nodes : AreToNodes t (tolds t w s)
     to_nodes = subst (AreToNodes t) (sym one.no_replies) (all_news (edges t))
       where
-        all_news : (xs : List ℕ) → AreToNodes t (flat_map (news t w.config w.peerings (config_after w.config s) (counted w.peerings s)) xs)
-        all_news xs x i = let g = in_flat_map (news t w.config w.peerings (config_after w.config s) (counted w.peerings s)) xs x i in
-            news_to_nodes t w.config (config_after w.config s) w.peerings (counted w.peerings s) g.0 x g.2
+        all_news : (xs : List ℕ) → AreToNodes t (flat_map (route_news t w.config w.peerings (config_after w.config s) (bgp_counted w.peerings s)) xs)
+        all_news xs x i = let g = in_flat_map (route_news t w.config w.peerings (config_after w.config s) (bgp_counted w.peerings s)) xs x i in
+            news_to_nodes t w.config (config_after w.config s) w.peerings (bgp_counted w.peerings s) g.0 x g.2
 
     pub parcels_are : (comes : Bool) (exports : List Exported) →
         map (bytes_in t later (home_in t s)) (told_of t w.config s (home_in t s)) ≡ map (spelled_in t (home_in t s) comes) exports
         → map (parcel_of t later) (tolds t w s) ≡ news_in t old (home_in t s) comes exports
     parcels_are comes exports spelled =
         ap (map (parcel_of t later)) (one.no_replies
-        ∙ news_at_home t w.config (config_after w.config s) w.peerings (counted w.peerings s) s one.among
+        ∙ news_at_home t w.config (config_after w.config s) w.peerings (bgp_counted w.peerings s) s one.among
         (λ e. tells_what_is_touched t es turn.inputs (record { tick = tick; step = s }) turn.bytes e lawful turn.lawful turn.fitting turn.allowed))
-        ∙ to_all_peers t later (home_in t s) (steady_peers t w.config w.peerings (config_after w.config s) (counted w.peerings s) (home_in t s))
+        ∙ to_all_peers t later (home_in t s) (steady_peers t w.config w.peerings (config_after w.config s) (bgp_counted w.peerings s) (home_in t s))
         (told_of t w.config s (home_in t s))
         ∙ ap (λ ps. to_all (home_in t s * length t.loopbacks) ps (map (bytes_in t later (home_in t s)) (told_of t w.config s (home_in t s))))
-        (peers_are t w.config (config_after w.config s) w.peerings (counted w.peerings s) (home_in t s) one.same
+        (peers_are t w.config (config_after w.config s) w.peerings (bgp_counted w.peerings s) (home_in t s) one.same
         ∙ ap (peers_from 0) (sym (ends_are t l w old stands (home_in t s) home_below)))
         ∙ ap (to_all (home_in t s * length t.loopbacks) (peers_from 0 (ends_of old (home_in t s)))) spelled
 

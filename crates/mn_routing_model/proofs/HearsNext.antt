@@ -29,7 +29,7 @@ use Rattle.mn_bgp_session.specs.Table as table
 use Rattle.mn_ledger.specs.Tables.{put_pair}
 use Rattle.mn_ledger.specs.Places.{edges, loopback}
 use Rattle.mn_ledger.specs.World.{Config, Peerings, World, Telling, Open, Alive, Announce, Unreach, Export}
-use Rattle.mn_ledger.specs.Vpn.{Told, told_to, told_in, counted, with_told, peerings_after, peers_live, state_of, reply}
+use Rattle.mn_ledger.specs.Vpn.{Told, told_to, told_in, bgp_counted, with_told, peerings_after, peers_live, bgp_state_of, reply}
 use Rattle.mn_ledger.specs.Vpn as vpn
 use Rattle.mn_ledger.specs.Ledger.{config_after, after, world_of}
 use Rattle.mn_ledger.specs.Items.{numbered, route_of}
@@ -167,7 +167,7 @@ module _ (t : Network) (lawful : IsLawful t) (peer edge : NodeNo) (old : Routed)
   heard_now es = message_in t (labels_of t es) a (next_of (world_of t es) b a)
 
   abbrev answer_now : List JournalEntry → BgpReply
-  answer_now es = table.reply_in (state_of (world_of t es).config (world_of t es).peerings b a)
+  answer_now es = table.reply_in (bgp_state_of (world_of t es).config (world_of t es).peerings b a)
 
   pub record Comes (es : List JournalEntry) : Type 0 where
     pub first : a < length t.loopbacks
@@ -242,7 +242,7 @@ module _ (t : Network) (lawful : IsLawful t) (peer edge : NodeNo) (old : Routed)
           address = ap (λ (e : Edge). slice_index_or e.loopbacks a 0) (sym is);
           labels = labelled_in l fits.labels (next_of w b a);
         };
-        one = one_answer (state_of w.config w.peerings b a);
+        one = one_answer (bgp_state_of w.config w.peerings b a);
         exports = λ h. subst AreSayable (sym (same_exports (edge_at old b) a (update_of (heard_now es)) ∙ ap exports_of is))
             (all_sayable t l w.config w.peerings b lawful fits (sets_rise t es turn.inputs lawful turn.lawful).exports);
       }
@@ -290,13 +290,13 @@ module _ (t : Network) (lawful : IsLawful t) (tick number next : ℕ) (old new :
       let w : World = world_of t es in
       let c = comes t lawful peer edge old es turn in
       let q = brings t es step_now lawful turn in
-      ap (λ xs. told_to at from (reply (state_of w.config w.peerings at from) (next_of w at from) (vpn.exports_of t w.config at)) ++ xs)
-      (no_news t w.config w.config w.peerings (counted w.peerings step_now) (λ e. nothing_changed (vpn.exports_of t w.config e)))
-      ∙ append-nil (told_to at from (reply (state_of w.config w.peerings at from) (next_of w at from) (vpn.exports_of t w.config at)))
+      ap (λ xs. told_to at from (reply (bgp_state_of w.config w.peerings at from) (next_of w at from) (vpn.exports_of t w.config at)) ++ xs)
+      (no_news t w.config w.config w.peerings (bgp_counted w.peerings step_now) (λ e. nothing_changed (vpn.exports_of t w.config e)))
+      ∙ append-nil (told_to at from (reply (bgp_state_of w.config w.peerings at from) (next_of w at from) (vpn.exports_of t w.config at)))
       ∙ ap (told_to at from) (coming.replies t w at from lawful q.turn c.is)
 
   hears_peerings : (es : List JournalEntry) →
-      (after t (world_of t es) step_now).peerings ≡ with_told (counted (world_of t es).peerings step_now) (tolds t (world_of t es) step_now)
+      (after t (world_of t es) step_now).peerings ≡ with_told (bgp_counted (world_of t es).peerings step_now) (tolds t (world_of t es) step_now)
   unfolding peerings_after
   hears_peerings es = refl
 
@@ -323,7 +323,7 @@ module _ (t : Network) (lawful : IsLawful t) (tick number next : ℕ) (old new :
       subst (λ (y : Told). y.peer < length t.loopbacks) m.2 below
 
   taken_flies : (es : List JournalEntry) → IsRoutes t es old → IsTurn t es step_now →
-      FliesAs t (labels_of t es) (counted (world_of t es).peerings step_now) (taken (channel_from t from at) old).messages
+      FliesAs t (labels_of t es) (bgp_counted (world_of t es).peerings step_now) (taken (channel_from t from at) old).messages
   taken_flies es stands turn x y below under d =
       let w : World = world_of t es in
       let l : Labels = labels_of t es in
@@ -343,7 +343,7 @@ module _ (t : Network) (lawful : IsLawful t) (tick number next : ℕ) (old new :
             ∙ ap (map (bytes_in t l from)) (drop_more (w.peerings.heard at from) (w.peerings.told from at))
             ∙ ap (λ n. map (bytes_in t l from) (drop n (w.peerings.told from at)))
             (sym (pair_here w.peerings.heard at from (w.peerings.heard at from + 1) ∙ add-one (w.peerings.heard at from)))
-            ∙ ap (λ n. unheard t l (counted w.peerings step_now) n at) (sym p.0) ∙ ap (λ n. unheard t l (counted w.peerings step_now) x n) (sym p.1))
+            ∙ ap (λ n. unheard t l (bgp_counted w.peerings step_now) n at) (sym p.0) ∙ ap (λ n. unheard t l (bgp_counted w.peerings step_now) x n) (sym p.1))
         | inr e ↦
             ap (map (λ (item : Item (List ℕ)). item.item))
             (left_off (channel_from t from at) (x * length t.loopbacks + y) old.messages 0 f.0 flight.ascending f.1 e.0)
@@ -358,7 +358,7 @@ module _ (t : Network) (lawful : IsLawful t) (tick number next : ℕ) (old new :
         | inl q ↦ inr (λ e. h (ap (λ k. k * length t.loopbacks + y) e ∙ ap (λ k. from * length t.loopbacks + k) q.1))
       ]
 
-  heard_more : (es : List JournalEntry) → IsTurn t es step_now → IsHeard (counted (world_of t es).peerings step_now)
+  heard_more : (es : List JournalEntry) → IsTurn t es step_now → IsHeard (bgp_counted (world_of t es).peerings step_now)
   heard_more es turn x y d =
       let w : World = world_of t es in
       let c = comes t lawful peer edge old es turn in
@@ -417,7 +417,7 @@ module _ (t : Network) (lawful : IsLawful t) (tick number next : ℕ) (old new :
                 ∙ ap (λ (r : RoutesNow). r.sessions) (sym parts);
             messages =
                 subst (λ p. FliesAs t l p new.messages) (sym (hears_peerings es))
-                (subst (FliesAs t l (with_told (counted w.peerings step_now) (tolds t w step_now))) (sym (put es stands turn))
-                (flies_told t l (counted w.peerings step_now) (tick + t.bgp_delay) number (tolds t w step_now) (taken (channel_from t from at) old).messages
+                (subst (FliesAs t l (with_told (bgp_counted w.peerings step_now) (tolds t w step_now))) (sym (put es stands turn))
+                (flies_told t l (bgp_counted w.peerings step_now) (tick + t.bgp_delay) number (tolds t w step_now) (taken (channel_from t from at) old).messages
                 (heard_more es turn) (subst (AreToNodes t) (sym (told_is es turn)) (told_nodes _ c.first)) (taken_flies es stands turn)));
           })

@@ -12,7 +12,7 @@ use Rattle.mn_topo.specs.declared.steps.Step.{Step}
 use Rattle.mn_topo.specs.declared.steps.Step.TheVariants as step
 use Rattle.mn_ledger.specs.Places.{vrf_of, edge_of, home_of, edges}
 use Rattle.mn_ledger.specs.World.{Config, Export, Telling, Announce, Unreach, Peerings}
-use Rattle.mn_ledger.specs.Vpn.{exports_of, changed, news, steady_peers}
+use Rattle.mn_ledger.specs.Vpn.{exports_of, changed, route_news, steady_peers}
 use Rattle.mn_ledger.specs.Ledger.{config_after, with_target}
 use Rattle.mn_ledger.proofs.OneKind.{IsBehind, from_exports, none_left}
 use Rattle.mn_routing_model.specs.Touched.{touches, comes, goes, by_set, told_of}
@@ -88,11 +88,11 @@ among_edges t v h below =
 -- the news of all edges is the news of this one
 pub news_at_home : (t : Network) (c new : Config) (p k : Peerings) (s : Step) → In (edges t) (home_in t s)
     → ((edge : ℕ) → changed (exports_of t c edge) (exports_of t new edge) ≡ told_of t c s edge)
-    → flat_map (news t c p new k) (edges t) ≡ flat_map
+    → flat_map (route_news t c p new k) (edges t) ≡ flat_map
     (λ telling. map (λ peer. record { teller = home_in t s; peer = peer; telling = telling }) (steady_peers t c p new k (home_in t s)))
     (told_of t c s (home_in t s))
 news_at_home t c new p k s there tells =
-    one_has (news t c p new k) (λ n. is_edge t.vrfs n) (home_in t s) 0 (length t.loopbacks) there
+    one_has (route_news t c p new k) (λ n. is_edge t.vrfs n) (home_in t s) 0 (length t.loopbacks) there
     (λ e d. ap (flat_map (λ telling. map (λ peer. record { teller = e; peer = peer; telling = telling }) (steady_peers t c p new k e)))
     (tells e ∙ none_told t c s e d))
     ∙ ap (flat_map (λ telling. map (λ peer. record { teller = home_in t s; peer = peer; telling = telling }) (steady_peers t c p new k (home_in t s))))
@@ -104,7 +104,7 @@ none_of f (x ∷ xs) h = ap (λ ys. ys ++ flat_map f xs) (h x) ∙ none_of f xs 
 
 -- and where none has any it is none
 pub no_news : (t : Network) (c new : Config) (p k : Peerings) →
-    ((edge : ℕ) → changed (exports_of t c edge) (exports_of t new edge) ≡ []) → flat_map (news t c p new k) (edges t) ≡ []
+    ((edge : ℕ) → changed (exports_of t c edge) (exports_of t new edge) ≡ []) → flat_map (route_news t c p new k) (edges t) ≡ []
 no_news t c new p k tells =
-    none_of (news t c p new k) (edges t)
+    none_of (route_news t c p new k) (edges t)
     (λ e. ap (flat_map (λ telling. map (λ peer. record { teller = e; peer = peer; telling = telling }) (steady_peers t c p new k e))) (tells e))

@@ -16,8 +16,8 @@ use Rattle.mn_topo.specs.declared.steps.Step.TheVariants as step
 use Rattle.mn_ledger.specs.Tables.{put, put_pair}
 use Rattle.mn_ledger.specs.Places.{edges}
 use Rattle.mn_ledger.specs.World.{SiteRoute, Config, Export, Telling, Open, Alive, Announce, Unreach, Peerings, World}
-use Rattle.mn_ledger.specs.Vpn.{peers_live, is_for, exports_of, same_export, withdrawn, announced, changed, Told, is_between, tellings_of}
-use Rattle.mn_ledger.specs.Vpn.{told_to, reply, replies, steady_peers, news, told_in, counted, peerings_after}
+use Rattle.mn_ledger.specs.Vpn.{peers_live, is_for, exports_of, same_export, withdrawn, announced, changed, Told, is_from_to, tellings_of}
+use Rattle.mn_ledger.specs.Vpn.{told_to, reply, bgp_replies, steady_peers, route_news, told_in, bgp_counted, peerings_after}
 use Rattle.mn_ledger.specs.Ledger.{is_static, config_after, after, start, statics_from, no_packets, next_of, left_by, world_from, world_of}
 use Rattle.mn_ledger.proofs.GoingBy.{put_here, put_off, pair_here, pair_off}
 use Rattle.mn_ledger.proofs.Members.{In, in_append, in_map, in_filter, filter_in, in_flat_map}
@@ -148,14 +148,14 @@ join_sound : (t : Network) (c : Config) (xs ys : List Told) → AllSound t c xs 
 unfolding AllSound
 join_sound t c xs ys h g x i = elim (in_append xs ys x i) [ inl j ↦ h x j | inr j ↦ g x j ]
 
-sound_replies : (t : Network) (c : Config) (k : Peerings) (s : Step) → AreNumbered c → AllSound t c (replies t c k s)
+sound_replies : (t : Network) (c : Config) (k : Peerings) (s : Step) → AreNumbered c → AllSound t c (bgp_replies t c k s)
 unfolding AllSound
 sound_replies t c k (step.BgpUp a b) h = join_sound t c (told_to a.0 b.0 (Open ∷ [])) (told_to b.0 a.0 (Open ∷ []))
     (sound_to t c a.0 b.0 (Open ∷ []) (one_sound t c Open (tt, tt))) (sound_to t c b.0 a.0 (Open ∷ []) (one_sound t c Open (tt, tt)))
 sound_replies t c k (step.HearBgp a b) h = sound_to t c b.0 a.0 (reply _ _ (exports_of t c b.0)) (sound_reply t c b.0 _ _ h)
 sound_replies t c k _ h = λ x i. absurd i
 
-sound_news : (t : Network) (c : Config) (p : Peerings) (new : Config) (k : Peerings) (edge : ℕ) → AreNumbered new → AllSound t new (news t c p new k edge)
+sound_news : (t : Network) (c : Config) (p : Peerings) (new : Config) (k : Peerings) (edge : ℕ) → AreNumbered new → AllSound t new (route_news t c p new k edge)
 unfolding AllSound Sound
 sound_news t c p new k edge h x i =
     let f = in_flat_map (λ telling. map (λ peer. record { teller = edge; peer = peer; telling = telling }) (steady_peers t c p new k edge))
@@ -166,15 +166,15 @@ sound_news t c p new k edge h x i =
 sound_told : (t : Network) (c : Config) (p : Peerings) (new : Config) (k : Peerings) (s : Step) → AreNumbered new → AllSound t new (told_in t c p new k s)
 unfolding AllSound
 sound_told t c p new k s h =
-    join_sound t new (replies t new p s) (flat_map (news t c p new k) (edges t)) (sound_replies t new p s h)
-    (λ x i. let f = in_flat_map (news t c p new k) (edges t) x i in sound_news t c p new k f.0 h x f.2)
+    join_sound t new (bgp_replies t new p s) (flat_map (route_news t c p new k) (edges t)) (sound_replies t new p s h)
+    (λ x i. let f = in_flat_map (route_news t c p new k) (edges t) x i in sound_news t c p new k f.0 h x f.2)
 
 abbrev pub AllTellSound : Network → Config → Peerings → Type 0
 AllTellSound t c p = (teller peer : ℕ) (m : Telling) → In (p.told teller peer) m → IsSound t c m
 
 -- 3. A step
 
-still_sound : (t : Network) (c : Config) (p : Peerings) (s : Step) → AllTellSound t c p → AllTellSound t c (counted p s)
+still_sound : (t : Network) (c : Config) (p : Peerings) (s : Step) → AllTellSound t c p → AllTellSound t c (bgp_counted p s)
 still_sound t c p (step.BgpUp a b) h = λ edge peer m i. h edge peer m
     (in_cleared p.told a.0 b.0 edge peer m (in_cleared (put_pair p.told a.0 b.0 []) b.0 a.0 edge peer m i))
 still_sound t c p (step.BgpDown a b) h = λ edge peer m i. h edge peer m
@@ -182,15 +182,15 @@ still_sound t c p (step.BgpDown a b) h = λ edge peer m i. h edge peer m
 still_sound t c p _ h = h
 
 told_sound : (t : Network) (c : Config) (p : Peerings) (s : Step) → AreNumbered c → AllTellSound t c p → (edge peer : ℕ) (m : Telling)
-    → In ((counted p s).told edge peer ++ tellings_of edge peer (told_in t c p (config_after c s) (counted p s) s)) m → IsSound t (config_after c s) m
+    → In ((bgp_counted p s).told edge peer ++ tellings_of edge peer (told_in t c p (config_after c s) (bgp_counted p s) s)) m → IsSound t (config_after c s) m
 unfolding AllSound
-told_sound t c p s numbered h edge peer m i = elim (in_append ((counted p s).told edge peer)
-    (tellings_of edge peer (told_in t c p (config_after c s) (counted p s) s)) m i) [
+told_sound t c p s numbered h edge peer m i = elim (in_append ((bgp_counted p s).told edge peer)
+    (tellings_of edge peer (told_in t c p (config_after c s) (bgp_counted p s) s)) m i) [
       | inl j ↦ sound_more t c s m (still_sound t c p s h edge peer m j)
       | inr j ↦
-          let f = in_map (λ (told : Told). told.telling) (filter (is_between edge peer) (told_in t c p (config_after c s) (counted p s) s)) m j in
-          let g = in_filter (is_between edge peer) (told_in t c p (config_after c s) (counted p s) s) f.0 f.1 in
-          subst (IsSound t (config_after c s)) f.2 (sound_told t c p (config_after c s) (counted p s) s (numbered_go t c s numbered) f.0 g.0)
+          let f = in_map (λ (told : Told). told.telling) (filter (is_from_to edge peer) (told_in t c p (config_after c s) (bgp_counted p s) s)) m j in
+          let g = in_filter (is_from_to edge peer) (told_in t c p (config_after c s) (bgp_counted p s) s) f.0 f.1 in
+          subst (IsSound t (config_after c s)) f.2 (sound_told t c p (config_after c s) (bgp_counted p s) s (numbered_go t c s numbered) f.0 g.0)
     ]
 
 pub sound_go : (t : Network) (w : World) (s : Step) → AreNumbered w.config → AllTellSound t w.config w.peerings →

@@ -13,7 +13,7 @@ use Rattle.mn_prefix.specs.Prefix.{AddressBlock, same_prefix, prefix_before}
 use Rattle.mn_vrf.specs.Vrf.{Static, VrfState, static_before}
 use Rattle.mn_vrf.specs.Vrf as vrf_specs
 use Rattle.mn_pe.specs.Edge.{Edge, vrf_of_site}
-use Rattle.mn_pe.specs.Held.{Exported, label_of, export_at, exports_with, exports_of}
+use Rattle.mn_pe.specs.Held.{Exported, site_label, export_at, exports_with, exports_of}
 use Rattle.mn_pe.specs.Pe.{found_in}
 use Rattle.mn_pe.specs.Exports.{labelled, exports_by, export_over, exports_by_over, export_by, exports_at, exports_over, export_of}
 use Rattle.mn_routing_model.specs.Doing.{those_of}
@@ -72,8 +72,8 @@ with_same edge vrf (t ∷ ts) = refl
 of_vrf : (edge : Edge) (vrf : VrfState) (ts : List Rt) (x : Exported) → In (exports_with edge vrf ts) x → x.vrf ≡ vrf.number
 of_vrf edge vrf [] x i = absurd i
 of_vrf edge vrf (t ∷ ts) x i =
-    let f = in_flat_map (λ static. export_at vrf (t ∷ ts) static (label_of edge static.site)) vrf.statics x i in
-    (at_same vrf (t ∷ ts) f.0 (label_of edge f.0.site) x f.2).0
+    let f = in_flat_map (λ static. export_at vrf (t ∷ ts) static (site_label edge static.site)) vrf.statics x i in
+    (at_same vrf (t ∷ ts) f.0 (site_label edge f.0.site) x f.2).0
 
 pub exports_at_are : (edge : Edge) (v : ℕ) → filter (λ (x : Exported). x.vrf == v) (exports_of edge) ≡ exports_at edge v
 exports_at_are edge v =
@@ -90,14 +90,14 @@ abbrev pub AreAtHome : Edge → ℕ → Type 0
 AreAtHome edge site = (vrf : VrfState) (static : Static) → In edge.vrfs vrf → In vrf.statics static → static.site ≡ site → vrf.number ≡ vrf_of_site edge site
 
 over_one : (edge : Edge) (vrf : VrfState) (ts : List Rt) (site : ℕ) (static : Static) →
-    filter (λ (x : Exported). x.site == site) (export_at vrf ts static (label_of edge static.site)) ≡ export_over edge.labels vrf ts site static
+    filter (λ (x : Exported). x.site == site) (export_at vrf ts static (site_label edge static.site)) ≡ export_over edge.labels vrf ts site static
 over_one edge vrf ts site static =
-    filter_const (λ (x : Exported). x.site == site) (static.site == site) (export_at vrf ts static (label_of edge static.site))
-    (λ x i. ap (λ n. n == site) (at_same vrf ts static (label_of edge static.site) x i).1.0)
+    filter_const (λ (x : Exported). x.site == site) (static.site == site) (export_at vrf ts static (site_label edge static.site))
+    (λ x i. ap (λ n. n == site) (at_same vrf ts static (site_label edge static.site) x i).1.0)
     ∙ by (static.site == site)
   where
     by : (b : Bool) →
-        cond b (export_at vrf ts static (label_of edge static.site)) [] ≡
+        cond b (export_at vrf ts static (site_label edge static.site)) [] ≡
         (if b then export_at vrf ts static (slice_index_or edge.labels static.site None) else [])
     by true = refl
     by false = refl
@@ -106,7 +106,7 @@ over_vrf : (edge : Edge) (vrf : VrfState) (site : ℕ) (ts : List Rt) →
     filter (λ (x : Exported). x.site == site) (exports_with edge vrf ts) ≡ exports_by_over edge.labels site vrf ts
 over_vrf edge vrf site [] = refl
 over_vrf edge vrf site (t ∷ ts) =
-    filter_each (λ (x : Exported). x.site == site) (λ static. export_at vrf (t ∷ ts) static (label_of edge static.site))
+    filter_each (λ (x : Exported). x.site == site) (λ static. export_at vrf (t ∷ ts) static (site_label edge static.site))
     (export_over edge.labels vrf (t ∷ ts) site) vrf.statics
     (λ static i. over_one edge vrf (t ∷ ts) site static)
 
@@ -114,8 +114,8 @@ over_none : (edge : Edge) (vrf : VrfState) (site : ℕ) (ts : List Rt) →
     ((static : Static) → In vrf.statics static → static.site ≢ site) → filter (λ (x : Exported). x.site == site) (exports_with edge vrf ts) ≡ []
 over_none edge vrf site [] h = refl
 over_none edge vrf site (t ∷ ts) h = filter_const (λ (x : Exported). x.site == site) false (exports_with edge vrf (t ∷ ts))
-    (λ x i. let f = in_flat_map (λ static. export_at vrf (t ∷ ts) static (label_of edge static.site)) vrf.statics x i in
-    other_test x.site site (λ e. h f.0 f.1 (sym (at_same vrf (t ∷ ts) f.0 (label_of edge f.0.site) x f.2).1.0 ∙ e)))
+    (λ x i. let f = in_flat_map (λ static. export_at vrf (t ∷ ts) static (site_label edge static.site)) vrf.statics x i in
+    other_test x.site site (λ e. h f.0 f.1 (sym (at_same vrf (t ∷ ts) f.0 (site_label edge f.0.site) x f.2).1.0 ∙ e)))
 
 pub exports_over_are : (edge : Edge) (site : ℕ) → AreAtHome edge site → filter (λ (x : Exported). x.site == site) (exports_of edge) ≡ exports_over edge site
 exports_over_are edge site home =
@@ -144,16 +144,16 @@ abbrev is_of : AddressBlock → Exported → Bool
 is_of prefix x = same_prefix prefix x.prefix
 
 of_one : (edge : Edge) (vrf : VrfState) (ts : List Rt) (prefix : AddressBlock) (static : Static) (b : Bool) → same_prefix prefix static.prefix ≡ b →
-    filter (is_of prefix) (export_at vrf ts static (label_of edge static.site)) ≡ cond b (export_at vrf ts static (label_of edge static.site)) []
-of_one edge vrf ts prefix static b e = filter_const (is_of prefix) b (export_at vrf ts static (label_of edge static.site))
-    (λ x i. ap (same_prefix prefix) (at_same vrf ts static (label_of edge static.site) x i).1.1 ∙ e)
+    filter (is_of prefix) (export_at vrf ts static (site_label edge static.site)) ≡ cond b (export_at vrf ts static (site_label edge static.site)) []
+of_one edge vrf ts prefix static b e = filter_const (is_of prefix) b (export_at vrf ts static (site_label edge static.site))
+    (λ x i. ap (same_prefix prefix) (at_same vrf ts static (site_label edge static.site) x i).1.1 ∙ e)
 
 of_none : (edge : Edge) (vrf : VrfState) (ts : List Rt) (prefix : AddressBlock) (xs : List Static) →
     ((static : Static) → In xs static → same_prefix prefix static.prefix ≡ false)
-    → filter (is_of prefix) (flat_map (λ static. export_at vrf ts static (label_of edge static.site)) xs) ≡ []
-of_none edge vrf ts prefix xs h = filter_const (is_of prefix) false (flat_map (λ static. export_at vrf ts static (label_of edge static.site)) xs)
-    (λ x i. let f = in_flat_map (λ static. export_at vrf ts static (label_of edge static.site)) xs x i in
-    ap (same_prefix prefix) (at_same vrf ts f.0 (label_of edge f.0.site) x f.2).1.1 ∙ h f.0 f.1)
+    → filter (is_of prefix) (flat_map (λ static. export_at vrf ts static (site_label edge static.site)) xs) ≡ []
+of_none edge vrf ts prefix xs h = filter_const (is_of prefix) false (flat_map (λ static. export_at vrf ts static (site_label edge static.site)) xs)
+    (λ x i. let f = in_flat_map (λ static. export_at vrf ts static (site_label edge static.site)) xs x i in
+    ap (same_prefix prefix) (at_same vrf ts f.0 (site_label edge f.0.site) x f.2).1.1 ∙ h f.0 f.1)
 
 itself : (p : AddressBlock) → prefix_before p p ≡ true → ⊥
 itself p h = elim (two_prefixes p p) [
@@ -165,15 +165,15 @@ itself p h = elim (two_prefixes p p) [
     off a n = grind (arith, nat_tests)
 
 of_statics : (edge : Edge) (vrf : VrfState) (t : Rt) (ts : List Rt) (prefix : AddressBlock) (xs : List Static) → Ascends static_before xs
-    → filter (is_of prefix) (flat_map (λ static. export_at vrf (t ∷ ts) static (label_of edge static.site)) xs)
+    → filter (is_of prefix) (flat_map (λ static. export_at vrf (t ∷ ts) static (site_label edge static.site)) xs)
     ≡ those_of (export_by edge.labels vrf (t ∷ ts) (vrf_specs.static_of prefix xs))
 of_statics edge vrf t ts prefix [] up = refl
 of_statics edge vrf t ts prefix (x ∷ xs) up =
-    filter-append (is_of prefix) (export_at vrf (t ∷ ts) x (label_of edge x.site))
-    (flat_map (λ static. export_at vrf (t ∷ ts) static (label_of edge static.site)) xs)
+    filter-append (is_of prefix) (export_at vrf (t ∷ ts) x (site_label edge x.site))
+    (flat_map (λ static. export_at vrf (t ∷ ts) static (site_label edge static.site)) xs)
     ∙ elim (two_prefixes x.prefix prefix) [
       | inl e ↦ here e.0
-      | inr e ↦ ap (λ ys. ys ++ filter (is_of prefix) (flat_map (λ static. export_at vrf (t ∷ ts) static (label_of edge static.site)) xs))
+      | inr e ↦ ap (λ ys. ys ++ filter (is_of prefix) (flat_map (λ static. export_at vrf (t ∷ ts) static (site_label edge static.site)) xs))
           (of_one edge vrf (t ∷ ts) prefix x false (turned e.0))
           ∙ of_statics edge vrf t ts prefix xs up.1
           ∙ sym (ap (λ b. those_of (export_by edge.labels vrf (t ∷ ts) (if b then vrf_specs.static_of prefix xs else Some x))) e.1)
@@ -207,18 +207,18 @@ of_statics edge vrf t ts prefix (x ∷ xs) up =
         neither false h = refl
 
     here : x.prefix ≡ prefix
-        → filter (is_of prefix) (export_at vrf (t ∷ ts) x (label_of edge x.site)) ++ filter (is_of prefix)
-        (flat_map (λ static. export_at vrf (t ∷ ts) static (label_of edge static.site)) xs)
+        → filter (is_of prefix) (export_at vrf (t ∷ ts) x (site_label edge x.site)) ++ filter (is_of prefix)
+        (flat_map (λ static. export_at vrf (t ∷ ts) static (site_label edge static.site)) xs)
         ≡ those_of
         (export_by edge.labels vrf (t ∷ ts)
         (if prefix_before x.prefix prefix || prefix_before prefix x.prefix then vrf_specs.static_of prefix xs else Some x))
     here e =
-        ap (λ ys. ys ++ filter (is_of prefix) (flat_map (λ static. export_at vrf (t ∷ ts) static (label_of edge static.site)) xs))
+        ap (λ ys. ys ++ filter (is_of prefix) (flat_map (λ static. export_at vrf (t ∷ ts) static (site_label edge static.site)) xs))
         (of_one edge vrf (t ∷ ts) prefix x true (ap (λ p. same_prefix p x.prefix) (sym e)
         ∙ ap (λ b. b && (x.prefix.length == x.prefix.length)) (same_test x.prefix.address) ∙ same_test x.prefix.length))
-        ∙ ap (λ ys. export_at vrf (t ∷ ts) x (label_of edge x.site) ++ ys) (of_none edge vrf (t ∷ ts) prefix xs (later e))
-        ∙ append-nil (export_at vrf (t ∷ ts) x (label_of edge x.site))
-        ∙ one (label_of edge x.site)
+        ∙ ap (λ ys. export_at vrf (t ∷ ts) x (site_label edge x.site) ++ ys) (of_none edge vrf (t ∷ ts) prefix xs (later e))
+        ∙ append-nil (export_at vrf (t ∷ ts) x (site_label edge x.site))
+        ∙ one (site_label edge x.site)
         ∙ sym (ap (λ b. those_of (export_by edge.labels vrf (t ∷ ts) (if b then vrf_specs.static_of prefix xs else Some x))) (found e))
 
 of_vrf_prefix : (edge : Edge) (vrf : VrfState) (prefix : AddressBlock) (ts : List Rt) → Ascends static_before vrf.statics

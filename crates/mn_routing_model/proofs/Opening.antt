@@ -26,7 +26,7 @@ pub cut_below : (t : Network) (a b : ℕ) (old one two three : Routed) (x y : Op
 cut_below t a b old one two three x y n e f g h =
     subst (λ (r : Routed). All (λ item. item.number < n) r.messages) (sym (g ∙ ap (cut t a b) (f ∙ ap (with_end b a y) e)))
     (All-filter (λ (item : Item (List ℕ)). not (item.channel == b * length t.loopbacks + a)) (λ item. item.number < n)
-        (off_channel (a * length t.loopbacks + b) old.messages)
+    (off_channel (a * length t.loopbacks + b) old.messages)
     (All-filter (λ (item : Item (List ℕ)). not (item.channel == a * length t.loopbacks + b)) (λ item. item.number < n) old.messages h))
 
 -- what is left once one was taken
@@ -61,7 +61,7 @@ opens_so t tick number middle a b old one two three four new s u (Err e) s_is u_
 opens_so t tick number middle a b old one two three four new s u (Ok next) s_is u_is first second third f g =
     subst (λ m. Puts t tick number (open_to t a b ∷ open_to t b a ∷ []) m new next)
     (third ∙ ap (cut t a b) (second ∙ ap (λ z. with_end b a (Some z) one) u_is
-        ∙ ap (with_end b a (Some (opened t b a))) (first ∙ ap (λ z. with_end a b (Some z) old) s_is)))
+    ∙ ap (with_end b a (Some (opened t b a))) (first ∙ ap (λ z. with_end a b (Some z) old) s_is)))
     (puts_twice t tick number middle next (open_to t a b ∷ []) (open_to t b a ∷ []) three four new f g)
 
 pub ends_so : (t : Network) (a b : ℕ) (old one two three four new : Routed) → one ≡ forgotten a b old → two ≡ forgotten b a one →
@@ -76,7 +76,7 @@ second_there a b old one apart is there =
     subst (λ (r : Routed). slice_get r.edges b ≡ Some (Some (working (edge_at r b)))) (sym is)
     (get_other old.edges a b (Some (working (after_forget (edge_at old a) b))) apart ∙ there
     ∙ ap (λ (o : Option PeNow). Some (Some (working (edge_or_blank o))))
-        (sym (index_other old.edges a b (Some (working (after_forget (edge_at old a) b))) None apart)))
+    (sym (index_other old.edges a b (Some (working (after_forget (edge_at old a) b))) None apart)))
 
 -- to set what is there changes nothing
 pub set_same : {A : Type 0} (xs : List A) (k : ℕ) (x : A) → slice_get xs k ≡ Some x → slice_set xs k x ≡ xs

@@ -16,7 +16,7 @@ use Rattle.mn_topo.specs.declared.steps.Step.TheVariants as step
 use Rattle.mn_ledger.specs.Tables.{put_pair}
 use Rattle.mn_ledger.specs.Places.{loopback, edge_of, home_of, vrf_of}
 use Rattle.mn_ledger.specs.World.{Config, Peerings}
-use Rattle.mn_ledger.specs.Vpn.{peers_live, state_heard, anew, told_in, with_told, peerings_after}
+use Rattle.mn_ledger.specs.Vpn.{peers_live, state_heard, bgp_restarted, told_in, with_told, peerings_after}
 use Rattle.mn_ledger.specs.Ledger.{config_after}
 use Rattle.mn_ledger.specs.Refusal.{labels_given}
 use Rattle.mn_ledger.proofs.Members.{In}
@@ -133,7 +133,7 @@ detach_whole t l c p s below there turn =
 
 -- whatever the step tells, after it the two ends have heard nothing in the new life
 later : Network → Config → Peerings → ℕ → ℕ → Bool → Step → Peerings
-later t c p a b on s = with_told (anew p a b) (told_in t c p (with_session c a b on) (anew p a b) s)
+later t c p a b on s = with_told (bgp_restarted p a b) (told_in t c p (with_session c a b on) (bgp_restarted p a b) s)
 
 module _ (t : Network) (c : Config) (p : Peerings) (a b : ℕ) (on : Bool) (s : Step) (first : a < b) where
   apart : a ≢ b

@@ -15,7 +15,7 @@ use Rattle.mn_ledger.proofs.Tellings.{Behind, behind}
 use Rattle.mn_ledger.proofs.OneKind.{map_in, flat_map_in, in_order_in}
 use Rattle.mn_vrf.specs.Vrf.{VrfState, static_before}
 use Rattle.mn_targets.specs.Targets.{meet}
-use Rattle.mn_pe.specs.Held.{Exported, label_of, export_at}
+use Rattle.mn_pe.specs.Held.{Exported, site_label, export_at}
 use Rattle.mn_pe.specs.Held as held
 use Rattle.mn_bgp_spelling.specs.Spelling.{Labels, as_targets}
 use Rattle.mn_routing_model.specs.Standing.{static_of, statics_in, vrf_in, label_in, edge_in}
@@ -44,7 +44,7 @@ module _ (t : Network) (l : Labels) (c : Config) (p : Peerings) (e : ℕ) (has :
     (sited : (x : SiteRoute) → In c.statics x → x.site < length t.sites) where
   -- the label of a site of the edge
   label_is : (u : ℕ) (s : SiteRoute) → edge_of t u ≡ e → In c.statics s → (vrf_of t s.site == u) ≡ true →
-      label_of (edge_in t l c p e) s.site ≡ option_map (l s.site) (c.attached s.site)
+      site_label (edge_in t l c p e) s.site ≡ option_map (l s.site) (c.attached s.site)
   label_is u s at i h =
       map_numbers_at (label_in t l c e) (length t.sites) s.site None (sited s i)
       ∙ ap (λ b. if b then option_map (l s.site) (c.attached s.site) else None)
@@ -69,7 +69,7 @@ module _ (t : Network) (l : Labels) (c : Config) (p : Peerings) (e : ℕ) (has :
   present_there u ts x at i =
       let b = behind t c u ts x i in
       let vrf : (vrf_of t b.0.site == u) ≡ true = and_left _ _ b.2 in
-      flat_map_in (λ static. export_at (vrf_in t c u) (as_targets ts) static (label_of (edge_in t l c p e) static.site)) (statics_in t c u) (static_of b.0)
+      flat_map_in (λ static. export_at (vrf_in t c u) (as_targets ts) static (site_label (edge_in t l c p e) static.site)) (statics_in t c u) (static_of b.0)
       (exported t l x) (static_there u b.0 b.1 vrf)
       (subst (λ o. In (export_at (vrf_in t c u) (as_targets ts) (static_of b.0) o) (exported t l x))
       (sym (label_is u b.0 at b.1 vrf ∙ some_is (l b.0.site) (c.attached b.0.site) (and_right (vrf_of t b.0.site == u) _ b.2)))
@@ -78,13 +78,13 @@ module _ (t : Network) (l : Labels) (c : Config) (p : Peerings) (e : ℕ) (has :
   pub present_only : (u : ℕ) (ts : List ℕ) (z : Exported) → edge_of t u ≡ e → In (held.present_with (edge_in t l c p e) (vrf_in t c u) (as_targets ts)) z →
       (x : Export) × In (vpn.present_with t c u ts) x × (exported t l x ≡ z)
   present_only u ts z at i =
-      let f = in_flat_map (λ static. export_at (vrf_in t c u) (as_targets ts) static (label_of (edge_in t l c p e) static.site)) (statics_in t c u) z i in
+      let f = in_flat_map (λ static. export_at (vrf_in t c u) (as_targets ts) static (site_label (edge_in t l c p e) static.site)) (statics_in t c u) z i in
       let kept = fold_in static_before [] (map static_of (filter (λ static. vrf_of t static.site == u) c.statics)) f.0 f.1 in
       let m = in_map static_of (filter (λ static. vrf_of t static.site == u) c.statics) f.0 (elim kept [ inl n ↦ absurd n | inr n ↦ n ]) in
       let n = in_filter (λ static. vrf_of t static.site == u) c.statics m.0 m.1 in
       by_label m.0 n.0 n.1 (c.attached m.0.site) refl
       (subst (λ o. In (export_at (vrf_in t c u) (as_targets ts) (static_of m.0) o) z) (label_is u m.0 at n.0 n.1)
-      (subst (λ y. In (export_at (vrf_in t c u) (as_targets ts) y (label_of (edge_in t l c p e) y.site)) z) (sym m.2) f.2))
+      (subst (λ y. In (export_at (vrf_in t c u) (as_targets ts) y (site_label (edge_in t l c p e) y.site)) z) (sym m.2) f.2))
     where
       by_label : (s : SiteRoute) → In c.statics s → (vrf_of t s.site == u) ≡ true → (o : Option ℕ) → c.attached s.site ≡ o →
           In (export_at (vrf_in t c u) (as_targets ts) (static_of s) (option_map (l s.site) o)) z → (x : Export) × In (vpn.present_with t c u ts) x ×

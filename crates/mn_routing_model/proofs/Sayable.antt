@@ -35,7 +35,7 @@ use Rattle.mn_bgp_spelling.specs.Laws.{AreLabels}
 use Rattle.mn_bgp_spelling.proofs.Writable.{AreOfForm, AreFewAndFormed, no_longer, sets_go, first_sets}
 use Rattle.mn_vrf.specs.Vrf.{Static, VrfState}
 use Rattle.mn_pe.specs.Edge.{Edge}
-use Rattle.mn_pe.specs.Held.{Exported, label_of, export_at, present_with, exports_with, exports_of}
+use Rattle.mn_pe.specs.Held.{Exported, site_label, export_at, present_with, exports_with, exports_of}
 use Rattle.mn_routing_model.specs.Standing.{vrf_in, label_in, edge_in}
 use Rattle.mn_routing_model.specs.Doing.{IsSayable, AreSayable}
 use Rattle.mn_routing_model.proofs.Refusing.{as_long as as_many}
@@ -130,7 +130,7 @@ all_say [] h = tt
 all_say (x ∷ xs) h = (h x (inl refl), all_say xs (λ y i. h y (inr i)))
 
 module _ (t : Network) (l : Labels) (c : Config) (p : Peerings) (e : ℕ) (lawful : IsLawful t) (ok : Fits c l) (rise : (v : ℕ) → Rise 0 (c.exports v)) where
-  label_fits : (site k : ℕ) → label_of (edge_in t l c p e) site ≡ Some k → k < 2 ^ 20
+  label_fits : (site k : ℕ) → site_label (edge_in t l c p e) site ≡ Some k → k < 2 ^ 20
   label_fits site k h = let f = index_in (label_in t l c e) (range_with_len 0 (length t.sites)) site k h in by f.0 (home_of t f.0 == e) (c.attached f.0) f.1
     where
       by : (s : ℕ) (b : Bool) (o : Option ℕ) → (if b then option_map (l s) o else None) ≡ Some k → k < 2 ^ 20
@@ -143,8 +143,8 @@ module _ (t : Network) (l : Labels) (c : Config) (p : Peerings) (e : ℕ) (lawfu
       let f = in_flat_map (λ vrf. exports_with (edge_in t l c p e) vrf vrf.exports) (edge_in t l c p e).vrfs x i in
       let m = in_map (vrf_in t c) (vrfs_at t e) f.0 f.1 in
       let g = in_present (edge_in t l c p e) f.0 f.0.exports x f.2 in
-      let s = in_flat_map (λ static. export_at f.0 f.0.exports static (label_of (edge_in t l c p e) static.site)) f.0.statics x g in
-      let k = at_label f.0 f.0.exports s.0 (label_of (edge_in t l c p e) s.0.site) x s.2 in
+      let s = in_flat_map (λ static. export_at f.0 f.0.exports static (site_label (edge_in t l c p e) static.site)) f.0.statics x g in
+      let k = at_label f.0 f.0.exports s.0 (site_label (edge_in t l c p e) s.0.site) x s.2 in
       let r = in_filter (λ v. edge_of t v == e) (range_with_len 0 (length t.vrfs)) m.0 m.1 in
       let below = (in_range 0 (length t.vrfs) m.0 r.0).1 in
       subst IsSayable k.2 (record {

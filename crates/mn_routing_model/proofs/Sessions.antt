@@ -12,7 +12,7 @@ use Rattle.mn_topo.specs.declared.steps.Step.TheVariants as step
 use Rattle.mn_ledger.specs.Tables.{put_pair}
 use Rattle.mn_ledger.specs.Places.{vrfs_at}
 use Rattle.mn_ledger.specs.World.{Config, Peerings}
-use Rattle.mn_ledger.specs.Vpn.{peers_live, heard_of, tellings_of, told_in, with_told, anew, peerings_after}
+use Rattle.mn_ledger.specs.Vpn.{peers_live, heard_of, tellings_of, told_in, with_told, bgp_restarted, peerings_after}
 use Rattle.mn_ledger.specs.Ledger.{config_after}
 use Rattle.mn_ledger.proofs.GoingBy.{pair_here, pair_off}
 use Rattle.mn_ledger.proofs.Peers.{Which, which}
@@ -57,7 +57,7 @@ nothing_heard t l c k edge peer h = ap (λ n. if peer == edge then [] else if pe
 
 module _ (t : Network) (l : Labels) (c : Config) (p : Peerings) (a b : ℕ) (on : Bool) (s : Step) (turn : IsInTurn p) where
   after_it : Peerings
-  after_it = let k : Peerings = anew p a b in let new : Config = with_session c a b on in with_told k (told_in t c p new k s)
+  after_it = let k : Peerings = bgp_restarted p a b in let new : Config = with_session c a b on in with_told k (told_in t c p new k s)
 
   with_heard : ℕ → List (List Heard) → Edge
   with_heard edge heard = record {
@@ -74,7 +74,7 @@ module _ (t : Network) (l : Labels) (c : Config) (p : Peerings) (a b : ℕ) (on 
       heard_in t l (with_session c a b on) after_it edge peer ≡ heard_in t l c p edge peer
   unfolding after_it
   pair_kept edge peer d e =
-      let k : Peerings = anew p a b in
+      let k : Peerings = bgp_restarted p a b in
       let new : Config = with_session c a b on in
       heard_same t l c new p (with_told k (told_in t c p new k s)) edge peer (tellings_of peer edge (told_in t c p new k s))
       (live_off c a b edge peer on d e)

@@ -14,7 +14,7 @@ use Rattle.mn_topo.specs.Network.{Network, wiring_of}
 use Rattle.mn_bgp_session.specs.declared.session.BgpSession.{BgpSession}
 use Rattle.mn_ledger.specs.Places.{loopback}
 use Rattle.mn_ledger.specs.World.{Config, Telling, Peerings}
-use Rattle.mn_ledger.specs.Vpn.{peers_live, state_heard, is_established, Told, steady_peers, exports_of, changed, news}
+use Rattle.mn_ledger.specs.Vpn.{peers_live, state_heard, is_established, Told, steady_peers, exports_of, changed, route_news}
 use Rattle.mn_bgp_spelling.specs.Spelling.{Labels, bytes_in}
 use Rattle.mn_routing_model.specs.Whole.{session_or_none}
 use Rattle.mn_routing_model.specs.Sending.{Parcel, to_each, to_all, is_steady, peers_from}
@@ -87,7 +87,7 @@ to_all_peers t l edge peers (m ∷ ms) =
     ∙ ap (λ ys. to_each (edge * length t.loopbacks) (map node_no peers) (bytes_in t l edge m) ++ ys) (to_all_peers t l edge peers ms)
 
 -- peers are nodes
-pub news_to_nodes : (t : Network) (c new : Config) (p k : Peerings) (edge : ℕ) → AreToNodes t (news t c p new k edge)
+pub news_to_nodes : (t : Network) (c new : Config) (p k : Peerings) (edge : ℕ) → AreToNodes t (route_news t c p new k edge)
 news_to_nodes t c new p k edge x i =
     let f = in_flat_map (λ telling. map (λ peer. record { teller = edge; peer = peer; telling = telling }) (steady_peers t c p new k edge))
     (changed (exports_of t c edge) (exports_of t new edge)) x i in

@@ -20,7 +20,7 @@ use Rattle.mn_topo.specs.declared.steps.Step.TheVariants as step
 use Rattle.mn_ledger.specs.Tables.{put}
 use Rattle.mn_ledger.specs.Places.{vrf_of, edge_of, vrfs_at, home_of}
 use Rattle.mn_ledger.specs.World.{SiteRoute, Config, Open, Peerings}
-use Rattle.mn_ledger.specs.Vpn.{peers_live, tellings_of, told_in, counted, with_told, peerings_after}
+use Rattle.mn_ledger.specs.Vpn.{peers_live, tellings_of, told_in, bgp_counted, with_told, peerings_after}
 use Rattle.mn_ledger.specs.Ledger.{config_after, with_target}
 use Rattle.mn_ledger.proofs.GoingBy.{put_here, put_off, pair_here, pair_off}
 use Rattle.mn_ledger.proofs.Members.{in_filter}
@@ -79,11 +79,11 @@ pub hear_here : (t : Network) (l : Labels) (c : Config) (p : Peerings) (a b : No
 unfolding peerings_after
 hear_here t l c p a b apart below alive more turn =
     let s : Step = step.HearBgp a b in
-    let k : Peerings = with_told (counted p s) (told_in t c p c (counted p s) s) in
+    let k : Peerings = with_told (bgp_counted p s) (told_in t c p c (bgp_counted p s) s) in
     heard_edge t l c p k b.0 a.0 (says_of t l a.0 (slice_index_or (p.told a.0 b.0) (p.heard b.0 a.0) Open))
-    (heard_next t l c c p k b.0 a.0 (tellings_of a.0 b.0 (told_in t c p c (counted p s) s)) (λ e. apart (sym e)) alive alive
+    (heard_next t l c c p k b.0 a.0 (tellings_of a.0 b.0 (told_in t c p c (bgp_counted p s) s)) (λ e. apart (sym e)) alive alive
     (pair_here p.heard b.0 a.0 (p.heard b.0 a.0 + 1)) refl more)
-    (λ q d. heard_same t l c c p k b.0 q (tellings_of q b.0 (told_in t c p c (counted p s) s)) refl
+    (λ q d. heard_same t l c c p k b.0 q (tellings_of q b.0 (told_in t c p c (bgp_counted p s) s)) refl
     (pair_off p.heard b.0 a.0 (p.heard b.0 a.0 + 1) b.0 q (inr d)) refl (turn b.0 q))
     below
 
@@ -93,7 +93,7 @@ pub hear_off : (t : Network) (l : Labels) (c : Config) (p : Peerings) (a b : Nod
 unfolding peerings_after
 hear_off t l c p a b edge d turn =
     let s : Step = step.HearBgp a b in
-    let k : Peerings = with_told (counted p s) (told_in t c p c (counted p s) s) in
+    let k : Peerings = with_told (bgp_counted p s) (told_in t c p c (bgp_counted p s) s) in
     ap (λ xs. record {
       vrfs = map (vrf_in t c) (vrfs_at t edge);
       sites = map (λ (def : SiteDef). def.vrf) t.sites;
@@ -103,7 +103,7 @@ hear_off t l c p a b edge d turn =
       heard = xs;
     })
     (map_same (heard_in t l c k edge) (heard_in t l c p edge) (nodes_of (wiring_of t))
-    (λ q i. heard_same t l c c p k edge q (tellings_of q edge (told_in t c p c (counted p s) s)) refl
+    (λ q i. heard_same t l c c p k edge q (tellings_of q edge (told_in t c p c (bgp_counted p s) s)) refl
     (pair_off p.heard b.0 a.0 (p.heard b.0 a.0 + 1) edge q (inl d)) refl (turn edge q)))
 
 -- 2. What a VRF has is changed
@@ -117,16 +117,16 @@ same_parts ss vs ws ls ms addresses hs ks e f g = ap (λ z. made ss z ls address
     ∙ ap (λ z. made ss ws ms addresses z) g
 
 -- whatever is told, with the same sessions as much is heard
-pub still_heard : (t : Network) (l : Labels) (c new : Config) (p : Peerings) (s : Step) (edge : ℕ) → new.bgp_on ≡ c.bgp_on → counted p s ≡ p → IsInTurn p
-    → map (heard_in t l new (with_told (counted p s) (told_in t c p new (counted p s) s)) edge) (nodes_of (wiring_of t)) ≡ map (heard_in t l c p edge)
+pub still_heard : (t : Network) (l : Labels) (c new : Config) (p : Peerings) (s : Step) (edge : ℕ) → new.bgp_on ≡ c.bgp_on → bgp_counted p s ≡ p → IsInTurn p
+    → map (heard_in t l new (with_told (bgp_counted p s) (told_in t c p new (bgp_counted p s) s)) edge) (nodes_of (wiring_of t)) ≡ map (heard_in t l c p edge)
     (nodes_of (wiring_of t))
 still_heard t l c new p s edge on same turn =
-    let k : Peerings = with_told (counted p s) (told_in t c p new (counted p s) s) in
+    let k : Peerings = with_told (bgp_counted p s) (told_in t c p new (bgp_counted p s) s) in
     map_same (heard_in t l new k edge) (heard_in t l c p edge) (nodes_of (wiring_of t))
-    (λ q i. heard_same t l c new p k edge q (tellings_of q edge (told_in t c p new (counted p s) s))
+    (λ q i. heard_same t l c new p k edge q (tellings_of q edge (told_in t c p new (bgp_counted p s) s))
     (ap (λ (f : ℕ → ℕ → Bool). if nat_lt edge q then f edge q else f q edge) on)
     (ap (λ (r : Peerings). r.heard edge q) same)
-    (ap (λ (r : Peerings). r.told q edge ++ tellings_of q edge (told_in t c p new (counted p s) s)) same) (turn edge q))
+    (ap (λ (r : Peerings). r.told q edge ++ tellings_of q edge (told_in t c p new (bgp_counted p s) s)) same) (turn edge q))
 
 pub on_vrfs : (t : Network) (c new : Config) (v : ℕ) (change : VrfState → VrfState) (us : List ℕ) →
     ((u : ℕ) → vrf_in t new u ≡ cond (u == v) (change (vrf_in t c u)) (vrf_in t c u)) → map (vrf_in t new) us ≡ on_vrf v change (map (vrf_in t c) us)

@@ -18,7 +18,7 @@ use Rattle.mn_topo.specs.declared.steps.Step.TheVariants as step
 use Rattle.mn_topo.specs.declared.steps.JournalEntry.{JournalEntry}
 use Rattle.mn_ledger.specs.Tables.{put_pair}
 use Rattle.mn_ledger.specs.World.{Config, Peerings, World, Telling, Open}
-use Rattle.mn_ledger.specs.Vpn.{Told, told_to, told_in, counted, anew, with_told, news, peerings_after, exports_of, changed}
+use Rattle.mn_ledger.specs.Vpn.{Told, told_to, told_in, bgp_counted, bgp_restarted, with_told, route_news, peerings_after, exports_of, changed}
 use Rattle.mn_ledger.specs.Ledger.{config_after, after, world_of}
 use Rattle.mn_ledger.specs.Items.{numbered, route_of}
 use Rattle.mn_ledger.specs.Places.{edges}
@@ -83,7 +83,7 @@ module _ (t : Network) (a b : ℕ) (first : a < length t.loopbacks) (second : b 
   unlike x y c d below under d_is e = let p = pair_one n x c y d below under e in elim d_is [ inl q ↦ q p.0 | inr q ↦ q p.1 ]
 
   -- nothing flies between the two, and what flies elsewhere stays
-  pub cut_flies : (l : Labels) (p : Peerings) (items : List (Item (List ℕ))) → FliesAs t l p items → FliesAs t l (anew p a b) (left items)
+  pub cut_flies : (l : Labels) (p : Peerings) (items : List (Item (List ℕ))) → FliesAs t l p items → FliesAs t l (bgp_restarted p a b) (left items)
   unfolding Which
   cut_flies l p items flies x y below under d = elim (which a b x y) [
     | inl q ↦
@@ -103,14 +103,14 @@ module _ (t : Network) (a b : ℕ) (first : a < length t.loopbacks) (second : b 
           (off_other (x * n + y) (b * n + a) (off_channel (a * n + b) items) (unlike x y b a under first q.1)
           ∙ off_other (x * n + y) (a * n + b) items (unlike x y a b under second q.0))
           ∙ flies x y below under d
-          ∙ sym (ap (λ k. map (bytes_in t l x) (drop k ((anew p a b).told x y))) (pair_off (put_pair p.heard a b 0) b a 0 y x (swapped q.0)
+          ∙ sym (ap (λ k. map (bytes_in t l x) (drop k ((bgp_restarted p a b).told x y))) (pair_off (put_pair p.heard a b 0) b a 0 y x (swapped q.0)
           ∙ pair_off p.heard a b 0 y x (swapped q.1))
           ∙ ap (λ ms. map (bytes_in t l x) (drop (p.heard y x) ms)) (pair_off (put_pair p.told a b []) b a [] x y q.1 ∙ pair_off p.told a b [] x y q.0))
     ]
   ]
     where
-      silent : (x y : ℕ) → (anew p a b).told x y ≡ [] → unheard t l (anew p a b) x y ≡ []
-      silent x y e = ap (λ ms. map (bytes_in t l x) (drop ((anew p a b).heard y x) ms)) e ∙ none ((anew p a b).heard y x)
+      silent : (x y : ℕ) → (bgp_restarted p a b).told x y ≡ [] → unheard t l (bgp_restarted p a b) x y ≡ []
+      silent x y e = ap (λ ms. map (bytes_in t l x) (drop ((bgp_restarted p a b).heard y x) ms)) e ∙ none ((bgp_restarted p a b).heard y x)
         where
           none : (k : ℕ) → map (bytes_in t l x) (drop k []) ≡ []
           none zero = refl
@@ -120,7 +120,7 @@ module _ (t : Network) (a b : ℕ) (first : a < length t.loopbacks) (second : b 
       swapped d = elim d [ inl p ↦ inr p | inr q ↦ inl q ]
 
   -- nobody has heard more than was told
-  pub anew_heard : (p : Peerings) → IsHeard p → IsHeard (anew p a b)
+  pub anew_heard : (p : Peerings) → IsHeard p → IsHeard (bgp_restarted p a b)
   unfolding Which
   anew_heard p heard x y d = elim (which a b y x) [
     | inl q ↦ none (pair_off (put_pair p.heard a b 0) b a 0 y x (inl (λ e. apart (sym q.0 ∙ e))) ∙ ap (λ k. put_pair p.heard a b 0 k x) q.0
@@ -128,13 +128,14 @@ module _ (t : Network) (a b : ℕ) (first : a < length t.loopbacks) (second : b 
     | inr r ↦ elim r [
       | inl q ↦ none (ap (λ k. put_pair (put_pair p.heard a b 0) b a 0 k x) q.0 ∙ ap (put_pair (put_pair p.heard a b 0) b a 0 b) q.1
           ∙ pair_here (put_pair p.heard a b 0) b a 0)
-      | inr q ↦ subst (λ k. k ≤ length ((anew p a b).told x y)) (sym (pair_off (put_pair p.heard a b 0) b a 0 y x q.1 ∙ pair_off p.heard a b 0 y x q.0))
+      | inr q ↦ subst (λ k. k ≤ length ((bgp_restarted p a b).told x y))
+          (sym (pair_off (put_pair p.heard a b 0) b a 0 y x q.1 ∙ pair_off p.heard a b 0 y x q.0))
           (subst (λ ms. p.heard y x ≤ length ms)
           (sym (pair_off (put_pair p.told a b []) b a [] x y (swapped q.0) ∙ pair_off p.told a b [] x y (swapped q.1))) (heard x y d))
     ]
   ]
     where
-      none : (anew p a b).heard y x ≡ 0 → (anew p a b).heard y x ≤ length ((anew p a b).told x y)
+      none : (bgp_restarted p a b).heard y x ≡ 0 → (bgp_restarted p a b).heard y x ≤ length ((bgp_restarted p a b).told x y)
       none e = omega (arith, e)
 
       swapped : {P Q : Type 0} → P ⊎ Q → Q ⊎ P
@@ -172,22 +173,22 @@ module _ (t : Network) (lawful : IsLawful t) (tick number next : ℕ) (old new :
   two_told : (es : List JournalEntry) → tolds t (world_of t es) opening ≡ told_to a.0 b.0 (Open ∷ []) ++ told_to b.0 a.0 (Open ∷ [])
   two_told es =
       ap (λ xs. (told_to a.0 b.0 (Open ∷ []) ++ told_to b.0 a.0 (Open ∷ [])) ++ xs)
-      (no_news t (world_of t es).config (config_after (world_of t es).config opening) (world_of t es).peerings (counted (world_of t es).peerings opening)
+      (no_news t (world_of t es).config (config_after (world_of t es).config opening) (world_of t es).peerings (bgp_counted (world_of t es).peerings opening)
       (λ e. nothing_changed (exports_of t (world_of t es).config e)))
       ∙ append-nil (told_to a.0 b.0 (Open ∷ []) ++ told_to b.0 a.0 (Open ∷ []))
 
   none_told : (es : List JournalEntry) → tolds t (world_of t es) ending ≡ []
   none_told es =
-      no_news t (world_of t es).config (config_after (world_of t es).config ending) (world_of t es).peerings (counted (world_of t es).peerings ending)
+      no_news t (world_of t es).config (config_after (world_of t es).config ending) (world_of t es).peerings (bgp_counted (world_of t es).peerings ending)
       (λ e. nothing_changed (exports_of t (world_of t es).config e))
 
   opens_peerings : (es : List JournalEntry) →
-      (after t (world_of t es) opening).peerings ≡ with_told (anew (world_of t es).peerings a.0 b.0) (tolds t (world_of t es) opening)
+      (after t (world_of t es) opening).peerings ≡ with_told (bgp_restarted (world_of t es).peerings a.0 b.0) (tolds t (world_of t es) opening)
   unfolding peerings_after
   opens_peerings es = refl
 
   ends_peerings : (es : List JournalEntry) →
-      (after t (world_of t es) ending).peerings ≡ with_told (anew (world_of t es).peerings a.0 b.0) (tolds t (world_of t es) ending)
+      (after t (world_of t es) ending).peerings ≡ with_told (bgp_restarted (world_of t es).peerings a.0 b.0) (tolds t (world_of t es) ending)
   unfolding peerings_after
   ends_peerings es = refl
 
@@ -244,8 +245,8 @@ module _ (t : Network) (lawful : IsLawful t) (tick number next : ℕ) (old new :
                 ∙ ap (λ (r : RoutesNow). r.sessions) (sym parts);
             messages =
                 subst (λ p. FliesAs t l p new.messages) (sym (opens_peerings es))
-                (subst (FliesAs t l (with_told (anew w.peerings a.0 b.0) (tolds t w opening))) (sym (put es))
-                (flies_told t l (anew w.peerings a.0 b.0) (tick + t.bgp_delay) number (tolds t w opening) (cut_items old.messages)
+                (subst (FliesAs t l (with_told (bgp_restarted w.peerings a.0 b.0) (tolds t w opening))) (sym (put es))
+                (flies_told t l (bgp_restarted w.peerings a.0 b.0) (tick + t.bgp_delay) number (tolds t w opening) (cut_items old.messages)
                 (anew_heard t a.0 b.0 below.0 below.1 (apart es turn) w.peerings (heard_all w q.turn.bgp)) (to_nodes es turn)
                 (cut_flies t a.0 b.0 below.0 below.1 (apart es turn) l w.peerings old.messages stands.messages)));
           })
@@ -292,9 +293,10 @@ module _ (t : Network) (lawful : IsLawful t) (tick number next : ℕ) (old new :
                 ∙ ap (λ (r : RoutesNow). r.sessions) (sym parts);
             messages =
                 subst (λ p. FliesAs t l p new.messages) (sym (ends_peerings es))
-                (subst (λ xs. FliesAs t l (with_told (anew w.peerings a.0 b.0) xs) new.messages) (sym (none_told es))
-                (subst (FliesAs t l (with_told (anew w.peerings a.0 b.0) [])) (append-nil (cut_items old.messages) ∙ ap (λ (r : Routed). r.messages) (sym ends))
-                (flies_told t l (anew w.peerings a.0 b.0) (tick + t.bgp_delay) number [] (cut_items old.messages)
+                (subst (λ xs. FliesAs t l (with_told (bgp_restarted w.peerings a.0 b.0) xs) new.messages) (sym (none_told es))
+                (subst (FliesAs t l (with_told (bgp_restarted w.peerings a.0 b.0) []))
+                (append-nil (cut_items old.messages) ∙ ap (λ (r : Routed). r.messages) (sym ends))
+                (flies_told t l (bgp_restarted w.peerings a.0 b.0) (tick + t.bgp_delay) number [] (cut_items old.messages)
                 (anew_heard t a.0 b.0 below.0 below.1 may.apart w.peerings (heard_all w q.turn.bgp)) (λ x i. absurd i)
                 (cut_flies t a.0 b.0 below.0 below.1 may.apart l w.peerings old.messages stands.messages))));
           })

@@ -12,7 +12,7 @@ use Rattle.mn_bgp_session.specs.declared.session.BgpSession.{BgpSession}
 use Rattle.mn_bgp_session.specs.Table as table
 use Rattle.mn_ledger.specs.Places.{loopback}
 use Rattle.mn_ledger.specs.World.{Config, Telling, Open, Alive, Announce, Unreach, Peerings}
-use Rattle.mn_ledger.specs.Vpn.{peers_live, state_heard, state_of, peerings_after}
+use Rattle.mn_ledger.specs.Vpn.{peers_live, state_heard, bgp_state_of, peerings_after}
 use Rattle.mn_ledger.specs.Turns.{has_bgp_row}
 use Rattle.mn_ledger.proofs.GoingBy.{pair_off}
 use Rattle.mn_pe.specs.Edge.{Edge, after_message}
@@ -38,7 +38,7 @@ mapped_if f false x = refl
 
 module _ (t : Network) (l : Labels) (c : Config) (p : Peerings) (a b : NodeNo) (apart : a.0 ≢ b.0) (first : a.0 < length t.loopbacks)
     (second : b.0 < length t.loopbacks) (alive : peers_live c b.0 a.0 ≡ true)
-    (more : p.heard b.0 a.0 < length (p.told a.0 b.0)) (row : has_bgp_row (state_of c p b.0 a.0)
+    (more : p.heard b.0 a.0 < length (p.told a.0 b.0)) (row : has_bgp_row (bgp_state_of c p b.0 a.0)
     (slice_index_or (p.told a.0 b.0) (p.heard b.0 a.0) Open) ≡ true) (turn : IsInTurn p) where
   heard : Telling
   heard = slice_index_or (p.told a.0 b.0) (p.heard b.0 a.0) Open

@@ -14,6 +14,7 @@
 //! the routes as its parts say. So who keeps an edge and the ends of its sessions by these changes stands for the ledger.
 //! `mn_routing` does, and this crate says what it owes.
 //!
+//! - `laws`: what follows from the definitions; `specs/Laws`, `specs/Sources`: what they say
 //! - `specs/Standing`: one edge, as the ledger has it
 //! - `specs/Whole`: all edges and sessions, and what is changed of them
 //! - `specs/Changes`: each step's change; `specs/Touched`: of which exports it tells

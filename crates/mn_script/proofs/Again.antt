@@ -50,17 +50,17 @@ use Rattle.mn_script.specs.Spelled.{show_words, command_words, IsCommand}
 pub node_again : (network : Network) (node : NodeNo) → IsLawful network → node.0 < length network.loopbacks → node_in network (node_text network node) ≡ Ok node
 node_again network node lawful below =
     ap (λ found. or_rule NoSuchName (option_map (λ n. record { 0 = n }) found))
-        (name_again network.node_names node.0 [] lawful.nodes.named (omega (arith, below, lawful.nodes.each)))
+    (name_again network.node_names node.0 [] lawful.nodes.named (omega (arith, below, lawful.nodes.each)))
 
 pub vrf_again : (network : Network) (vrf : VrfNo) → IsLawful network → vrf.0 < length network.vrfs → vrf_in network (vrf_text network vrf) ≡ Ok vrf
 vrf_again network vrf lawful below =
     ap (λ found. or_rule NoSuchName (option_map (λ n. record { 0 = n }) found))
-        (name_again network.vrf_names vrf.0 [] lawful.vrfs.named (omega (arith, below, lawful.vrfs.each)))
+    (name_again network.vrf_names vrf.0 [] lawful.vrfs.named (omega (arith, below, lawful.vrfs.each)))
 
 pub site_again : (network : Network) (site : SiteNo) → IsLawful network → site.0 < length network.sites → site_in network (site_text network site) ≡ Ok site
 site_again network site lawful below =
     ap (λ found. or_rule NoSuchName (option_map (λ n. record { 0 = n }) found))
-        (name_again network.site_names site.0 [] lawful.sites.named (omega (arith, below, lawful.sites.each)))
+    (name_again network.site_names site.0 [] lawful.sites.named (omega (arith, below, lawful.sites.each)))
 
 -- the ends of a link are nodes
 sends : (network : Network) (link : LinkNo) (direction : Dir) → IsLawful network → link.0 < length network.links →
@@ -90,8 +90,8 @@ pub edges_again : (network : Network) (a b : NodeNo) → IsLawful network → a.
 unfolding edges_in
 edges_again network a b lawful first second edges =
     ap (λ found. found >>=
-        (λ one. node_in network (node_text network b) >>= (λ other. if are_edges network one other then Ok (one, other) else Err NotEdge)))
-        (node_again network a lawful first)
+    (λ one. node_in network (node_text network b) >>= (λ other. if are_edges network one other then Ok (one, other) else Err NotEdge)))
+    (node_again network a lawful first)
     ∙ ap (λ found. found >>= (λ other. if are_edges network a other then Ok (a, other) else Err NotEdge)) (node_again network b lawful second)
     ∙ ap (λ t. if t then Ok (a, b) else Err NotEdge) edges
 
@@ -105,7 +105,7 @@ up_to false v most = refl
 pub number_in_again : (n least most : ℕ) → n < 2 ^ 64 → least ≤ n → n ≤ most → number_in (number_text n) least most ≡ Ok n
 number_in_again n least most fits low high =
     ap (λ found. or_rule BadNumber (option_and_then (λ m. if nat_le least m then Some m else None) found))
-        (up_to (is_number (number_text n)) (digits_value 10 (number_text n)) most ∙ ap result_ok (number_again n most fits high))
+    (up_to (is_number (number_text n)) (digits_value 10 (number_text n)) most ∙ ap result_ok (number_again n most fits high))
     ∙ ap (λ t. or_rule BadNumber (if t then Some n else None)) (le-leb least n low)
 
 pub prefix_in_again : (prefix : AddressBlock) → IsPrefix prefix.address prefix.length → prefix_in (prefix_text prefix) ≡ Ok prefix
@@ -137,7 +137,7 @@ learn : (network : Network) (node : NodeNo) (link : LinkNo) → IsLawful network
 unfolding step_line learn_line
 learn network node link lawful there below =
     ap (λ found. found >>= (λ who. link_in network (from_text network link Forth) (to_text network link Forth) >>= (λ it. Ok (Learn who it.0))))
-        (node_again network node lawful there)
+    (node_again network node lawful there)
     ∙ ap (λ found. found >>= (λ it. Ok (Learn node it.0))) (ends_again network link Forth lawful below)
 
 ldp : (network : Network) (link : LinkNo) (on : Bool) → IsLawful network → link.0 < length network.links →
@@ -173,7 +173,7 @@ hear_bgp network a b lawful edges =
     let both = and_parts _ _ edges in
     let each = and_parts _ _ both.0 in
     ap (λ found. found >>= (λ pair. Ok (HearBgp pair.0 pair.1)))
-        (edges_again network a b lawful (edge_is_node network a lawful each.0) (edge_is_node network b lawful each.1) edges)
+    (edges_again network a b lawful (edge_is_node network a lawful each.0) (edge_is_node network b lawful each.1) edges)
 
 -- two edges in order are two different edges
 apart : (network : Network) (a b : NodeNo) → are_edges_in_order network a b ≡ true → are_edges network a b ≡ true
@@ -191,7 +191,7 @@ bgp_up network a b lawful edges =
     let each = and_parts _ _ both.0 in
     let before : a.0 < b.0 = ltb-true a.0 b.0 both.1 in
     ap (λ found. found >>= (λ pair. Ok (BgpUp (lesser pair.0 pair.1) (greater pair.0 pair.1))))
-        (edges_again network a b lawful (edge_is_node network a lawful each.0) (edge_is_node network b lawful each.1) (apart network a b edges))
+    (edges_again network a b lawful (edge_is_node network a lawful each.0) (edge_is_node network b lawful each.1) (apart network a b edges))
     ∙ ap (λ node. Ok (BgpUp node (greater a b))) (lesser_first a b before)
     ∙ ap (λ node. Ok (BgpUp a node)) (greater_second a b before)
 
@@ -203,7 +203,7 @@ bgp_down network a b lawful edges =
     let each = and_parts _ _ both.0 in
     let before : a.0 < b.0 = ltb-true a.0 b.0 both.1 in
     ap (λ found. found >>= (λ pair. Ok (BgpDown (lesser pair.0 pair.1) (greater pair.0 pair.1))))
-        (edges_again network a b lawful (edge_is_node network a lawful each.0) (edge_is_node network b lawful each.1) (apart network a b edges))
+    (edges_again network a b lawful (edge_is_node network a lawful each.0) (edge_is_node network b lawful each.1) (apart network a b edges))
     ∙ ap (λ node. Ok (BgpDown node (greater a b))) (lesser_first a b before)
     ∙ ap (λ node. Ok (BgpDown a node)) (greater_second a b before)
 
@@ -260,7 +260,7 @@ inject : (network : Network) (site : SiteNo) (number : ℕ) → IsLawful network
 unfolding step_line inject_line
 inject network site number lawful there low high =
     ap (λ found. found >>= (λ k. site_in network (site_text network site) >>= (λ it. Ok (Inject it k))))
-        (number_in_again number 1 4294967295 (omega arith) low (omega arith))
+    (number_in_again number 1 4294967295 (omega arith) low (omega arith))
     ∙ ap (λ found. found >>= (λ it. Ok (Inject it number))) (site_again network site lawful there)
 
 -- the words of a frame are read as its operands
@@ -270,7 +270,7 @@ frame_again : (network : Network) (first : List ℕ) (link : LinkNo) (direction 
 unfolding frame_operands
 frame_again network first link direction place lawful below high =
     ap (λ found. found >>= (λ k. link_in network (from_text network link direction) (to_text network link direction) >>= (λ it. Ok (it.0, it.1, k))))
-        (number_in_again place 0 4294967295 (omega arith) (omega arith) (omega arith))
+    (number_in_again place 0 4294967295 (omega arith) (omega arith) (omega arith))
     ∙ ap (λ found. found >>= (λ it. Ok (it.0, it.1, place))) (ends_again network link direction lawful below)
 
 carry : (network : Network) (link : LinkNo) (direction : Dir) (place : ℕ) → IsLawful network → link.0 < length network.links → place < 2 ^ 32 →

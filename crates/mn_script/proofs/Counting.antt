@@ -82,8 +82,7 @@ unfolding parts
 lines_of_split [] = refl
 lines_of_split (byte ∷ []) =
     elim (byte == 10) as
-        (λ b. length (lines_of_parts (cond b ([] ∷ [] ∷ []) ((byte ∷ []) ∷ []))) + 1 ≡ length (cond b ([] ∷ [] ∷ []) ((byte ∷ []) ∷ [])) + cond (not b) 1 0)
-        [
+    (λ b. length (lines_of_parts (cond b ([] ∷ [] ∷ []) ((byte ∷ []) ∷ []))) + 1 ≡ length (cond b ([] ∷ [] ∷ []) ((byte ∷ []) ∷ [])) + cond (not b) 1 0) [
       | true ↦ refl
       | false ↦ refl
     ]
@@ -93,8 +92,8 @@ lines_of_split (byte ∷ next ∷ more) =
     let filled : HasSome rest = some_split next more in
     let opens : cond {A = ℕ} (ends_open (byte ∷ next ∷ more)) 1 0 ≡ cond (ends_open (next ∷ more)) 1 0 = ap (λ b. cond b 1 0) (open_later byte next more) in
     elim (byte == 10) as
-        (λ b. length (lines_of_parts (cond b ([] ∷ rest) (onto_first byte rest))) + 1 ≡ length (cond b ([] ∷ rest) (onto_first byte rest)) + cond
-        (ends_open (byte ∷ next ∷ more)) 1 0) [
+    (λ b. length (lines_of_parts (cond b ([] ∷ rest) (onto_first byte rest))) + 1 ≡ length (cond b ([] ∷ rest) (onto_first byte rest)) + cond
+    (ends_open (byte ∷ next ∷ more)) 1 0) [
       | true ↦ omega (arith, part_counts [] rest (some_parts (next ∷ more)), later, opens)
       | false ↦ omega (arith, onto_keeps byte rest filled, length_onto byte rest filled, later, opens)
     ]

@@ -30,7 +30,7 @@ refused_from (Err first ∷ said) i (suc k) rule there refused earlier = let wro
 refused_from (Ok command ∷ said) i zero rule there refused earlier = cc
 refused_from (Ok command ∷ said) i (suc k) rule there refused earlier =
     let rest : gathered (number_at (i + 1)) said ≡ Err (rule, number_at (i + 1 + k)) =
-        refused_from said (i + 1) k rule (omega arith) refused (λ j h. earlier (suc j) (omega arith)) in
+    refused_from said (i + 1) k rule (omega arith) refused (λ j h. earlier (suc j) (omega arith)) in
     let place : i + 1 + k ≡ i + suc k = omega arith in
     gathered_next i command said ∙ ap (before (line_of (number_at i) command)) rest ∙ ap (λ n. Err (rule, number_at n)) place
 
@@ -76,22 +76,31 @@ first_from (Err first ∷ said) i rule number h =
     }
 first_from (Ok command ∷ said) i rule number h =
     later command said i rule number
-        (first_from said (i + 1) rule number
-        (not_read command said i rule number (gathered (number_at (i + 1)) said) (sym (gathered_next i command said) ∙ h)))
+    (first_from said (i + 1) rule number
+    (not_read command said i rule number (gathered (number_at (i + 1)) said) (sym (gathered_next i command said) ∙ h)))
 
 pub refused_first : (network : Network) (bytes : List ℕ) (k : ℕ) (rule : ScriptRule) → IsFirstRefused network bytes k rule →
     script_of network bytes ≡ Err (rule, number_at k)
 refused_first network bytes k rule first =
     let said = all_say network (lines bytes) in
     refused_from said 0 k rule (omega (arith, first.there, length-map (lines bytes) (λ text. line_says network (line_words text)))) first.refused
-        first.earlier ∙ ap (λ n. Err (rule, number_at n)) (omega arith)
+    first.earlier ∙ ap (λ n. Err (rule, number_at n)) (omega arith)
 
 pub first_refused : (network : Network) (bytes : List ℕ) (rule : ScriptRule) (number : ℕ) → script_of network bytes ≡ Err (rule, number) →
     (k : ℕ) × (IsFirstRefused network bytes k rule × (number ≡ number_at k))
 first_refused network bytes rule number h =
-    let first = first_from (all_say network (lines bytes)) 0 rule number h in
-    (first.place, (record { there = omega (arith, first.there, length-map (lines bytes) (λ text. line_says network (line_words text))); refused =
-        first.refused; earlier = first.earlier }, first.numbered ∙ ap number_at (omega arith)))
+    let first = first_from (all_say network (lines bytes)) 0 rule number h in (
+      first.place,
+      (
+        record {
+          there = omega (arith, first.there, length-map (lines bytes) (λ text. line_says network (line_words text)));
+          refused =
+              first.refused;
+          earlier = first.earlier;
+        },
+        first.numbered ∙ ap number_at (omega arith),
+      ),
+    )
 
 read_from : (said : List (Result (Option Command) ScriptRule)) (i : ℕ) →
     ((k : ℕ) → k < length said → is_ok (get_or said k (Ok None)) ≡ true) → gathered (number_at i) said ≡ Ok (filter_map command_at (enumerate_from i said))

@@ -22,7 +22,7 @@ fits_more network script number None done fits =
 fits_more network script number (Some command) done fits =
     let P : Line → Type 0 = λ line. command_fits network line.command ≡ true in
     All-append P script (record { number = number; command = command } ∷ []) done
-        (All-cons P (record { number = number; command = command }) [] fits (All-nil P))
+    (All-cons P (record { number = number; command = command }) [] fits (All-nil P))
 
 -- a line has at most one command
 pub few_more : (script : List Line) (number : ℕ) (said : Option Command) → length (script ++ line_of number said) ≤ length script + 1

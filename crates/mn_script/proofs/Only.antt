@@ -153,9 +153,11 @@ unfolding link_in
 ends_only network a b found h =
     let m = bind_ok (node_in network a) _ found h in
     let n = bind_ok (node_in network b) _ found m.2 in
-    let way = link_leads network m.0.0 n.0.0 found _ refl (or_ok NotLinked _ found n.2) in
-    (node_only network a m.0 m.1 ∙ ap (λ k. slice_index_or network.node_names k []) (sym way.from), node_only network b n.0 n.1
-        ∙ ap (λ k. slice_index_or network.node_names k []) (sym way.to))
+    let way = link_leads network m.0.0 n.0.0 found _ refl (or_ok NotLinked _ found n.2) in (
+      node_only network a m.0 m.1 ∙ ap (λ k. slice_index_or network.node_names k []) (sym way.from),
+      node_only network b n.0 n.1
+          ∙ ap (λ k. slice_index_or network.node_names k []) (sym way.to),
+    )
 
 edges_only : (network : Network) (a b : List ℕ) (pair : NodeNo × NodeNo) → edges_in network a b ≡ Ok pair →
     (a ≡ node_text network pair.0) × (b ≡ node_text network pair.1)
@@ -262,7 +264,7 @@ hear_ldp_only network ws step four first second h =
     let found = bind_ok (link_in network (word_at ws 2) (word_at ws 3)) _ step h in
     let ends = ends_only network (word_at ws 2) (word_at ws 3) found.0 found.1 in
     subst (AskForStep network ws) (same_Ok (HearLdp found.0.0 found.0.1) step found.2)
-        (inl (of_four ws (codes "hear") (codes "ldp") _ _ four first second ends.0 ends.1))
+    (inl (of_four ws (codes "hear") (codes "ldp") _ _ four first second ends.0 ends.1))
 
 hear_bgp_only : (network : Network) (ws : List (List ℕ)) (step : Step) → length ws ≡ 4 → word_at ws 0 ≡ codes "hear" → word_at ws 1 ≡ codes "bgp" →
     hear_bgp_line network ws ≡ Ok step → AskForStep network ws step
@@ -271,7 +273,7 @@ hear_bgp_only network ws step four first second h =
     let found = bind_ok (edges_in network (word_at ws 2) (word_at ws 3)) _ step h in
     let edges = edges_only network (word_at ws 2) (word_at ws 3) found.0 found.1 in
     subst (AskForStep network ws) (same_Ok (HearBgp found.0.0 found.0.1) step found.2)
-        (inl (of_four ws (codes "hear") (codes "bgp") _ _ four first second edges.0 edges.1))
+    (inl (of_four ws (codes "hear") (codes "bgp") _ _ four first second edges.0 edges.1))
 
 hear_either : (network : Network) (ws : List (List ℕ)) (step : Step) (ldp : Bool) → length ws ≡ 4 → word_at ws 0 ≡ codes "hear" →
     word_at ws 1 ≡ (if ldp then codes "ldp" else codes "bgp") → (if ldp then hear_ldp_line network ws else hear_bgp_line network ws) ≡ Ok step →
@@ -296,12 +298,12 @@ bgp_up_asked network ws one other whole =
           let low : one.0 ≡ min one.0 other.0 = omega arith in
           let high : other.0 ≡ max one.0 other.0 = omega arith in
           inl (whole ∙ ap (λ n. codes "bgp" ∷ codes "up" ∷ slice_index_or network.node_names n [] ∷ node_text network other ∷ []) low
-              ∙ ap (λ n. codes "bgp" ∷ codes "up" ∷ node_text network (lesser one other) ∷ slice_index_or network.node_names n [] ∷ []) high)
+          ∙ ap (λ n. codes "bgp" ∷ codes "up" ∷ node_text network (lesser one other) ∷ slice_index_or network.node_names n [] ∷ []) high)
       | inr after ↦
           let high : one.0 ≡ max one.0 other.0 = omega arith in
           let low : other.0 ≡ min one.0 other.0 = omega arith in
           inr (whole ∙ ap (λ n. codes "bgp" ∷ codes "up" ∷ slice_index_or network.node_names n [] ∷ node_text network other ∷ []) high
-              ∙ ap (λ n. codes "bgp" ∷ codes "up" ∷ node_text network (greater one other) ∷ slice_index_or network.node_names n [] ∷ []) low)
+          ∙ ap (λ n. codes "bgp" ∷ codes "up" ∷ node_text network (greater one other) ∷ slice_index_or network.node_names n [] ∷ []) low)
     ]
 
 bgp_down_asked : (network : Network) (ws : List (List ℕ)) (one other : NodeNo) →
@@ -313,12 +315,12 @@ bgp_down_asked network ws one other whole =
           let low : one.0 ≡ min one.0 other.0 = omega arith in
           let high : other.0 ≡ max one.0 other.0 = omega arith in
           inl (whole ∙ ap (λ n. codes "bgp" ∷ codes "down" ∷ slice_index_or network.node_names n [] ∷ node_text network other ∷ []) low
-              ∙ ap (λ n. codes "bgp" ∷ codes "down" ∷ node_text network (lesser one other) ∷ slice_index_or network.node_names n [] ∷ []) high)
+          ∙ ap (λ n. codes "bgp" ∷ codes "down" ∷ node_text network (lesser one other) ∷ slice_index_or network.node_names n [] ∷ []) high)
       | inr after ↦
           let high : one.0 ≡ max one.0 other.0 = omega arith in
           let low : other.0 ≡ min one.0 other.0 = omega arith in
           inr (whole ∙ ap (λ n. codes "bgp" ∷ codes "down" ∷ slice_index_or network.node_names n [] ∷ node_text network other ∷ []) high
-              ∙ ap (λ n. codes "bgp" ∷ codes "down" ∷ node_text network (greater one other) ∷ slice_index_or network.node_names n [] ∷ []) low)
+          ∙ ap (λ n. codes "bgp" ∷ codes "down" ∷ node_text network (greater one other) ∷ slice_index_or network.node_names n [] ∷ []) low)
     ]
 
 bgp_asked : (network : Network) (ws : List (List ℕ)) (step : Step) (up : Bool) (one other : NodeNo) →
@@ -353,7 +355,7 @@ route_only network ws step first h =
     let site = bind_ok (site_in network (word_at ws 2)) _ step prefix.2 in
     route_asked network ws step add.0 site.0 prefix.0 (same_Ok _ step site.2)
     (of_four ws (codes "route") _ _ _ (counted_only ws 4 full.0 full.1) first (choice_only ws (codes "add") (codes "del") add.0 add.1)
-        (site_only network (word_at ws 2) site.0 site.1) (prefix_in_only (word_at ws 3) prefix.0 prefix.1))
+    (site_only network (word_at ws 2) site.0 site.1) (prefix_in_only (word_at ws 3) prefix.0 prefix.1))
 
 import_asked : (network : Network) (ws : List (List ℕ)) (step : Step) (add : Bool) (vrf : VrfNo) (target : Rt) → Import vrf target add ≡ step →
     ws ≡ codes "import" ∷ (if add then codes "add" else codes "del") ∷ vrf_text network vrf ∷ rt_text target ∷ [] → AskForStep network ws step
@@ -409,7 +411,7 @@ site_line_only network ws step first h =
     let site = bind_ok (site_in network (word_at ws 2)) _ step full.2 in
     site_asked network ws step up.0 site.0 (same_Ok _ step site.2)
     (of_three ws (codes "site") _ _ (counted_only ws 3 full.0 full.1) first (choice_only ws (codes "up") (codes "down") up.0 up.1)
-        (site_only network (word_at ws 2) site.0 site.1))
+    (site_only network (word_at ws 2) site.0 site.1))
 
 inject_only : (network : Network) (ws : List (List ℕ)) (step : Step) → word_at ws 0 ≡ codes "inject" → inject_line network ws ≡ Ok step →
     AskForStep network ws step
@@ -420,7 +422,7 @@ inject_only network ws step first h =
     let site = bind_ok (site_in network (word_at ws 1)) _ step number.2 in
     subst (AskForStep network ws) (same_Ok (Inject site.0 number.0) step site.2)
     (inl (of_three ws (codes "inject") _ _ (counted_only ws 3 full.0 full.1) first (site_only network (word_at ws 1) site.0 site.1)
-        (number_in_only (word_at ws 2) 1 4294967295 number.0 (lit< tt) number.1)))
+    (number_in_only (word_at ws 2) 1 4294967295 number.0 (lit< tt) number.1)))
 
 -- what is read as the operands of a frame is their words
 frame_only : (network : Network) (ws : List (List ℕ)) (first : List ℕ) (found : LinkNo × Dir × ℕ) → word_at ws 0 ≡ first → frame_operands network ws ≡ Ok found
@@ -475,23 +477,23 @@ step_only network ws step h0 =
                                           | inl here ↦ import_only network ws step (word_is ws 0 (codes "import") here.0) here.1
                                           | inr h7 ↦
                                               elim (either (is_word ws 0 (codes "export")) (export_line network ws) _ step h7) as
-                                                  (λ _. AskForStep network ws step) [
+                                              (λ _. AskForStep network ws step) [
                                                 | inl here ↦ export_only network ws step (word_is ws 0 (codes "export") here.0) here.1
                                                 | inr h8 ↦
                                                     elim (either (is_word ws 0 (codes "site")) (site_line network ws) _ step h8) as
-                                                        (λ _. AskForStep network ws step) [
+                                                    (λ _. AskForStep network ws step) [
                                                       | inl here ↦ site_line_only network ws step (word_is ws 0 (codes "site") here.0) here.1
                                                       | inr h9 ↦
                                                           elim (either (is_word ws 0 (codes "inject")) (inject_line network ws) _ step h9) as
-                                                              (λ _. AskForStep network ws step) [
+                                                          (λ _. AskForStep network ws step) [
                                                             | inl here ↦ inject_only network ws step (word_is ws 0 (codes "inject") here.0) here.1
                                                             | inr h10 ↦
                                                                 elim (either (is_word ws 0 (codes "carry")) (carry_line network ws) _ step h10) as
-                                                                    (λ _. AskForStep network ws step) [
+                                                                (λ _. AskForStep network ws step) [
                                                                   | inl here ↦ carry_only network ws step (word_is ws 0 (codes "carry") here.0) here.1
                                                                   | inr h11 ↦
                                                                       elim (either (is_word ws 0 (codes "lose")) (lose_line network ws) _ step h11) as
-                                                                          (λ _. AskForStep network ws step) [
+                                                                      (λ _. AskForStep network ws step) [
                                                                         | inl here ↦ lose_only network ws step (word_is ws 0 (codes "lose") here.0) here.1
                                                                         | inr h12 ↦
                                                                             cc
@@ -532,7 +534,7 @@ run_only network ws asked first h =
     let full = bind_ok (counted ws 2) _ asked h in
     let ticks = bind_ok (number_in (word_at ws 1) 0 1000000) _ asked full.2 in
     subst (AskFor network ws) (same_Ok (command.Run ticks.0) asked ticks.2)
-        (of_two ws (codes "run") _ (counted_only ws 2 full.0 full.1) first (number_in_only (word_at ws 1) 0 1000000 ticks.0 (lit< tt) ticks.1))
+    (of_two ws (codes "run") _ (counted_only ws 2 full.0 full.1) first (number_in_only (word_at ws 1) 0 1000000 ticks.0 (lit< tt) ticks.1))
 
 bounded_only : (network : Network) (ws : List (List ℕ)) (asked : Command) → word_at ws 0 ≡ codes "drain" → bounded_drain ws ≡ Ok asked → AskFor network ws asked
 unfolding bounded_drain
@@ -540,7 +542,7 @@ bounded_only network ws asked first h =
     let full = bind_ok (counted ws 2) _ asked h in
     let steps = bind_ok (number_in (word_at ws 1) 0 4000000) _ asked full.2 in
     subst (AskFor network ws) (same_Ok (command.Drain (Some steps.0)) asked steps.2)
-        (of_two ws (codes "drain") _ (counted_only ws 2 full.0 full.1) first (number_in_only (word_at ws 1) 0 4000000 steps.0 (lit< tt) steps.1))
+    (of_two ws (codes "drain") _ (counted_only ws 2 full.0 full.1) first (number_in_only (word_at ws 1) 0 4000000 steps.0 (lit< tt) steps.1))
 
 drain_only : (network : Network) (ws : List (List ℕ)) (asked : Command) → word_at ws 0 ≡ codes "drain" → drain_line ws ≡ Ok asked → AskFor network ws asked
 unfolding drain_line
@@ -566,7 +568,7 @@ unfolding AsksToShow plain_show
 plain_asked network ws what shown text first second spelled h =
     let full = bind_ok (counted ws 2) _ shown h in
     subst (λ s. ws ≡ show_words network s) (same_Ok what shown full.2) (of_two ws (codes "show") text (counted_only ws 2 full.0 full.1) first second
-        ∙ sym spelled)
+    ∙ sym spelled)
 
 tree_asked : (network : Network) (ws : List (List ℕ)) (shown : Show) → word_at ws 0 ≡ codes "show" → word_at ws 1 ≡ codes "tree" →
     show_tree network ws ≡ Ok shown → AsksToShow network ws shown
@@ -575,7 +577,7 @@ tree_asked network ws shown first second h =
     let full = bind_ok (counted ws 3) _ shown h in
     let node = bind_ok (node_in network (word_at ws 2)) _ shown full.2 in
     subst (λ s. ws ≡ show_words network s) (same_Ok (table.Tree node.0) shown node.2)
-        (of_three ws (codes "show") (codes "tree") _ (counted_only ws 3 full.0 full.1) first second (node_only network (word_at ws 2) node.0 node.1))
+    (of_three ws (codes "show") (codes "tree") _ (counted_only ws 3 full.0 full.1) first second (node_only network (word_at ws 2) node.0 node.1))
 
 vrf_asked : (network : Network) (ws : List (List ℕ)) (shown : Show) → word_at ws 0 ≡ codes "show" → word_at ws 1 ≡ codes "vrf" →
     show_vrf network ws ≡ Ok shown → AsksToShow network ws shown
@@ -584,7 +586,7 @@ vrf_asked network ws shown first second h =
     let full = bind_ok (counted ws 3) _ shown h in
     let vrf = bind_ok (vrf_in network (word_at ws 2)) _ shown full.2 in
     subst (λ s. ws ≡ show_words network s) (same_Ok (table.Vrf vrf.0) shown vrf.2)
-        (of_three ws (codes "show") (codes "vrf") _ (counted_only ws 3 full.0 full.1) first second (vrf_only network (word_at ws 2) vrf.0 vrf.1))
+    (of_three ws (codes "show") (codes "vrf") _ (counted_only ws 3 full.0 full.1) first second (vrf_only network (word_at ws 2) vrf.0 vrf.1))
 
 show_only : (network : Network) (ws : List (List ℕ)) (shown : Show) → word_at ws 0 ≡ codes "show" → show_line network ws ≡ Ok shown →
     AsksToShow network ws shown
@@ -609,7 +611,7 @@ show_only network ws shown first h =
                                     | inl here ↦ vrf_asked network ws shown first (word_is ws 1 (codes "vrf") here.0) here.1
                                     | inr h6 ↦
                                         elim (either (is_word ws 1 (codes "flight")) (plain_show ws table.Flight) _ shown h6) as
-                                            (λ _. AsksToShow network ws shown) [
+                                        (λ _. AsksToShow network ws shown) [
                                           | inl here ↦ plain_asked network ws table.Flight shown (codes "flight") first
                                               (word_is ws 1 (codes "flight") here.0) refl here.1
                                           | inr h7 ↦ absurd cc
@@ -645,7 +647,7 @@ pub command_only : (network : Network) (ws : List (List ℕ)) (asked : Command) 
 unfolding line_says command_line
 command_only network ws asked h =
     elim (either (is_word ws 0 (codes "run")) (run_line ws) _ asked (some_said (length ws == 0) (command_line network ws) asked h)) as
-        (λ _. AskFor network ws asked) [
+    (λ _. AskFor network ws asked) [
       | inl here ↦ run_only network ws asked (word_is ws 0 (codes "run") here.0) here.1
       | inr h1 ↦
           elim (either (is_word ws 0 (codes "drain")) (drain_line ws) _ asked h1) as (λ _. AskFor network ws asked) [

@@ -15,8 +15,8 @@ use Rattle.mn_ledger.specs.Turns.{PeersAreInTurn}
 use Rattle.mn_ledger.specs.Tables.{put_pair}
 use Rattle.mn_ledger.specs.Places.{edges}
 use Rattle.mn_ledger.specs.World.{SiteRoute, Config, Export, Telling, Open, Alive, Announce, Unreach, Peerings, World}
-use Rattle.mn_ledger.specs.Vpn.{Told, tellings_of, told_to, peers_live, state_heard, is_established, exports_of, reply, changed, steady_peers, news}
-use Rattle.mn_ledger.specs.Vpn.{anew, counted, with_told, peerings_after, believed_from}
+use Rattle.mn_ledger.specs.Vpn.{Told, tellings_of, told_to, peers_live, state_heard, is_established, exports_of, reply, changed, steady_peers, route_news}
+use Rattle.mn_ledger.specs.Vpn.{bgp_restarted, bgp_counted, with_told, peerings_after, believed_from}
 use Rattle.mn_ledger.specs.Ledger.{config_after, after}
 use Rattle.mn_ledger.specs.Packets.{Packets}
 use Rattle.mn_ledger.specs.Refusal.{is_empty}
@@ -71,21 +71,22 @@ module _ (t : Network) (c : Config) (p : Peerings) (new : Config) (k : Peerings)
   abbrev is_steady : ℕ → ℕ → Bool
   is_steady a b = is_established c p a b && is_established new k a b
 
-  news-else : (a b e : ℕ) → e ≢ a → tellings_of a b (news t c p new k e) ≡ []
+  news-else : (a b e : ℕ) → e ≢ a → tellings_of a b (route_news t c p new k e) ≡ []
   news-else a b e d = all-else a b e (steady_peers t c p new k e) (changed (exports_of t c e) (exports_of t new e)) (inl d)
 
-  nobody : (a b : ℕ) (es : List ℕ) → (In es a → ⊥) → tellings_of a b (flat_map (news t c p new k) es) ≡ []
+  nobody : (a b : ℕ) (es : List ℕ) → (In es a → ⊥) → tellings_of a b (flat_map (route_news t c p new k) es) ≡ []
   nobody a b [] out = refl
   nobody a b (e ∷ es) out =
-      tellings-append a b (news t c p new k e) (flat_map (news t c p new k) es)
-      ∙ ap (λ xs. xs ++ tellings_of a b (flat_map (news t c p new k) es)) (news-else a b e (λ q. out (inl q))) ∙ nobody a b es (λ i. out (inr i))
+      tellings-append a b (route_news t c p new k e) (flat_map (route_news t c p new k) es)
+      ∙ ap (λ xs. xs ++ tellings_of a b (flat_map (route_news t c p new k) es)) (news-else a b e (λ q. out (inl q))) ∙ nobody a b es (λ i. out (inr i))
 
-  one-teller : (a b : ℕ) (es : List ℕ) → IsOnce a es → In es a → tellings_of a b (flat_map (news t c p new k) es) ≡ tellings_of a b (news t c p new k a)
+  one-teller : (a b : ℕ) (es : List ℕ) → IsOnce a es → In es a →
+      tellings_of a b (flat_map (route_news t c p new k) es) ≡ tellings_of a b (route_news t c p new k a)
   one-teller a b [] once i = absurd i
-  one-teller a b (e ∷ es) once i = tellings-append a b (news t c p new k e) (flat_map (news t c p new k) es) ∙ (elim (eqb_tells e a) [
-    | inl q ↦ ap (λ xs. tellings_of a b (news t c p new k e) ++ xs) (nobody a b es (once.0 q.1)) ∙ append-nil (tellings_of a b (news t c p new k e))
-        ∙ ap (λ j. tellings_of a b (news t c p new k j)) q.1
-    | inr q ↦ ap (λ xs. xs ++ tellings_of a b (flat_map (news t c p new k) es)) (news-else a b e q.1)
+  one-teller a b (e ∷ es) once i = tellings-append a b (route_news t c p new k e) (flat_map (route_news t c p new k) es) ∙ (elim (eqb_tells e a) [
+    | inl q ↦ ap (λ xs. tellings_of a b (route_news t c p new k e) ++ xs) (nobody a b es (once.0 q.1)) ∙ append-nil (tellings_of a b (route_news t c p new k e))
+        ∙ ap (λ j. tellings_of a b (route_news t c p new k j)) q.1
+    | inr q ↦ ap (λ xs. xs ++ tellings_of a b (flat_map (route_news t c p new k) es)) (news-else a b e q.1)
         ∙ one-teller a b es once.1 (elim i [ inl r ↦ absurd (q.1 r) | inr j ↦ j ])
   ])
 
@@ -100,13 +101,13 @@ module _ (t : Network) (c : Config) (p : Peerings) (new : Config) (k : Peerings)
   in-nodes b i = (in_filter (λ node. is_edge t.vrfs node) (range_with_len 0 (length t.loopbacks)) b i).0
 
   tells-steady : (a b : ℕ) → In (edges t) a → In (edges t) b → is_steady a b ≡ true
-      → tellings_of a b (flat_map (news t c p new k) (edges t)) ≡ changed (exports_of t c a) (exports_of t new a)
+      → tellings_of a b (flat_map (route_news t c p new k) (edges t)) ≡ changed (exports_of t c a) (exports_of t new a)
   tells-steady a b i j on =
       one-teller a b (edges t) (once-edges a) i
       ∙ all-once a b (steady_peers t c p new k a) (changed (exports_of t c a) (exports_of t new a)) (once-peers a b)
       (filter_in (λ peer. is_established c p a peer && is_established new k a peer) (nodes_of (wiring_of t)) b (in-nodes b j) on)
 
-  tells-unsteady : (a b : ℕ) → In (edges t) a → is_steady a b ≡ false → tellings_of a b (flat_map (news t c p new k) (edges t)) ≡ []
+  tells-unsteady : (a b : ℕ) → In (edges t) a → is_steady a b ≡ false → tellings_of a b (flat_map (route_news t c p new k) (edges t)) ≡ []
   tells-unsteady a b i off =
       one-teller a b (edges t) (once-edges a) i
       ∙ all-else a b a (steady_peers t c p new k a) (changed (exports_of t c a) (exports_of t new a))
@@ -130,7 +131,7 @@ many_on b k e h = ap (λ x. x && nat_le 2 k) e ∙ elim (leb_tells 2 k) [ inl r 
 
 module _ (t : Network) (c : Config) (p : Peerings) (new : Config) (k : Peerings) (xs : List Told) (a b : ℕ) (i : In (edges t) a) (j : In (edges t) b) where
   abbrev told : List Told
-  told = flat_map (news t c p new k) (edges t)
+  told = flat_map (route_news t c p new k) (edges t)
 
   told-is : (ms : List Telling) → tellings_of a b xs ≡ ms → (rest : List Telling) → tellings_of a b told ≡ rest
       → (with_told k (xs ++ told)).told a b ≡ k.told a b ++ (ms ++ rest)
@@ -187,13 +188,13 @@ module _ (t : Network) (c : Config) (p : Peerings) (a b : ℕ) (i : In (edges t)
   abbrev then : Peerings
   then =
       with_told (record p { heard = put_pair p.heard a b (p.heard a b + 1) })
-      (answers ++ flat_map (news t c p c (record p { heard = put_pair p.heard a b (p.heard a b + 1) })) (edges t))
+      (answers ++ flat_map (route_news t c p c (record p { heard = put_pair p.heard a b (p.heard a b + 1) })) (edges t))
 
   heard-is : put_pair p.heard a b (p.heard a b + 1) a b ≡ p.heard a b + 1
   heard-is = pair_here p.heard a b (p.heard a b + 1)
 
   all-told : (ms rest : List Telling) → reply (state_heard (p.heard a b)) message (exports_of t c a) ≡ ms
-      → tellings_of a b (flat_map (news t c p c (record p { heard = put_pair p.heard a b (p.heard a b + 1) })) (edges t)) ≡ rest
+      → tellings_of a b (flat_map (route_news t c p c (record p { heard = put_pair p.heard a b (p.heard a b + 1) })) (edges t)) ≡ rest
       → then.told a b ≡ p.told a b ++ (ms ++ rest)
   all-told ms rest e f =
       told-is t c p c (record p { heard = put_pair p.heard a b (p.heard a b + 1) }) answers a b i j ms
@@ -202,7 +203,7 @@ module _ (t : Network) (c : Config) (p : Peerings) (a b : ℕ) (i : In (edges t)
   few-before : p.heard a b < 2 → is_established c p a b ≡ false
   few-before few = few_off (peers_live c a b) (p.heard a b) few
 
-  unsteady : p.heard a b < 2 → tellings_of a b (flat_map (news t c p c (record p { heard = put_pair p.heard a b (p.heard a b + 1) })) (edges t)) ≡ []
+  unsteady : p.heard a b < 2 → tellings_of a b (flat_map (route_news t c p c (record p { heard = put_pair p.heard a b (p.heard a b + 1) })) (edges t)) ≡ []
   unsteady few =
       tells-unsteady t c p c (record p { heard = put_pair p.heard a b (p.heard a b + 1) }) a b i (and_off_left (is_established c p a b) _ (few-before few))
 
@@ -293,23 +294,23 @@ session-step : (t : Network) (c : Config) (p : Peerings) (x y : ℕ) (on : Bool)
     → ((a b : ℕ) → (a ≢ x) ⊎ (b ≢ y) → (a ≢ y) ⊎ (b ≢ x) → tellings_of a b xs ≡ [])
     → AllTell t c p
     → AllTell t (record c { bgp_on = put_pair c.bgp_on x y on })
-    (with_told (anew p x y) (xs ++ flat_map (news t c p (record c { bgp_on = put_pair c.bgp_on x y on }) (anew p x y)) (edges t)))
+    (with_told (bgp_restarted p x y) (xs ++ flat_map (route_news t c p (record c { bgp_on = put_pair c.bgp_on x y on }) (bgp_restarted p x y)) (edges t)))
 unfolding Which
 session-step t c p x y on xs apart statics opens others h a b d i j = elim (which x y a b) [
-  | inl q ↦ tells-fresh t c p (record c { bgp_on = put_pair c.bgp_on x y on }) (anew p x y) xs a b i j
+  | inl q ↦ tells-fresh t c p (record c { bgp_on = put_pair c.bgp_on x y on }) (bgp_restarted p x y) xs a b i j
       (ap (λ z. put_pair (put_pair p.told x y []) y x [] z b) q.0 ∙ ap (put_pair (put_pair p.told x y []) y x [] x) q.1
       ∙ pair_off (put_pair p.told x y []) y x [] x y (inl apart) ∙ pair_here p.told x y [])
       (ap (λ z. put_pair (put_pair p.heard x y 0) y x 0 z b) q.0 ∙ ap (put_pair (put_pair p.heard x y 0) y x 0 x) q.1
       ∙ pair_off (put_pair p.heard x y 0) y x 0 x y (inl apart) ∙ pair_here p.heard x y 0)
       (either a b x y q.0 q.1 opens.0)
   | inr r ↦ elim r [
-    | inl q ↦ tells-fresh t c p (record c { bgp_on = put_pair c.bgp_on x y on }) (anew p x y) xs a b i j
+    | inl q ↦ tells-fresh t c p (record c { bgp_on = put_pair c.bgp_on x y on }) (bgp_restarted p x y) xs a b i j
         (ap (λ z. put_pair (put_pair p.told x y []) y x [] z b) q.0 ∙ ap (put_pair (put_pair p.told x y []) y x [] y) q.1
         ∙ pair_here (put_pair p.told x y []) y x [])
         (ap (λ z. put_pair (put_pair p.heard x y 0) y x 0 z b) q.0 ∙ ap (put_pair (put_pair p.heard x y 0) y x 0 y) q.1
         ∙ pair_here (put_pair p.heard x y 0) y x 0)
         (either a b y x q.0 q.1 opens.1)
-    | inr q ↦ tells-kept t c p (record c { bgp_on = put_pair c.bgp_on x y on }) (anew p x y) xs a b i j statics statics
+    | inr q ↦ tells-kept t c p (record c { bgp_on = put_pair c.bgp_on x y on }) (bgp_restarted p x y) xs a b i j statics statics
         (exports-kept t c.statics c (record c { bgp_on = put_pair c.bgp_on x y on }) a statics (λ z k. k) (λ z k. k))
         (pair_off (put_pair p.told x y []) y x [] a b q.1 ∙ pair_off p.told x y [] a b q.0)
         (pair_off (put_pair p.heard x y 0) y x 0 a b q.1 ∙ pair_off p.heard x y 0 a b q.0)
@@ -346,7 +347,7 @@ opens-else x y a b d e =
 -- exports may change
 config-step : (t : Network) (c new : Config) (p : Peerings) (all : List SiteRoute) → HasStatics t c.statics → HasStatics t new.statics → HasStatics t all
     → ((z : SiteRoute) → In new.statics z → In all z) → ((z : SiteRoute) → In c.statics z → In all z)
-    → ((a b : ℕ) → peers_live new a b ≡ peers_live c a b) → AllTell t c p → AllTell t new (with_told p ([] ++ flat_map (news t c p new p) (edges t)))
+    → ((a b : ℕ) → peers_live new a b ≡ peers_live c a b) → AllTell t c p → AllTell t new (with_told p ([] ++ flat_map (route_news t c p new p) (edges t)))
 config-step t c new p all old_statics new_statics statics new_in old_in alive h a b d i j =
     tells-kept t c p new p [] a b i j old_statics new_statics (exports-kept t all c new a statics new_in old_in) refl refl (alive a b) refl (h a b d i j)
 
@@ -354,7 +355,7 @@ hear-step : (t : Network) (c : Config) (p : Peerings) (x y : ℕ) (message : Tel
     → HasStatics t c.statics → AllTell t c p
     → AllTell t c (with_told (record p { heard = put_pair p.heard y x (p.heard y x + 1) })
     (told_to y x (reply (state_heard (p.heard y x)) message (exports_of t c y))
-    ++ flat_map (news t c p c (record p { heard = put_pair p.heard y x (p.heard y x + 1) })) (edges t)))
+    ++ flat_map (route_news t c p c (record p { heard = put_pair p.heard y x (p.heard y x + 1) })) (edges t)))
 hear-step t c p x y message apart alive turn statics h a b d i j = elim (eqb_tells a y) [
   | inr q ↦ off (inl q.1)
   | inl q ↦ elim (eqb_tells b x) [
@@ -370,7 +371,7 @@ hear-step t c p x y message apart alive turn statics h a b d i j = elim (eqb_tel
     then_world =
         with_told (record p { heard = put_pair p.heard y x (p.heard y x + 1) })
         (told_to y x (reply (state_heard (p.heard y x)) message (exports_of t c y))
-        ++ flat_map (news t c p c (record p { heard = put_pair p.heard y x (p.heard y x + 1) })) (edges t))
+        ++ flat_map (route_news t c p c (record p { heard = put_pair p.heard y x (p.heard y x + 1) })) (edges t))
 
     off : (a ≢ y) ⊎ (b ≢ x) → Tells t c then_world a b
     off e =
@@ -402,9 +403,9 @@ tells-step t w k (step.HearBgp a b) order full old new go h =
     let message : Telling = slice_index_or (w.peerings.told a.0 b.0) (w.peerings.heard b.0 a.0) Open in
     let turn : IsPeerNth (w.peerings.heard b.0 a.0) message = peer-nth (w.peerings.heard a.0 b.0) (w.peerings.told a.0 b.0) (w.peerings.heard b.0 a.0)
     ((go a.0 b.0 order).talk alive) (above _ _ parts.1) in
-    subst (λ st. AllTell t w.config (with_told (counted w.peerings (step.HearBgp a b))
+    subst (λ st. AllTell t w.config (with_told (bgp_counted w.peerings (step.HearBgp a b))
     (told_to b.0 a.0 (reply st message (exports_of t w.config b.0))
-    ++ flat_map (news t w.config w.peerings w.config (counted w.peerings (step.HearBgp a b))) (edges t))))
+    ++ flat_map (route_news t w.config w.peerings w.config (bgp_counted w.peerings (step.HearBgp a b))) (edges t))))
     (sym (state_alive w.config w.peerings b.0 a.0 back))
     (hear-step t w.config w.peerings a.0 b.0 message order back turn old h)
 tells-step t w k (step.AddRoute s prefix) order full old new go h =

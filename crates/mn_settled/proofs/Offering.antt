@@ -19,7 +19,8 @@ use Rattle.mn_topo.specs.declared.steps.JournalEntry.{JournalEntry}
 use Rattle.mn_ledger.specs.Tables.{put, put_pair}
 use Rattle.mn_ledger.specs.World.{World, Config, Views, Sessions, Message, Initialization, KeepAlive, Withdraw}
 use Rattle.mn_ledger.specs.Transport.{Said, Hearing, Knowledge, lives, knowledge_of, hearing, is_operational, is_mapped, usable_over, usable_by}
-use Rattle.mn_ledger.specs.Transport.{offers, said_on, messages_of, answer, opening, replies, news, ends_first, speakers, counted, with_said, sessions_after}
+use Rattle.mn_ledger.specs.Transport.{offers, said_on, messages_of, answer, opening, ldp_replies, news, ends_first, speakers, ldp_counted, with_said}
+use Rattle.mn_ledger.specs.Transport.{sessions_after}
 use Rattle.mn_ledger.specs.Transport.{views_after}
 use Rattle.mn_ledger.specs.Packets.{Packets, packets_after}
 use Rattle.mn_ledger.specs.Ledger.{config_after, after, start, no_packets, next_of, left_by, world_from, world_of}
@@ -63,7 +64,7 @@ plain_opening x p l m t c at = either (lives c at)
     either true = plain_on x p l m at (opener t at) (Initialization ∷ []) refl
     either false = refl
 
-plain_replies : (x : Bool) (p l m : ℕ) (t : Network) (c : Config) (s : Sessions) (step : Step) → is_mapped x p (messages_of l m (replies t c s step)) ≡ x
+plain_replies : (x : Bool) (p l m : ℕ) (t : Network) (c : Config) (s : Sessions) (step : Step) → is_mapped x p (messages_of l m (ldp_replies t c s step)) ≡ x
 plain_replies x p l m t c s (LinkUp at) = plain_opening x p l m t c at.0
 plain_replies x p l m t c s (LdpAdmin at on) = plain_opening x p l m t c at.0
 plain_replies x p l m t c s (HearLdp at dir) = plain_on x p l m at.0 (receiver (wiring_of t) at.0 dir) (answer _ _) (plain_answer x p _ _)
@@ -142,7 +143,7 @@ module _ (t : Network) (c new : Config) (v nv : Views) (s k : Sessions) (step : 
   told = flat_map (λ n. news (wiring_of t) (before n) (between n) n) (speakers (wiring_of t) step)
 
   abbrev all_said : List Said
-  all_said = replies t new s step ++ told
+  all_said = ldp_replies t new s step ++ told
 
   final-hearing : AllCounted t c new s k → (l m : ℕ) → l < length t.links → is_end (wiring_of t) l m ≡ true
       → hearing (knowledge_of (wiring_of t) new nv (with_said k all_said) m) l ≡ hearing (between m) l
@@ -186,7 +187,7 @@ module _ (t : Network) (c new : Config) (v nv : Views) (s k : Sessions) (step : 
       → Says t new nv (with_said k all_said)
   says-then counts says speak l m p h e inside =
       mapped-append false p (k.said l m) (messages_of l m all_said)
-      ∙ mapped-said (is_mapped false p (k.said l m)) p l m (replies t new s step) told
+      ∙ mapped-said (is_mapped false p (k.said l m)) p l m (ldp_replies t new s step) told
       ∙ ap (λ x. is_mapped x p (messages_of l m told)) (plain_replies (is_mapped false p (k.said l m)) p l m t new s step)
       ∙ (elim (two_ways (is_operational (between m) l)) [
         | inl on ↦
@@ -274,17 +275,18 @@ says-step : (t : Network) (w : World) (k : Packets) (step : Step) → JoinsNodes
     → Says t w.config w.views w.sessions → Says t (after t w step).config (after t w step).views (after t w step).sessions
 unfolding sessions_after knowledge_of
 says-step t w k (LinkUp l) joins differ there full g h =
-    says-then t w.config (config_after w.config (LinkUp l)) w.views (views_after w.views (LinkUp l)) w.sessions (counted t w.sessions (LinkUp l))
+    says-then t w.config (config_after w.config (LinkUp l)) w.views (views_after w.views (LinkUp l)) w.sessions (ldp_counted t w.sessions (LinkUp l))
     (LinkUp l) joins differ
     (counts-anew t w.config (config_after w.config (LinkUp l)) w.sessions l.0 (λ j d. ap (λ b. b && w.config.ldp_on j) (put_off w.config.is_up l.0 true j d)) g)
     h (speaks-ends t joins l.0)
 says-step t w k (LinkDown l) joins differ there full g h =
-    says-then t w.config (config_after w.config (LinkDown l)) w.views (views_after w.views (LinkDown l)) w.sessions (counted t w.sessions (LinkDown l))
+    says-then t w.config (config_after w.config (LinkDown l)) w.views (views_after w.views (LinkDown l)) w.sessions (ldp_counted t w.sessions (LinkDown l))
     (LinkDown l) joins differ
     (counts-anew t w.config (config_after w.config (LinkDown l)) w.sessions l.0
     (λ j d. ap (λ b. b && w.config.ldp_on j) (put_off w.config.is_up l.0 false j d)) g) h (speaks-ends t joins l.0)
 says-step t w k (LdpAdmin l on) joins differ there full g h =
-    says-then t w.config (config_after w.config (LdpAdmin l on)) w.views (views_after w.views (LdpAdmin l on)) w.sessions (counted t w.sessions (LdpAdmin l on))
+    says-then t w.config (config_after w.config (LdpAdmin l on)) w.views (views_after w.views (LdpAdmin l on)) w.sessions
+    (ldp_counted t w.sessions (LdpAdmin l on))
     (LdpAdmin l on) joins differ
     (counts-anew t w.config (config_after w.config (LdpAdmin l on)) w.sessions l.0
     (λ j d. ap (λ b. w.config.is_up j && b) (put_off w.config.ldp_on l.0 on j d)) g) h (speaks-ends t joins l.0)
@@ -293,7 +295,7 @@ says-step t w k (Learn n l) joins differ there full g h =
     (counts-same t w.config w.sessions g) h (speaks-all t joins)
 says-step t w k (HearLdp l dir) joins differ there full g h =
     let ends = dir_ends (wiring_of t) l.0 dir (differ l.0 there) in
-    says-then t w.config w.config w.views w.views w.sessions (counted t w.sessions (HearLdp l dir)) (HearLdp l dir) joins differ
+    says-then t w.config w.config w.views w.views w.sessions (ldp_counted t w.sessions (HearLdp l dir)) (HearLdp l dir) joins differ
     (counts-heard t w.config w.sessions l.0 (receiver (wiring_of t) l.0 dir)
     (subst (λ n. w.sessions.heard l.0 (receiver (wiring_of t) l.0 dir) < length (w.sessions.said l.0 n)) (sym ends.1) (above _ _ (or_both _ _ full).1)) g) h
     (speaks-all t joins)

@@ -14,8 +14,9 @@ use Rattle.mn_topo.specs.declared.steps.Step.{Step}
 use Rattle.mn_topo.specs.declared.steps.Step.TheVariants as step
 use Rattle.mn_ledger.specs.Tables.{put, put_pair}
 use Rattle.mn_ledger.specs.World.{World, Config, Sessions}
-use Rattle.mn_ledger.specs.Transport.{is_transport, lives, is_active, state_of, heard_by, opening, answered, knowledge_of, ends_first, said_in, anew}
-use Rattle.mn_ledger.specs.Transport.{counted, with_said, sessions_after, views_after}
+use Rattle.mn_ledger.specs.Transport.{is_transport, lives, is_active, ldp_state_of, heard_by, opening, answered, knowledge_of, ends_first, said_in}
+use Rattle.mn_ledger.specs.Transport.{ldp_restarted}
+use Rattle.mn_ledger.specs.Transport.{ldp_counted, with_said, sessions_after, views_after}
 use Rattle.mn_ledger.specs.Packets.{Packets}
 use Rattle.mn_ledger.specs.Ledger.{config_after, after}
 use Rattle.mn_ledger.specs.Refusal.{is_unchanged, is_empty, agree}
@@ -66,8 +67,12 @@ session-off-life t c s m l e = by (lives c l) e
   where
     by : (alive : Bool) → alive ≡ false
         → (let o : Option Session =
-            if alive && is_end (wiring_of t) l m then Some (record { state = state_of t s l m; said = length (s.said l m); labels =
-            map (label_heard (across (wiring_of t) l m) (heard_by (wiring_of t) s l m)) (nodes_of (wiring_of t)) }) else None in o) ≡ None
+        if alive && is_end (wiring_of t) l m then Some (record {
+          state = ldp_state_of t s l m;
+          said = length (s.said l m);
+          labels =
+              map (label_heard (across (wiring_of t) l m) (heard_by (wiring_of t) s l m)) (nodes_of (wiring_of t));
+        }) else None in o) ≡ None
     by false e = refl
     by true e = cc
 
@@ -91,7 +96,7 @@ module _ (t : Network) (lawful : IsLawful t) (w : World) (packets : Packets) (tu
       }
 
   abbrev settled : Step → ℕ → Node
-  settled s m = node_of t (config_after w.config s) (views_after w.views s) (counted t w.sessions s) m
+  settled s m = node_of t (config_after w.config s) (views_after w.views s) (ldp_counted t w.sessions s) m
 
   abbrev happens : Step → ℕ → Option Event
   happens s m = event_of t w s m
@@ -100,11 +105,11 @@ module _ (t : Network) (lawful : IsLawful t) (w : World) (packets : Packets) (tu
 
   learn-changes : (n l m : ℕ) → l < length t.links
       → node_of t w.config (record w.views { learned = put_pair w.views.learned n l (w.views.learned n l + 1) }) w.sessions m ≡ changed_any (wiring_of t)
-          (node_at t w m) (if n == m then Some (Learns l) else None)
+      (node_at t w m) (if n == m then Some (Learns l) else None)
   learn-changes n l m below = elim (eqb_tells n m) [
     | inl p ↦
         subst (λ x. node_of t w.config (record w.views { learned = put_pair w.views.learned n l (w.views.learned n l + 1) }) w.sessions x ≡ changed_any
-            (wiring_of t) (node_at t w x) (Some (Learns l))) p.1 (learn_here t w.config w.views w.sessions n l below)
+        (wiring_of t) (node_at t w x) (Some (Learns l))) p.1 (learn_here t w.config w.views w.sessions n l below)
         ∙ sym (ap (λ b. changed_any (wiring_of t) (node_at t w m) (if b then Some (Learns l) else None)) p.0)
     | inr p ↦
         learn_elsewhere t w.config w.views w.sessions n l m (λ q. p.1 (sym q))
@@ -116,11 +121,11 @@ module _ (t : Network) (lawful : IsLawful t) (w : World) (packets : Packets) (tu
 
   hear-changes : (l r m : ℕ) → IsThere t w l r
       → node_of t w.config w.views (record w.sessions { heard = put_pair w.sessions.heard l r (w.sessions.heard l r + 1) }) m ≡ changed_any (wiring_of t)
-          (node_at t w m) (if r == m then hears l m else None)
+      (node_at t w m) (if r == m then hears l m else None)
   hear-changes l r m h = elim (eqb_tells r m) [
     | inl p ↦
         subst (λ x. node_of t w.config w.views (record w.sessions { heard = put_pair w.sessions.heard l r (w.sessions.heard l r + 1) }) x ≡ changed_any
-            (wiring_of t) (node_at t w x) (hears l x)) p.1
+        (wiring_of t) (node_at t w x) (hears l x)) p.1
         (hear_here t w.config w.views w.sessions l r h.within h.alive h.at_end h.more (rows.ldp l r h.within h.at_end h.alive h.more))
         ∙ sym (ap (λ b. changed_any (wiring_of t) (node_at t w m) (if b then hears l m else None)) p.0)
     | inr p ↦
@@ -174,20 +179,20 @@ module _ (t : Network) (lawful : IsLawful t) (w : World) (packets : Packets) (tu
   abbrev all_news : Step → ℕ → List Said
   all_news s n =
       news (wiring_of t) (knowledge_of (wiring_of t) w.config w.views w.sessions n)
-      (knowledge_of (wiring_of t) (config_after w.config s) (views_after w.views s) (counted t w.sessions s) n) n
+      (knowledge_of (wiring_of t) (config_after w.config s) (views_after w.views s) (ldp_counted t w.sessions s) n) n
 
   by_all : (s : Step) (n : ℕ) → EachBy n (all_news s n)
   by_all s n =
       by-news (wiring_of t) (knowledge_of (wiring_of t) w.config w.views w.sessions n)
-      (knowledge_of (wiring_of t) (config_after w.config s) (views_after w.views s) (counted t w.sessions s) n) n
+      (knowledge_of (wiring_of t) (config_after w.config s) (views_after w.views s) (ldp_counted t w.sessions s) n) n
 
   -- a step in which nodes speak in node order
   plain : (s : Step) (m : ℕ) (xs : List Said) → m < length t.loopbacks → part_of m xs ≡ answers_any (wiring_of t) (node_at t w m) (happens s m) →
       settled s m ≡ changed_any (wiring_of t) (node_at t w m) (happens s m)
       → part_of m (xs ++ flat_map (all_news s) (nodes_of (wiring_of t))) ≡ said_any (wiring_of t) (node_at t w m) (happens s m)
   plain s m xs below f h =
-      part-is t w.config (config_after w.config s) w.views (views_after w.views s) w.sessions (counted t w.sessions s) m (happens s m) xs
-          (flat_map (all_news s) (nodes_of (wiring_of t)))
+      part-is t w.config (config_after w.config s) w.views (views_after w.views s) w.sessions (ldp_counted t w.sessions s) m (happens s m) xs
+      (flat_map (all_news s) (nodes_of (wiring_of t)))
       f (part_of_all (all_news s) (by_all s) m (length t.loopbacks) below) h
 
   no_answers : (n m l : ℕ) → [] ≡ answers_any (wiring_of t) (node_at t w m) (if n == m then Some (Learns l) else None)
@@ -198,18 +203,26 @@ module _ (t : Network) (lawful : IsLawful t) (w : World) (packets : Packets) (tu
       by false = refl
 
   state-there : (l r : ℕ) → IsThere t w l r →
-      (message : Message) → answer (state_of t w.sessions l r) message ≡ answer_in (session_at (node_at t w r) l) message
+      (message : Message) → answer (ldp_state_of t w.sessions l r) message ≡ answer_in (session_at (node_at t w r) l) message
   state-there l r h message =
       sym (ap (λ o. answer_in o message) (at_once (lives w.config l) (is_end (wiring_of t) l r) h.alive h.at_end))
       ∙ sym (ap (λ o. answer_in o message) (session_at-is t w.config w.views w.sessions r l h.within))
     where
       at_once : (on end : Bool) → on ≡ true → end ≡ true
           → (let o : Option Session =
-              if on && end then Some (record { state = state_of t w.sessions l r; said = length (w.sessions.said l r); labels =
-              map (label_heard (across (wiring_of t) l r) (heard_by (wiring_of t) w.sessions l r)) (nodes_of (wiring_of t)) }) else None in o)
+          if on && end then Some (record {
+            state = ldp_state_of t w.sessions l r;
+            said = length (w.sessions.said l r);
+            labels =
+                map (label_heard (across (wiring_of t) l r) (heard_by (wiring_of t) w.sessions l r)) (nodes_of (wiring_of t));
+          }) else None in o)
           ≡ (let o : Option Session =
-              Some (record { state = state_of t w.sessions l r; said = length (w.sessions.said l r); labels =
-              map (label_heard (across (wiring_of t) l r) (heard_by (wiring_of t) w.sessions l r)) (nodes_of (wiring_of t)) }) in o)
+          Some (record {
+            state = ldp_state_of t w.sessions l r;
+            said = length (w.sessions.said l r);
+            labels =
+                map (label_heard (across (wiring_of t) l r) (heard_by (wiring_of t) w.sessions l r)) (nodes_of (wiring_of t));
+          }) in o)
       at_once true true e f = refl
       at_once true false e f = cc
       at_once false end e f = cc
@@ -220,17 +233,17 @@ module _ (t : Network) (lawful : IsLawful t) (w : World) (packets : Packets) (tu
     | inl p ↦
         subst (λ x. part_of x (answered t w.sessions l r other) ≡ answers_any (wiring_of t) (node_at t w x) (hears l x)) p.1
         (part_all r (answered t w.sessions l r other)
-            (by-said l r (answer (state_of t w.sessions l r) (slice_index_or (w.sessions.said l other) (w.sessions.heard l r) Address)))
-        ∙ ap (λ n. said_on l r (answer (state_of t w.sessions l r) (slice_index_or (w.sessions.said l n) (w.sessions.heard l r) Address))) (sym far)
+        (by-said l r (answer (ldp_state_of t w.sessions l r) (slice_index_or (w.sessions.said l other) (w.sessions.heard l r) Address)))
+        ∙ ap (λ n. said_on l r (answer (ldp_state_of t w.sessions l r) (slice_index_or (w.sessions.said l n) (w.sessions.heard l r) Address))) (sym far)
         ∙ ap (said_on l r) (state-there l r h (next_heard t w l r)))
         ∙ sym (ap (λ b. answers_any (wiring_of t) (node_at t w m) (if b then hears l m else None)) p.0)
     | inr p ↦
         part_none r m (answered t w.sessions l r other) p.1
-            (by-said l r (answer (state_of t w.sessions l r) (slice_index_or (w.sessions.said l other) (w.sessions.heard l r) Address)))
+        (by-said l r (answer (ldp_state_of t w.sessions l r) (slice_index_or (w.sessions.said l other) (w.sessions.heard l r) Address)))
         ∙ sym (ap (λ b. answers_any (wiring_of t) (node_at t w m) (if b then hears l m else None)) p.0)
   ]
 
-  life-says : (s : Step) (l m : ℕ) → m < length t.loopbacks → TurnsLife t w s l → counted t w.sessions s ≡ anew w.sessions l →
+  life-says : (s : Step) (l m : ℕ) → m < length t.loopbacks → TurnsLife t w s l → ldp_counted t w.sessions s ≡ ldp_restarted w.sessions l →
       (views_after w.views s).learned m ≡ w.views.learned m
       → (xs : List Said) → xs ≡ opening t (config_after w.config s) l
       → part_of m (xs ++ flat_map (all_news s) (ends_first (wiring_of t) l))
@@ -238,16 +251,16 @@ module _ (t : Network) (lawful : IsLawful t) (w : World) (packets : Packets) (tu
   life-says s l m below h is learned xs e =
       ap (λ ys. part_of m (ys ++ flat_map (all_news s) (ends_first (wiring_of t) l))) e
       ∙ ap (λ k. part_of m
-          (opening t (config_after w.config s) l ++ flat_map
-          (λ n. news (wiring_of t) (knowledge_of (wiring_of t) w.config w.views w.sessions n)
-          (knowledge_of (wiring_of t) (config_after w.config s) (views_after w.views s) k n) n) (ends_first (wiring_of t) l))) is
+      (opening t (config_after w.config s) l ++ flat_map
+      (λ n. news (wiring_of t) (knowledge_of (wiring_of t) w.config w.views w.sessions n)
+      (knowledge_of (wiring_of t) (config_after w.config s) (views_after w.views s) k n) n) (ends_first (wiring_of t) l))) is
       ∙ life-part t l (loopbacks_apart t lawful) lawful.joins_nodes lawful.ends_differ h.within w.config (config_after w.config s) w.views
-          (views_after w.views s) w.sessions m below learned h.others h.once
+      (views_after w.views s) w.sessions m below learned h.others h.once
 
   no_opening : (l : _) → fits t (step.LinkDown l) ≡ true → [] ≡ opening t (config_after w.config (step.LinkDown l)) l.0
   no_opening l fit =
       sym (opening_if t l.0 (loopbacks_apart t lawful) lawful.joins_nodes lawful.ends_differ (less_tells l.0 (length t.links) fit)
-          (config_after w.config (step.LinkDown l)) false
+      (config_after w.config (step.LinkDown l)) false
       (and_off_left (put w.config.is_up l.0 false l.0) (w.config.ldp_on l.0) (put_here w.config.is_up l.0 false)))
 
   -- each node's part of what is said in a step is what it says as that happens to it
@@ -258,7 +271,7 @@ module _ (t : Network) (lawful : IsLawful t) (w : World) (packets : Packets) (tu
       let r : ℕ = receiver (wiring_of t) l.0 dir in
       let h = heard-there l dir fit full in
       plain (step.HearLdp l dir) m (answered t w.sessions l.0 r (sender (wiring_of t) l.0 dir)) below
-          (answers-heard l.0 r (sender (wiring_of t) l.0 dir) m h (dir_ends (wiring_of t) l.0 dir (lawful.ends_differ l.0 h.within)).1)
+      (answers-heard l.0 r (sender (wiring_of t) l.0 dir) m h (dir_ends (wiring_of t) l.0 dir (lawful.ends_differ l.0 h.within)).1)
       (changes (step.HearLdp l dir) fit new full m)
   speaks (step.LinkUp l) fit new full m below =
       life-says (step.LinkUp l) l.0 m below (up-turns l fit new) refl refl (opening t (config_after w.config (step.LinkUp l)) l.0) refl
@@ -283,14 +296,14 @@ module _ (t : Network) (lawful : IsLawful t) (w : World) (packets : Packets) (tu
   within-now : HeardWithin t w.config w.sessions
   within-now l n below at_end = (turn.ldp l n below at_end).heard
 
-  within-anew : (c : Config) (l : ℕ) → HeardWithin t c (anew w.sessions l)
+  within-anew : (c : Config) (l : ℕ) → HeardWithin t c (ldp_restarted w.sessions l)
   within-anew c l k n below at_end = elim (eqb_tells k l) [
-    | inl p ↦ subst (λ x. x ≤ length ((anew w.sessions l).said k (across (wiring_of t) k n)))
+    | inl p ↦ subst (λ x. x ≤ length ((ldp_restarted w.sessions l).said k (across (wiring_of t) k n)))
         (sym (ap (λ j. put w.sessions.heard l (λ node. 0) j n) p.1 ∙ ap (λ f. f n) (put_here w.sessions.heard l (λ node. 0)))) (omega arith)
-    | inr p ↦ subst (λ x. x ≤ length ((anew w.sessions l).said k (across (wiring_of t) k n)))
+    | inr p ↦ subst (λ x. x ≤ length ((ldp_restarted w.sessions l).said k (across (wiring_of t) k n)))
         (sym (ap (λ f. f n) (put_off w.sessions.heard l (λ node. 0) k p.1)))
         (subst (λ f. w.sessions.heard k n ≤ length (f (across (wiring_of t) k n))) (sym (put_off w.sessions.said l (λ node. []) k p.1))
-            ((turn.ldp k n below at_end).heard))
+        ((turn.ldp k n below at_end).heard))
   ]
 
   within-heard : (l r : ℕ) → IsThere t w l r → HeardWithin t w.config (record w.sessions { heard = put_pair w.sessions.heard l r (w.sessions.heard l r + 1) })
@@ -301,7 +314,7 @@ module _ (t : Network) (lawful : IsLawful t) (w : World) (packets : Packets) (tu
       | inl q ↦ subst (λ j. put_pair w.sessions.heard l r (w.sessions.heard l r + 1) j n ≤ length (w.sessions.said j (across (wiring_of t) j n))) (sym p.1)
           (subst (λ j. put_pair w.sessions.heard l r (w.sessions.heard l r + 1) l j ≤ length (w.sessions.said l (across (wiring_of t) l j))) (sym q.1)
           (subst (λ x. x ≤ length (w.sessions.said l (across (wiring_of t) l r))) (sym (pair_here w.sessions.heard l r (w.sessions.heard l r + 1)))
-              (reach h.more)))
+          (reach h.more)))
     ]
   ]
     where
@@ -314,15 +327,15 @@ module _ (t : Network) (lawful : IsLawful t) (w : World) (packets : Packets) (tu
       reach g = omega (arith, g)
 
   goes_by : (s : Step) → fits t s ≡ true → is_unchanged w.config s ≡ false → is_empty t w packets s ≡ false →
-      (m : ℕ) → m < length t.loopbacks → HeardWithin t (config_after w.config s) (counted t w.sessions s)
+      (m : ℕ) → m < length t.loopbacks → HeardWithin t (config_after w.config s) (ldp_counted t w.sessions s)
       → node_of t (config_after w.config s) (views_after w.views s)
-          (with_said (counted t w.sessions s)
-          (said_in t w.config w.views w.sessions (config_after w.config s) (views_after w.views s) (counted t w.sessions s) s)) m ≡ after_any (wiring_of t)
-          (node_at t w m) (happens s m)
+      (with_said (ldp_counted t w.sessions s)
+      (said_in t w.config w.views w.sessions (config_after w.config s) (views_after w.views s) (ldp_counted t w.sessions s) s)) m ≡ after_any (wiring_of t)
+      (node_at t w m) (happens s m)
   goes_by s fit new full m below within =
-      node-is t w.config (config_after w.config s) w.views (views_after w.views s) w.sessions (counted t w.sessions s) m (happens s m)
-      (said_in t w.config w.views w.sessions (config_after w.config s) (views_after w.views s) (counted t w.sessions s) s) within
-          (speaks s fit new full m below) (changes s fit new full m)
+      node-is t w.config (config_after w.config s) w.views (views_after w.views s) w.sessions (ldp_counted t w.sessions s) m (happens s m)
+      (said_in t w.config w.views w.sessions (config_after w.config s) (views_after w.views s) (ldp_counted t w.sessions s) s) within
+      (speaks s fit new full m below) (changes s fit new full m)
 
   -- each node after a step is the node before it, after what happens to it
   pub goes : (s : Step) → fits t s ≡ true → is_unchanged w.config s ≡ false → is_empty t w packets s ≡ false →
@@ -340,7 +353,7 @@ module _ (t : Network) (lawful : IsLawful t) (w : World) (packets : Packets) (tu
   -- 5. In which order it is said
 
   abbrev words : Step → List Said
-  words s = said_in t w.config w.views w.sessions (config_after w.config s) (views_after w.views s) (counted t w.sessions s) s
+  words s = said_in t w.config w.views w.sessions (config_after w.config s) (views_after w.views s) (ldp_counted t w.sessions s) s
 
   abbrev said_at : Step → ℕ → List Said
   said_at s m = said_any (wiring_of t) (node_at t w m) (happens s m)
@@ -348,9 +361,9 @@ module _ (t : Network) (lawful : IsLawful t) (w : World) (packets : Packets) (tu
   -- who keeps what it knows has no news
   quiet : (s : Step) → fits t s ≡ true → is_unchanged w.config s ≡ false → is_empty t w packets s ≡ false → (m : ℕ) → happens s m ≡ None → all_news s m ≡ []
   quiet s fit new full m e =
-      news-is t w.config (config_after w.config s) w.views (views_after w.views s) w.sessions (counted t w.sessions s) m
+      news-is t w.config (config_after w.config s) w.views (views_after w.views s) w.sessions (ldp_counted t w.sessions s) m
       ∙ ap (λ n. news (wiring_of t) (knowledge_in (node_at t w m)) (knowledge_in n) m)
-          (changes s fit new full m ∙ ap (changed_any (wiring_of t) (node_at t w m)) e)
+      (changes s fit new full m ∙ ap (changed_any (wiring_of t) (node_at t w m)) e)
       ∙ no_news (wiring_of t) (knowledge_in (node_at t w m)) m
 
   -- one node alone speaks
@@ -359,10 +372,10 @@ module _ (t : Network) (lawful : IsLawful t) (w : World) (packets : Packets) (tu
       → ((m : ℕ) → m ≢ n → happens s m ≡ None) → words s ≡ xs ++ flat_map (all_news s) (nodes_of (wiring_of t)) → words s ≡ said_at s n ++ []
   one_speaks s fit new full n below xs by others e =
       let own : words s ≡ xs ++ all_news s n =
-          e ∙ ap (λ ys. xs ++ ys)
-          (flat_map-one (all_news s) (length t.loopbacks) 0 n (omega arith) (omega (arith, below)) (λ m low high d. quiet s fit new full m (others m d))) in
+      e ∙ ap (λ ys. xs ++ ys)
+      (flat_map-one (all_news s) (length t.loopbacks) 0 n (omega arith) (omega (arith, below)) (λ m low high d. quiet s fit new full m (others m d))) in
       own ∙ sym (part_all n (xs ++ all_news s n) (by-append n xs (all_news s n) by (by_all s n))) ∙ sym (ap (part_of n) own) ∙ speaks s fit new full n below
-          ∙ sym (append-nil (said_at s n))
+      ∙ sym (append-nil (said_at s n))
 
   -- two nodes speak, one after the other
   two_speak : (s : Step) → fits t s ≡ true → is_unchanged w.config s ≡ false → is_empty t w packets s ≡ false →
@@ -370,11 +383,11 @@ module _ (t : Network) (lawful : IsLawful t) (w : World) (packets : Packets) (tu
       → words s ≡ xs ++ ys → words s ≡ said_at s a ++ (said_at s b ++ [])
   two_speak s fit new full a b a_there b_there d xs ys by_a by_b e =
       let one : said_at s a ≡ xs =
-          sym (speaks s fit new full a a_there) ∙ ap (part_of a) e ∙ filter-append (λ said. said.end == a) xs ys
-          ∙ ap (λ zs. zs ++ part_of a ys) (part_all a xs by_a) ∙ ap (λ zs. xs ++ zs) (part_none b a ys (λ q. d (sym q)) by_b) ∙ append-nil xs in
+      sym (speaks s fit new full a a_there) ∙ ap (part_of a) e ∙ filter-append (λ said. said.end == a) xs ys
+      ∙ ap (λ zs. zs ++ part_of a ys) (part_all a xs by_a) ∙ ap (λ zs. xs ++ zs) (part_none b a ys (λ q. d (sym q)) by_b) ∙ append-nil xs in
       let two : said_at s b ≡ ys =
-          sym (speaks s fit new full b b_there) ∙ ap (part_of b) e ∙ filter-append (λ said. said.end == b) xs ys
-          ∙ ap (λ zs. zs ++ part_of b ys) (part_none a b xs d by_a) ∙ part_all b ys by_b in
+      sym (speaks s fit new full b b_there) ∙ ap (part_of b) e ∙ filter-append (λ said. said.end == b) xs ys
+      ∙ ap (λ zs. zs ++ part_of b ys) (part_none a b xs d by_a) ∙ part_all b ys by_b in
       e ∙ ap (λ zs. zs ++ ys) (sym one) ∙ ap (λ zs. said_at s a ++ zs) (sym two ∙ sym (append-nil (said_at s b)))
 
   abbrev end_a : ℕ → ℕ
@@ -390,11 +403,11 @@ module _ (t : Network) (lawful : IsLawful t) (w : World) (packets : Packets) (tu
   opens_quiet : (s : Step) → fits t s ≡ true → is_unchanged w.config s ≡ false → is_empty t w packets s ≡ false →
       (l m : ℕ) → l < length t.links → lives w.config l ≡ false → happens s m ≡ Some (Opens l) → all_news s m ≡ []
   opens_quiet s fit new full l m below dead e =
-      news-is t w.config (config_after w.config s) w.views (views_after w.views s) w.sessions (counted t w.sessions s) m
+      news-is t w.config (config_after w.config s) w.views (views_after w.views s) w.sessions (ldp_counted t w.sessions s) m
       ∙ ap (λ n. news (wiring_of t) (knowledge_in (node_at t w m)) (knowledge_in n) m)
-          (changes s fit new full m ∙ ap (changed_any (wiring_of t) (node_at t w m)) e)
+      (changes s fit new full m ∙ ap (changed_any (wiring_of t) (node_at t w m)) e)
       ∙ opening_is_no_news (wiring_of t) (node_at t w m) l (session_at-is t w.config w.views w.sessions m l below
-          ∙ session-off-life t w.config w.sessions m l dead)
+      ∙ session-off-life t w.config w.sessions m l dead)
 
   ends_alone : (s : Step) → fits t s ≡ true → is_unchanged w.config s ≡ false → is_empty t w packets s ≡ false → (l : ℕ) →
       ((m : ℕ) → happens s m ≡ life_event s l m) → (xs : List Said)
@@ -403,8 +416,8 @@ module _ (t : Network) (lawful : IsLawful t) (w : World) (packets : Packets) (tu
       whole ∙ ap (λ ys. xs ++ (all_news s (end_a l) ++ (all_news s (end_b l) ++ ys)))
       (all_left_out (λ n. not (is_end (wiring_of t) l n)) (all_news s) (nodes_of (wiring_of t))
       (λ n off. quiet s fit new full n
-          (event n ∙ ap (λ b. if b then turned l (lives w.config l) (lives (config_after w.config s) l) else None)
-          (not_end (is_end (wiring_of t) l n) off))))
+      (event n ∙ ap (λ b. if b then turned l (lives w.config l) (lives (config_after w.config s) l) else None)
+      (not_end (is_end (wiring_of t) l n) off))))
     where
       not_end : (b : Bool) → not b ≡ true → b ≡ false
       not_end true e = cc
@@ -412,7 +425,7 @@ module _ (t : Network) (lawful : IsLawful t) (w : World) (packets : Packets) (tu
 
   life_order : (s : Step) (fit : fits t s ≡ true) (new : is_unchanged w.config s ≡ false) (full : is_empty t w packets s ≡ false) (l : ℕ) → TurnsLife t w s l
       → ((m : ℕ) → happens s m ≡ life_event s l m) →
-          (xs : List Said) → xs ≡ opening t (config_after w.config s) l → words s ≡ xs ++ flat_map (all_news s) (ends_first (wiring_of t) l)
+      (xs : List Said) → xs ≡ opening t (config_after w.config s) l → words s ≡ xs ++ flat_map (all_news s) (ends_first (wiring_of t) l)
       → (was is : Bool) → lives w.config l ≡ was → lives (config_after w.config s) l ≡ is
       → words s ≡ said_at s (end_a l) ++ (said_at s (end_b l) ++ [])
   life_order s fit new full l h event xs opens whole was false f g =
@@ -420,7 +433,7 @@ module _ (t : Network) (lawful : IsLawful t) (w : World) (packets : Packets) (tu
       (all_news s (end_a l)) (all_news s (end_b l)) (by_all s (end_a l)) (by_all s (end_b l))
       (ends_alone s fit new full l event xs whole
       ∙ ap (λ ys. ys ++ (all_news s (end_a l) ++ (all_news s (end_b l) ++ [])))
-          (opens ∙ opening_if t l (loopbacks_apart t lawful) lawful.joins_nodes lawful.ends_differ h.within (config_after w.config s) false g)
+      (opens ∙ opening_if t l (loopbacks_apart t lawful) lawful.joins_nodes lawful.ends_differ h.within (config_after w.config s) false g)
       ∙ ap (λ ys. all_news s (end_a l) ++ ys) (append-nil (all_news s (end_b l))))
   life_order s fit new full l h event xs opens whole true true f g = absurd (clash (sym g ∙ h.once f))
   life_order s fit new full l h event xs opens whole false true f g =
@@ -435,9 +448,9 @@ module _ (t : Network) (lawful : IsLawful t) (w : World) (packets : Packets) (tu
       alone =
           ends_alone s fit new full l event xs whole
           ∙ ap (λ ys. ys ++ (all_news s (end_a l) ++ (all_news s (end_b l) ++ [])))
-              (opens ∙ opening_if t l (loopbacks_apart t lawful) lawful.joins_nodes lawful.ends_differ h.within (config_after w.config s) true g)
+          (opens ∙ opening_if t l (loopbacks_apart t lawful) lawful.joins_nodes lawful.ends_differ h.within (config_after w.config s) true g)
           ∙ ap (λ ys. first_word l (opener t l) ++ (ys ++ (all_news s (end_b l) ++ [])))
-              (opens_quiet s fit new full l (end_a l) h.within f (begun (end_a l) (is_end-a (wiring_of t) l)))
+          (opens_quiet s fit new full l (end_a l) h.within f (begun (end_a l) (is_end-a (wiring_of t) l)))
           ∙ ap (λ ys. first_word l (opener t l) ++ (ys ++ [])) (opens_quiet s fit new full l (end_b l) h.within f (begun (end_b l) (is_end-b (wiring_of t) l)))
           ∙ append-nil (first_word l (opener t l))
 
@@ -456,14 +469,14 @@ module _ (t : Network) (lawful : IsLawful t) (w : World) (packets : Packets) (tu
       words s ≡ flat_map (said_at s) (acting t s)
   order (step.Learn n l) fit new full moves =
       one_speaks (step.Learn n l) fit new full n.0
-          (less_tells n.0 (length t.loopbacks) (and_left (nat_lt n.0 (length t.loopbacks)) (nat_lt l.0 (length t.links)) fit)) [] tt
-          (λ m d. ap (λ b. if b then Some (Learns l.0) else None) (other_test n.0 m (λ q. d (sym q)))) refl
+      (less_tells n.0 (length t.loopbacks) (and_left (nat_lt n.0 (length t.loopbacks)) (nat_lt l.0 (length t.links)) fit)) [] tt
+      (λ m d. ap (λ b. if b then Some (Learns l.0) else None) (other_test n.0 m (λ q. d (sym q)))) refl
   order (step.HearLdp l dir) fit new full moves =
       let r : ℕ = receiver (wiring_of t) l.0 dir in
       let h = heard-there l dir fit full in
       one_speaks (step.HearLdp l dir) fit new full r (end-there t lawful l.0 r h.within h.at_end) (answered t w.sessions l.0 r (sender (wiring_of t) l.0 dir))
       (by-said l.0 r
-          (answer (state_of t w.sessions l.0 r) (slice_index_or (w.sessions.said l.0 (sender (wiring_of t) l.0 dir)) (w.sessions.heard l.0 r) Address)))
+      (answer (ldp_state_of t w.sessions l.0 r) (slice_index_or (w.sessions.said l.0 (sender (wiring_of t) l.0 dir)) (w.sessions.heard l.0 r) Address)))
       (λ m d. ap (λ b. if b then hears l.0 m else None) (other_test r m (λ q. d (sym q)))) refl
   order (step.LinkUp l) fit new full moves =
       life_order (step.LinkUp l) fit new full l.0 (up-turns l fit new) (λ m. refl) (opening t (config_after w.config (step.LinkUp l)) l.0) refl refl

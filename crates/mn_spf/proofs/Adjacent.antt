@@ -112,11 +112,11 @@ module _ (v : Learned) where
                     (put_has lists a node (number k) (number l) p ((h.at node r).all l u g))
                 | inr u ↦ subst (λ n. Contains (get_or (put (put lists a (number k)) b (number k)) node []) (number n)) (sym u)
                     (elim (ends_alone node (subst (λ n. goes v node n ≡ true) u g)) [
-                  | inl w ↦ subst (λ n. Contains (get_or (put (put lists a (number k)) b (number k)) n []) (number k)) (sym w)
-                      (put_has (put lists a (number k)) b a (number k) (number k) q' (put_new lists a (number k) p))
-                  | inr w ↦ subst (λ n. Contains (get_or (put (put lists a (number k)) b (number k)) n []) (number k)) (sym w)
-                      (put_new (put lists a (number k)) b (number k) q')
-                ])
+                      | inl w ↦ subst (λ n. Contains (get_or (put (put lists a (number k)) b (number k)) n []) (number k)) (sym w)
+                          (put_has (put lists a (number k)) b a (number k) (number k) q' (put_new lists a (number k) p))
+                      | inr w ↦ subst (λ n. Contains (get_or (put (put lists a (number k)) b (number k)) n []) (number k)) (sym w)
+                          (put_new (put lists a (number k)) b (number k) q')
+                    ])
               ];
             };
           }
@@ -126,5 +126,8 @@ module _ (v : Learned) where
 
   pub all_below : (k : ℕ) (lists : List (List LinkNo)) → length v.ends ≤ k → AreBelow v k lists → AreLinks v lists
   all_below k lists p h =
-      record { one_each = h.one_each; at =
-          λ node q. record { each = (h.at node q).each; all = λ l g. (h.at node q).all l (omega (arith, p, (goes_at v node l g).there)) g } }
+      record {
+        one_each = h.one_each;
+        at =
+            λ node q. record { each = (h.at node q).each; all = λ l g. (h.at node q).all l (omega (arith, p, (goes_at v node l g).there)) g };
+      }

@@ -63,8 +63,8 @@ module _ (v : Learned) (root : ℕ) (t : PathTable) (net : IsNetwork v.nodes v.e
       let c = (link (wiring_of v) l).cost in
       at_most_more (rank_at t to) _ _
       (no_less ls (beyond v x l) (most + 65536 * c) to (beyond_below v net x l g.0)
-          (at_most_more _ _ _ (h.relaxed x l k.0 p g.0 k.1) (over_at_most (x == root) c (beyond v x l) k.0 most (far_small x l g.0) q k.2))
-          (omega (arith, q)) g.1)
+      (at_most_more _ _ _ (h.relaxed x l k.0 p g.0 k.1) (over_at_most (x == root) c (beyond v x l) k.0 most (far_small x l g.0) q k.2))
+      (omega (arith, q)) g.1)
       (omega arith)
 
   rank_root : rank_at t root ≡ Some 0
@@ -76,8 +76,8 @@ module _ (v : Learned) (root : ℕ) (t : PathTable) (net : IsNetwork v.nodes v.e
       let g : (goes v root l ≡ true) × (walk_end (wiring_of v) (links_up v) (beyond v root l) ls ≡ Some to) = gone _ _ w in
       let c = (link (wiring_of v) l).cost in
       let one : AtMost (rank_at t (beyond v root l)) (rank c (beyond v root l)) =
-          subst (AtMost (rank_at t (beyond v root l))) (over_root (root == root) c (beyond v root l) (eqb_same root))
-          (h.relaxed root l 0 here g.0 rank_root) in
+      subst (AtMost (rank_at t (beyond v root l))) (over_root (root == root) c (beyond v root l) (eqb_same root))
+      (h.relaxed root l 0 here g.0 rank_root) in
       at_most_more (rank_at t to) _ _
       (no_less ls (beyond v root l) (rank c (beyond v root l)) to (beyond_below v net root l g.0) one (omega (arith, (link_is v net root l g.0).positive)) g.1)
       (omega arith)
@@ -97,8 +97,12 @@ module _ (v : Learned) (root : ℕ) (t : PathTable) (net : IsNetwork v.nodes v.e
     cheapest to d hop e [] w z = omega (arith, z (sym (same_node w)))
     cheapest to d hop e (l ∷ ls) w z =
         let g : (goes v root l ≡ true) × (walk_end wiring (links_up v) (beyond v root l) ls ≡ Some to) = gone _ _ w in
-        omega (arith, cost_same v loopbacks (l ∷ ls), cost_least d hop _ _ (far_small root l g.0)
-            (at_most_is _ _ _ e (least_rank l ls to (same_walk root to (l ∷ ls) w))))
+        omega (
+          arith,
+          cost_same v loopbacks (l ∷ ls),
+          cost_least d hop _ _ (far_small root l g.0)
+              (at_most_is _ _ _ e (least_rank l ls to (same_walk root to (l ∷ ls) w))),
+        )
 
     no_cost_at_root : (to d : ℕ) → dist_at t to ≡ Some d → to ≡ root → d ≡ 0
     no_cost_at_root to d e r = same_node (sym e ∙ ap (dist_at t) r ∙ h.root_cost)
@@ -162,7 +166,7 @@ module _ (v : Learned) (root : ℕ) (t : PathTable) (net : IsNetwork v.nodes v.e
         let one : (link wiring l).cost + o.rest ≤ d = omega (arith, o.whole.least least.walk.0 least.walk.1, least.walk.2) in
         let other : d ≤ (link wiring l).cost + o.rest = omega (arith, least.least (l ∷ ls) w, o.after.walk.2) in
         hop_least d hop.0 _ _ (sym (cost_same v loopbacks (l ∷ ls)) ∙ (let q : cost_of wiring (l ∷ ls) ≡ d = omega (arith, one, other, o.after.walk.2) in
-            q)) (at_most_is _ _ _ (rank_is to d hop e n) (least_rank l ls to (same_walk root to (l ∷ ls) w)))
+        q)) (at_most_is _ _ _ (rank_is to d hop e n) (least_rank l ls to (same_walk root to (l ∷ ls) w)))
 
     some_none : {X : Type 0} (x : X) → ◌≡◌ {A = Option X} (Some x) None → ⊥
     some_none x e = cc

@@ -247,8 +247,15 @@ module _ (v : Learned) (root : ℕ) (net : IsNetwork v.nodes v.ends) (here : roo
 
       queued_still : (w : Way) → IsQueued v root (rank_of way) s w → IsQueued v root (rank_of way) s' w
       queued_still w q =
-          record { there = q.there; fits = q.fits; found = q.found; not_better = q.not_better; not_worse = lower w.to (rank_of w) q.not_worse; bounded =
-              omega (arith, q.bounded, count_same) }
+          record {
+            there = q.there;
+            fits = q.fits;
+            found = q.found;
+            not_better = q.not_better;
+            not_worse = lower w.to (rank_of w) q.not_worse;
+            bounded =
+                omega (arith, q.bounded, count_same);
+          }
 
       queued_new : IsQueued v root (rank_of way) s' new
       queued_new =
@@ -303,9 +310,13 @@ module _ (v : Learned) (root : ℕ) (net : IsNetwork v.nodes v.ends) (here : roo
                 ];
             waiting = λ node known p e r.
                 elim (eqb_tells node new.to) [
-                  | inl q ↦
-                      (new, Contains-permutation _ _ _ t.queue (contains_head (queued new) s.queue), sym q.1, same_known (rank_at s'.table new.to) rank_to
-                      (ap (rank_at s'.table) (sym q.1) ∙ r))
+                  | inl q ↦ (
+                    new,
+                    Contains-permutation _ _ _ t.queue (contains_head (queued new) s.queue),
+                    sym q.1,
+                    same_known (rank_at s'.table new.to) rank_to
+                        (ap (rank_at s'.table) (sym q.1) ∙ r),
+                  )
                   | inr q ↦ (let w = h.waiting node known p (sym (mark_same node) ∙ e) (sym (rank_off node q.1) ∙ r) in
                       (w.0, Contains-permutation _ _ _ t.queue (contains_tail (queued new) _ _ w.1), w.2, w.3))
                 ];
@@ -469,14 +480,21 @@ module _ (v : Learned) (root : ℕ) (net : IsNetwork v.nodes v.ends) (here : roo
     few_left : unsettled s + 1 ≤ v.nodes
     few_left =
         let e : count_by not (set (replicate v.nodes false) root true) + 1 ≡ count_by not (replicate v.nodes false) =
-            one_less (replicate v.nodes false) root (omega (arith, here, length-replicate v.nodes false))
-            (get_or-replicate v.nodes root false false here) in
+        one_less (replicate v.nodes false) root (omega (arith, here, length-replicate v.nodes false))
+        (get_or-replicate v.nodes root false false here) in
         omega (arith, e, ap (count_by not) marks, count_by-le-length not (replicate v.nodes false), length-replicate v.nodes false)
 
     pub start_followed : IsFollowed v root s (record { cost = 0; hop = 0; to = root })
     start_followed =
-        record { there = here; fits = omega arith; settled = root_marked; known = rank_start; found = inl (refl, refl, refl); bounded =
-            omega (arith, few_left) }
+        record {
+          there = here;
+          fits = omega arith;
+          settled = root_marked;
+          known = rank_start;
+          found = inl (refl, refl, refl);
+          bounded =
+              omega (arith, few_left);
+        }
 
 -- 9. A way comes out of the queue
 module _ (v : Learned) (root : ℕ) where
@@ -537,8 +555,15 @@ module _ (v : Learned) (root : ℕ) where
 
         queued_same : (w : Way) → IsQueued v root limit s w → IsQueued v root limit s' w
         queued_same w q =
-            record { there = q.there; fits = q.fits; found = q.found; not_better = q.not_better; not_worse =
-                subst (λ o. AtMost o (rank_of w)) (sym (rank_same w.to)) q.not_worse; bounded = omega (arith, q.bounded, ap (count_by not) same) }
+            record {
+              there = q.there;
+              fits = q.fits;
+              found = q.found;
+              not_better = q.not_better;
+              not_worse =
+                  subst (λ o. AtMost o (rank_of w)) (sym (rank_same w.to)) q.not_worse;
+              bounded = omega (arith, q.bounded, ap (count_by not) same);
+            }
 
     -- its node isn't settled yet
     module _ (marks : s'.settled ≡ set s.settled way.to true) (free : is_settled s way.to ≡ false) where
@@ -576,8 +601,15 @@ module _ (v : Learned) (root : ℕ) where
 
       queued_on : (w : Way) → IsQueued v root limit s w → rank_of way ≤ rank_of w → IsQueued v root (rank_of way) s' w
       queued_on w q b =
-          record { there = q.there; fits = q.fits; found = q.found; not_better = b; not_worse =
-              subst (λ o. AtMost o (rank_of w)) (sym (rank_same w.to)) q.not_worse; bounded = omega (arith, q.bounded, one_settled) }
+          record {
+            there = q.there;
+            fits = q.fits;
+            found = q.found;
+            not_better = b;
+            not_worse =
+                subst (λ o. AtMost o (rank_of w)) (sym (rank_same w.to)) q.not_worse;
+            bounded = omega (arith, q.bounded, one_settled);
+          }
 
       pub settles : IsSearch v root (AllOpen way.to) (rank_of way) s'
       settles =

@@ -56,8 +56,14 @@ module _ (v : Learned) where
   pub walked_on : (root u l cost hop : ℕ) → IsWalked v root u cost hop → goes v u l ≡ true →
       IsWalked v root (beyond v u l) (cost + (link (wiring_of v) l).cost) hop
   walked_on root u l cost hop h g =
-      record { first = h.first; rest = h.rest ++ l ∷ []; leads = walk_on (h.first ∷ h.rest) root u l h.leads g; costs =
-          cost_on (h.first ∷ h.rest) l ∙ ap (λ n. n + (link (wiring_of v) l).cost) h.costs; by_hop = h.by_hop }
+      record {
+        first = h.first;
+        rest = h.rest ++ l ∷ [];
+        leads = walk_on (h.first ∷ h.rest) root u l h.leads g;
+        costs =
+            cost_on (h.first ∷ h.rest) l ∙ ap (λ n. n + (link (wiring_of v) l).cost) h.costs;
+        by_hop = h.by_hop;
+      }
 
   -- a walk of one link
   pub walked_first : (root l cost : ℕ) → cost ≡ 0 → goes v root l ≡ true →

@@ -155,7 +155,7 @@ stack_bytes-entries_of (suc depth) xs bytes h =
     let rest = drop 4 xs in
     let further : 4 * depth ≤ length rest = omega (arith, length-drop 4 xs) in
     let same : stack_bytes (take depth (entries_of rest)) ++ drop (4 * depth) rest ≡ rest =
-        stack_bytes-entries_of depth rest (IsBytes-drop 4 xs bytes) further in
+    stack_bytes-entries_of depth rest (IsBytes-drop 4 xs bytes) further in
     let place : 4 * suc depth ≡ 4 + 4 * depth = omega arith in
     let behind : drop (4 * suc depth) xs ≡ drop (4 * depth) rest = ap (λ n. drop n xs) place ∙ sym (drop-drop (4 * depth) 4 xs) in
     ap (λ es. stack_bytes (take (suc depth) es) ++ drop (4 * suc depth) xs) (entries_of-first xs (omega arith))
@@ -191,7 +191,7 @@ unfolding entries_of
 depth-found depth (a ∷ b ∷ c ∷ d ∷ rest) bytes h odd =
     let low : c % 2 ≡ 1 = sym (and_mask c 1) ∙ odd in
     let third : (entry_of (big_number 4 (a ∷ b ∷ c ∷ d ∷ []))).bottom ≡ true =
-        third-odd a b c d (bytes 0) (bytes 1) (bytes 2) (bytes 3) ∙ ap (λ m. m == 1) low in
+    third-odd a b c d (bytes 0) (bytes 1) (bytes 2) (bytes 3) ∙ ap (λ m. m == 1) low in
     sym (ap (λ t. cond t (Some (depth + 1)) (position_from (λ (entry : Entry). entry.bottom) (depth + 1 + 1) (entries_of rest))) third)
 depth-found depth _ bytes h odd = absurd (omega arith)
 
@@ -202,7 +202,7 @@ depth-further depth (a ∷ b ∷ c ∷ d ∷ rest) bytes h even =
     let not_low : c % 2 ≡ 1 → ⊥ = λ e. even (and_mask c 1 ∙ e) in
     let low : c % 2 ≡ 0 = omega arith in
     let third : (entry_of (big_number 4 (a ∷ b ∷ c ∷ d ∷ []))).bottom ≡ false =
-        third-odd a b c d (bytes 0) (bytes 1) (bytes 2) (bytes 3) ∙ ap (λ m. m == 1) low in
+    third-odd a b c d (bytes 0) (bytes 1) (bytes 2) (bytes 3) ∙ ap (λ m. m == 1) low in
     sym (ap (λ t. cond t (Some (depth + 1)) (position_from (λ (entry : Entry). entry.bottom) (depth + 1 + 1) (entries_of rest))) third)
 depth-further depth _ bytes h odd = absurd (omega arith)
 

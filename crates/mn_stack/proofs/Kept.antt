@@ -74,7 +74,7 @@ kept-written room next below depth old new entry fits is_next is_depth written =
     let first : entries_of (drop (4 * room) new) ≡ entry ∷ entries_of behind = ap entries_of front ∙ entries_of-entry_bytes entry behind fits in
     let rest : drop (4 * next) new ≡ behind =
     ap (λ n. drop n new) (sym second) ∙ sym (drop-drop 4 (4 * room) new) ∙ ap (λ ys. drop 4 ys) front
-        ∙ drop_at (entry_bytes entry) behind 4 (length-entry_bytes entry) in
+    ∙ drop_at (entry_bytes entry) behind 4 (length-entry_bytes entry) in
     let packet : drop (4 * (room + depth)) new ≡ (kept next below old).packet =
     ap (λ n. drop n new) last ∙ sym (packet-behind next below new) ∙ ap (λ ys. drop (4 * below) ys) rest ∙ packet-behind next below old in
     ap (λ d. labelled (take d (entries_of (drop (4 * room) new))) (drop (4 * (room + depth)) new) room) as_suc
@@ -143,7 +143,7 @@ pub IsKept-pushed : (room depth : ℕ) (old new : List ℕ) (entry : Entry) → 
     drop (4 * (room - 1)) new ≡ entry_bytes entry ++ drop (4 * (room - 1) + 4) old → IsKept (room - 1) (depth + 1) new
 IsKept-pushed room depth old new entry some k fits bottom same written =
     IsKept-from (room - 1) (depth + 1) new (entry ∷ (kept room depth old).entries) (kept room depth old).packet (omega (arith, k.counted))
-        (omega (arith, k.there))
+    (omega (arith, k.there))
     (kept-pushed room depth old new entry some fits written)
     (fits, bottom, k.stack) k.packet
 
@@ -199,7 +199,7 @@ pub IsKept-repacked : (room depth : ℕ) (old new packet : List ℕ) → IsKept 
     new ≡ take (4 * (room + depth)) old ++ packet → IsTrue (is_packet packet) → IsKept room depth new
 IsKept-repacked room depth old new packet k same written good =
     IsKept-from room depth new (kept room depth old).entries packet k.counted (omega (arith, k.there))
-        (kept-repacked room depth old new packet k.there written) k.stack good
+    (kept-repacked room depth old new packet k.there written) k.stack good
 
 -- all of a vector's elements written
 pub all-written : (len : ℕ) (new old : List ℕ) → length new ≡ len → take len (new ++ drop (length new) old) ≡ new

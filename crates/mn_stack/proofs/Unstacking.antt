@@ -34,9 +34,11 @@ four-fit a b c d ha hb hc hd = omega arith
 
 AllFit-entries_of : (xs : List ℕ) → IsBytes xs → AllFit (entries_of xs)
 unfolding entries_of
-AllFit-entries_of (a ∷ b ∷ c ∷ d ∷ rest) bytes =
-    (Fits-entry_of (big_number 4 (a ∷ b ∷ c ∷ d ∷ [])) (four-fit a b c d (bytes 0) (bytes 1) (bytes 2) (bytes 3)), AllFit-entries_of rest
-        (λ i. bytes (suc (suc (suc (suc i))))))
+AllFit-entries_of (a ∷ b ∷ c ∷ d ∷ rest) bytes = (
+  Fits-entry_of (big_number 4 (a ∷ b ∷ c ∷ d ∷ [])) (four-fit a b c d (bytes 0) (bytes 1) (bytes 2) (bytes 3)),
+  AllFit-entries_of rest
+      (λ i. bytes (suc (suc (suc (suc i))))),
+)
 AllFit-entries_of _ bytes = tt
 
 -- up to the first bottom
@@ -87,8 +89,12 @@ IsFrame-read xs depth bytes there h good = record {
 }
 
 -- behind room for two entries
-pub kept-read : (xs : List ℕ) (depth : ℕ) → kept 2 depth (replicate 8 0 ++ xs) ≡ record { entries = take depth (entries_of xs); packet =
-    drop (4 * depth) xs; room = 2 }
+pub kept-read : (xs : List ℕ) (depth : ℕ) → kept 2 depth (replicate 8 0 ++ xs) ≡ record {
+  entries = take depth (entries_of xs);
+  packet =
+      drop (4 * depth) xs;
+  room = 2;
+}
 kept-read xs depth =
     let place : 4 * (2 + depth) ≡ 8 + 4 * depth = omega arith in
     let behind : drop (4 * (2 + depth)) (replicate 8 0 ++ xs) ≡ drop (4 * depth) xs =

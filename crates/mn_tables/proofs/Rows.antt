@@ -1,5 +1,5 @@
 -- Lines, from their pieces.
-use Rattle.std.proofs.Common.{◌≡◌, ◌+◌, ◌<◌, ℕ, true, false, List, [], ◌∷◌, ◌++◌, length, Option, Some, None, refl, ap, ◌∙◌, append_assoc}
+use Rattle.std.proofs.Common.{◌≡◌, ◌<◌, ℕ, true, false, List, [], ◌∷◌, ◌++◌, length, Option, Some, None, refl, ap, ◌∙◌, append_assoc}
 use Rattle.std.proofs.Common.{arith, ◌⊎◌, inl, inr}
 use Rattle.std.specs.Prelude.{codes, decimal, if◌then◌else◌}
 use Rattle.mn_base.specs.Wiring.{View, link, sender, receiver}
@@ -12,7 +12,7 @@ use Rattle.mn_topo.specs.Network.{Network, wiring_of}
 use Rattle.mn_ledger.specs.World.{World}
 use Rattle.mn_ledger.specs.Transport.{lives}
 use Rattle.mn_ledger.specs.Transport as transport
-use Rattle.mn_ledger.specs.Vpn.{state_of, HeldRoute, Own, Near, Far}
+use Rattle.mn_ledger.specs.Vpn.{bgp_state_of, HeldRoute, Own, Near, Far}
 use Rattle.mn_text.specs.Addresses.{prefix_text}
 use Rattle.mn_frames.specs.Given.{Labelling, label_at}
 use Rattle.mn_ledger.specs.Items.{Item}
@@ -70,8 +70,8 @@ unreached_row topology view node to a b is_a is_b none =
 pub state_text : (topology : Network) (world : World) (l node : ℕ) → state_name (state_at topology world l node) ≡ ldp_text topology world l node
 state_text topology world l node =
     elim (lives world.config l) as (λ live.
-    state_name (if live then Some (transport.state_of topology world.sessions l node) else None)
-    ≡ (if live then ldp_name (transport.state_of topology world.sessions l node) else codes "none")) [ true ↦ refl | false ↦ refl ]
+    state_name (if live then Some (transport.ldp_state_of topology world.sessions l node) else None)
+    ≡ (if live then ldp_name (transport.ldp_state_of topology world.sessions l node) else codes "none")) [ true ↦ refl | false ↦ refl ]
 
 pub ldp_row : (topology : Network) (world : World) (l : ℕ) (a b one other : List ℕ)
     → a ≡ node_name topology (sender (wiring_of topology) l Forth) → b ≡ node_name topology (receiver (wiring_of topology) l Forth)
@@ -88,7 +88,7 @@ ldp_row topology world l a b one other is_a is_b is_one is_other =
 
 pub bgp_row : (topology : Network) (world : World) (m n : ℕ) (a b one other : List ℕ)
     → a ≡ node_name topology m → b ≡ node_name topology n
-    → one ≡ bgp_name (state_of world.config world.peerings m n) → other ≡ bgp_name (state_of world.config world.peerings n m)
+    → one ≡ bgp_name (bgp_state_of world.config world.peerings m n) → other ≡ bgp_name (bgp_state_of world.config world.peerings n m)
     → text (codes "bgp " ∷ a ∷ codes " " ∷ one ∷ codes " " ∷ b ∷ codes " " ∷ other ∷ codes "\n" ∷ []) ≡ bgp_line topology world m n
 bgp_row topology world m n a b one other is_a is_b is_one is_other = rw (is_a, is_b, is_one, is_other) refl
 

@@ -1,5 +1,5 @@
 -- Text that is put piece by piece.
-use Rattle.std.proofs.Common.{◌≡◌, ◌+◌, ◌<◌, ◌≤◌, ℕ, List, [], ◌∷◌, ◌++◌, length, get_or, take, drop, Option, Result, Ok, Err, IsErr, refl, ap, sym}
+use Rattle.std.proofs.Common.{◌≡◌, ◌+◌, ◌<◌, ◌≤◌, ℕ, List, [], ◌∷◌, ◌++◌, length, get_or, take, drop, Result, Ok, Err, IsErr, refl, ap, sym}
 use Rattle.std.proofs.Common.{◌∙◌, subst, append_assoc, arith, Bool, true, false}
 use Rattle.std.specs.Prelude.{filter, if◌then◌else◌}
 use Rattle.std.specs.Result.{IsErrAnd}
@@ -12,7 +12,9 @@ use Rattle.mn_edge.specs.declared.device.DeviceBad.{DeviceBad}
 use Rattle.mn_edge.specs.declared.device.DeviceBad.TheVariants.{Failed, NoMemory}
 use Rattle.mn_edge.specs.Faults.{Counted}
 use Rattle.mn_lines.specs.Lines.{pieces_of, text}
-use Rattle.mn_lines.specs.Putting.{PartPut, PutsPart}
+use Rattle.mn_lines.specs.Putting.{PutsPart}
+use Rattle.mn_lines.proofs.Pieces.{text-cons}
+use Rattle.mn_lines.proofs.Putting.{puts_nothing, puts_then, cut_in_first, cut_in_second}
 use Rattle.mn_tables.specs.Telling.{Stand, Tells, Told}
 
 -- what a call answers
@@ -26,29 +28,20 @@ IsErrOnly r e = IsErr r × IsErrAnd r (λ y. y ≡ e)
 -- 1. Nothing, one text after another, and a text that is cut
 
 pub told_nothing : (s : Stand) → Told [] s s
-told_nothing s = record { puts = λ before so_far on. rw append-nil on; faults = refl }
+told_nothing s = record { puts = puts_nothing s.waits s.written; faults = refl }
 
 pub told_by : (a : List ℕ) (s t : Stand) → Tells {T = Unit {0}} a s t (Ok tt) → Told a s t
 told_by a s t x = record { puts = x.put; faults = x.cause }
 
 pub told_more : (a b : List ℕ) (s t u : Stand) → Told a s t → Told b t u → Told (a ++ b) s u
 told_more a b s t u x y = record {
-  puts = λ before so_far on. rw (← append_assoc so_far a b) (y.puts before (so_far ++ a) (x.puts before so_far on));
+  puts = puts_then a b s.waits t.waits u.waits s.written t.written u.written x.puts y.puts;
   faults = y.faults ∙ x.faults;
 }
 
-part_as : (text other before : List ℕ) (now : Option (List ℕ)) → text ≡ other → PartPut text before now → PartPut other before now
-part_as text other before now e p = subst (λ t. PartPut t before now) e p
-
-part_longer : (text more before : List ℕ) (now : Option (List ℕ)) → PartPut text before now → PartPut (text ++ more) before now
-part_longer text more before now p =
-    (p.0, (p.1.0 ++ more, sym (append_assoc p.0 p.1.0 more) ∙ ap (λ xs. xs ++ more) p.1.1), p.2)
-
 part_more : (a b more : List ℕ) (s t u : Stand) → Told a s t → PutsPart b t.waits t.written u.written → PutsPart (a ++ (b ++ more)) s.waits s.written u.written
-part_more a b more s t u x y = λ before so_far on.
-    part_as (((so_far ++ a) ++ b) ++ more) (so_far ++ (a ++ (b ++ more))) before u.written
-    (append_assoc (so_far ++ a) b more ∙ append_assoc so_far a (b ++ more))
-    (part_longer ((so_far ++ a) ++ b) more before u.written (y before (so_far ++ a) (x.puts before so_far on)))
+part_more a b more s t u x y =
+    cut_in_second a (b ++ more) s.waits t.waits s.written t.written u.written x.puts (cut_in_first b more t.waits t.written u.written y)
 
 counted_as : (before other now : ℕ) (e : DeviceBad) → before ≡ other → Counted {T = Unit {0}} before now (Err e) → Counted {T = Unit {0}} other now (Err e)
 counted_as before other now Failed is h = subst (λ n. Counted {T = Unit {0}} n now (Err Failed)) is h
@@ -65,7 +58,7 @@ pub tells_as : (a b : List ℕ) (s t : Stand) (r : Answer) → Tells a s t r →
 tells_as a b s t r x e = subst (λ words. Tells words s t r) e x
 
 pub tells_nothing : (s : Stand) → Tells {T = Unit {0}} [] s s (Ok tt)
-tells_nothing s = record { put = λ before so_far on. rw append-nil on; part = tt; cause = refl }
+tells_nothing s = record { put = puts_nothing s.waits s.written; part = tt; cause = refl }
 
 -- one text, and then the other
 pub tells_then : (a b : List ℕ) (s t u : Stand) (r : Answer) → Told a s t → Tells b t u r → Tells (a ++ b) s u r
@@ -191,10 +184,6 @@ flat_filter f p (x ∷ xs) =
 
 -- 5. Pieces
 
-text_more : (piece : List ℕ) (pieces : List (List ℕ)) → text (piece ∷ pieces) ≡ piece ++ text pieces
-text_more piece [] = sym (append-nil piece)
-text_more piece (other ∷ pieces) = refl
-
 pub text_flat : (pieces : List (Bor (List ℕ))) → flat_map (λ piece. piece.now) pieces ≡ text (pieces_of pieces)
 text_flat [] = refl
-text_flat (piece ∷ pieces) = ap (λ xs. piece.now ++ xs) (text_flat pieces) ∙ sym (text_more piece.now (pieces_of pieces))
+text_flat (piece ∷ pieces) = ap (λ xs. piece.now ++ xs) (text_flat pieces) ∙ sym (text-cons piece.now (pieces_of pieces))

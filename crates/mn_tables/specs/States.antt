@@ -3,12 +3,12 @@ use Rattle.std.specs.Prelude.{ℕ, List, Option, Some, None, codes, if◌then◌
 use Rattle.mn_base.specs.declared.states.LdpState.{LdpState}
 use Rattle.mn_topo.specs.Network.{Network}
 use Rattle.mn_ledger.specs.World.{World}
-use Rattle.mn_ledger.specs.Transport.{lives, state_of}
+use Rattle.mn_ledger.specs.Transport.{lives, ldp_state_of}
 use Rattle.mn_output.specs.Tables.{ldp_name}
 
 -- the state of an end of a link whose session lives
 abbrev pub state_at : Network → World → ℕ → ℕ → Option LdpState
-state_at topology world l end = if lives world.config l then Some (state_of topology world.sessions l end) else None
+state_at topology world l end = if lives world.config l then Some (ldp_state_of topology world.sessions l end) else None
 
 abbrev pub state_name : Option LdpState → List ℕ
 state_name (Some state) = ldp_name state

@@ -1,15 +1,14 @@
 //! The BGP sessions of pairs of edges (RFC 4271, section 8.2.2).
-ghost use Rattle.std.specs.Prelude.{◌≡◌, ◌<◌, length};
+ghost use Rattle.std.specs.Prelude.{◌≡◌};
 ghost use Rattle.mn_ledger.specs.World.{World};
-ghost use Rattle.mn_ledger.specs.Vpn.{state_of};
+ghost use Rattle.mn_ledger.specs.Vpn.{bgp_state_of};
 ghost use Rattle.mn_output.specs.Tables.{bgp_line, bgp_name};
 ghost use Rattle.mn_tables.specs.Telling.{standing, Tells};
 
-use crate::names::node_name;
 use crate::pieces::put_pieces;
 use mn_base::{BgpState, NodeNo};
 use mn_edge::{DeviceBad, Sink};
-use mn_lines::Page;
+use mn_lines::{Page, node_name};
 use mn_topo::Topology;
 
 /// The state of a session's end by its name.
@@ -34,10 +33,8 @@ fn put_states<O: Sink>(
     one: &[u8],
     other: &[u8],
 ) -> Result<(), DeviceBad>
-    requires a { a.0 < length topology.now.loopbacks }
-    requires b { b.0 < length topology.now.loopbacks }
-    ensures { (world : World) → one.now ≡ bgp_name (state_of world.config world.peerings a.0 b.0) →
-        other.now ≡ bgp_name (state_of world.config world.peerings b.0 a.0) →
+    ensures { (world : World) → one.now ≡ bgp_name (bgp_state_of world.config world.peerings a.0 b.0) →
+        other.now ≡ bgp_name (bgp_state_of world.config world.peerings b.0 a.0) →
         Tells (bgp_line topology.now world a.0 b.0)
         (standing page.old (O.written out.old) (O.faults out.old)) (standing page.new (O.written out.new) (O.faults out.new)) result }
 {
@@ -60,9 +57,7 @@ pub fn put_bgp<O: Sink>(
     first: BgpState,
     second: BgpState,
 ) -> Result<(), DeviceBad>
-    requires a { a.0 < length topology.now.loopbacks }
-    requires b { b.0 < length topology.now.loopbacks }
-    ensures { (world : World) → first ≡ state_of world.config world.peerings a.0 b.0 → second ≡ state_of world.config world.peerings b.0 a.0 →
+    ensures { (world : World) → first ≡ bgp_state_of world.config world.peerings a.0 b.0 → second ≡ bgp_state_of world.config world.peerings b.0 a.0 →
         Tells (bgp_line topology.now world a.0 b.0)
         (standing page.old (O.written out.old) (O.faults out.old)) (standing page.new (O.written out.new) (O.faults out.new)) result }
 {

@@ -12,7 +12,7 @@
 //! Each call puts one line of what it is given, and takes no memory.
 //!
 //! - `pieces`: pieces of text, one after another
-//! - `names`: nodes, VRFs and sites by their names, and the ends of a link
+//! - `names`: the ends of a link and VRFs by their names
 //! - `links`, `tree`, `ldp`, `bgp`, `flight`, `routes`: the lines of these tables
 #![tactic(auto)]
 

@@ -1,21 +1,14 @@
-//! Nodes by their names, the ends of a link, and numbers by their digits.
+//! The ends of a link and VRFs by their names, and numbers by their digits.
 ghost use Rattle.std.specs.Prelude.{◌≡◌, ◌<◌, length};
 ghost use Rattle.mn_base.specs.Wiring.{receiver, sender};
 ghost use Rattle.mn_topo.specs.Network.{wiring_of};
 ghost use Rattle.mn_output.specs.Files.{node_name};
-ghost use Rattle.mn_output.specs.Tables.{site_name, vrf_name};
+ghost use Rattle.mn_output.specs.Tables.{vrf_name};
 
 use itoa::{Buffer, Integer};
-use mn_base::{Dir, LinkNo, NodeNo, SiteNo, VrfNo};
+use mn_base::{Dir, LinkNo, NodeNo, VrfNo};
+use mn_lines::node_name;
 use mn_topo::Topology;
-
-/// A node by its name.
-pub(crate) fn node_name(topology: &Topology, node: NodeNo) -> &[u8]
-    requires { node.0 < length topology.now.loopbacks }
-    ensures { result.now ≡ node_name topology.now node.0 }
-{
-    topology.node_name(node)
-}
 
 /// The node that sends in a direction of a link, and the one that receives.
 fn ends(topology: &Topology, link: LinkNo, dir: Dir) -> (NodeNo, NodeNo)
@@ -50,37 +43,13 @@ pub(crate) fn digits<N: Integer>(buffer: &mut Buffer, number: N) -> &[u8]
     buffer.format(number).as_bytes()
 }
 
-/// A node by its name, and nothing where there is no such node.
-pub(crate) fn node_or_nothing(topology: &Topology, node: NodeNo) -> &[u8]
-    ensures { result.now ≡ node_name topology.now node.0 }
-{
-    topology.laws();
-    if usize::from(node.0) < topology.nodes().len() {
-        topology.node_name(node)
-    } else {
-        b""
-    }
-}
-
-/// A VRF by its name, and nothing where there is no such VRF.
-pub(crate) fn vrf_or_nothing(topology: &Topology, vrf: VrfNo) -> &[u8]
+/// The name of a VRF, and the empty text where there is no such VRF.
+pub(crate) fn vrf_name(topology: &Topology, vrf: VrfNo) -> &[u8]
     ensures { result.now ≡ vrf_name topology.now vrf.0 }
 {
     topology.laws();
     if usize::from(vrf.0) < topology.vrfs().len() {
         topology.vrf_name(vrf)
-    } else {
-        b""
-    }
-}
-
-/// A site by its name, and nothing where there is no such site.
-pub(crate) fn site_or_nothing(topology: &Topology, site: SiteNo) -> &[u8]
-    ensures { result.now ≡ site_name topology.now site.0 }
-{
-    topology.laws();
-    if usize::from(site.0) < topology.sites().len() {
-        topology.site_name(site)
     } else {
         b""
     }

@@ -6,12 +6,12 @@ ghost use Rattle.mn_frames.specs.Given.{Labelling, label_at};
 ghost use Rattle.mn_output.specs.Tables.{route_line};
 ghost use Rattle.mn_tables.specs.Telling.{standing, Tells};
 
-use crate::names::{digits, node_or_nothing, site_or_nothing, vrf_or_nothing};
+use crate::names::{digits, vrf_name};
 use crate::pieces::put_pieces;
 use itoa::Buffer;
 use mn_base::{NodeNo, SiteNo, VrfNo};
 use mn_edge::{DeviceBad, Sink};
-use mn_lines::Page;
+use mn_lines::{Page, node_name, site_name};
 use mn_topo::Topology;
 
 /// Puts the line of a route over a site of the VRF itself. The prefix comes as its text.
@@ -27,8 +27,8 @@ pub fn put_own_route<O: Sink>(
         Tells (route_line topology.now given vrf.0 (Some route))
         (standing page.old (O.written out.old) (O.faults out.old)) (standing page.new (O.written out.new) (O.faults out.new)) result }
 {
-    let table = vrf_or_nothing(topology, vrf);
-    let place = site_or_nothing(topology, site);
+    let table = vrf_name(topology, vrf);
+    let place = site_name(topology, site);
     put_pieces(
         out,
         page,
@@ -50,9 +50,9 @@ pub fn put_near_route<O: Sink>(
         Tells (route_line topology.now given vrf.0 (Some route))
         (standing page.old (O.written out.old) (O.faults out.old)) (standing page.new (O.written out.new) (O.faults out.new)) result }
 {
-    let table = vrf_or_nothing(topology, vrf);
-    let other = vrf_or_nothing(topology, from);
-    let place = site_or_nothing(topology, site);
+    let table = vrf_name(topology, vrf);
+    let other = vrf_name(topology, from);
+    let place = site_name(topology, site);
     put_pieces(
         out,
         page,
@@ -77,8 +77,8 @@ pub fn put_far_route<O: Sink>(
         Tells (route_line topology.now given vrf.0 (Some route))
         (standing page.old (O.written out.old) (O.faults out.old)) (standing page.new (O.written out.new) (O.faults out.new)) result }
 {
-    let table = vrf_or_nothing(topology, vrf);
-    let teller = node_or_nothing(topology, edge);
+    let table = vrf_name(topology, vrf);
+    let teller = node_name(topology, edge);
     let mut buffer = Buffer::new();
     let number = digits(&mut buffer, label);
     put_pieces(

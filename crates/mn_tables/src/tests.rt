@@ -59,12 +59,6 @@ route red1 10.1.0.0/16 site a\n\
 route red1 10.2.0.0/16 vrf red2 site b\n\
 route red1 10.3.0.0/16 edge pe2 label 18\n";
 
-fn node_count(topology: &Topology) -> usize
-    ensures { result ≡ length topology.now.loopbacks }
-{
-    topology.nodes().len()
-}
-
 fn link_count(topology: &Topology) -> usize
     ensures { result ≡ length topology.now.links }
 {
@@ -79,7 +73,6 @@ fn lines_say_what_they_are_given(rt: HostRuntime) -> Result<(), Fail> {
     let out = &mut sink;
     let (pe1, pe2) = (NodeNo(0), NodeNo(2));
     let (first, second) = (LinkNo(0), LinkNo(1));
-    assert_eq!(rt; node_count(&topology), 3);
     assert_eq!(rt; link_count(&topology), 2);
     put_link(out, &mut page, &topology, second, false, 2)?;
     put_walk(

@@ -1,5 +1,5 @@
 //! The least walks from a node to the others.
-ghost use Rattle.std.specs.Prelude.{◌≡◌, ◌<◌, ◌⊎◌, length, IfSome};
+ghost use Rattle.std.specs.Prelude.{◌≡◌, ◌⊎◌};
 ghost use Rattle.mn_base.specs.Paths.{dist_in, dists_to, next};
 ghost use Rattle.mn_base.specs.Wiring.{View};
 ghost use Rattle.mn_linkdb.specs.Trees.{hop_alone};
@@ -7,12 +7,12 @@ ghost use Rattle.mn_topo.specs.Network.{wiring_of};
 ghost use Rattle.mn_output.specs.Tables.{tree_line};
 ghost use Rattle.mn_tables.specs.Telling.{standing, Tells};
 
-use crate::names::{digits, node_name};
+use crate::names::digits;
 use crate::pieces::put_pieces;
 use itoa::Buffer;
 use mn_base::NodeNo;
 use mn_edge::{DeviceBad, Sink};
-use mn_lines::Page;
+use mn_lines::{Page, node_name};
 use mn_topo::Topology;
 
 /// Puts the line of a walk: what it costs, and to which node it goes first.
@@ -25,9 +25,6 @@ fn put_reached<O: Sink>(
     dist: u32,
     hop: NodeNo,
 ) -> Result<(), DeviceBad>
-    requires node { node.0 < length topology.now.loopbacks }
-    requires to { to.0 < length topology.now.loopbacks }
-    requires hop { hop.0 < length topology.now.loopbacks }
     ensures { (view : View) → Some dist ≡ dist_in (dists_to (wiring_of topology.now) view to.0) node.0 →
         Some hop ≡ hop_alone (next (wiring_of topology.now) view node.0 to.0) →
         Tells (tree_line topology.now view node.0 to.0)
@@ -55,8 +52,6 @@ fn put_unreached<O: Sink>(
     node: NodeNo,
     to: NodeNo,
 ) -> Result<(), DeviceBad>
-    requires node { node.0 < length topology.now.loopbacks }
-    requires to { to.0 < length topology.now.loopbacks }
     ensures { (view : View) → (dist_in (dists_to (wiring_of topology.now) view to.0) node.0 ≡ None) ⊎ (hop_alone (next (wiring_of topology.now) view node.0 to.0) ≡ None) →
         Tells (tree_line topology.now view node.0 to.0)
         (standing page.old (O.written out.old) (O.faults out.old)) (standing page.new (O.written out.new) (O.faults out.new)) result }
@@ -81,9 +76,6 @@ pub fn put_walk<O: Sink>(
     dist: Option<u32>,
     hop: Option<NodeNo>,
 ) -> Result<(), DeviceBad>
-    requires node { node.0 < length topology.now.loopbacks }
-    requires to { to.0 < length topology.now.loopbacks }
-    requires hop { IfSome hop (λ hop. hop.0 < length topology.now.loopbacks) }
     ensures { (view : View) → dist ≡ dist_in (dists_to (wiring_of topology.now) view to.0) node.0 →
         hop ≡ hop_alone (next (wiring_of topology.now) view node.0 to.0) →
         Tells (tree_line topology.now view node.0 to.0)

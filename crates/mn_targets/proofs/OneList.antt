@@ -35,6 +35,6 @@ one_list (x ∷ xs) [] p q same = absurd (in_none x ((same x).0 (here x xs)))
 one_list (x ∷ xs) (y ∷ ys) p q same =
     let first : x ≡ y = one_first x y xs ys p q ((same x).0 (here x xs)) ((same y).1 (here y ys)) in
     let rest : xs ≡ ys =
-        one_list xs ys (rest_ascends x xs p) (rest_ascends y ys q)
-        (λ t. (one_of_rest x y t xs ys p first (same t).0, one_of_rest y x t ys xs q (sym first) (same t).1)) in
+    one_list xs ys (rest_ascends x xs p) (rest_ascends y ys q)
+    (λ t. (one_of_rest x y t xs ys p first (same t).0, one_of_rest y x t ys xs q (sym first) (same t).1)) in
     ap (λ u. u ∷ xs) first ∙ ap (λ us. y ∷ us) rest

@@ -59,11 +59,11 @@ ascending_insert l t at gap up =
     let below : (k : ℕ) → k < at → number_at new k ≡ number_at l k = λ k h. ap number (get_or-insert_below l at t zeros k h gap.within) in
     let here : (k : ℕ) → k ≡ at → number_at new k ≡ t.0 = λ k h. rw h (ap number (get_or-insert_at l at t zeros gap.within)) in
     let above : (k : ℕ) → at < k → number_at new k ≡ number_at l (k - 1) =
-        λ k h. subst (λ q. number_at new q ≡ number_at l (k - 1)) {x =
-        k - 1 + 1} (omega arith) (ap number (get_or-insert_above l at t zeros (k - 1) (omega arith) gap.within)) in
+    λ k h. subst (λ q. number_at new q ≡ number_at l (k - 1)) {x =
+    k - 1 + 1} (omega arith) (ap number (get_or-insert_above l at t zeros (k - 1) (omega arith) gap.within)) in
     ascending new
-        (λ i j lt there. grind
-        (arith, below i, here i, above i, below j, here j, above j, old i j, old i (j - 1), old (i - 1) (j - 1), gap.below i, gap.above (j - 1)))
+    (λ i j lt there. grind
+    (arith, below i, here i, above i, below j, here j, above j, old i j, old i (j - 1), old (i - 1) (j - 1), gap.below i, gap.above (j - 1)))
 
 -- 3. One less: the others stay, in order, and none of them is the target
 
@@ -80,7 +80,7 @@ module _ (l : List Rt) (t : Rt) (at : ℕ) (is_at : IsAt l t at) (up : IsAscendi
       let one_less = length-remove l at is_at.there in
       let old = ascends l up in
       ascending (remove l at)
-          (λ i j lt there. grind (arith, stood_below i, stood_above i, stood_below j, stood_above j, old i j, old i (j + 1), old (i + 1) (j + 1)))
+      (λ i j lt there. grind (arith, stood_below i, stood_above i, stood_below j, stood_above j, old i j, old i (j + 1), old (i + 1) (j + 1)))
 
   other_number : (k : ℕ) → k < length (remove l at) → number_at (remove l at) k ≢ t.0
   other_number k h same =

@@ -31,7 +31,7 @@ unsplit : (p : ℕ → Bool) (bs : List ℕ) → length bs ≤ position_or_len p
 unsplit p [] h = refl
 unsplit p (x ∷ xs) h =
     elim (p x) as (λ b. suc (length xs) ≤ cond (not b) (1 + position_or_len p xs) 0 →
-        cond b ([] ∷ slice_split p xs) (onto_first x (slice_split p xs)) ≡ (x ∷ xs) ∷ []) [
+    cond b ([] ∷ slice_split p xs) (onto_first x (slice_split p xs)) ≡ (x ∷ xs) ∷ []) [
       | true ↦ λ k. absurd (omega arith)
       | false ↦ λ k. rw (unsplit p xs (omega arith)) refl
     ] h

@@ -26,7 +26,7 @@ by_both test other (k ∷ ks) = by (test k.channel) (other k.channel) refl (by_b
   where
     by : (a b : Bool) → other k.channel ≡ b → keys_by other (keys_by test ks) ≡ keys_by (λ n. test n && other n) ks →
         keys_by other (cond a (k ∷ keys_by test ks) (keys_by test ks)) ≡ cond (a && b) (k ∷ keys_by (λ n. test n && other n) ks)
-            (keys_by (λ n. test n && other n) ks)
+        (keys_by (λ n. test n && other n) ks)
     by true true o e = rw o (ap (λ l. k ∷ l) e)
     by true false o e = rw o e
     by false b o e = e

@@ -28,8 +28,8 @@ module _ {T : Type 0} where
           let same : y ≡ x = same_Some y x g in
           let gone : others x.number y ≡ false = subst (λ (z : ItemOf T). others z.number y ≡ false) same (same_gone y.number) in
           let all : filter (others x.number) ys ≡ ys =
-              filter_all (others x.number) ys
-              (λ z i. more_stays z.number x.number (subst (λ (k : ItemOf T). k.number < z.number) same (first_below y ys up z i))) in
+          filter_all (others x.number) ys
+          (λ z i. more_stays z.number x.number (subst (λ (k : ItemOf T). k.number < z.number) same (first_below y ys up z i))) in
           rw (gone, e, all) refl
       by true e hyp (suc n) g =
           let stays : others x.number y ≡ true = less_stays y.number x.number (first_below y ys up x (on_it c ys n x g)) in
@@ -48,7 +48,7 @@ module _ {T : Type 0} where
     where
       by : (b : Bool) → keys_in (off_channel c xs) ≡ keys_by (λ d. not (d == c)) (keys_in xs) →
           keys_in (cond b (x ∷ off_channel c xs) (off_channel c xs)) ≡ cond b (key_of x ∷ keys_by (λ d. not (d == c)) (keys_in xs))
-              (keys_by (λ d. not (d == c)) (keys_in xs))
+          (keys_by (λ d. not (d == c)) (keys_in xs))
       by true e = ap (λ l. key_of x ∷ l) e
       by false e = e
 
@@ -91,8 +91,8 @@ keys_untaken number on n (x ∷ xs) h = by (same_channel on x.on) h.0 n (λ i. k
   where
     by : (b : Bool) → (b ≡ true → number x.on ≡ None) → (n : ℕ) → ((i : ℕ) → keys_on number (without on i xs) ≡ keys_on number xs) →
         keys_on number
-            (elim n as (λ _. List Item) [ zero ↦ cond b xs (x ∷ without on zero xs) | suc i ↦ x ∷ cond b (without on i xs) (without on (suc i) xs) ]) ≡
-            with_key (number x.on) x (keys_on number xs)
+        (elim n as (λ _. List Item) [ zero ↦ cond b xs (x ∷ without on zero xs) | suc i ↦ x ∷ cond b (without on i xs) (without on (suc i) xs) ]) ≡
+        with_key (number x.on) x (keys_on number xs)
     by true g zero hyp = rw (g refl) refl
     by true g (suc n) hyp = ap (λ l. with_key (number x.on) x l) (hyp n)
     by false g zero hyp = ap (λ l. with_key (number x.on) x l) (hyp zero)

@@ -106,38 +106,38 @@ notices_made nodes t w v p q s tick n =
     only (of_notices nodes) t tick n (notices_in t s) (messages_in t w v s ++ (routes_in t w v s ++ frames_in p q s))
     (none_both (of_notices nodes) (messages_in t w v s) (routes_in t w v s ++ frames_in p q s) (no_message_in (of_notices nodes) t w v s (λ k m. refl))
     (none_both (of_notices nodes) (routes_in t w v s) (frames_in p q s) (no_route_in (of_notices nodes) t w v s (λ k m. refl))
-        (no_frame_in (of_notices nodes) p q s (λ l d. refl))))
+    (no_frame_in (of_notices nodes) p q s (λ l d. refl))))
 
 -- messages of LDP come after the notices
 pub messages_made : (t : Network) (w v : World) (p q : Packets) (s : Step) (tick n : ℕ) →
     keys_on (of_messages t) (numbered t tick n (made_in t w v p q s)) ≡ keys_on (of_messages t)
-        (numbered t tick (n + length (notices_in t s)) (messages_in t w v s))
+    (numbered t tick (n + length (notices_in t s)) (messages_in t w v s))
 messages_made t w v p q s tick n =
     skip (of_messages t) t tick n (notices_in t s) (messages_in t w v s ++ (routes_in t w v s ++ frames_in p q s))
-        (no_notice_in (of_messages t) t s (λ k m. refl))
+    (no_notice_in (of_messages t) t s (λ k m. refl))
     ∙ only (of_messages t) t tick (n + length (notices_in t s)) (messages_in t w v s) (routes_in t w v s ++ frames_in p q s)
     (none_both (of_messages t) (routes_in t w v s) (frames_in p q s) (no_route_in (of_messages t) t w v s (λ k m. refl))
-        (no_frame_in (of_messages t) p q s (λ l d. refl)))
+    (no_frame_in (of_messages t) p q s (λ l d. refl)))
 
 -- and messages of BGP after those of LDP
 pub routes_made : (nodes : ℕ) (t : Network) (w v : World) (p q : Packets) (s : Step) (tick n : ℕ) →
     keys_on (of_routes nodes) (numbered t tick n (made_in t w v p q s)) ≡ keys_on (of_routes nodes)
-        (numbered t tick (n + length (notices_in t s) + length (messages_in t w v s)) (routes_in t w v s))
+    (numbered t tick (n + length (notices_in t s) + length (messages_in t w v s)) (routes_in t w v s))
 routes_made nodes t w v p q s tick n =
     skip (of_routes nodes) t tick n (notices_in t s) (messages_in t w v s ++ (routes_in t w v s ++ frames_in p q s))
-        (no_notice_in (of_routes nodes) t s (λ k m. refl))
+    (no_notice_in (of_routes nodes) t s (λ k m. refl))
     ∙ skip (of_routes nodes) t tick (n + length (notices_in t s)) (messages_in t w v s) (routes_in t w v s ++ frames_in p q s)
-        (no_message_in (of_routes nodes) t w v s (λ k m. refl))
+    (no_message_in (of_routes nodes) t w v s (λ k m. refl))
     ∙ only (of_routes nodes) t tick (n + length (notices_in t s) + length (messages_in t w v s)) (routes_in t w v s) (frames_in p q s)
-        (no_frame_in (of_routes nodes) p q s (λ l d. refl))
+    (no_frame_in (of_routes nodes) p q s (λ l d. refl))
 
 -- a frame comes last
 pub frames_made : (t : Network) (w v : World) (p q : Packets) (s : Step) (tick n : ℕ) →
     keys_on of_frames (numbered t tick n (made_in t w v p q s)) ≡ keys_on of_frames
-        (numbered t tick (n + length (notices_in t s) + length (messages_in t w v s) + length (routes_in t w v s)) (frames_in p q s))
+    (numbered t tick (n + length (notices_in t s) + length (messages_in t w v s) + length (routes_in t w v s)) (frames_in p q s))
 frames_made t w v p q s tick n =
     skip of_frames t tick n (notices_in t s) (messages_in t w v s ++ (routes_in t w v s ++ frames_in p q s)) (no_notice_in of_frames t s (λ k m. refl))
     ∙ skip of_frames t tick (n + length (notices_in t s)) (messages_in t w v s) (routes_in t w v s ++ frames_in p q s)
-        (no_message_in of_frames t w v s (λ k m. refl))
+    (no_message_in of_frames t w v s (λ k m. refl))
     ∙ skip of_frames t tick (n + length (notices_in t s) + length (messages_in t w v s)) (routes_in t w v s) (frames_in p q s)
-        (no_route_in of_frames t w v s (λ k m. refl))
+    (no_route_in of_frames t w v s (λ k m. refl))

@@ -100,7 +100,7 @@ two_go : (t : Network) (number : Numbering) (goes : Channel → Bool) (c d : ℕ
     keys_on number (filter (λ item. goes item.on) xs) ≡ but_two c d (keys_on number xs)
 two_go t number goes c d xs there h =
     keys_left number goes (λ n. not (n == c) && not (n == d)) xs (agrees t number goes _ h xs there)
-        ∙ sym (by_both (λ n. not (n == c)) (λ n. not (n == d)) (keys_on number xs))
+    ∙ sym (by_both (λ n. not (n == c)) (λ n. not (n == d)) (keys_on number xs))
 
 -- 3. Notices
 
@@ -124,7 +124,7 @@ pub notices_left : (t : Network) (s : Step) (xs : List Item) → fits t s ≡ tr
     keys_on (of_notices (length t.loopbacks)) (left_in_flight t s xs) ≡ notices_leave (length t.loopbacks) s (keys_on (of_notices (length t.loopbacks)) xs)
 notices_left t (Learn node l) xs fit there =
     keys_taken (of_notices (length t.loopbacks)) (Notices l.0 node.0) (l.0 * length t.loopbacks + node.0) 0 xs
-        (names t (of_notices (length t.loopbacks)) (Notices l.0 node.0) _ one xs there)
+    (names t (of_notices (length t.loopbacks)) (Notices l.0 node.0) _ one xs there)
   where
     within : node.0 < length t.loopbacks
     within = less-is node.0 (length t.loopbacks) (and-both (nat_lt node.0 (length t.loopbacks)) (nat_lt l.0 (length t.links)) fit).0
@@ -207,7 +207,7 @@ message_named t lawful l d there k m g =
     ap (λ x. (k == l) && (x == sender (wiring_of t) l d)) (sym from.1)
     ∙ same_test l k (sender (wiring_of t) k from.0) (sender (wiring_of t) l d) (channel k from.0) (channel l d)
     (λ e. subst (λ x. (sender (wiring_of t) x from.0 == sender (wiring_of t) l d) ≡ (channel x from.0 == channel l d)) (sym e)
-        (one_link t l from.0 d (lawful.ends_differ l there)))
+    (one_link t l from.0 d (lawful.ends_differ l there)))
     (λ e. apart_links k l from.0 d e)
     ∙ ap (λ x. x == channel l d) (sym number)
 
@@ -246,7 +246,7 @@ pub messages_left : (t : Network) (s : Step) (xs : List Item) → IsLawful t →
     keys_on (of_messages t) (left_in_flight t s xs) ≡ messages_leave s (keys_on (of_messages t) xs)
 messages_left t (HearLdp l d) xs lawful fit there =
     keys_taken (of_messages t) (Messages l.0 (sender (wiring_of t) l.0 d)) (channel l.0 d) 0 xs
-        (names t (of_messages t) (Messages l.0 (sender (wiring_of t) l.0 d)) (channel l.0 d) one xs there)
+    (names t (of_messages t) (Messages l.0 (sender (wiring_of t) l.0 d)) (channel l.0 d) one xs there)
   where
     one : (other : Channel) → IsThere t other → same_channel (Messages l.0 (sender (wiring_of t) l.0 d)) other ≡ is_number (channel l.0 d) (of_messages t other)
     one (Messages k m) g = message_named t lawful l.0 d (less-is l.0 (length t.links) fit) k m g
@@ -314,17 +314,17 @@ pair_goes t a b ha hb (Messages k m) g = tt
 pair_goes t a b ha hb (Frames k e) g = tt
 pair_goes t a b ha hb (Routes k m) g =
     let one : ((a == k) && (b == m)) ≡ (k * length t.loopbacks + m == a * length t.loopbacks + b) =
-        ap (λ x. x && (b == m)) (turned a k) ∙ ap (λ x. (k == a) && x) (turned b m) ∙ both_tests (length t.loopbacks) k a m b g.1 hb in
+    ap (λ x. x && (b == m)) (turned a k) ∙ ap (λ x. (k == a) && x) (turned b m) ∙ both_tests (length t.loopbacks) k a m b g.1 hb in
     let two : ((b == k) && (a == m)) ≡ (k * length t.loopbacks + m == b * length t.loopbacks + a) =
-        ap (λ x. x && (a == m)) (turned b k) ∙ ap (λ x. (k == b) && x) (turned a m) ∙ both_tests (length t.loopbacks) k b m a g.1 ha in
+    ap (λ x. x && (a == m)) (turned b k) ∙ ap (λ x. (k == b) && x) (turned a m) ∙ both_tests (length t.loopbacks) k b m a g.1 ha in
     not_either ((a == k) && (b == m)) ((b == k) && (a == m)) ∙ ap (λ x. not x && not ((b == k) && (a == m))) one
-        ∙ ap (λ x. not (k * length t.loopbacks + m == a * length t.loopbacks + b) && not x) two
+    ∙ ap (λ x. not (k * length t.loopbacks + m == a * length t.loopbacks + b) && not x) two
 
 pub routes_left : (t : Network) (s : Step) (xs : List Item) → NodesOf t s → AreThere t xs →
     keys_on (of_routes (length t.loopbacks)) (left_in_flight t s xs) ≡ routes_leave (length t.loopbacks) s (keys_on (of_routes (length t.loopbacks)) xs)
 routes_left t (HearBgp a b) xs nodes there =
     keys_taken (of_routes (length t.loopbacks)) (Routes a.0 b.0) (a.0 * length t.loopbacks + b.0) 0 xs
-        (names t (of_routes (length t.loopbacks)) (Routes a.0 b.0) _ one xs there)
+    (names t (of_routes (length t.loopbacks)) (Routes a.0 b.0) _ one xs there)
   where
     one : (other : Channel) → IsThere t other →
         same_channel (Routes a.0 b.0) other ≡ is_number (a.0 * length t.loopbacks + b.0) (of_routes (length t.loopbacks) other)

@@ -66,13 +66,24 @@ pub refused_sites : (top : Members) (head : Head) (nodes : NodeTable) (links : L
     → Reads {A = SiteTable} (Err bad) (sites_from vrfs.names (tables_of (items_view head.sites.now)) no_sites) → Reads {A = Network} (Err bad) (network_of top)
 refused_sites top head nodes links vrfs bad h s =
     rw (up_to_sites top head nodes links vrfs h)
-        (refused_on bad (sites_from vrfs.names (tables_of (items_view head.sites.now)) no_sites) (after_sites top nodes links vrfs) s)
+    (refused_on bad (sites_from vrfs.names (tables_of (items_view head.sites.now)) no_sites) (after_sites top nodes links vrfs) s)
 
 -- the sites make the whole
 pub whole : (top : Members) (head : Head) (nodes : NodeTable) (links : List LinkEnds) (vrfs : VrfTable) (sites : SiteTable) → Parts top head nodes links vrfs
     → sites_from vrfs.names (tables_of (items_view head.sites.now)) no_sites ≡ Ok sites
-    → network_of top ≡ Ok (record { asn = head.asn; notice_delay = head.notice_delay; bgp_delay = head.bgp_delay; node_names = nodes.names; loopbacks =
-        nodes.loopbacks; links = links; vrf_names = vrfs.names; vrfs = vrfs.vrfs; site_names = sites.names; sites = sites.sites })
+    → network_of top ≡ Ok (record {
+      asn = head.asn;
+      notice_delay = head.notice_delay;
+      bgp_delay = head.bgp_delay;
+      node_names = nodes.names;
+      loopbacks =
+          nodes.loopbacks;
+      links = links;
+      vrf_names = vrfs.names;
+      vrfs = vrfs.vrfs;
+      site_names = sites.names;
+      sites = sites.sites;
+    })
 whole top head nodes links vrfs sites h s =
     up_to_sites top head nodes links vrfs h
     ∙ ap (λ read. read >>= after_sites top nodes links vrfs) s
@@ -82,6 +93,17 @@ whole top head nodes links vrfs sites h s =
 pub whole_lawful : (top : Members) (head : Head) (nodes : NodeTable) (links : List LinkEnds) (vrfs : VrfTable) (sites : SiteTable) →
     Parts top head nodes links vrfs
     → sites_from vrfs.names (tables_of (items_view head.sites.now)) no_sites ≡ Ok sites
-    → IsLawful (record { asn = head.asn; notice_delay = head.notice_delay; bgp_delay = head.bgp_delay; node_names = nodes.names; loopbacks =
-        nodes.loopbacks; links = links; vrf_names = vrfs.names; vrfs = vrfs.vrfs; site_names = sites.names; sites = sites.sites })
+    → IsLawful (record {
+      asn = head.asn;
+      notice_delay = head.notice_delay;
+      bgp_delay = head.bgp_delay;
+      node_names = nodes.names;
+      loopbacks =
+          nodes.loopbacks;
+      links = links;
+      vrf_names = vrfs.names;
+      vrfs = vrfs.vrfs;
+      site_names = sites.names;
+      sites = sites.sites;
+    })
 whole_lawful top head nodes links vrfs sites h s = network_lawful top _ (whole top head nodes links vrfs sites h s)

@@ -49,12 +49,12 @@ same_pair m n a b low high =
 
 turned : (network : Network) (m n l : ℕ) → Same m n (link_numbered network l).a.0 (link_numbered network l).b.0
     → (sender (wiring_of network) l (direction_from m (link_numbered network l)) ≡ m)
-        × (receiver (wiring_of network) l (direction_from m (link_numbered network l)) ≡ n)
+    × (receiver (wiring_of network) l (direction_from m (link_numbered network l)) ≡ n)
 turned network m n l same =
     let a = (link_numbered network l).a.0 in
     let b = (link_numbered network l).b.0 in
     elim (a == m) as (λ t. (a == m) ≡ t →
-        (sender (wiring_of network) l (if t then Forth else Back) ≡ m) × (receiver (wiring_of network) l (if t then Forth else Back) ≡ n)) [
+    (sender (wiring_of network) l (if t then Forth else Back) ≡ m) × (receiver (wiring_of network) l (if t then Forth else Back) ≡ n)) [
       | true ↦ λ e.
           let from : a ≡ m = eqb-true a m e in
           elim same as (λ _. (a ≡ m) × (b ≡ n)) [
@@ -93,7 +93,7 @@ pub name_again : (names : List (List ℕ)) (n : ℕ) (d : List ℕ) → AreNames
 name_again names n d h below =
     position_is (bytes_eq (slice_index_or names n d)) names n d below (nat_list_eq_equiv.refl (slice_index_or names n d))
     (λ k before. nat_list_eq_equiv.symm (slice_index_or names n d) (slice_index_or names k d)
-        ∙ apart_from_distinct bytes_eq names k n d h.distinct before below)
+    ∙ apart_from_distinct bytes_eq names k n d h.distinct before below)
 
 abbrev no_link : LinkEnds
 no_link = record { a = record { 0 = 0 }; b = record { 0 = 0 }; cost = 0; delay = 0; loss = 0 }
@@ -104,7 +104,7 @@ joined_at network l h below =
     let one = link_numbered network l in
     position_is (joins one.a.0 one.b.0) network.links l no_link below (and_from _ _ (eq-eqb (min one.a.0 one.b.0) _ refl) (eq-eqb (max one.a.0 one.b.0) _ refl))
     (λ k before. joins-flip one (link_numbered network k)
-        ∙ apart_from_distinct (λ x y. joins x.a.0 x.b.0 y) network.links k l no_link h.links.once before below)
+    ∙ apart_from_distinct (λ x y. joins x.a.0 x.b.0 y) network.links k l no_link h.links.once before below)
 
 -- each link is found by its ends, in either direction
 pub link_again : (network : Network) (l : ℕ) (dir : Dir) → IsLawful network → l < length network.links

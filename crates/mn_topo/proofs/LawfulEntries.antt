@@ -70,7 +70,7 @@ loopback_within : (address : Option ℕ) → is_none (option_and_then (λ a. if 
 loopback_within None h = cc
 loopback_within (Some a) h =
     elim (is_loopback a) as (λ b. is_loopback a ≡ b → is_none (if b then Some a else None) ≡ false →
-        is_loopback (unwrap_or (if b then Some a else None) 0) ≡ true) [
+    is_loopback (unwrap_or (if b then Some a else None) 0) ≡ true) [
       | true ↦ λ e k. e
       | false ↦ λ e k. cc
     ] refl h

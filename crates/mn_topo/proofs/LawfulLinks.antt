@@ -20,7 +20,7 @@ use Rattle.mn_topo.proofs.LawfulEntries.{all_kept, kept, reads_on, all_push, dis
 number_below : (test : List ℕ → Bool) (names : List (List ℕ)) → is_none (position test names) ≡ false → unwrap_or (position test names) 0 < length names
 number_below test names h =
     elim (nat_lt (position_or_len test names) (length names)) as (λ b. nat_lt (position_or_len test names) (length names) ≡ b →
-        is_none (cond b (Some (position_or_len test names)) None) ≡ false → unwrap_or (cond b (Some (position_or_len test names)) None) 0 < length names) [
+    is_none (cond b (Some (position_or_len test names)) None) ≡ false → unwrap_or (cond b (Some (position_or_len test names)) None) 0 < length names) [
       | true ↦ λ e k. ltb-true _ _ e
       | false ↦ λ e k. cc
     ] refl h
@@ -40,7 +40,7 @@ if_within : (low high n : ℕ) → is_none (if nat_le low n && nat_le n high the
     (unwrap_or (if nat_le low n && nat_le n high then Some n else None) 0) high) ≡ true
 if_within low high n h =
     elim (nat_le low n && nat_le n high) as (λ b. (nat_le low n && nat_le n high) ≡ b → is_none (if b then Some n else None) ≡ false →
-        (nat_le low (unwrap_or (if b then Some n else None) 0) && nat_le (unwrap_or (if b then Some n else None) 0) high) ≡ true) [
+    (nat_le low (unwrap_or (if b then Some n else None) 0) && nat_le (unwrap_or (if b then Some n else None) 0) high) ≡ true) [
       | true ↦ λ e k. e
       | false ↦ λ e k. cc
     ] refl h
@@ -54,7 +54,7 @@ integer_within low high None h = cc
 value_within : (low high default : ℕ) (value : Option Data) → (nat_le low default && nat_le default high) ≡ true
     → is_none (option_map_or (λ v. number_in low high (as_integer v)) value (Some default)) ≡ false
     → (nat_le low (unwrap_or (option_map_or (λ v. number_in low high (as_integer v)) value (Some default)) 0) && nat_le
-        (unwrap_or (option_map_or (λ v. number_in low high (as_integer v)) value (Some default)) 0) high) ≡ true
+    (unwrap_or (option_map_or (λ v. number_in low high (as_integer v)) value (Some default)) 0) high) ≡ true
 value_within low high default None fine h = fine
 value_within low high default (Some v) fine h = integer_within low high (as_integer v) h
 

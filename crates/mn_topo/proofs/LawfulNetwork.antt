@@ -61,8 +61,8 @@ parts_lawful : (top : Members) (nodes : NodeTable) (links : List LinkEnds) (vrfs
 unfolding top_rule
 parts_lawful top nodes links vrfs sites lawful n l v s =
     let all =
-        all_kept (broken (has_unknown_key top_keys top) UnknownKey ∷ broken (has_wrong_number top || has_wrong_array top) WrongKind
-        ∷ broken (has_too_many top) TooMany ∷ []) lawful in
+    all_kept (broken (has_unknown_key top_keys top) UnknownKey ∷ broken (has_wrong_number top || has_wrong_array top) WrongKind
+    ∷ broken (has_too_many top) TooMany ∷ []) lawful in
     let numbers = or_parts _ _ (or_parts (has_wrong_number top) (has_wrong_array top) (kept _ WrongKind all.1.0)).0 in
     let delays = or_parts _ _ numbers.0 in
     let counts = or_parts _ _ (kept (has_too_many top) TooMany all.1.1.0) in

@@ -46,7 +46,7 @@ fresh_rd earlier (Some rd) h k = k
 target_formed : (word : List ℕ) (target : Rt) → rt_of word ≡ Some target → has_rt_form target.0 ≡ true
 target_formed word target h =
     elim (pair_of 0x0002 0x0102 word) as (λ p. pair_of 0x0002 0x0102 word ≡ p → option_map (λ n. let rt : Rt = record { 0 = n } in rt) p ≡ Some target →
-        has_rt_form target.0 ≡ true) [
+    has_rt_form target.0 ≡ true) [
       | None ↦ λ e k. cc
       | Some n ↦ λ e k.
           let same : n ≡ target.0 = cc in
@@ -71,7 +71,7 @@ next_lawful : (earlier : List Rt) (found : Option Rt) (target : Rt) →
 next_lawful earlier None target form h k = cc
 next_lawful earlier (Some t) target form h k =
     elim (has_target earlier t || nat_le 16 (length earlier)) as (λ b. (has_target earlier t || nat_le 16 (length earlier)) ≡ b →
-        chosen earlier t b ≡ Some target → AreTargets (earlier ++ target ∷ [])) [
+    chosen earlier t b ≡ Some target → AreTargets (earlier ++ target ∷ [])) [
       | true ↦ λ e g. cc
       | false ↦ λ e g.
           let same : t ≡ target = cc in
@@ -88,7 +88,7 @@ targets_lawful : (items : Items) (earlier targets : List Rt) → targets_from ea
 targets_lawful no_items earlier targets h k = let same : earlier ≡ targets = cc in subst AreTargets same k
 targets_lawful (item value items) earlier targets h k =
     elim (option_and_then (next_target earlier) (as_str value)) as (λ o. option_and_then (next_target earlier) (as_str value) ≡ o →
-        option_and_then (λ target. targets_from (earlier ++ target ∷ []) items) o ≡ Some targets → AreTargets targets) [
+    option_and_then (λ target. targets_from (earlier ++ target ∷ []) items) o ≡ Some targets → AreTargets targets) [
       | None ↦ λ e g. cc
       | Some target ↦ λ e g. targets_lawful items (earlier ++ target ∷ []) targets g (text_target earlier (as_str value) target e k)
     ] refl h
@@ -109,7 +109,7 @@ edges_push : (earlier : VrfTable) (vrf : VrfDef) → length (edges_of earlier.vr
     length (edges_of (earlier.vrfs ++ vrf ∷ [])) ≤ 64
 edges_push earlier vrf few h = rw (fold_push with_edge [] earlier.vrfs vrf) (
     elim (is_edge earlier.vrfs vrf.node.0) as (λ b. is_edge earlier.vrfs vrf.node.0 ≡ b →
-        (not b && nat_le 64 (length (edges_of earlier.vrfs))) ≡ false → length (with_edge (edges_of earlier.vrfs) vrf) ≤ 64) [
+    (not b && nat_le 64 (length (edges_of earlier.vrfs))) ≡ false → length (with_edge (edges_of earlier.vrfs) vrf) ≤ 64) [
       | true ↦ λ e k.
           let there : list_any (λ edge. vrf.node.0 == edge) (edges_of earlier.vrfs) ≡ true = edges_from vrf.node.0 earlier.vrfs [] ∙ e in
           rw there few

@@ -61,7 +61,7 @@ address_fits w n h =
     let q3 = bind_parts _ (number_up_to p3.0.0 255) n q2.2 in
     let q4 = bind_parts _ (number_up_to p3.0.1 255) n q3.2 in
     four_bytes q1.0 q2.0 q3.0 q4.0 n (up_to p1.0.0 255 q1.0 q1.1) (up_to p2.0.0 255 q2.0 q2.1) (up_to p3.0.0 255 q3.0 q3.1) (up_to p3.0.1 255 q4.0 q4.1)
-        (same_Some _ _ q4.2)
+    (same_Some _ _ q4.2)
 
 slashed_fits : (w : List ℕ) (p : AddressBlock) → slashed_of w ≡ Some p → (p.address < 2 ^ 32) × (p.length ≤ 32)
 unfolding slashed_of
@@ -114,5 +114,9 @@ in_vrf_lawful v (p ∷ ps) h = let q = and_parts (is_lawful_prefix p) (list_all 
 pub statics_lawful : (statics : List Static) (v : ℕ) (entry : Members) → list_all (λ (static : Static). is_lawful_prefix static.1) statics ≡ true →
     list_all (λ (static : Static). is_lawful_prefix static.1) (statics ++ in_vrf v (prefixes_of entry)) ≡ true
 statics_lawful statics v entry h =
-    rw (list_all-append (λ (static : Static). is_lawful_prefix static.1) statics (in_vrf v (prefixes_of entry)), h, in_vrf_lawful v (prefixes_of entry)
-    (entry_lawful entry)) refl
+    rw (
+      list_all-append (λ (static : Static). is_lawful_prefix static.1) statics (in_vrf v (prefixes_of entry)),
+      h,
+      in_vrf_lawful v (prefixes_of entry)
+          (entry_lawful entry),
+    ) refl

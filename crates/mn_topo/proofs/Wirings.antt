@@ -49,10 +49,10 @@ one_left : (p q : ℕ → Bool) (xs : List ℕ) → Alone (λ y. q y && p y) xs 
 one_left p q [] h = omega arith
 one_left p q (x ∷ xs) h =
     elim (q x) as (λ b. q x ≡ b →
-        ((b && p x) ≡ true → AllByRecursion (λ y. (q y && p y) ≡ false) xs) → length (filter p (cond b (x ∷ filter q xs) (filter q xs))) ≤ 1) [
+    ((b && p x) ≡ true → AllByRecursion (λ y. (q y && p y) ≡ false) xs) → length (filter p (cond b (x ∷ filter q xs) (filter q xs))) ≤ 1) [
       | true ↦ λ e k.
           elim (p x) as (λ b. p x ≡ b →
-              (b ≡ true → AllByRecursion (λ y. (q y && p y) ≡ false) xs) → length (cond b (x ∷ filter p (filter q xs)) (filter p (filter q xs))) ≤ 1) [
+          (b ≡ true → AllByRecursion (λ y. (q y && p y) ≡ false) xs) → length (cond b (x ∷ filter p (filter q xs)) (filter p (filter q xs))) ≤ 1) [
             | true ↦ λ f g. rw (none_left p q xs (g refl)) (omega arith)
             | false ↦ λ f g. one_left p q xs h.1
           ] refl k
@@ -96,9 +96,9 @@ two_lead wiring m n i j h before below here there =
     let one = leads_joins wiring m n i here in
     let other = leads_joins wiring m n j there in
     let same : joins (link wiring i).a.0 (link wiring i).b.0 (link wiring j) ≡ true =
-        and_from _ _ (eq-eqb _ _ (one.0 ∙ sym other.0)) (eq-eqb _ _ (one.1 ∙ sym other.1)) in
+    and_from _ _ (eq-eqb _ _ (one.0 ∙ sym other.0)) (eq-eqb _ _ (one.1 ∙ sym other.1)) in
     let apart : joins (link wiring i).a.0 (link wiring i).b.0 (link wiring j) ≡ false =
-        apart_from_distinct (λ one other. joins one.a.0 one.b.0 other) wiring.ends i j _ h.once before below in
+    apart_from_distinct (λ one other. joins one.a.0 one.b.0 other) wiring.ends i j _ h.once before below in
     both_ways _ apart same
 
 pub joins_once : (wiring : Wiring) → AreLinks (length wiring.loopbacks) wiring.ends → JoinsOnce wiring

@@ -38,7 +38,7 @@ link_rules nodes earlier entry =
     broken (has_unknown_key link_keys entry) UnknownKey
     ∷ broken (lacks (codes "a") entry || lacks (codes "b") entry) MissingKey
     ∷ broken ((is_none (text_at (codes "a") entry) || is_none (text_at (codes "b") entry)) ||
-        ((not (is_integer_at (codes "cost") entry) || not (is_integer_at (codes "delay") entry)) || not (is_integer_at (codes "loss") entry))) WrongKind
+    ((not (is_integer_at (codes "cost") entry) || not (is_integer_at (codes "delay") entry)) || not (is_integer_at (codes "loss") entry))) WrongKind
     ∷ broken (is_none (named_at nodes (codes "a") entry) || is_none (named_at nodes (codes "b") entry)) NoSuchName
     ∷ broken (number_named nodes (codes "a") entry == number_named nodes (codes "b") entry) SelfLink
     ∷ broken (are_joined earlier (number_named nodes (codes "a") entry) (number_named nodes (codes "b") entry)) TwiceLinked

@@ -56,7 +56,7 @@ vrf_head_rules nodes earlier entry =
     broken (has_unknown_key vrf_keys entry) UnknownKey
     ∷ broken ((lacks (codes "name") entry || lacks (codes "node") entry) || lacks (codes "rd") entry) MissingKey
     ∷ broken (((is_none (text_at (codes "name") entry) || is_none (text_at (codes "node") entry)) || is_none (text_at (codes "rd") entry)) ||
-        (not (is_texts_at (codes "import") entry) || not (is_texts_at (codes "export") entry))) WrongKind
+    (not (is_texts_at (codes "import") entry) || not (is_texts_at (codes "export") entry))) WrongKind
     ∷ broken (not (is_name (name_of entry))) BadName
     ∷ broken (has_name earlier.names (name_of entry)) TwiceNamed
     ∷ broken (is_none (named_at nodes (codes "node") entry)) NoSuchName

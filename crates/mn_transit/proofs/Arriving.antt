@@ -51,12 +51,19 @@ becomes t g w m k token y uses flown answer after h =
 pub stands_dropped : (t : Network) (g : Labelling) (w : World) (m new : Moving) (k : Packets) (token : Token) (y : NodeNo) (uses : List (ℕ × Use))
     (flown : Flown) (cause : Rule) (after : Labelled) →
     IsLawful t → y.0 < length t.loopbacks →
-        (Drop cause, after) ≡ forwarded uses flown.frame → new ≡ record m { verdicts = slice_set m.verdicts flown.packet (Dropped cause y) } →
+    (Drop cause, after) ≡ forwarded uses flown.frame → new ≡ record m { verdicts = slice_set m.verdicts flown.packet (Dropped cause y) } →
     TableStands t g w y.0 uses → StandsFor t g m k → IsFlown t g y.0 flown token → StandsFor t g new (arrive t w k token y.0)
 stands_dropped t g w m new k token y uses flown cause after lawful there forwards is table stands flies =
     let told : arrive t w k token y.0 ≡ drop_at k token.packet cause y.0 =
-    becomes t g w m k token y.0 uses flown (Drop cause) after (record { lawful = lawful; there = there; table = table; stands = stands; flies =
-        flies; forwards = forwards }) in
+    becomes t g w m k token y.0 uses flown (Drop cause) after (record {
+      lawful = lawful;
+      there = there;
+      table = table;
+      stands = stands;
+      flies =
+          flies;
+      forwards = forwards;
+    }) in
     subst (λ n. StandsFor t g n (arrive t w k token y.0)) (sym is)
     (subst (λ p. StandsFor t g (record m { verdicts = slice_set m.verdicts flown.packet (Dropped cause y) }) p) (sym told)
     (subst (λ p. StandsFor t g (record m { verdicts = slice_set m.verdicts p (Dropped cause y) }) (drop_at k token.packet cause y.0)) (sym flies.packet)
@@ -64,8 +71,12 @@ stands_dropped t g w m new k token y uses flown cause after lawful there forward
 
 -- a delivery in both
 pub delivers : (t : Network) (g : Labelling) (m : Moving) (k : Packets) (packet site ttl : ℕ) (bytes : List ℕ) → StandsFor t g m k →
-    StandsFor t g (record m { verdicts = slice_set m.verdicts packet (Delivered (record { 0 = site }) ttl (m.copies + 1)); copies =
-        m.copies + 1; delivered = Some (aged bytes (ttl_of bytes - ttl)) }) (deliver k packet site ttl bytes)
+    StandsFor t g (record m {
+      verdicts = slice_set m.verdicts packet (Delivered (record { 0 = site }) ttl (m.copies + 1));
+      copies =
+          m.copies + 1;
+      delivered = Some (aged bytes (ttl_of bytes - ttl));
+    }) (deliver k packet site ttl bytes)
 delivers t g m k packet site ttl bytes stands = record {
   verdicts =
       ap (λ vs. slice_set vs packet (Delivered (record { 0 = site }) ttl (m.copies + 1))) stands.verdicts
@@ -83,22 +94,49 @@ pub stands_delivered : (t : Network) (g : Labelling) (w : World) (m new : Moving
     TableStands t g w y uses → StandsFor t g m k → IsFlown t g y flown token → StandsFor t g new (arrive t w k token y)
 stands_delivered t g w m new k token y uses flown site after top ttl lawful there forwards is_top lower is table stands flies =
     let told =
-        becomes t g w m k token y uses flown (Site site) after (record { lawful = lawful; there = there; table = table; stands = stands; flies =
-        flies; forwards = forwards }) in
+    becomes t g w m k token y uses flown (Site site) after (record {
+      lawful = lawful;
+      there = there;
+      table = table;
+      stands = stands;
+      flies =
+          flies;
+      forwards = forwards;
+    }) in
     let first = top_of g token y flown.frame flies.frame in
     let same : first.0 ≡ top = (let e : Some first.0 ≡ Some top = sym first.1 ∙ is_top in cc) in
     let level : ttl ≡ token.ttl - 1 = lower ∙ ap (λ (e : Entry). e.ttl - 1) (sym same) ∙ ap (λ n. n - 1) first.2 in
-    let whole : new ≡ record m { verdicts = slice_set m.verdicts token.packet (Delivered site (token.ttl - 1) (m.copies + 1)); copies =
-        m.copies + 1; delivered = Some (aged token.bytes (ttl_of token.bytes - (token.ttl - 1))) } =
-    is ∙ ap (λ n. record m { verdicts = slice_set m.verdicts flown.packet (Delivered site n (m.copies + 1)); copies = m.copies + 1; delivered =
-        Some after.packet }) level
-    ∙ ap (λ n. record m { verdicts = slice_set m.verdicts n (Delivered site (token.ttl - 1) (m.copies + 1)); copies = m.copies + 1; delivered =
-        Some after.packet }) flies.packet
-    ∙ ap (λ b. record m { verdicts = slice_set m.verdicts token.packet (Delivered site (token.ttl - 1) (m.copies + 1)); copies = m.copies + 1; delivered =
-        Some b }) told.2 in
+    let whole : new ≡ record m {
+      verdicts = slice_set m.verdicts token.packet (Delivered site (token.ttl - 1) (m.copies + 1));
+      copies =
+          m.copies + 1;
+      delivered = Some (aged token.bytes (ttl_of token.bytes - (token.ttl - 1)));
+    } =
+    is ∙ ap (λ n. record m {
+      verdicts = slice_set m.verdicts flown.packet (Delivered site n (m.copies + 1));
+      copies = m.copies + 1;
+      delivered =
+          Some after.packet;
+    }) level
+    ∙ ap (λ n. record m {
+      verdicts = slice_set m.verdicts n (Delivered site (token.ttl - 1) (m.copies + 1));
+      copies = m.copies + 1;
+      delivered =
+          Some after.packet;
+    }) flies.packet
+    ∙ ap (λ b. record m {
+      verdicts = slice_set m.verdicts token.packet (Delivered site (token.ttl - 1) (m.copies + 1));
+      copies = m.copies + 1;
+      delivered =
+          Some b;
+    }) told.2 in
     subst (λ n. StandsFor t g n (arrive t w k token y)) (sym whole)
-    (subst (λ p. StandsFor t g (record m { verdicts = slice_set m.verdicts token.packet (Delivered site (token.ttl - 1) (m.copies + 1)); copies =
-        m.copies + 1; delivered = Some (aged token.bytes (ttl_of token.bytes - (token.ttl - 1))) }) p) (sym told.0)
+    (subst (λ p. StandsFor t g (record m {
+      verdicts = slice_set m.verdicts token.packet (Delivered site (token.ttl - 1) (m.copies + 1));
+      copies =
+          m.copies + 1;
+      delivered = Some (aged token.bytes (ttl_of token.bytes - (token.ttl - 1)));
+    }) p) (sym told.0)
     (delivers t g m k token.packet site.0 (token.ttl - 1) token.bytes stands))
 
 -- the frame of the packet with one hop less
@@ -107,8 +145,15 @@ flies_on : (t : Network) (g : Labelling) (token : Token) (y next : ℕ) (flown :
     IsFlown t g next (record { packet = flown.packet; frame = after }) (hopped token)
 flies_on t g token y next flown after flies frame = record {
   packet = flies.packet;
-  sound = record { home = flies.sound.home; node = flies.sound.node; labelled = flies.sound.labelled; within = omega (arith, flies.sound.within); pushed =
-      flies.sound.pushed; packet = flies.sound.packet };
+  sound = record {
+    home = flies.sound.home;
+    node = flies.sound.node;
+    labelled = flies.sound.labelled;
+    within = omega (arith, flies.sound.within);
+    pushed =
+        flies.sound.pushed;
+    packet = flies.sound.packet;
+  };
   frame = frame;
 }
 
@@ -116,13 +161,20 @@ pub stands_hopped : (t : Network) (g : Labelling) (w : World) (m new : Moving) (
     (flown : Flown) (after : Labelled) →
     IsLawful t → y.0 < length t.loopbacks → (Next next, after) ≡ forwarded uses flown.frame →
     ((g : Labelling) (k : Packets) (token : Token) → StandsFor t g m k → IsFlown t g next.0 (record { packet = flown.packet; frame = after }) token →
-        are_joined t.links y.0 next.0 ≡ true →
+    are_joined t.links y.0 next.0 ≡ true →
     (link : ℕ) × (dir : Dir) × Leads t y.0 next.0 link dir × StandsFor t g new (sent k token link dir)) →
     TableStands t g w y.0 uses → StandsFor t g m k → IsFlown t g y.0 flown token → StandsFor t g new (arrive t w k token y.0)
 stands_hopped t g w m new k token y next uses flown after lawful there forwards goes table stands flies =
     let told =
-        becomes t g w m k token y.0 uses flown (Next next) after (record { lawful = lawful; there = there; table = table; stands = stands; flies =
-        flies; forwards = forwards }) in
+    becomes t g w m k token y.0 uses flown (Next next) after (record {
+      lawful = lawful;
+      there = there;
+      table = table;
+      stands = stands;
+      flies =
+          flies;
+      forwards = forwards;
+    }) in
     let gone = goes g k (hopped token) stands (flies_on t g token y.0 next.0 flown after flies told.1) told.2 in
     subst (λ p. StandsFor t g new p) (sym (told.0 gone.0 gone.1 gone.2)) gone.3
 
@@ -130,18 +182,34 @@ stands_hopped t g w m new k token y next uses flown after lawful there forwards 
 pub stands_over : (t : Network) (g : Labelling) (m new : Moving) (k : Packets) (token : Token) (y next : ℕ) (link : LinkNo) (dir : Dir)
     (spare due number : ℕ) (flown : Flown) →
     Leads t y next link.0 dir →
-    new ≡ record m { flying = m.flying ++ record { channel = channel link.0 dir; due = due; number = number; item = flown } ∷ []; spare = spare; verdicts =
-        slice_set m.verdicts flown.packet (Flying link dir) } →
+    new ≡ record m {
+      flying = m.flying ++ record { channel = channel link.0 dir; due = due; number = number; item = flown } ∷ [];
+      spare = spare;
+      verdicts =
+          slice_set m.verdicts flown.packet (Flying link dir);
+    } →
     StandsFor t g m k → IsFlown t g next flown token →
     (l : ℕ) × (d : Dir) × Leads t y next l d × StandsFor t g new (sent k token l d)
 stands_over t g m new k token y next link dir spare due number flown leads is stands flies =
     let there : IsFlown t g (receiver (wiring_of t) link.0 dir) flown token = subst (λ n. IsFlown t g n flown token) (sym leads.to) flies in
-    let whole : new ≡ record m { flying = m.flying ++ record { channel = channel link.0 dir; due = due; number = number; item = flown } ∷ []; spare =
-        spare; verdicts = slice_set m.verdicts token.packet (Flying link dir) } =
-    is ∙ ap (λ n. record m { flying = m.flying ++ record { channel = channel link.0 dir; due = due; number = number; item = flown } ∷ []; spare =
-        spare; verdicts = slice_set m.verdicts n (Flying link dir) }) flies.packet in
-    (link.0, dir, leads, subst (λ n. StandsFor t g n (sent k token link.0 dir)) (sym whole)
-        (stands_sent t g m k token link.0 dir spare due number flown stands there))
+    let whole : new ≡ record m {
+      flying = m.flying ++ record { channel = channel link.0 dir; due = due; number = number; item = flown } ∷ [];
+      spare =
+          spare;
+      verdicts = slice_set m.verdicts token.packet (Flying link dir);
+    } =
+    is ∙ ap (λ n. record m {
+      flying = m.flying ++ record { channel = channel link.0 dir; due = due; number = number; item = flown } ∷ [];
+      spare =
+          spare;
+      verdicts = slice_set m.verdicts n (Flying link dir);
+    }) flies.packet in (
+      link.0,
+      dir,
+      leads,
+      subst (λ n. StandsFor t g n (sent k token link.0 dir)) (sym whole)
+          (stands_sent t g m k token link.0 dir spare due number flown stands there),
+    )
 
 -- what can't fail was done
 pub was_ok : {A E : Type 0} (P : Type 0) (r : Result A E) → IsOk r → OnOk r P → P

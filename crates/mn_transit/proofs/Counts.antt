@@ -69,7 +69,7 @@ counts_delivered m new packet bytes verdict packet_bytes is = record {
 
 pub counts_sent : (m new : Moving) (packet spare : ℕ) (verdict : Verdict) (item : Item Flown) →
     new ≡ record m { flying = m.flying ++ item ∷ []; spare = spare; verdicts = slice_set m.verdicts packet verdict } →
-        CountsOn m new 0 0 (length item.item.frame.packet)
+    CountsOn m new 0 0 (length item.item.frame.packet)
 counts_sent m new packet spare verdict item is = record {
   channels = ap (λ (n : Moving). n.channels) is;
   failed = ap (λ (n : Moving). n.failed) is;
@@ -92,7 +92,7 @@ counts_more m new spare verdict path is = record {
 pub counts_taken : (m left : Moving) (channel place : ℕ) (item : Item Flown) → IsFlight m.channels m.flying →
     Some item ≡ slice_get (on_channel channel m.flying) place →
     left ≡ record m { flying = without (Some item) m.flying; spare = left.spare } →
-        CountsOn m left 0 0 0 × (bytes_in left.flying + length item.item.frame.packet ≡ bytes_in m.flying)
+    CountsOn m left 0 0 0 × (bytes_in left.flying + length item.item.frame.packet ≡ bytes_in m.flying)
 counts_taken m left channel place item flight found is =
     let same = ap (λ (n : Moving). bytes_in n.flying) is in
     let less = bytes_left channel place m.flying item flight.ascending found in (

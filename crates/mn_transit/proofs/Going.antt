@@ -47,7 +47,7 @@ took : (t : Network) (g : Labelling) (before after : Moving) (k : Packets) (at p
     Takes before after at place item → StandsFor t g before k → Took t g k l dir place item after
 took t g before after k at place l dir item e takes stands =
     let found : slice_get (on_channel (channel l dir) before.flying) place ≡ Some item =
-        subst (λ c. slice_get (on_channel c before.flying) place ≡ Some item) e (sym takes.found) in
+    subst (λ c. slice_get (on_channel c before.flying) place ≡ Some item) e (sym takes.found) in
     let token = flown_at t g (receiver (wiring_of t) l dir) _ _ place item (stands.frames l dir) found in
     record {
       token = token.0;
@@ -94,7 +94,7 @@ pub stands_carried : (t : Network) (g : Labelling) (w : World) (m begun left the
     begun ≡ record m { delivered = None } → at ≡ channel link.0 dir → node.0 ≡ receiver (wiring_of t) link.0 dir → Takes begun left at place item →
     there ≡ record left { paths = slice_set left.paths item.item.packet (further (path_of left.paths item.item.packet) node) } →
     ((g : Labelling) (w : World) (k : Packets) (token : Token) → TableStands t g w node.0 uses → StandsFor t g there k →
-        IsFlown t g node.0 item.item token → StandsFor t g new (arrive t w k token node.0)) →
+    IsFlown t g node.0 item.item token → StandsFor t g new (arrive t w k token node.0)) →
     TableStands t g w (receiver (wiring_of t) link.0 dir) uses → StandsFor t g m k → StandsFor t g new (packets_after t w k (Step.Carry link dir place) bytes)
 unfolding packets_after
 stands_carried t g w m begun left there new k at place link dir node item uses bytes begins e f takes visits goes table stands =
@@ -103,7 +103,7 @@ stands_carried t g w m begun left there new k at place link dir node item uses b
     let came : StandsFor t g there (visited (taken (before_step k) link.0 dir place) done.token.packet node.0) =
     subst (λ n. StandsFor t g there (visited (taken (before_step k) link.0 dir place) n node.0)) done.flies.packet
     (subst (λ n. StandsFor t g n (visited (taken (before_step k) link.0 dir place) item.item.packet node.0)) (sym visits)
-        (stands_visited t g left _ item.item.packet node done.stands)) in
+    (stands_visited t g left _ item.item.packet node done.stands)) in
     let gone : StandsFor t g new (carry t w (taken (before_step k) link.0 dir place) node.0 (Some done.token)) =
     goes g w _ done.token (subst (λ n. TableStands t g w n uses) (sym f) table) came (subst (λ n. IsFlown t g n item.item done.token) (sym f) done.flies) in
     subst (λ n. StandsFor t g new (carry t w (taken (before_step k) link.0 dir place) n (slice_get (flying_on (before_step k) link.0 dir) place))) f
@@ -122,13 +122,13 @@ stands_lost t g w m begun left new k at place link dir node item bytes begins e 
     let done = took t g begun left (before_step k) at place link.0 dir item e takes first in
     subst (λ found. StandsFor t g new (lose (taken (before_step k) link.0 dir place) (sender (wiring_of t) link.0 dir) found)) (sym done.there)
     (ends t g left new (taken (before_step k) link.0 dir place) done.token.packet item.item.packet
-        (sender (wiring_of t) link.0 dir) node rule.Lost done.flies.packet f judges done.stands)
+    (sender (wiring_of t) link.0 dir) node rule.Lost done.flies.packet f judges done.stands)
 
 -- 3. A link that goes down
 
 cut_first : (k : Packets) (at node : ℕ) (tokens : List Token) (token : Token) → slice_get tokens 0 ≡ Some token →
     cut_each (drop_at (record k { flying = put k.flying at (without_place 0 tokens) }) token.packet rule.LinkCut node) at node
-        (without_place 0 tokens) ≡ cut_each k at node tokens
+    (without_place 0 tokens) ≡ cut_each k at node tokens
 cut_first k at node [] token h = absurd (let none : None ≡ Some token → ⊥ = (λ e. cc) in none h)
 cut_first k at node (x ∷ xs) token h =
     let same : x ≡ token = cc in
@@ -145,7 +145,7 @@ CutsTo t g new k l dir = (next : Packets) × StandsFor t g new next × (cut t ne
 pub cuts_first : (t : Network) (g : Labelling) (before left new : Moving) (k : Packets) (at : ℕ) (link : LinkNo) (dir : Dir) (node : NodeNo)
     (item : Item Flown) →
     at ≡ channel link.0 dir → node.0 ≡ sender (wiring_of t) link.0 dir → Takes before left at 0 item →
-        new ≡ record left { verdicts = slice_set left.verdicts item.item.packet (Dropped rule.LinkCut node) } →
+    new ≡ record left { verdicts = slice_set left.verdicts item.item.packet (Dropped rule.LinkCut node) } →
     StandsFor t g before k → CutsTo t g new k link.0 dir
 cuts_first t g before left new k at link dir node item e f takes judges stands =
     let done = took t g before left k at 0 link.0 dir item e takes stands in
@@ -189,7 +189,7 @@ off_none m left at flight bare still = ap (λ (n : Moving). n.flying) still ∙ 
 pub stands_down : (t : Network) (g : Labelling) (w : World) (m begun forth new : Moving) (k : Packets) (link : LinkNo) (bytes : List ℕ) →
     begun ≡ record m { delivered = None } →
     ((g : Labelling) (k : Packets) → StandsFor t g begun k → StandsFor t g forth (cut t k link.0 Forth)) →
-        ((g : Labelling) (k : Packets) → StandsFor t g forth k → StandsFor t g new (cut t k link.0 Back)) →
+    ((g : Labelling) (k : Packets) → StandsFor t g forth k → StandsFor t g new (cut t k link.0 Back)) →
     StandsFor t g m k → StandsFor t g new (packets_after t w k (Step.LinkDown link) bytes)
 unfolding packets_after
 stands_down t g w m begun forth new k link bytes begins one two stands = two g _ (one g _ (stands_begun t g m begun k begins stands))
@@ -200,4 +200,4 @@ pub stands_still : (t : Network) (g : Labelling) (m new : Moving) (k : Packets) 
 stands_still t g m new k spare is stands =
     subst (λ n. StandsFor t g n k) (sym is)
     (let still : StandsFor t g (record m { spare = spare }) k =
-        record { verdicts = stands.verdicts; paths = stands.paths; copies = stands.copies; delivered = stands.delivered; frames = stands.frames } in still)
+    record { verdicts = stands.verdicts; paths = stands.paths; copies = stands.copies; delivered = stands.delivered; frames = stands.frames } in still)

@@ -32,13 +32,21 @@ path_last (p ∷ ps) node room = ap (λ l. map (λ n. n.0) p.nodes ∷ l) (path_
 
 -- one more packet, before its fate is known
 stands_more : (t : Network) (g : Labelling) (m new : Moving) (k : Packets) (node : NodeNo) (room spare : ℕ) →
-    new ≡ record m { verdicts = m.verdicts ++ Dropped rule.Lost node ∷ []; paths = m.paths ++ record { nodes = node ∷ []; room = room } ∷ []; spare =
-        spare } → StandsFor t g m k →
+    new ≡ record m {
+      verdicts = m.verdicts ++ Dropped rule.Lost node ∷ [];
+      paths = m.paths ++ record { nodes = node ∷ []; room = room } ∷ [];
+      spare =
+          spare;
+    } → StandsFor t g m k →
     StandsFor t g new (one_more k node.0)
 stands_more t g m new k node room spare is stands =
     subst (λ n. StandsFor t g n (one_more k node.0)) (sym is)
-    (let more : StandsFor t g (record m { verdicts = m.verdicts ++ Dropped rule.Lost node ∷ []; paths =
-        m.paths ++ record { nodes = node ∷ []; room = room } ∷ []; spare = spare }) (one_more k node.0) = record {
+    (let more : StandsFor t g (record m {
+      verdicts = m.verdicts ++ Dropped rule.Lost node ∷ [];
+      paths =
+          m.paths ++ record { nodes = node ∷ []; room = room } ∷ [];
+      spare = spare;
+    }) (one_more k node.0) = record {
       verdicts = ap (λ vs. vs ++ Dropped rule.Lost node ∷ []) stands.verdicts;
       paths = path_last m.paths node room ∙ ap (λ ps. ps ++ (node.0 ∷ []) ∷ []) stands.paths;
       copies = stands.copies;
@@ -52,8 +60,12 @@ pub record Ready (t : Network) (g : Labelling) (more : Moving) (k : Packets) (no
   pub number : packet ≡ length k.verdicts
 
 pub ready : (t : Network) (g : Labelling) (m more begun : Moving) (k : Packets) (node : NodeNo) (packet room spare : ℕ) →
-    more ≡ record m { verdicts = m.verdicts ++ Dropped rule.Lost node ∷ []; paths = m.paths ++ record { nodes = node ∷ []; room = room } ∷ []; spare =
-        spare } → packet ≡ length m.verdicts →
+    more ≡ record m {
+      verdicts = m.verdicts ++ Dropped rule.Lost node ∷ [];
+      paths = m.paths ++ record { nodes = node ∷ []; room = room } ∷ [];
+      spare =
+          spare;
+    } → packet ≡ length m.verdicts →
     begun ≡ record more { delivered = None } → StandsFor t g m k → Ready t g begun k node.0 packet
 ready t g m more begun k node packet room spare adds counts begins stands = record {
   stands = stands_begun t g more begun (one_more k node.0) begins (stands_more t g m more k node room spare adds stands);
@@ -64,7 +76,7 @@ ready t g m more begun k node packet room spare adds counts begins stands = reco
 enters_by : (t : Network) (g : Labelling) (w : World) (new : Moving) (k : Packets) (node number : ℕ) (site : SiteNo) (bytes : List ℕ) (what : Fate) →
     node ≡ home_of t site.0 → fate t w site.0 bytes ≡ what →
     StandsFor t g new (entered t w (one_more (before_step k) node) (length k.verdicts) bytes node what) →
-        StandsFor t g new (packets_after t w k (Step.Inject site number) bytes)
+    StandsFor t g new (packets_after t w k (Step.Inject site number) bytes)
 unfolding packets_after
 enters_by t g w new k node number site bytes what e is stands =
     subst (λ p. StandsFor t g new p) (sym (by_fate t w (before_step k) site.0 bytes))
@@ -74,7 +86,7 @@ enters_by t g w new k node number site bytes what e is stands =
 pub stands_fallen : (t : Network) (g : Labelling) (w : World) (more new : Moving) (k : Packets) (node : NodeNo) (packet number : ℕ) (site : SiteNo)
     (bytes : List ℕ) (cause : Rule) →
     new ≡ record more { verdicts = slice_set more.verdicts packet (Dropped cause node) } → node.0 ≡ home_of t site.0 → fate t w site.0 bytes ≡ Falls cause →
-        Ready t g more k node.0 packet →
+    Ready t g more k node.0 packet →
     StandsFor t g new (packets_after t w k (Step.Inject site number) bytes)
 stands_fallen t g w more new k node packet number site bytes cause is home falls are =
     enters_by t g w new k node.0 number site bytes (Falls cause) home falls
@@ -82,21 +94,41 @@ stands_fallen t g w more new k node packet number site bytes cause is home falls
 
 pub stands_stayed : (t : Network) (g : Labelling) (w : World) (more new : Moving) (k : Packets) (node : NodeNo) (packet number ttl : ℕ) (site to : SiteNo)
     (bytes : List ℕ) (frame : Labelled) →
-    new ≡ record more { verdicts = slice_set more.verdicts packet (Delivered to ttl (more.copies + 1)); copies = more.copies + 1; delivered =
-        Some frame.packet } → ttl ≡ ttl_of frame.packet →
+    new ≡ record more {
+      verdicts = slice_set more.verdicts packet (Delivered to ttl (more.copies + 1));
+      copies = more.copies + 1;
+      delivered =
+          Some frame.packet;
+    } → ttl ≡ ttl_of frame.packet →
     node.0 ≡ home_of t site.0 → fate t w site.0 bytes ≡ Stays to.0 → IsAged bytes frame → Ready t g more k node.0 packet →
     StandsFor t g new (packets_after t w k (Step.Inject site number) bytes)
 stands_stayed t g w more new k node packet number ttl site to bytes frame is level home stays age are =
     let lower : ttl ≡ ttl_of bytes - 1 = level ∙ age.ttl in
     let once : 1 ≡ ttl_of bytes - (ttl_of bytes - 1) = omega (arith, age.alive) in
-    let whole : new ≡ record more { verdicts = slice_set more.verdicts (length k.verdicts) (Delivered to (ttl_of bytes - 1) (more.copies + 1)); copies =
-        more.copies + 1; delivered = Some (aged bytes (ttl_of bytes - (ttl_of bytes - 1))) } =
-    is ∙ ap (λ n. record more { verdicts = slice_set more.verdicts packet (Delivered to n (more.copies + 1)); copies = more.copies + 1; delivered =
-        Some frame.packet }) lower
-    ∙ ap (λ n. record more { verdicts = slice_set more.verdicts n (Delivered to (ttl_of bytes - 1) (more.copies + 1)); copies = more.copies + 1; delivered =
-        Some frame.packet }) are.number
-    ∙ ap (λ b. record more { verdicts = slice_set more.verdicts (length k.verdicts) (Delivered to (ttl_of bytes - 1) (more.copies + 1)); copies =
-        more.copies + 1; delivered = Some b }) (age.packet ∙ ap (aged bytes) once) in
+    let whole : new ≡ record more {
+      verdicts = slice_set more.verdicts (length k.verdicts) (Delivered to (ttl_of bytes - 1) (more.copies + 1));
+      copies =
+          more.copies + 1;
+      delivered = Some (aged bytes (ttl_of bytes - (ttl_of bytes - 1)));
+    } =
+    is ∙ ap (λ n. record more {
+      verdicts = slice_set more.verdicts packet (Delivered to n (more.copies + 1));
+      copies = more.copies + 1;
+      delivered =
+          Some frame.packet;
+    }) lower
+    ∙ ap (λ n. record more {
+      verdicts = slice_set more.verdicts n (Delivered to (ttl_of bytes - 1) (more.copies + 1));
+      copies = more.copies + 1;
+      delivered =
+          Some frame.packet;
+    }) are.number
+    ∙ ap (λ b. record more {
+      verdicts = slice_set more.verdicts (length k.verdicts) (Delivered to (ttl_of bytes - 1) (more.copies + 1));
+      copies =
+          more.copies + 1;
+      delivered = Some b;
+    }) (age.packet ∙ ap (aged bytes) once) in
     enters_by t g w new k node.0 number site bytes (Stays to.0) home stays
     (subst (λ n. StandsFor t g n (entered t w (one_more (before_step k) node.0) (length k.verdicts) bytes node.0 (Stays to.0))) (sym whole)
     (delivers t g more (one_more (before_step k) node.0) (length k.verdicts) to.0 (ttl_of bytes - 1) bytes are.stands))
@@ -119,7 +151,7 @@ pub leaves_home : (t : Network) (w : World) (node : ℕ) (site : SiteNo) (bytes 
     fate t w site.0 bytes ≡ Leaves route → node ≢ route.edge
 leaves_home t w node site bytes route home leaves same =
     leaves_apart (home_of t site.0) route (best (held t w.config w.peerings (home_of t site.0) (vrf_of t site.0)) (destination_of bytes))
-        (first_rule (entry_rules (w.config.attached site.0) bytes)) leaves (sym same ∙ home)
+    (first_rule (entry_rules (w.config.attached site.0) bytes)) leaves (sym same ∙ home)
 
 pub stands_gone : (t : Network) (g : Labelling) (w : World) (more new : Moving) (k : Packets) (node : NodeNo) (packet number : ℕ) (site : SiteNo)
     (bytes : List ℕ) (route : HeldRoute) →

@@ -28,14 +28,14 @@ departs : (t : Network) (g : Labelling) (w : World) (k : Packets) (route : HeldR
     Departs t g k (bound packet route bytes) node.0 (hop t w k (bound packet route bytes) node.0 rule.NoLsp) out frame
 departs t g w k route bytes packet node frame out lawful there apart is pushed =
     subst (λ (o : Option (NodeNo × Option ℕ)). Departs t g k (bound packet route bytes) node.0
-        (hop t w k (bound packet route bytes) node.0 rule.NoLsp) o frame) (sym is)
+    (hop t w k (bound packet route bytes) node.0 rule.NoLsp) o frame) (sym is)
     (leaves_as_told t g w k packet route bytes node.0 frame lawful there apart pushed)
 
 pub stands_left : (t : Network) (g : Labelling) (w : World) (m new : Moving) (k : Packets) (route : HeldRoute) (bytes : List ℕ) (packet : ℕ)
     (node next : NodeNo) (label : Option ℕ) (frame after : Labelled) →
     IsLawful t → after.entries ≡ with_outer label frame.entries → after.packet ≡ frame.packet →
     ((g : Labelling) (k : Packets) (token : Token) → StandsFor t g m k → IsFlown t g next.0 (record { packet = packet; frame = after }) token →
-        are_joined t.links node.0 next.0 ≡ true →
+    are_joined t.links node.0 next.0 ≡ true →
     (link : ℕ) × (dir : Dir) × Leads t node.0 next.0 link dir × StandsFor t g new (sent k token link dir)) →
     node.0 < length t.loopbacks → node.0 ≢ route.edge → Some (next, label) ≡ outer_for t g w node.0 route.edge → IsPushed t g route bytes frame →
     StandsFor t g m k → StandsFor t g new (hop t w k (bound packet route bytes) node.0 rule.NoLsp)

@@ -23,8 +23,13 @@ pub below_made : (t : Network) (tick n : ℕ) (before after : List (Item Flown))
 below_made t tick n before after false is below = subst (Below (n + 1)) (sym is) (below_next n before below)
 below_made t tick n before after true is below =
     subst (Below (n + 1)) (sym is.3)
-    (All-push (λ (item : Item Flown). item.number < n + 1) before (record { channel = channel is.0 is.1; due =
-        tick + (link (wiring_of t) is.0).delay; number = n; item = is.2 })
+    (All-push (λ (item : Item Flown). item.number < n + 1) before (record {
+      channel = channel is.0 is.1;
+      due =
+          tick + (link (wiring_of t) is.0).delay;
+      number = n;
+      item = is.2;
+    })
     (below_next n before below) (omega arith))
 
 -- nor does one come to be above it that goes

@@ -60,7 +60,7 @@ pub way_visited : (paths : List Visits) (packet : ℕ) (path : Visits) (xs : Lis
 way_visited paths packet path xs have apart k d p =
     let item = get_or xs k d in
     let same : path_of (slice_set paths packet path) item.item.packet ≡ path_of paths item.item.packet =
-        get_or-set_other paths packet item.item.packet path _ (apart k d p) in
+    get_or-set_other paths packet item.item.packet path _ (apart k d p) in
     subst (λ (v : Visits). HoldsHops v.room item.item.frame) (sym same) (have k d p)
 
 -- nor is one packet more

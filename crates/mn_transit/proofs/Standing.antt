@@ -54,7 +54,7 @@ pub stands_begun : (t : Network) (g : Labelling) (m new : Moving) (k : Packets) 
 stands_begun t g m new k is stands =
     subst (λ n. StandsFor t g n (before_step k)) (sym is)
     (let begun : StandsFor t g (record m { delivered = None }) (before_step k) =
-        record { verdicts = stands.verdicts; paths = stands.paths; copies = stands.copies; delivered = refl; frames = stands.frames } in begun)
+    record { verdicts = stands.verdicts; paths = stands.paths; copies = stands.copies; delivered = refl; frames = stands.frames } in begun)
 
 -- a frame is taken out of flight
 pub stands_taken : (t : Network) (g : Labelling) (m : Moving) (k : Packets) (l : ℕ) (dir : Dir) (n spare : ℕ) (item : Item Flown) →
@@ -74,9 +74,9 @@ stands_taken t g m k l dir n spare item flight stands h = record {
       | inl q ↦ (let one = one_channel o l to dir q.1 in
           rw (q.0, ap (λ c. on_channel c (without (Some item) m.flying)) q.1 ∙ left_on (channel l dir) m.flying n item flight.ascending h)
           (subst (λ d. AreFlown t g (receiver (wiring_of t) d to) (without_at n (on_channel (channel l dir) m.flying))
-              (without_place n (flying_on k l dir))) (sym one.0)
+          (without_place n (flying_on k l dir))) (sym one.0)
           (subst (λ d. AreFlown t g (receiver (wiring_of t) l d) (without_at n (on_channel (channel l dir) m.flying)) (without_place n (flying_on k l dir)))
-              (sym one.1)
+          (sym one.1)
           (flown_without t g (receiver (wiring_of t) l dir) _ _ n (stands.frames l dir)))))
       | inr q ↦ rw (q.0, left_off (channel l dir) (channel o to) m.flying n item flight.ascending h q.0) (stands.frames o to)
     ]
@@ -119,8 +119,12 @@ stands_judged t g m k packet verdict stands = record {
 -- a packet takes the last place of a direction
 pub stands_sent : (t : Network) (g : Labelling) (m : Moving) (k : Packets) (token : Token) (l : ℕ) (dir : Dir) (spare due number : ℕ) (flown : Flown) →
     StandsFor t g m k → IsFlown t g (receiver (wiring_of t) l dir) flown token →
-    StandsFor t g (record m { flying = m.flying ++ record { channel = channel l dir; due = due; number = number; item = flown } ∷ []; spare =
-        spare; verdicts = slice_set m.verdicts token.packet (Flying (record { 0 = l }) dir) }) (sent k token l dir)
+    StandsFor t g (record m {
+      flying = m.flying ++ record { channel = channel l dir; due = due; number = number; item = flown } ∷ [];
+      spare =
+          spare;
+      verdicts = slice_set m.verdicts token.packet (Flying (record { 0 = l }) dir);
+    }) (sent k token l dir)
 stands_sent t g m k token l dir spare due number flown stands is = record {
   verdicts = ap (λ vs. slice_set vs token.packet (Flying (record { 0 = l }) dir)) stands.verdicts;
   paths = stands.paths;
@@ -138,13 +142,26 @@ stands_sent t g m k token l dir spare due number flown stands is = record {
         (flying_on (sent k token l dir) o to)
     frames o to = elim (eqb_tells (channel o to) (channel l dir)) [
       | inl q ↦ (let one = one_channel o l to dir q.1 in
-          rw (q.0, ap (λ c. on_channel c (m.flying ++ record { channel = channel l dir; due = due; number = number; item = flown } ∷ [])) q.1
-              ∙ one_more_on (channel l dir) m.flying (record { channel = channel l dir; due = due; number = number; item = flown })
-              (eq-eqb (channel l dir) (channel l dir) refl))
-          (subst (λ d. AreFlown t g (receiver (wiring_of t) d to) (on_channel (channel l dir) m.flying ++ record { channel = channel l dir; due =
-              due; number = number; item = flown } ∷ []) (flying_on k l dir ++ token ∷ [])) (sym one.0)
-          (subst (λ d. AreFlown t g (receiver (wiring_of t) l d) (on_channel (channel l dir) m.flying ++ record { channel = channel l dir; due =
-              due; number = number; item = flown } ∷ []) (flying_on k l dir ++ token ∷ [])) (sym one.1)
+          rw (
+            q.0,
+            ap (λ c. on_channel c (m.flying ++ record { channel = channel l dir; due = due; number = number; item = flown } ∷ [])) q.1
+                ∙ one_more_on (channel l dir) m.flying (record { channel = channel l dir; due = due; number = number; item = flown })
+                (eq-eqb (channel l dir) (channel l dir) refl),
+          )
+          (subst (λ d. AreFlown t g (receiver (wiring_of t) d to) (on_channel (channel l dir) m.flying ++ record {
+            channel = channel l dir;
+            due =
+                due;
+            number = number;
+            item = flown;
+          } ∷ []) (flying_on k l dir ++ token ∷ [])) (sym one.0)
+          (subst (λ d. AreFlown t g (receiver (wiring_of t) l d) (on_channel (channel l dir) m.flying ++ record {
+            channel = channel l dir;
+            due =
+                due;
+            number = number;
+            item = flown;
+          } ∷ []) (flying_on k l dir ++ token ∷ [])) (sym one.1)
           (flown_more t g (receiver (wiring_of t) l dir) _ _ _ token (stands.frames l dir) is))))
       | inr q ↦ rw (q.0, one_more_off (channel o to) m.flying (record { channel = channel l dir; due = due; number = number; item = flown }) (other q.1))
           (stands.frames o to)

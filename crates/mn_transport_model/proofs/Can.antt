@@ -18,7 +18,7 @@ use Rattle.mn_node.specs.Machine.{Event, Hears, after_event}
 use Rattle.mn_ldp_session.specs.Spelling.{pdu_in_network}
 use Rattle.mn_ledger.specs.Packets.{channel}
 use Rattle.mn_ledger.specs.World.{World}
-use Rattle.mn_ledger.specs.Transport.{lives, state_of, heard_by}
+use Rattle.mn_ledger.specs.Transport.{lives, ldp_state_of, heard_by}
 use Rattle.mn_ledger.proofs.Turning.{dir_ends, across-end}
 use Rattle.mn_ledger.proofs.InTurn.{rows}
 use Rattle.mn_laws.specs.Named.{NamesANode}
@@ -97,16 +97,16 @@ module _ (t : Network) (lawful : IsLawful t) (g : Labelling) (w : World) (carrie
   named = turn.named l.0 (sender (wiring_of t) l.0 dir) message
       (Contains-get_or (w.sessions.said l.0 (sender (wiring_of t) l.0 dir)) (w.sessions.heard l.0 (receiver (wiring_of t) l.0 dir)) Address more)
 
-  row : has_ldp_row (state_of t w.sessions l.0 (receiver (wiring_of t) l.0 dir)) message ≡ true
+  row : has_ldp_row (ldp_state_of t w.sessions l.0 (receiver (wiring_of t) l.0 dir)) message ≡ true
   row = subst
-      (λ n. has_ldp_row (state_of t w.sessions l.0 (receiver (wiring_of t) l.0 dir))
+      (λ n. has_ldp_row (ldp_state_of t w.sessions l.0 (receiver (wiring_of t) l.0 dir))
       (slice_index_or (w.sessions.said l.0 n) (w.sessions.heard l.0 (receiver (wiring_of t) l.0 dir)) Address) ≡ true) far
       ((rows t w lawful turn.turn).ldp l.0 (receiver (wiring_of t) l.0 dir) below at_end alive
       (subst (λ n. w.sessions.heard l.0 (receiver (wiring_of t) l.0 dir) < length (w.sessions.said l.0 n)) (sym far) more))
 
   abbrev session : Session
   session = record {
-    state = state_of t w.sessions l.0 (receiver (wiring_of t) l.0 dir);
+    state = ldp_state_of t w.sessions l.0 (receiver (wiring_of t) l.0 dir);
     said = length (w.sessions.said l.0 (receiver (wiring_of t) l.0 dir));
     labels = map
         (label_heard (across (wiring_of t) l.0 (receiver (wiring_of t) l.0 dir)) (heard_by (wiring_of t) w.sessions l.0 (receiver (wiring_of t) l.0 dir)))

@@ -17,7 +17,7 @@ use Rattle.mn_topo.specs.declared.steps.JournalEntry.{JournalEntry}
 use Rattle.mn_node.specs.Ldp.{Message, messages_of}
 use Rattle.mn_node.specs.Machine.{Event, after_any, said, said_any, changed}
 use Rattle.mn_ledger.specs.World.{World, Sessions}
-use Rattle.mn_ledger.specs.Transport.{is_transport, anew, counted, with_said}
+use Rattle.mn_ledger.specs.Transport.{is_transport, ldp_restarted, ldp_counted, with_said}
 use Rattle.mn_ledger.specs.Ledger.{after}
 use Rattle.mn_ledger.specs.Items.{message_of}
 use Rattle.mn_ledger.proofs.Turning.{is_end-a, is_end-b, dir_ends}
@@ -47,22 +47,27 @@ use Rattle.mn_slice.proofs.Nodes.{off_end as end-of}
 -- what flies on the link is cut, as nothing was said in the new life
 pub cut-anew : (w : Wiring) (s : Sessions) (l k : ℕ) (dir : Dir) (items : List (Item (List ℕ))) →
     FliesAs w k dir (s.heard k (receiver w k dir)) (s.said k (sender w k dir)) items
-    → FliesAs w k dir ((anew s l).heard k (receiver w k dir)) ((anew s l).said k (sender w k dir)) (off_link l items)
+    → FliesAs w k dir ((ldp_restarted s l).heard k (receiver w k dir)) ((ldp_restarted s l).said k (sender w k dir)) (off_link l items)
 cut-anew w s l k dir items flies = elim (eqb_tells k l) [
-  | inl p ↦ subst (λ j. FliesAs w j dir ((anew s l).heard j (receiver w j dir)) ((anew s l).said j (sender w j dir)) (off_link l items)) (sym p.1)
+  | inl p ↦ subst (λ j. FliesAs w j dir ((ldp_restarted s l).heard j (receiver w j dir)) ((ldp_restarted s l).said j (sender w j dir)) (off_link l items))
+      (sym p.1)
       (cut-here l dir items
-      ∙ sym (ap (λ f. drop ((anew s l).heard l (receiver w l dir)) (spelled w l (sender w l dir) 1 (f (sender w l dir)))) (put_here s.said l (λ node. []))
+      ∙ sym (ap (λ f. drop ((ldp_restarted s l).heard l (receiver w l dir)) (spelled w l (sender w l dir) 1 (f (sender w l dir))))
+      (put_here s.said l (λ node. []))
       ∙ ap (λ f. drop (f (receiver w l dir)) (let none : List (List ℕ) = [] in none)) (put_here s.heard l (λ node. 0))))
   | inr p ↦ cut-off k l dir items p.1 ∙ flies
-      ∙ sym (ap (λ f. drop ((anew s l).heard k (receiver w k dir)) (spelled w k (sender w k dir) 1 (f (sender w k dir)))) (put_off s.said l (λ node. []) k p.1)
+      ∙ sym (ap (λ f. drop ((ldp_restarted s l).heard k (receiver w k dir)) (spelled w k (sender w k dir) 1 (f (sender w k dir))))
+      (put_off s.said l (λ node. []) k p.1)
       ∙ ap (λ f. drop (f (receiver w k dir)) (spelled w k (sender w k dir) 1 (s.said k (sender w k dir)))) (put_off s.heard l (λ node. 0) k p.1))
 ]
 
-pub heard-anew : (w : Wiring) (s : Sessions) (l k r far : ℕ) → s.heard k r ≤ length (s.said k far) → (anew s l).heard k r ≤ length ((anew s l).said k far)
+pub heard-anew : (w : Wiring) (s : Sessions) (l k r far : ℕ) → s.heard k r ≤ length (s.said k far) →
+    (ldp_restarted s l).heard k r ≤ length ((ldp_restarted s l).said k far)
 heard-anew w s l k r far h = elim (eqb_tells k l) [
-  | inl p ↦ (let none : (anew s l).heard k r ≡ 0 = ap (λ j. (anew s l).heard j r) p.1 ∙ ap (λ f. f r) (put_here s.heard l (λ node. 0)) in omega (arith, none))
-  | inr p ↦ (let a : (anew s l).heard k r ≡ s.heard k r = ap (λ f. f r) (put_off s.heard l (λ node. 0) k p.1) in
-      let b : length ((anew s l).said k far) ≡ length (s.said k far) = ap (λ f. length (f far)) (put_off s.said l (λ node. []) k p.1) in
+  | inl p ↦ (let none : (ldp_restarted s l).heard k r ≡ 0 = ap (λ j. (ldp_restarted s l).heard j r) p.1 ∙ ap (λ f. f r) (put_here s.heard l (λ node. 0)) in
+      omega (arith, none))
+  | inr p ↦ (let a : (ldp_restarted s l).heard k r ≡ s.heard k r = ap (λ f. f r) (put_off s.heard l (λ node. 0) k p.1) in
+      let b : length ((ldp_restarted s l).said k far) ≡ length (s.said k far) = ap (λ f. length (f far)) (put_off s.said l (λ node. []) k p.1) in
       omega (arith, a, b, h))
 ]
 
@@ -78,7 +83,7 @@ heard-within t w s lawful turn k dir h =
 
 module _ (t : Network) (es : List JournalEntry) (lawful : IsLawful t) (w : World) (s : Step) (turn : IsTurn t w s) (moves : is_transport s ≡ true)
     (l : ℕ) (there : l < length t.links) (acts_are : acting t s ≡ (link (wiring_of t) l).a.0 ∷ (link (wiring_of t) l).b.0 ∷ [])
-    (counts_are : counted t w.sessions s ≡ anew w.sessions l)
+    (counts_are : ldp_counted t w.sessions s ≡ ldp_restarted w.sessions l)
     (attached : (site : ℕ) → (after t w s).config.attached site ≡ w.config.attached site) where
   abbrev v : World
   v = after t w s
@@ -92,26 +97,26 @@ module _ (t : Network) (es : List JournalEntry) (lawful : IsLawful t) (w : World
   abbrev end_b : ℕ
   end_b = (link (wiring_of t) l).b.0
 
-  sessions-are : (after t w s).sessions ≡ with_said (anew w.sessions l) (node_says t w s end_a ++ (node_says t w s end_b ++ []))
-  sessions-are = sessions-then t lawful w s turn moves ∙ ap (λ ms. with_said (counted t w.sessions s) (flat_map (node_says t w s) ms)) acts_are
+  sessions-are : (after t w s).sessions ≡ with_said (ldp_restarted w.sessions l) (node_says t w s end_a ++ (node_says t w s end_b ++ []))
+  sessions-are = sessions-then t lawful w s turn moves ∙ ap (λ ms. with_said (ldp_counted t w.sessions s) (flat_map (node_says t w s) ms)) acts_are
       ∙ ap (λ k. with_said k (node_says t w s end_a ++ (node_says t w s end_b ++ []))) counts_are
 
   flies-by : (k : ℕ) (dir : Dir) (items : List (Item (List ℕ))) (a b : List Message)
       → messages_of k (sender (wiring_of t) k dir) (node_says t w s end_a) ≡ a → messages_of k (sender (wiring_of t) k dir) (node_says t w s end_b) ≡ b
-      → FliesAs (wiring_of t) k dir ((anew w.sessions l).heard k (receiver (wiring_of t) k dir))
-      (((anew w.sessions l).said k (sender (wiring_of t) k dir) ++ a) ++ b) items
+      → FliesAs (wiring_of t) k dir ((ldp_restarted w.sessions l).heard k (receiver (wiring_of t) k dir))
+      (((ldp_restarted w.sessions l).said k (sender (wiring_of t) k dir) ++ a) ++ b) items
       → FliesAs (wiring_of t) k dir ((after t w s).sessions.heard k (receiver (wiring_of t) k dir))
       ((after t w s).sessions.said k (sender (wiring_of t) k dir)) items
   flies-by k dir items a b is_a is_b flies =
       let me : ℕ = sender (wiring_of t) k dir in
-      let base : List Message = (anew w.sessions l).said k me in
+      let base : List Message = (ldp_restarted w.sessions l).said k me in
       let all : base ++ messages_of k me (node_says t w s end_a ++ (node_says t w s end_b ++ [])) ≡ (base ++ a) ++ b =
       ap (λ ms. base ++ ms) (messages-append k me (node_says t w s end_a) (node_says t w s end_b ++ [])
       ∙ ap (λ xs. messages_of k me (node_says t w s end_a) ++ messages_of k me xs) (append-nil (node_says t w s end_b))
       ∙ ap (λ ms. ms ++ messages_of k me (node_says t w s end_b)) is_a ∙ ap (λ ms. a ++ ms) is_b)
       ∙ sym (append_assoc base a b) in
       subst (λ (x : Sessions). FliesAs (wiring_of t) k dir (x.heard k (receiver (wiring_of t) k dir)) (x.said k me) items) (sym sessions-are)
-      (subst (λ ms. FliesAs (wiring_of t) k dir ((anew w.sessions l).heard k (receiver (wiring_of t) k dir)) ms items) (sym all) flies)
+      (subst (λ ms. FliesAs (wiring_of t) k dir ((ldp_restarted w.sessions l).heard k (receiver (wiring_of t) k dir)) ms items) (sym all) flies)
 
   -- where nothing happens to either
   pub quiet-flies : ((n : ℕ) → event_of t w s n ≡ None) → (k : ℕ) (dir : Dir) (items : List (Item (List ℕ)))
@@ -122,8 +127,8 @@ module _ (t : Network) (es : List JournalEntry) (lawful : IsLawful t) (w : World
       let me : ℕ = sender (wiring_of t) k dir in
       flies-by k dir (off_link l items) [] [] (ap (λ e. messages_of k me (said_any (wiring_of t) (node_at t w end_a) e)) (none end_a))
       (ap (λ e. messages_of k me (said_any (wiring_of t) (node_at t w end_b) e)) (none end_b))
-      (subst (λ ms. FliesAs (wiring_of t) k dir ((anew w.sessions l).heard k (receiver (wiring_of t) k dir)) ms (off_link l items))
-      (sym (append-nil ((anew w.sessions l).said k me ++ []) ∙ append-nil ((anew w.sessions l).said k me)))
+      (subst (λ ms. FliesAs (wiring_of t) k dir ((ldp_restarted w.sessions l).heard k (receiver (wiring_of t) k dir)) ms (off_link l items))
+      (sym (append-nil ((ldp_restarted w.sessions l).said k me ++ []) ∙ append-nil ((ldp_restarted w.sessions l).said k me)))
       (cut-anew (wiring_of t) w.sessions l k dir items flies))
 
   pub quiet-nodes : ((n : ℕ) → event_of t w s n ≡ None) → (nodes : List Standing) → length nodes ≡ length t.loopbacks
@@ -195,19 +200,19 @@ module _ (t : Network) (es : List JournalEntry) (lawful : IsLawful t) (w : World
     own_a = own-event (wiring_of t) (node_at t w end_a) e (here end_a (is_end-a (wiring_of t) l))
 
     pub turned-flies : (k : ℕ) (dir : Dir) → k < length t.links
-        → FliesAs (wiring_of t) k dir ((anew w.sessions l).heard k (receiver (wiring_of t) k dir))
-        ((anew w.sessions l).said k (sender (wiring_of t) k dir)) old.messages
+        → FliesAs (wiring_of t) k dir ((ldp_restarted w.sessions l).heard k (receiver (wiring_of t) k dir))
+        ((ldp_restarted w.sessions l).said k (sender (wiring_of t) k dir)) old.messages
         → FliesAs (wiring_of t) k dir ((after t w s).sessions.heard k (receiver (wiring_of t) k dir))
         ((after t w s).sessions.said k (sender (wiring_of t) k dir)) new.messages
     turned-flies k dir h flies =
         let me : ℕ = sender (wiring_of t) k dir in
-        let heard : ℕ = (anew w.sessions l).heard k (receiver (wiring_of t) k dir) in
-        let base : List Message = (anew w.sessions l).said k me in
+        let heard : ℕ = (ldp_restarted w.sessions l).heard k (receiver (wiring_of t) k dir) in
+        let base : List Message = (ldp_restarted w.sessions l).said k me in
         let a : List Message = messages_of k me (said (wiring_of t) (node_at t w end_a) e) in
         let b : List Message = messages_of k me (said (wiring_of t) (node_at t w end_b) e) in
         let within : heard ≤ length base = heard-anew (wiring_of t) w.sessions l k (receiver (wiring_of t) k dir) me (heard-within t w s lawful turn k dir h) in
-        let size : (n : ℕ) → me ≡ n → length base ≡ length ((counted t w.sessions s).said k n) =
-        λ n sends. ap (λ m. length ((anew w.sessions l).said k m)) sends ∙ sym (ap (λ (x : Sessions). length (x.said k n)) counts_are) in
+        let size : (n : ℕ) → me ≡ n → length base ≡ length ((ldp_counted t w.sessions s).said k n) =
+        λ n sends. ap (λ m. length ((ldp_restarted w.sessions l).said k m)) sends ∙ sym (ap (λ (x : Sessions). length (x.said k n)) counts_are) in
         let one : FliesAs (wiring_of t) k dir heard (base ++ a) did.middle.messages =
         acts-flies t lawful w s turn moves tick number end_a did.second_number e old did.middle did.first
         (ends end_a (is_end-a (wiring_of t) l)) first_is.node_is

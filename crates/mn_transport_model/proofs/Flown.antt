@@ -15,7 +15,7 @@ use Rattle.mn_node.specs.Node.{Session, Node, session_at}
 use Rattle.mn_node.specs.Machine.{Event, Learns, Opens, Closes, Hears, changed, said}
 use Rattle.mn_ldp_session.specs.Spelling.{count_of}
 use Rattle.mn_ledger.specs.World.{World, Config, Views, Sessions}
-use Rattle.mn_ledger.specs.Transport.{is_transport, lives, state_of, heard_by, views_after, counted, with_said, said_in, sessions_after}
+use Rattle.mn_ledger.specs.Transport.{is_transport, lives, ldp_state_of, heard_by, views_after, ldp_counted, with_said, said_in, sessions_after}
 use Rattle.mn_ledger.specs.Ledger.{config_after, after, no_packets}
 use Rattle.mn_ledger.proofs.InTurn.{rows}
 use Rattle.mn_slice.specs.Slice.{label_heard, node_of, node_at, event_of, acting}
@@ -58,8 +58,8 @@ own-lives w n l me (x ∷ xs) own some = elim (eqb_tells x.link l) [
 
 -- what is said is said in the sessions of the step
 pub spoken-is : (t : Network) (w : World) (s : Step) → is_transport s ≡ true
-    → (after t w s).sessions ≡ with_said (counted t w.sessions s)
-    (said_in t w.config w.views w.sessions (config_after w.config s) (views_after w.views s) (counted t w.sessions s) s)
+    → (after t w s).sessions ≡ with_said (ldp_counted t w.sessions s)
+    (said_in t w.config w.views w.sessions (config_after w.config s) (views_after w.views s) (ldp_counted t w.sessions s) s)
 unfolding sessions_after
 spoken-is t w (step.LinkUp l) e = refl
 spoken-is t w (step.LinkDown l) e = refl
@@ -77,14 +77,14 @@ count-at t c v k m l h some =
     by : (b : Bool) →
         (let o : Option Session =
         if b then Some (record {
-          state = state_of t k l m;
+          state = ldp_state_of t k l m;
           said = length (k.said l m);
           labels =
               map (label_heard (across (wiring_of t) l m) (heard_by (wiring_of t) k l m)) (nodes_of (wiring_of t));
         }) else None in o) ≢ None
         → count_of (let o : Option Session =
         if b then Some (record {
-          state = state_of t k l m;
+          state = ldp_state_of t k l m;
           said = length (k.said l m);
           labels =
               map (label_heard (across (wiring_of t) l m) (heard_by (wiring_of t) k l m)) (nodes_of (wiring_of t));
@@ -97,11 +97,11 @@ module _ (t : Network) (lawful : IsLawful t) (w : World) (s : Step) (turn : IsTu
   nodes-by = by_nodes t w no_packets s lawful turn.turn turn.fitting turn.changes turn.there
 
   -- what is said in the sessions is what the acting nodes say
-  pub sessions-then : (after t w s).sessions ≡ with_said (counted t w.sessions s) (flat_map (node_says t w s) (acting t s))
-  sessions-then = spoken-is t w s moves ∙ ap (with_said (counted t w.sessions s)) (nodes-by.order moves)
+  pub sessions-then : (after t w s).sessions ≡ with_said (ldp_counted t w.sessions s) (flat_map (node_says t w s) (acting t s))
+  sessions-then = spoken-is t w s moves ∙ ap (with_said (ldp_counted t w.sessions s)) (nodes-by.order moves)
 
   settled : (m : ℕ) (e : Event) → event_of t w s m ≡ Some e
-      → node_of t (config_after w.config s) (views_after w.views s) (counted t w.sessions s) m ≡ changed (wiring_of t) (node_at t w m) e
+      → node_of t (config_after w.config s) (views_after w.views s) (ldp_counted t w.sessions s) m ≡ changed (wiring_of t) (node_at t w m) e
   settled m e is =
       changes t lawful w no_packets turn.turn (rows t w lawful turn.turn) s turn.fitting turn.changes turn.there m
       ∙ ap (changed_any (wiring_of t) (node_at t w m)) is
@@ -111,7 +111,7 @@ module _ (t : Network) (lawful : IsLawful t) (w : World) (s : Step) (turn : IsTu
       acts.was.node ≡ node_at t w m
       → IsHere (wiring_of t) (node_at t w m) e → IsBrought (wiring_of t) (node_at t w m) e
       → (l : ℕ) (dir : Dir) (heard : ℕ) (before : List Message) → l < length t.links → heard ≤ length before
-      → (sender (wiring_of t) l dir ≡ m → length before ≡ length ((counted t w.sessions s).said l m))
+      → (sender (wiring_of t) l dir ≡ m → length before ≡ length ((ldp_counted t w.sessions s).said l m))
       → FliesAs (wiring_of t) l dir heard before old.messages
       → FliesAs (wiring_of t) l dir heard (before ++ messages_of l (sender (wiring_of t) l dir) (said (wiring_of t) (node_at t w m) e)) new.messages
   acts-flies tick number m next e old new acts happens is here brought l dir heard before below within size flies =
@@ -131,6 +131,6 @@ module _ (t : Network) (lawful : IsLawful t) (w : World) (s : Step) (turn : IsTu
           let there : session_at (changed (wiring_of t) (node_at t w m) e) l ≢ None =
           own-lives (wiring_of t) (changed (wiring_of t) (node_at t w m) e) l m (said (wiring_of t) (node_at t w m) e) own some in
           ap (λ n. count_of (session_at n l)) (sym same)
-          ∙ count-at t (config_after w.config s) (views_after w.views s) (counted t w.sessions s) m l below
+          ∙ count-at t (config_after w.config s) (views_after w.views s) (ldp_counted t w.sessions s) m l below
           (λ none. there (ap (λ n. session_at n l) (sym same) ∙ none))
           ∙ sym (size sends)

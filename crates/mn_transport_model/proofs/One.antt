@@ -26,7 +26,7 @@ use Rattle.mn_node.specs.Machine.{Event, Learns, Hears, session_after, changed, 
 use Rattle.mn_ldp_session.specs.Spelling.{pdu_in_network}
 use Rattle.mn_ledger.specs.Packets.{channel}
 use Rattle.mn_ledger.specs.World.{World, Sessions}
-use Rattle.mn_ledger.specs.Transport.{is_transport, lives, counted, with_said}
+use Rattle.mn_ledger.specs.Transport.{is_transport, lives, ldp_counted, with_said}
 use Rattle.mn_ledger.specs.Ledger.{after}
 use Rattle.mn_ledger.specs.Items.{message_of}
 use Rattle.mn_ledger.proofs.Turning.{dir_ends}
@@ -83,23 +83,24 @@ module _ (t : Network) (es : List JournalEntry) (lawful : IsLawful t) (w : World
   says-is : node_says t w s m ++ [] ≡ said (wiring_of t) (node_at t w m) e
   says-is = append-nil (node_says t w s m) ∙ ap (said_any (wiring_of t) (node_at t w m)) happens
 
-  sessions-are : (after t w s).sessions ≡ with_said (counted t w.sessions s) (said (wiring_of t) (node_at t w m) e)
+  sessions-are : (after t w s).sessions ≡ with_said (ldp_counted t w.sessions s) (said (wiring_of t) (node_at t w m) e)
   sessions-are =
-      sessions-then t lawful w s turn moves ∙ ap (λ ms. with_said (counted t w.sessions s) (flat_map (node_says t w s) ms)) acts_are
-      ∙ ap (with_said (counted t w.sessions s)) says-is
+      sessions-then t lawful w s turn moves ∙ ap (λ ms. with_said (ldp_counted t w.sessions s) (flat_map (node_says t w s) ms)) acts_are
+      ∙ ap (with_said (ldp_counted t w.sessions s)) says-is
 
   pub one-flies : (k : ℕ) (dir : Dir) → k < length t.links →
-      (counted t w.sessions s).heard k (receiver (wiring_of t) k dir) ≤ length ((counted t w.sessions s).said k (sender (wiring_of t) k dir))
-      → FliesAs (wiring_of t) k dir ((counted t w.sessions s).heard k (receiver (wiring_of t) k dir))
-      ((counted t w.sessions s).said k (sender (wiring_of t) k dir)) old.messages
+      (ldp_counted t w.sessions s).heard k (receiver (wiring_of t) k dir) ≤ length ((ldp_counted t w.sessions s).said k (sender (wiring_of t) k dir))
+      → FliesAs (wiring_of t) k dir ((ldp_counted t w.sessions s).heard k (receiver (wiring_of t) k dir))
+      ((ldp_counted t w.sessions s).said k (sender (wiring_of t) k dir)) old.messages
       → FliesAs (wiring_of t) k dir ((after t w s).sessions.heard k (receiver (wiring_of t) k dir))
       ((after t w s).sessions.said k (sender (wiring_of t) k dir)) new.messages
   one-flies k dir h within flies =
       subst (λ (x : Sessions). FliesAs (wiring_of t) k dir (x.heard k (receiver (wiring_of t) k dir)) (x.said k (sender (wiring_of t) k dir)) new.messages)
       (sym sessions-are)
       (acts-flies t lawful w s turn moves tick number m next e old new acts happens was_is.node_is here brought k dir
-      ((counted t w.sessions s).heard k (receiver (wiring_of t) k dir))
-      ((counted t w.sessions s).said k (sender (wiring_of t) k dir)) h within (λ sends. ap (λ n. length ((counted t w.sessions s).said k n)) sends) flies)
+      ((ldp_counted t w.sessions s).heard k (receiver (wiring_of t) k dir))
+      ((ldp_counted t w.sessions s).said k (sender (wiring_of t) k dir)) h within
+      (λ sends. ap (λ n. length ((ldp_counted t w.sessions s).said k n)) sends) flies)
 
   own : AllOwn (wiring_of t) (changed (wiring_of t) (node_at t w m) e) m (said (wiring_of t) (node_at t w m) e)
   own = own-event (wiring_of t) (node_at t w m) e here
@@ -290,7 +291,7 @@ module _ (t : Network) (es : List JournalEntry) (lawful : IsLawful t) (w : World
         (link_there, at_end, heard-open (wiring_of t) (node_at t w r) l.0 _ _ (open-at t lawful (given t es) w old stands r l.0 link_there live at_end))
 
     abbrev heard_then : ℕ → ℕ → ℕ
-    heard_then = (counted t w.sessions (step.HearLdp l dir)).heard
+    heard_then = (ldp_counted t w.sessions (step.HearLdp l dir)).heard
 
     -- a direction is this one, or another
     apart : (k : ℕ) (d : Dir) → channel k d ≢ channel l.0 dir → heard_then k (receiver (wiring_of t) k d) ≡ w.sessions.heard k (receiver (wiring_of t) k d)

@@ -18,7 +18,7 @@ use Rattle.mn_node.specs.Ldp.{Message, Knowledge, hearing, is_operational, is_ma
 use Rattle.mn_node.specs.Node.{Session, session_at, knowledge_in, label_of}
 use Rattle.mn_node.proofs.Told.{usable_by-alike}
 use Rattle.mn_ledger.specs.World.{World}
-use Rattle.mn_ledger.specs.Transport.{lives, state_of, heard_by, knowledge_of, usable}
+use Rattle.mn_ledger.specs.Transport.{lives, ldp_state_of, heard_by, knowledge_of, usable}
 use Rattle.mn_ledger.proofs.Mentions.{operational-is}
 use Rattle.mn_laws.proofs.There.{by_next, hop_is, IsHop}
 use Rattle.mn_slice.specs.Slice.{label_heard, session_of, node_at}
@@ -58,7 +58,7 @@ module _ (t : Network) (es : List JournalEntry) (lawful : IsLawful t) (w : World
       sym (ap (λ h. is_mapped false edge h.messages) (hearing-is t w.config w.views w.sessions node hop.1 is.there))
       ∙ and_right (is_operational known hop.1) (is_mapped false edge (hearing known hop.1).messages) both in
       let there : session_of t w.config w.sessions node hop.1 ≡ Some (record {
-        state = state_of t w.sessions hop.1 node;
+        state = ldp_state_of t w.sessions hop.1 node;
         said =
             length (w.sessions.said hop.1 node);
         labels = map (label_heard far messages) (nodes_of (wiring_of t));

@@ -6,7 +6,7 @@
 //! - `specs/Sending`: what nodes put into flight
 //! - `specs/Starting`: a transport as it starts, and the first labels
 //! - `specs/Acting`, `specs/Doing`: what the code does in a step, before that is known to be the ledger's
-//! - `laws`: what leaves the transport as it is
+//! - `laws`: what leaves the transport as it is; `notice`: what flies on a notice's channel
 //! - `proofs/`: from what the code does to the ledger's words
 #![tactic(auto)]
 

@@ -45,8 +45,8 @@ targets_are_read bytes targets is =
     let size : length bytes ≡ 8 * length is.communities = ap length is.whole ∙ length-communities is.communities in
     let whole : (length bytes % 8 == 0) ≡ true = grind (arith, nat_tests) in
     let read : filter is_target (communities_of bytes) ≡ targets =
-        ap (λ (xs : List ℕ). filter is_target (communities_of xs)) is.whole
-        ∙ ap (λ (cs : List Rt). filter is_target cs) (communities_again is.communities is.fit) ∙ sym is.targets_are in
+    ap (λ (xs : List ℕ). filter is_target (communities_of xs)) is.whole
+    ∙ ap (λ (cs : List Rt). filter is_target cs) (communities_again is.communities is.fit) ∙ sym is.targets_are in
     ap (λ (b : Bool). cond b (Ok (filter is_target (communities_of bytes))) (Err Short)) whole ∙ ap (λ (ts : List Rt). Ok ts) read
 
 -- what is read are communities
@@ -137,7 +137,7 @@ one_more all rest found new n test whole some number form new_is is =
     let behind = filter is_target (communities_of (drop 8 rest)) in
     let first : filter is_target (communities_of rest) ≡ cond (has_rt_form n) (community n ∷ behind) behind =
     ap (λ (cs : List Rt). filter is_target cs) (communities_of-first rest more)
-        ∙ ap (λ (k : ℕ). cond (has_rt_form k) (community k ∷ behind) behind) (sym number) in
+    ∙ ap (λ (k : ℕ). cond (has_rt_form k) (community k ∷ behind) behind) (sym number) in
     ap (λ (xs : List ℕ). new ++ filter is_target (communities_of xs)) (take_rest rest 8)
     ∙ with_first found behind (community n) test new new_is
     ∙ ap (λ (b : Bool). found ++ cond b (community n ∷ behind) behind) form

@@ -36,8 +36,8 @@ step_enough m n bytes hm hn some others (Ok found) e =
     let size = w.0 in
     let left : length (drop found.1 bytes) ≡ length bytes - found.1 = length-drop found.1 bytes in
     next m bytes found.0 found.1 some e
-        ∙ ap (λ (x : Result (List VpnRoute) NlriBad). behind (found.0 ∷ []) x) (others (drop found.1 bytes) (omega arith) (omega arith))
-        ∙ sym (next n bytes found.0 found.1 some e)
+    ∙ ap (λ (x : Result (List VpnRoute) NlriBad). behind (found.0 ∷ []) x) (others (drop found.1 bytes) (omega arith) (omega arith))
+    ∙ sym (next n bytes found.0 found.1 some e)
 step_enough m n bytes hm hn some others (Err bad) e = refused m bytes bad some e ∙ sym (refused n bytes bad some e)
 
 pub enough : (m n : ℕ) (bytes : List ℕ) → length bytes ≤ m → length bytes ≤ n → routes_from m bytes ≡ routes_from n bytes
@@ -62,7 +62,7 @@ of_next bytes route size e =
     from_one bytes some
     ∙ next (length bytes) bytes route size some e
     ∙ ap (λ (x : Result (List VpnRoute) NlriBad). behind (route ∷ []) x)
-        (enough (length bytes) (length (drop size bytes)) (drop size bytes) (omega arith) (omega arith))
+    (enough (length bytes) (length (drop size bytes)) (drop size bytes) (omega arith) (omega arith))
 
 pub of_refused : (bytes : List ℕ) (bad : NlriBad) → 0 < length bytes → route_at bytes ≡ Err bad → routes_of bytes ≡ Err bad
 of_refused bytes bad some e = from_one bytes some ∙ refused (length bytes) bytes bad some e
@@ -135,9 +135,14 @@ step_routes most bytes routes is some hm e others (Ok found) first =
     let size = w.0 in
     let left : length (drop found.1 bytes) ≡ length bytes - found.1 = length-drop found.1 bytes in
     let rest = behind_one found.0 routes (routes_from most (drop found.1 bytes)) (sym (next most bytes found.0 found.1 some first) ∙ e) in
-    let all : AreNlri bytes (found.0 ∷ rest.0) =
-        (take found.1 bytes, drop found.1 bytes, sym (take-append-drop found.1 bytes), read_is_route bytes found.0 found.1 is first, others
-        (drop found.1 bytes) rest.0 (IsBytes-drop found.1 bytes is) (omega arith) rest.1) in
+    let all : AreNlri bytes (found.0 ∷ rest.0) = (
+      take found.1 bytes,
+      drop found.1 bytes,
+      sym (take-append-drop found.1 bytes),
+      read_is_route bytes found.0 found.1 is first,
+      others
+          (drop found.1 bytes) rest.0 (IsBytes-drop found.1 bytes is) (omega arith) rest.1,
+    ) in
     subst (λ (rs : List VpnRoute). AreNlri bytes rs) rest.2 all
 step_routes most bytes routes is some hm e others (Err bad) first = let r = refused most bytes bad some first in cc
 

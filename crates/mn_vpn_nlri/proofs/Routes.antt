@@ -14,7 +14,7 @@ use Rattle.mn_vpn_nlri.specs.declared.refusal.NlriBad.{NlriBad}
 use Rattle.mn_vpn_nlri.specs.declared.refusal.NlriBad.TheVariants.{Short, BadLength, BadRd, HostBits, NoMemory}
 use Rattle.mn_vpn_nlri.specs.Grammar.{IsVpnRoute, IsNlri, nlri_of, label_field, written, written_field, as_read, bits_before_prefix}
 use Rattle.mn_prefix.specs.Octets.{octets, prefix_octets}
-use Rattle.mn_vpn_nlri.specs.Reading.{IsBytes, first_refusal, unless, vpn_route_of, route_at, bits_of, size_of, rd_of, label_of, prefix_address_of}
+use Rattle.mn_vpn_nlri.specs.Reading.{IsBytes, first_refusal, unless, vpn_route_of, route_at, bits_of, size_of, rd_of, nlri_label, prefix_address_of}
 use Rattle.mn_vpn_nlri.specs.Reading.{prefix_length_of, has_host_bits}
 use Rattle.mn_base.proofs.Bytes.{IsBytes-drop, IsBytes-take}
 use Rattle.mn_prefix.proofs.PrefixBytes.{first_bytes, prefix_again, length-prefix_octets}
@@ -54,7 +54,7 @@ record Fields (field : ℕ) (route : VpnRoute) (rest : List ℕ) : Type 0 where
   bits_are : bits_of (nlri_of field route ++ rest) ≡ 88 + route.prefix.length
   size_is : size_of (nlri_of field route ++ rest) ≡ length (nlri_of field route)
   rd_is : rd_of (nlri_of field route ++ rest) ≡ route.rd.0
-  label_is : label_of (nlri_of field route ++ rest) ≡ field / 2 ^ 4
+  label_is : nlri_label (nlri_of field route ++ rest) ≡ field / 2 ^ 4
   prefix_length_is : prefix_length_of (nlri_of field route ++ rest) ≡ route.prefix.length
   address_is : prefix_address_of (nlri_of field route ++ rest) ≡ route.prefix.address
 
@@ -73,7 +73,7 @@ fields field route rest lawful fits =
       address_is =
           ap (λ (n : ℕ). big_number 4 (take n (prefix_octets route.prefix ++ rest))) few
           ∙ ap (λ (ys : List ℕ). big_number 4 ys)
-              (take_at (prefix_octets route.prefix) rest (octets route.prefix.length) (length-prefix_octets route.prefix short))
+          (take_at (prefix_octets route.prefix) rest (octets route.prefix.length) (length-prefix_octets route.prefix short))
           ∙ prefix_again route.prefix.address route.prefix.length lawful.prefix;
     }
 
@@ -107,15 +107,15 @@ nlri_is_read field route rest lawful fits label =
     let whole : nat_lt (length bytes) (size_of bytes) ≡ false = grind (arith, nat_tests) in
     let rd : not (has_rd_form (rd_of bytes)) ≡ false = ap (λ (n : ℕ). not (has_rd_form n)) f.rd_is ∙ ap not lawful.distinguisher in
     let clear : has_host_bits (prefix_address_of bytes) (prefix_length_of bytes) ≡ false =
-        ap (λ (n : ℕ). has_host_bits n (prefix_length_of bytes)) f.address_is ∙ ap (λ (n : ℕ). has_host_bits route.prefix.address n) f.prefix_length_is
-        ∙ ap (λ (n : ℕ). not (n == 0)) lawful.prefix.clear in
+    ap (λ (n : ℕ). has_host_bits n (prefix_length_of bytes)) f.address_is ∙ ap (λ (n : ℕ). has_host_bits route.prefix.address n) f.prefix_length_is
+    ∙ ap (λ (n : ℕ). not (n == 0)) lawful.prefix.clear in
     let is : vpn_route_of bytes ≡ route = same_made f.rd_is f.address_is f.prefix_length_is (f.label_is ∙ label) in
     let whole_is : route_at bytes ≡ found (vpn_route_of bytes) (size_of bytes) =
-        none_broken (vpn_route_of bytes, size_of bytes) (length bytes == 0)
-        (nat_lt (bits_of bytes) bits_before_prefix || nat_lt (bits_before_prefix + 32) (bits_of bytes)) (nat_lt (length bytes) (size_of bytes))
-        (not (has_rd_form (rd_of bytes))) (has_host_bits (prefix_address_of bytes) (prefix_length_of bytes)) some lengths whole rd clear in
+    none_broken (vpn_route_of bytes, size_of bytes) (length bytes == 0)
+    (nat_lt (bits_of bytes) bits_before_prefix || nat_lt (bits_before_prefix + 32) (bits_of bytes)) (nat_lt (length bytes) (size_of bytes))
+    (not (has_rd_form (rd_of bytes))) (has_host_bits (prefix_address_of bytes) (prefix_length_of bytes)) some lengths whole rd clear in
     let same : found (vpn_route_of bytes) (size_of bytes) ≡ found route (length (nlri_of field route)) =
-        ap (λ (r : VpnRoute). found r (size_of bytes)) is ∙ ap (λ (n : ℕ). found route n) size in
+    ap (λ (r : VpnRoute). found r (size_of bytes)) is ∙ ap (λ (n : ℕ). found route n) size in
     whole_is ∙ same
 
 pub route_is_read : (bytes rest : List ℕ) (route : VpnRoute) → IsNlri bytes route → route_at (bytes ++ rest) ≡ Ok (route, length bytes)
@@ -141,8 +141,8 @@ pub is_read : (bytes : List ℕ) (route : VpnRoute) (size : ℕ) → route_at by
 unfolding route_at
 is_read bytes route size e =
     let p = passes (vpn_route_of bytes, size_of bytes) (route, size) (length bytes == 0)
-        (nat_lt (bits_of bytes) bits_before_prefix || nat_lt (bits_before_prefix + 32) (bits_of bytes)) (nat_lt (length bytes) (size_of bytes))
-        (not (has_rd_form (rd_of bytes))) (has_host_bits (prefix_address_of bytes) (prefix_length_of bytes)) e in
+    (nat_lt (bits_of bytes) bits_before_prefix || nat_lt (bits_before_prefix + 32) (bits_of bytes)) (nat_lt (length bytes) (size_of bytes))
+    (not (has_rd_form (rd_of bytes))) (has_host_bits (prefix_address_of bytes) (prefix_length_of bytes)) e in
     let lengths = or_off (nat_lt (bits_of bytes) bits_before_prefix) (nat_lt (bits_before_prefix + 32) (bits_of bytes)) p.1 in
     record {
       low = grind (arith, nat_tests, lengths.0);
@@ -180,10 +180,10 @@ octets_again bytes h low high whole =
     let count : size_of bytes - 12 ≡ octets (prefix_length_of bytes) = omega arith in
     let part = take (octets (prefix_length_of bytes)) (drop 12 bytes) in
     let size : length part ≡ octets (prefix_length_of bytes) =
-        length-take-le (octets (prefix_length_of bytes)) (drop 12 bytes) (omega (arith, length-drop 12 bytes)) in
+    length-take-le (octets (prefix_length_of bytes)) (drop 12 bytes) (omega (arith, length-drop 12 bytes)) in
     ap (λ (n : ℕ). take (octets (prefix_length_of bytes)) (big_bytes 4 (big_number 4 (take n (drop 12 bytes))))) count
     ∙ first_bytes (octets (prefix_length_of bytes)) part (IsBytes-take (octets (prefix_length_of bytes)) (drop 12 bytes) (IsBytes-drop 12 bytes h)) size
-        (omega arith)
+    (omega arith)
 
 read_again : (bytes : List ℕ) → IsBytes bytes → 88 ≤ bits_of bytes → bits_of bytes ≤ 120 → size_of bytes ≤ length bytes → has_rd_form (rd_of bytes) ≡ true →
     has_host_bits (prefix_address_of bytes) (prefix_length_of bytes) ≡ false → IsNlri (take (size_of bytes) bytes) (vpn_route_of bytes)
@@ -192,15 +192,15 @@ read_again bytes h low high whole rd clear =
     let field = big_number 3 (drop 1 bytes) in
     let fits : field < 256 ^ 3 = big_from-lt 0 3 (drop 1 bytes) (λ k. (IsBytes-drop 1 bytes h).below k) in
     let address_fits : prefix_address_of bytes < 256 ^ 4 =
-        big_from-lt 0 4 (slice_range bytes 12 (size_of bytes)) (λ k. (IsBytes-take (size_of bytes - 12) (drop 12 bytes) (IsBytes-drop 12 bytes h)).below k)
-        in
+    big_from-lt 0 4 (slice_range bytes 12 (size_of bytes)) (λ k. (IsBytes-take (size_of bytes - 12) (drop 12 bytes) (IsBytes-drop 12 bytes h)).below k)
+    in
     let zeros : prefix_address_of bytes % 2 ^ (32 - prefix_length_of bytes) ≡ 0 =
-        grind (arith, nat_tests, not_false (prefix_address_of bytes % 2 ^ (32 - prefix_length_of bytes) == 0) clear) in
+    grind (arith, nat_tests, not_false (prefix_address_of bytes % 2 ^ (32 - prefix_length_of bytes) == 0) clear) in
     let bits : bits_before_prefix + prefix_length_of bytes ≡ bits_of bytes = omega arith in
-    let fields : label_field (label_of bytes) (field % 2 ^ 4) ≡ field = omega arith in
+    let fields : label_field (nlri_label bytes) (field % 2 ^ 4) ≡ field = omega arith in
     let size : size_of bytes ≡ 12 + octets (prefix_length_of bytes) = omega arith in
     let front : take (size_of bytes) bytes ≡ take 12 bytes ++ take (octets (prefix_length_of bytes)) (drop 12 bytes) =
-        ap (λ (n : ℕ). take n bytes) size ∙ take-add 12 (octets (prefix_length_of bytes)) bytes in
+    ap (λ (n : ℕ). take n bytes) size ∙ take-add 12 (octets (prefix_length_of bytes)) bytes in
     record {
       is_route = record { distinguisher = rd; label = omega arith; prefix = record { fits = omega arith; short = omega arith; clear = zeros } };
       low = field % 2 ^ 4;
@@ -209,8 +209,11 @@ read_again bytes h low high whole rd clear =
           front
           ∙ sym (front_again bytes h (omega arith) (take (octets (prefix_length_of bytes)) (drop 12 bytes)))
           ∙ ap (λ (ys : List ℕ). bits_of bytes ∷ big_bytes 3 field ++ big_bytes 8 (rd_of bytes) ++ ys) (sym (octets_again bytes h low high whole))
-          ∙ ap (λ (n : ℕ). n ∷ big_bytes 3 field ++ big_bytes 8 (rd_of bytes) ++ prefix_octets (record { address = prefix_address_of bytes; length =
-              prefix_length_of bytes })) (sym bits)
+          ∙ ap (λ (n : ℕ). n ∷ big_bytes 3 field ++ big_bytes 8 (rd_of bytes) ++ prefix_octets (record {
+            address = prefix_address_of bytes;
+            length =
+                prefix_length_of bytes;
+          })) (sym bits)
           ∙ ap (λ (f : ℕ). nlri_of f (vpn_route_of bytes)) (sym fields);
     }
 
@@ -221,7 +224,7 @@ read_is_route bytes route size h e =
     let high = r.high in
     let whole = r.whole in
     subst (λ (x : ℕ). IsNlri (take x bytes) route) r.size_is
-        (subst (λ (x : VpnRoute). IsNlri (take (size_of bytes) bytes) x) r.route_is (read_again bytes h low high whole r.rd r.clear))
+    (subst (λ (x : VpnRoute). IsNlri (take (size_of bytes) bytes) x) r.route_is (read_again bytes h low high whole r.rd r.clear))
 
 -- Of a route that is cut short nothing is read.
 
@@ -241,8 +244,8 @@ cut_nlri field route (suc size) lawful cut =
     let less : length bytes < size_of bytes = omega arith in
     let whole : nat_lt (length bytes) (size_of bytes) ≡ true = grind (arith, nat_tests) in
     cut_short (vpn_route_of bytes, size_of bytes) (length bytes == 0)
-        (nat_lt (bits_of bytes) bits_before_prefix || nat_lt (bits_before_prefix + 32) (bits_of bytes)) (nat_lt (length bytes) (size_of bytes))
-        (not (has_rd_form (rd_of bytes))) (has_host_bits (prefix_address_of bytes) (prefix_length_of bytes)) lengths whole
+    (nat_lt (bits_of bytes) bits_before_prefix || nat_lt (bits_before_prefix + 32) (bits_of bytes)) (nat_lt (length bytes) (size_of bytes))
+    (not (has_rd_form (rd_of bytes))) (has_host_bits (prefix_address_of bytes) (prefix_length_of bytes)) lengths whole
 
 pub cut_is_short : (bytes : List ℕ) (route : VpnRoute) (size : ℕ) → IsNlri bytes route → size < length bytes → route_at (take size bytes) ≡ Err Short
 cut_is_short bytes route size is cut =

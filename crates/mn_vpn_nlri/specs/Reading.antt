@@ -24,8 +24,8 @@ abbrev pub size_of : List ℕ → ℕ
 size_of bytes = 1 + octets (bits_of bytes)
 
 -- the label is the first 20 bits of the field
-abbrev pub label_of : List ℕ → ℕ
-label_of bytes = big_number 3 (drop 1 bytes) / 2 ^ 4
+abbrev pub nlri_label : List ℕ → ℕ
+nlri_label bytes = big_number 3 (drop 1 bytes) / 2 ^ 4
 
 abbrev pub rd_of : List ℕ → ℕ
 rd_of bytes = big_number 8 (drop 4 bytes)
@@ -54,7 +54,7 @@ abbrev pub vpn_route_of : List ℕ → VpnRoute
 vpn_route_of bytes = record {
   rd = record { 0 = rd_of bytes };
   prefix = record { address = prefix_address_of bytes; length = prefix_length_of bytes };
-  label = label_of bytes;
+  label = nlri_label bytes;
 }
 
 -- the route and how many bytes it has, or the first refusal

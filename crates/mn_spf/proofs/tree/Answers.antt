@@ -19,7 +19,7 @@ pub follow-requires-clause-links : goal.follow-requires-clause-links
 follow-requires-clause-links c =
     subst (λ (w : ℕ). AreLinksAt c.args.view.now w c.as_slice-at_root.result.now) (sym (ap (λ (w : Way). w.to) c.start.ensures))
     (list_at c.args.view.now c.in_ok-links.links.items c.from.result c.args.root.0 c.index.result.now c.as_slice-at_root.result.now
-        c.in_ok-links.ensures.links c.requires c.from.ensures c.index.ensures c.as_slice-at_root.ensures)
+    c.in_ok-links.ensures.links c.requires c.from.ensures c.index.ensures c.as_slice-at_root.ensures)
 
 pub index-requires-in-Some : goal.index-requires-in-Some
 index-requires-in-Some c =
@@ -35,7 +35,7 @@ pub follow-requires-in-Some-clause-links : goal.follow-requires-in-Some-clause-l
 follow-requires-in-Some-clause-links c =
     let k = c.in-Some.ensures c.args.view.now c.args.root.0 c.loop-way.invariant.0 c.loop-way.invariant.1 in
     list_at c.args.view.now c.in_ok-links.links.items c.from-in-Some.result c.in-Some.way.to c.index-in-Some.result.now c.as_slice-at_end.result.now
-        c.in_ok-links.ensures.links k.1.there c.from-in-Some.ensures c.index-in-Some.ensures c.as_slice-at_end.ensures
+    c.in_ok-links.ensures.links k.1.there c.from-in-Some.ensures c.index-in-Some.ensures c.as_slice-at_end.ensures
 
 pub follow-requires-in-Some-clause-search : goal.follow-requires-in-Some-clause-search
 follow-requires-in-Some-clause-search c = (c.in-Some.ensures c.args.view.now c.args.root.0 c.loop-way.invariant.0 c.loop-way.invariant.1).0

@@ -12,6 +12,6 @@ update_message-requires c =
 pub returns-clause-read_again : goal.returns-clause-read_again
 returns-clause-read_again c = spelled_by c.update_message.result (update_bytes (announced c.args.next_hop c.args.route.now c.args.targets.now)) _
     (of_attributes c.update_message.result c.deref.result.now (announced c.args.next_hop c.args.route.now c.args.targets.now)
-        (c.deref.ensures.value ∙ c.in_ok-attributes.ensures.attributes) c.update_message.ensures)
+    (c.deref.ensures.value ∙ c.in_ok-attributes.ensures.attributes) c.update_message.ensures)
     (announced_is_spelled c.args.next_hop c.args.route.now c.args.targets.now c.ranges.next_hop.fits c.in_ok-attributes.ensures.short c.requires.few
-        c.in_ok-attributes.ensures.is_route c.in_ok-attributes.ensures.are_targets)
+    c.in_ok-attributes.ensures.is_route c.in_ok-attributes.ensures.are_targets)

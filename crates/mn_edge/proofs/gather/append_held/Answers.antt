@@ -17,23 +17,23 @@ returns-in_err-append-clause-part g c = on_err c.from_residual.result _ (λ cont
     let names = texts c.args.names.now in
     let here : c.loop-file.file < length names = rw length-map c.loop-file-test.true in
     let named : c.as_str.result.now ≡ name_of names c.loop-file.file =
-        get_or_read names c.loop-file.file c.as_str.result.now here
-        (name_at c.args.names.now c.loop-file.file c.index-names-file.result c.as_str.result.now c.loop-file-test.true c.index-names-file.is
-        c.as_str.ensures.value) [] in
+    get_or_read names c.loop-file.file c.as_str.result.now here
+    (name_at c.args.names.now c.loop-file.file c.index-names-file.result c.as_str.result.now c.loop-file-test.true c.index-names-file.is
+    c.as_str.ensures.value) [] in
     refused names contents c.args.held.now c.loop-file.file c.as_str.result.now _ _ _ c.requires.differ here named
-        (take_rest c.copy_to_end-from.new.buf c.copy_to_end-from.result ∙ c.copy_to_end-from.ensures.copied) (c.in_err-append.ensures.refused)
-        (c.loop-file.invariant.kept contents holds))
+    (take_rest c.copy_to_end-from.new.buf c.copy_to_end-from.result ∙ c.copy_to_end-from.ensures.copied) (c.in_err-append.ensures.refused)
+    (c.loop-file.invariant.kept contents holds))
 
 pub returns-in_err-append-clause-framed : goal.returns-in_err-append-clause-framed
 returns-in_err-append-clause-framed g c =
     let names = texts c.args.names.now in
     let here : c.loop-file.file < length names = rw length-map c.loop-file-test.true in
     let named : c.as_str.result.now ≡ name_of names c.loop-file.file =
-        get_or_read names c.loop-file.file c.as_str.result.now here
-        (name_at c.args.names.now c.loop-file.file c.index-names-file.result c.as_str.result.now c.loop-file-test.true c.index-names-file.is
-        c.as_str.ensures.value) [] in
+    get_or_read names c.loop-file.file c.as_str.result.now here
+    (name_at c.args.names.now c.loop-file.file c.index-names-file.result c.as_str.result.now c.loop-file-test.true c.index-names-file.is
+    c.as_str.ensures.value) [] in
     framed_both names _ _ _ c.loop-file.invariant.framed
-        (framed_append names c.loop-file.file c.as_str.result.now _ _ _ here named c.in_err-append.ensures.silent c.in_err-append.ensures.refused)
+    (framed_append names c.loop-file.file c.as_str.result.now _ _ _ here named c.in_err-append.ensures.silent c.in_err-append.ensures.refused)
 
 pub loop-file-preserved : goal.loop-file-preserved
 loop-file-preserved g c =
@@ -44,9 +44,9 @@ loop-file-preserved g c =
     elim c.if-from-joined.branch [
       | then-from-joined+in_ok-append w ↦
           let named : w.as_str.result.now ≡ name_of names c.loop-file.file =
-              get_or_read names c.loop-file.file w.as_str.result.now here
-              (name_at c.args.names.now c.loop-file.file c.index-names-file.result w.as_str.result.now c.loop-file-test.true c.index-names-file.is
-              w.as_str.ensures.value) [] in
+          get_or_read names c.loop-file.file w.as_str.result.now here
+          (name_at c.args.names.now c.loop-file.file c.index-names-file.result w.as_str.result.now c.loop-file-test.true c.index-names-file.is
+          w.as_str.ensures.value) [] in
           record {
             kept = λ contents holds. rw w.shelf-is
                 (appended names contents held c.loop-file.file w.as_str.result.now _ _ _ c.requires.differ here named
@@ -67,7 +67,7 @@ loop-file-preserved g c =
           }
       | else-from-joined w ↦
           let none : held_for held c.loop-file.file ≡ [] =
-              sym c.copy_to_end-from.ensures.copied ∙ drop_all c.copy_to_end-from.result c.copy_to_end-from.new.buf w.if-from-joined.false in
+          sym c.copy_to_end-from.ensures.copied ∙ drop_all c.copy_to_end-from.result c.copy_to_end-from.new.buf w.if-from-joined.false in
           record {
             kept = λ contents holds. rw w.shelf-is (passed_over names contents held _ c.loop-file.file none (i.kept contents holds));
             framed = rw w.shelf-is i.framed;

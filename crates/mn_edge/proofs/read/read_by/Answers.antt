@@ -16,7 +16,7 @@ pub returns-then-count-limit-clause-content : goal.returns-then-count-limit-clau
 returns-then-count-limit-clause-content g c = λ m is.
     let len : c.len-at.result ≡ length c.loop-bytes.bytes.items = c.len-at.ensures ∙ c.loop-bytes.bytes.ok.0 in
     past m c.args.name.now c.loop-bytes.bytes.items c.fetch.new.buf c.len-at.result c.in_ok-count.count c.args.limit len
-        (c.in_ok-count.ensures.content m (c.loop-bytes.invariant.same ∙ is))
+    (c.in_ok-count.ensures.content m (c.loop-bytes.invariant.same ∙ is))
     (subst (λ n. n ≤ c.args.limit) (sym c.len-at.ensures) c.loop-bytes.invariant.within) c.if-count-limit.true
 
 pub loop-bytes-preserved : goal.loop-bytes-preserved

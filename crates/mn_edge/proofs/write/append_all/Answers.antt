@@ -10,8 +10,12 @@ on_err (Ok x) P p = tt
 on_err (Err e) P p = p
 
 pub loop-piece-init : goal.loop-piece-init
-loop-piece-init g c = record { stands = λ base names done h k. h ∙ ap (λ l. Some (laid (written names l) base)) (sym (append-nil done)); reads =
-    refl; writes = refl }
+loop-piece-init g c = record {
+  stands = λ base names done h k. h ∙ ap (λ l. Some (laid (written names l) base)) (sym (append-nil done));
+  reads =
+      refl;
+  writes = refl;
+}
 
 pub returns-in_err-append-clause-part : goal.returns-in_err-append-clause-part
 returns-in_err-append-clause-part g c = on_err c.from_residual.result _ (λ base names done h k.
@@ -22,8 +26,8 @@ returns-in_err-append-clause-part g c = on_err c.from_residual.result _ (λ base
     let rest : List (List ℕ × List ℕ) = drop (c.loop-piece.piece-index + 1) (pairs c.args.pieces.now) in
     let now = c.loop-piece.invariant.stands base names done h k in
     let part =
-        step_part names (done ++ some) base p _ (known_of names (pairs c.args.pieces.now) c.loop-piece.piece-index p k within at)
-        (c.in_err-append.ensures.refused _ now) in
+    step_part names (done ++ some) base p _ (known_of names (pairs c.args.pieces.now) c.loop-piece.piece-index p k within at)
+    (c.in_err-append.ensures.refused _ now) in
     subst (λ l. PartWritten (written names l) base (g.S.Shelf.files c.append.new.self))
     (append_assoc (done ++ some) (p ∷ []) rest ∙ append_assoc done some (p ∷ rest)
     ∙ ap (λ l. done ++ l) (sym (append_assoc some (p ∷ []) rest)
@@ -39,10 +43,10 @@ loop-piece-preserved g c = record {
       let at = pair_at c.args.pieces.now c.loop-piece.piece-index c.piece-item.result p c.loop-piece-test.true c.piece-item.is (search rules) (search rules) in
       let some : List (List ℕ × List ℕ) = take c.loop-piece.piece-index (pairs c.args.pieces.now) in
       step_whole names (done ++ some) base p _ (known_of names (pairs c.args.pieces.now) c.loop-piece.piece-index p k within at)
-          (c.in_ok-append.ensures.grown _ (c.loop-piece.invariant.stands base names done h k))
+      (c.in_ok-append.ensures.grown _ (c.loop-piece.invariant.stands base names done h k))
       ∙ ap (λ l. Some (laid (written names l) base))
-          (append_assoc done some (p ∷ [])
-          ∙ ap (λ l. done ++ l) (ap (λ x. some ++ x ∷ []) at ∙ sym (take_more (pairs c.args.pieces.now) c.loop-piece.piece-index p within)));
+      (append_assoc done some (p ∷ [])
+      ∙ ap (λ l. done ++ l) (ap (λ x. some ++ x ∷ []) at ∙ sym (take_more (pairs c.args.pieces.now) c.loop-piece.piece-index p within)));
   reads = c.in_ok-append.ensures.reads ∙ c.loop-piece.invariant.reads;
   writes = c.in_ok-append.ensures.writes ∙ c.loop-piece.invariant.writes;
 }

@@ -11,7 +11,7 @@ pub returns-in_err-begin_all-clause-part : goal.returns-in_err-begin_all-clause-
 returns-in_err-begin_all-clause-part g c = on_err c.from_residual.result _ (λ m is.
     let few = c.in_err-begin_all.ensures.part m is in
     begun_part (texts c.args.names.now) (written (texts c.args.names.now) (pairs c.args.pieces.now)) m _ few.0
-        (names-each (texts c.args.names.now) (bytes_for (pairs c.args.pieces.now))) few.1)
+    (names-each (texts c.args.names.now) (bytes_for (pairs c.args.pieces.now))) few.1)
 
 ok_then : {T E : Type 0} (r : Result T E) (P Q : Type 0) → OnOk r P → (P → Q) → OnOk r Q
 ok_then (Ok x) P Q p f = f p

@@ -17,7 +17,8 @@ returns-then-edges-eq0 c = λ places number within is.
     let apart : c.args.edge.0 ≢ c.args.peer.0 = other_numbers c.args.edge.0 c.args.peer.0 two.apart in
     let all =
     all_at c.args.topology.now c.nodes.result.now c.args.places.now c.count-edges.result c.nodes.ensures places c.count-edges.ensures.count in
-    let some : 1 ≤ edges_before c.args.topology.now (length c.args.topology.now.loopbacks) = some_edge c.args.topology.now c.args.edge.0 c.laws.ensures two.one in
+    let some : 1 ≤ edges_before c.args.topology.now (length c.args.topology.now.loopbacks) =
+    some_edge c.args.topology.now c.args.edge.0 c.laws.ensures two.one in
     let none = c.if-edges-eq0.true in
     omega (arith, all, some, none)
 
@@ -30,7 +31,8 @@ returns-then-place-peer_place c = λ places number within is.
     let place =
     table_at c.args.topology.now c.args.places.now c.args.edge.0 c.count-place.result places (omega (arith, below)) c.count-place.ensures.count in
     let other =
-    table_at c.args.topology.now c.args.places.now c.args.peer.0 c.count-peer_place.result places (omega (arith, peer_below)) c.count-peer_place.ensures.count in
+    table_at c.args.topology.now c.args.places.now c.args.peer.0 c.count-peer_place.result places
+    (omega (arith, peer_below)) c.count-peer_place.ensures.count in
     places_apart c.args.topology.now c.args.edge.0 c.args.peer.0 c.laws.ensures two.one two.other apart (sym other ∙ sym c.if-place-peer_place.true ∙ place)
 
 pub returns : goal.returns
@@ -44,6 +46,7 @@ returns c = λ places.
     let place =
     table_at c.args.topology.now c.args.places.now c.args.edge.0 c.count-place.result places (omega (arith, below)) c.count-place.ensures.count in
     let other =
-    table_at c.args.topology.now c.args.places.now c.args.peer.0 c.count-peer_place.result places (omega (arith, peer_below)) c.count-peer_place.ensures.count in
+    table_at c.args.topology.now c.args.places.now c.args.peer.0 c.count-peer_place.result places
+    (omega (arith, peer_below)) c.count-peer_place.ensures.count in
     told_is c.args.topology.now c.args.edge.0 c.args.peer.0 _ (length c.links.result.now) c.count-edges.result c.count-place.result c.count-peer_place.result
     c.place_without.result c.laws.ensures two.one two.other apart (ap length c.links.ensures) all place other c.place_without.ensures.value refl

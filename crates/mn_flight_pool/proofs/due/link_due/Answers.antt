@@ -9,4 +9,4 @@ use Rattle.mn_flight_pool.proofs.due.link_due.Goals as goal
 pub link_behind-requires-clause-next : goal.link_behind-requires-clause-next
 link_behind-requires-clause-next g c =
     subst (λ (p : Ptr). IsSome (value_at (next_of Due c.args.store.now p) c.args.store.now))
-        (sym (c.last_due_by-at.ensures ∙ ap (λ ts. last_by c.args.due c.args.head.ptr ts) c.deref.ensures.value)) c.requires.next
+    (sym (c.last_due_by-at.ensures ∙ ap (λ ts. last_by c.args.due c.args.head.ptr ts) c.deref.ensures.value)) c.requires.next

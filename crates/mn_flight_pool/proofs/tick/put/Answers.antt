@@ -14,4 +14,4 @@ returns-in-Err-clause-ticks c =
     let missing : IsMissing c.args.due c.args.ticks.now.items c.in-Err.i = rw c.deref.ensures.value at c.in-Err.ensures in
     let ok : is_ok c.insert.result ≡ true = c.insert.ensures.succeeds c.requires.room in
     c.insert.ensures.items ∙ ap (λ b. cond b (insert c.args.ticks.now.items c.in-Err.i (tick_at c.args.due c.args.node.ptr)) c.args.ticks.now.items) ok
-        ∙ put_missing c.args.due c.args.ticks.now.items c.in-Err.i (tick_at c.args.due c.args.node.ptr) missing c.args.node.ptr
+    ∙ put_missing c.args.due c.args.ticks.now.items c.in-Err.i (tick_at c.args.due c.args.node.ptr) missing c.args.node.ptr

@@ -13,8 +13,8 @@ returns-else-eq c =
     let e = c.eq.ensures in
     let f = c.if-eq.false in
     let put =
-        c.as_slice.ensures.value ∙ c.in_ok-put_text.ensures.ok ∙ ap (λ xs. xs ++ text_of c.args.topology.now c.in-Some.entry) c.clear.ensures.items
-        ∙ same in
+    c.as_slice.ensures.value ∙ c.in_ok-put_text.ensures.ok ∙ ap (λ xs. xs ++ text_of c.args.topology.now c.in-Some.entry) c.clear.ensures.items
+    ∙ same in
     let on = (bytes_eq-Decides c.as_slice.result.now c.args.line.now).1 put in
     let both : true ≡ false = sym on ∙ sym e ∙ f in
     cc)

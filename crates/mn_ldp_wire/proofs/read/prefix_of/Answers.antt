@@ -19,8 +19,8 @@ returns-then-value-lt-ELEMENT_HEADER c = sym (prefix_none c.args.value.now (λ e
 pub returns-in_err-prefix : goal.returns-in_err-prefix
 returns-in_err-prefix c =
     c.from_residual.ensures
-        ∙ sym (not_an_element c.args.value.now _ c.address_of.result _
-        (octets_all c.args.value.now) c.address_of.ensures refl c.address_of.type_inv c.in_err-prefix.ensures.value)
+    ∙ sym (not_an_element c.args.value.now _ c.address_of.result _
+    (octets_all c.args.value.now) c.address_of.ensures refl c.address_of.type_inv c.in_err-prefix.ensures.value)
 
 pub returns : goal.returns
 returns c =

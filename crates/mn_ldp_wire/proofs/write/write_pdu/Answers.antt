@@ -16,15 +16,15 @@ pub returns : goal.returns
 returns c =
     let spelled : c.extend_from_slice.new.self.items ≡ written c.args.from c.args.message.now =
     pdu_in_turn _ c.put_u32.new.out.items c.put_u16-4.new.out.items c.put_u16-3.new.out.items c.put_id.new.out.items c.put_u16-2.new.out.items
-        c.put_u16.new.out.items c.deref.result.now c.args.from c.args.message.now _ _ _
+    c.put_u16.new.out.items c.deref.result.now c.args.from c.args.message.now _ _ _
     c.in_ok-extend_from_slice.ensures.items (c.deref.ensures.value ∙ c.in_ok-tlvs.ensures.tlvs) c.in_ok-put_u32.ensures.bytes c.in_ok-put_u16-4.ensures
-        c.in_ok-put_u16-3.ensures c.type_of.ensures c.in_ok-put_id.ensures.id
+    c.in_ok-put_u16-3.ensures c.type_of.ensures c.in_ok-put_id.ensures.id
     c.in_ok-put_u16-2.ensures (c.in_ok-put_u16.ensures ∙ ap (λ (xs : List ℕ). xs ++ 0 ∷ 1 ∷ []) c.new-pdu.ensures.items)
     (omega (arith, c.deref.ensures.len, c.len-contents.ensures)) (omega (arith, c.deref.ensures.len, c.len-contents.ensures))
     in
     let small = tlvs_small c.args.message.now.body c.requires in
     let is = subst (λ (xs : List ℕ). IsPdu xs c.args.from (c.args.message.now ∷ [])) (sym spelled)
-        (written_is c.args.from c.args.message.now c.in_ok-put_id.ensures.fits c.in_ok-put_u32.ensures.fits c.in_ok-tlvs.ensures.lawful small) in
+    (written_is c.args.from c.args.message.now c.in_ok-put_id.ensures.fits c.in_ok-put_u32.ensures.fits c.in_ok-tlvs.ensures.lawful small) in
     let reads = pdu_again c.extend_from_slice.new.self.items c.args.from (c.args.message.now ∷ []) is in
     record {
       written = spelled;

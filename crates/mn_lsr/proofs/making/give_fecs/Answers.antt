@@ -1,14 +1,14 @@
 use Rattle.std.proofs.Common.{ℕ, ◌≡◌, ◌<◌, ◌≤◌, ◌++◌, ◌∷◌, [], length, arith, sym, ◌∙◌, ap, subst, Result, Err}
 use Rattle.mn_labels.specs.declared.refusal.LabelBad.{LabelBad}
 use Rattle.mn_labels.specs.declared.meaning.Bind.TheVariants as bind
-use Rattle.mn_lsr.specs.Standing.{fecs_given}
 use Rattle.mn_lsr.proofs.Given.{given_more, given_same, few_given}
 use Rattle.mn_lsr.proofs.making.give_fecs.Goals as goal
 use Rattle.mn_lsr.proofs.making.give_fecs.Goals.{then-at-from+in-Ok, else-at-from}
 
 pub unreachable-requires : goal.unreachable-requires
 unreachable-requires c =
-    too_many (length c.loop-at.labels.given) c.loop-at.at c.args.nodes (c.in-Err-Spent.ensures.spent.0 (ap (λ b. let r : Result ℕ LabelBad = Err b in r) c.in-Err-Spent.field-0-is))
+    too_many (length c.loop-at.labels.given) c.loop-at.at c.args.nodes
+    (c.in-Err-Spent.ensures.spent.0 (ap (λ b. let r : Result ℕ LabelBad = Err b in r) c.in-Err-Spent.field-0-is))
     (subst (λ n. n ≤ c.loop-at.at) (ap length (sym c.loop-at.invariant)) (few_given c.loop-at.at c.args.me.0)) c.loop-at-test.true c.requires.few
   where
     too_many : (n at nodes : ℕ) → n ≡ 1048560 → n ≤ at → at < nodes → nodes ≤ 256 → ⊥

@@ -13,7 +13,11 @@ pub returns : goal.returns
 returns c =
     let w : Wiring = record { loopbacks = c.args.loopbacks.now; ends = [] } in
     let body : LdpBody = body_of w c.args.me.0 c.args.far.0 c.args.withdrawn (meaning c.args.message) in
-    let same : written c.id_of.result (record { id = c.args.number % 4294967296; body = c.in_ok-body.body }) ≡ written (id_of w c.args.me.0) (record { id = c.args.number; body = body }) =
+    let same : written c.id_of.result (record { id = c.args.number % 4294967296; body = c.in_ok-body.body }) ≡ written (id_of w c.args.me.0) (record {
+      id =
+          c.args.number;
+      body = body;
+    }) =
     ap (λ (from : LdpId). written from (record { id = c.args.number % 4294967296; body = c.in_ok-body.body })) c.id_of.ensures
     ∙ ap (λ (b : LdpBody). written (id_of w c.args.me.0) (record { id = c.args.number % 4294967296; body = b })) c.in_ok-body.ensures
     ∙ written_low (id_of w c.args.me.0) body c.args.number in

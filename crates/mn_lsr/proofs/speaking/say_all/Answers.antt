@@ -1,10 +1,9 @@
 use Rattle.std.proofs.Common.{ℕ, ◌≡◌, ◌∙◌, ◌++◌, ◌∷◌, [], ap, map, length, List, slice_index_or}
 use Rattle.std.specs.List.{flat_map}
 use Rattle.mn_base.specs.Wiring.{Wiring, joining}
-use Rattle.mn_node.specs.Ldp.{Message, Said, said_on}
+use Rattle.mn_node.specs.Ldp.{Message, said_on}
 use Rattle.mn_lib.specs.declared.event.Tell.{Tell}
 use Rattle.mn_lib.specs.declared.event.TellKind.TheVariants.{Map}
-use Rattle.mn_ldp_session.specs.Spelling.{Pdu}
 use Rattle.mn_lsr.specs.declared.parts.Open.{Open}
 use Rattle.std.proofs.Common.{Option}
 use Rattle.mn_lsr.specs.Message.{meaning}
@@ -24,13 +23,22 @@ loop-tell-preserved c =
     let tell : Tell = slice_index_or tells i none in
     let meant : meaning c.message_of-message.result ≡ message_of tell.kind tell.fec.0 = c.message_of-message.ensures.meaning in
     let counted : c.say_to.new.sessions.items ≡ ends_after c.loop-tell.sessions.items (said_by_tell w me tell) =
-    c.in_ok-say_to.ensures.counted ∙ ap (λ (m : Message). ends_after c.loop-tell.sessions.items (flat_map (λ l. said_on l me (m ∷ [])) (joining w me tell.to.0))) meant in
-    let said : map pdu_of c.say_to.new.out.items ≡ map pdu_of c.loop-tell.out.items ++ pdus_by w me c.args.withdrawn c.loop-tell.sessions.items (said_by_tell w me tell) =
-    c.in_ok-say_to.ensures.said ∙ ap (λ (m : Message). map pdu_of c.loop-tell.out.items ++ pdus_by w me c.args.withdrawn c.loop-tell.sessions.items (flat_map (λ l. said_on l me (m ∷ [])) (joining w me tell.to.0))) meant in
+    c.in_ok-say_to.ensures.counted
+    ∙ ap (λ (m : Message). ends_after c.loop-tell.sessions.items (flat_map (λ l. said_on l me (m ∷ [])) (joining w me tell.to.0))) meant in
+    let said : map pdu_of c.say_to.new.out.items ≡ map pdu_of c.loop-tell.out.items ++ pdus_by w me c.args.withdrawn c.loop-tell.sessions.items
+    (said_by_tell w me tell) =
+    c.in_ok-say_to.ensures.said
+    ∙ ap (λ (m : Message). map pdu_of c.loop-tell.out.items ++ pdus_by w me c.args.withdrawn c.loop-tell.sessions.items
+    (flat_map (λ l. said_on l me (m ∷ [])) (joining w me tell.to.0))) meant in
     record {
-      said = said-one w me c.args.withdrawn (said_by_tell w me) tells i none c.loop-tell-test.true (map pdu_of c.loop-tell.out.items) (map pdu_of c.say_to.new.out.items) c.loop-tell.sessions.items c.say_to.new.sessions.items counted said
+      said = said-one w me c.args.withdrawn (said_by_tell w me) tells i none c.loop-tell-test.true (map pdu_of c.loop-tell.out.items)
+          (map pdu_of c.say_to.new.out.items) c.loop-tell.sessions.items c.say_to.new.sessions.items counted said
           ∙ c.loop-tell.invariant.said;
-      counted = ends-one w me c.args.withdrawn (said_by_tell w me) tells i none c.loop-tell-test.true c.loop-tell.sessions.items c.say_to.new.sessions.items counted ∙ c.loop-tell.invariant.counted;
-      one_each = ap (λ (es : List (Option Open)). length es) counted ∙ length-ends_after c.loop-tell.sessions.items (said_by_tell w me tell) ∙ c.loop-tell.invariant.one_each;
+      counted =
+          ends-one w me c.args.withdrawn (said_by_tell w me) tells i none c.loop-tell-test.true c.loop-tell.sessions.items c.say_to.new.sessions.items
+          counted ∙ c.loop-tell.invariant.counted;
+      one_each =
+          ap (λ (es : List (Option Open)). length es) counted ∙ length-ends_after c.loop-tell.sessions.items (said_by_tell w me tell)
+          ∙ c.loop-tell.invariant.one_each;
       may = may-rest (length c.args.loopbacks.now) c.args.withdrawn tells i none c.loop-tell-test.true c.loop-tell.invariant.may;
     }

@@ -10,7 +10,8 @@ abbrev pub invariant-loop-tell : goal.invariant-loop-tell
 invariant-loop-tell l = let w : Wiring = record { loopbacks = l.loopbacks; ends = l.ends } in record {
   said : map pdu_of l.out.items ++ pdus_by w l.me.0 l.withdrawn l.sessions.items (flat_map (said_by_tell w l.me.0) (drop l.tell-index l.tells))
       ≡ map pdu_of l.fn.out.items ++ pdus_by w l.me.0 l.withdrawn l.fn.sessions.items (flat_map (said_by_tell w l.me.0) l.tells);
-  counted : ends_after l.sessions.items (flat_map (said_by_tell w l.me.0) (drop l.tell-index l.tells)) ≡ ends_after l.fn.sessions.items (flat_map (said_by_tell w l.me.0) l.tells);
+  counted : ends_after l.sessions.items (flat_map (said_by_tell w l.me.0) (drop l.tell-index l.tells)) ≡ ends_after l.fn.sessions.items
+      (flat_map (said_by_tell w l.me.0) l.tells);
   one_each : length l.sessions.items ≡ length l.ends;
   may : MayTell (length l.loopbacks) l.withdrawn (drop l.tell-index l.tells);
 }

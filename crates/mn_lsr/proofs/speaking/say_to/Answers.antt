@@ -18,17 +18,24 @@ loop-at-preserved c =
     let below = c.loop-at-test.true in
     elim c.if-joins.branch [
       | then-joins+in_ok-say b ↦ record {
-        said = said-here w me to message at below c.args.withdrawn (map pdu_of c.loop-at.out.items) (map pdu_of c.if-joins.out.items) c.loop-at.sessions.items c.if-joins.sessions.items
-            (sym c.joins.ensures ∙ b.if-joins.true) (ap (λ v. map pdu_of v.items) b.out-is ∙ b.in_ok-say.ensures.said) (ap (λ v. v.items) b.sessions-is ∙ b.in_ok-say.ensures.counted)
+        said = said-here w me to message at below c.args.withdrawn (map pdu_of c.loop-at.out.items)
+            (map pdu_of c.if-joins.out.items) c.loop-at.sessions.items c.if-joins.sessions.items
+            (sym c.joins.ensures ∙ b.if-joins.true) (ap (λ v. map pdu_of v.items) b.out-is ∙ b.in_ok-say.ensures.said)
+            (ap (λ v. v.items) b.sessions-is ∙ b.in_ok-say.ensures.counted)
             ∙ c.loop-at.invariant.said;
-        counted = ends-here w me to message at below c.loop-at.sessions.items c.if-joins.sessions.items (sym c.joins.ensures ∙ b.if-joins.true) (ap (λ v. v.items) b.sessions-is ∙ b.in_ok-say.ensures.counted)
+        counted =
+            ends-here w me to message at below c.loop-at.sessions.items c.if-joins.sessions.items (sym c.joins.ensures ∙ b.if-joins.true)
+            (ap (λ v. v.items) b.sessions-is ∙ b.in_ok-say.ensures.counted)
             ∙ c.loop-at.invariant.counted;
-        one_each = ap (λ v. length v.items) b.sessions-is ∙ ap length b.in_ok-say.ensures.counted ∙ length-set c.loop-at.sessions.items at _ ∙ c.loop-at.invariant.one_each;
+        one_each =
+            ap (λ v. length v.items) b.sessions-is ∙ ap length b.in_ok-say.ensures.counted ∙ length-set c.loop-at.sessions.items at _
+            ∙ c.loop-at.invariant.one_each;
       }
       | else-joins b ↦ record {
         said = ap (λ v. map pdu_of v.items ++ pdus_by w me c.args.withdrawn c.if-joins.sessions.items (said_from w me to message (at + 1))) b.out-is
             ∙ ap (λ v. map pdu_of c.loop-at.out.items ++ pdus_by w me c.args.withdrawn v.items (said_from w me to message (at + 1))) b.sessions-is
-            ∙ ap (λ xs. map pdu_of c.loop-at.out.items ++ pdus_by w me c.args.withdrawn c.loop-at.sessions.items xs) (sym (elsewhere w me to message at below (sym c.joins.ensures ∙ b.if-joins.false)))
+            ∙ ap (λ xs. map pdu_of c.loop-at.out.items ++ pdus_by w me c.args.withdrawn c.loop-at.sessions.items xs)
+            (sym (elsewhere w me to message at below (sym c.joins.ensures ∙ b.if-joins.false)))
             ∙ c.loop-at.invariant.said;
         counted = ap (λ v. ends_after v.items (said_from w me to message (at + 1))) b.sessions-is
             ∙ ap (ends_after c.loop-at.sessions.items) (sym (elsewhere w me to message at below (sym c.joins.ensures ∙ b.if-joins.false)))

@@ -9,8 +9,8 @@ records-init c = begins_by c.args.bytes.now c.in_ok-form.form _ (sym c.read_head
 pub returns-in_err-place-clause-reading : goal.returns-in_err-place-clause-reading
 returns-in_err-place-clause-reading c = let f = err_from_is_err_and c.from_residual-in_err-place.result c.from_residual-in_err-place.ensures.1 in
     answers_refusal c.from_residual-in_err-place.result f.0 _ f.1
-        (read_to c.args.bytes.now c.in_ok-form.form _ c.records.at f.0 (sym c.read_header.ensures ∙ c.in_ok-form.was)
-        (sym c.record_at.ensures.place ∙ c.in_err-place.was ∙ ap Err (sym f.2)) c.records-test.true c.records.invariant)
+    (read_to c.args.bytes.now c.in_ok-form.form _ c.records.at f.0 (sym c.read_header.ensures ∙ c.in_ok-form.was)
+    (sym c.record_at.ensures.place ∙ c.in_err-place.was ∙ ap Err (sym f.2)) c.records-test.true c.records.invariant)
 
 pub records-preserved : goal.records-preserved
 records-preserved c =

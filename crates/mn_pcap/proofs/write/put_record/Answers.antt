@@ -13,4 +13,4 @@ returns-clause-written c =
     in_turn c.extend_from_slice-2.result c.extend_from_slice-2.new.self.items c.extend_from_slice.new.self.items c.args.out.now.items
     (record_header c.args.tick (length c.args.bytes.now)) c.args.bytes.now
     c.extend_from_slice-2.ensures.items (c.in_ok-extend_from_slice.ensures.items ∙ ap (λ l. l ++ c.header_of_record.result) c.in_ok-reserve.ensures.items
-        ∙ ap (λ l. c.args.out.now.items ++ l) c.header_of_record.ensures)
+    ∙ ap (λ l. c.args.out.now.items ++ l) c.header_of_record.ensures)

@@ -7,9 +7,6 @@ use Rattle.mn_report.proofs.Rows.{no_pair_row, one_pair_row}
 use Rattle.mn_report.proofs.Standing.{of_topology}
 use Rattle.mn_report.proofs.bgp.put_pair.Goals as goal
 
-pub put_bgp-requires : goal.put_bgp-requires
-put_bgp-requires g c = record { a = rw c.topology.ensures c.requires.a; b = rw c.topology.ensures c.requires.b }
-
 pub returns-then-not-is_pair : goal.returns-then-not-is_pair
 returns-then-not-is_pair g c = tells_as _ _ _ _ _ (tells_nothing _)
     (no_pair_row c.args.net.now.topology (world_of c.args.net.now.topology c.args.net.now.journal) c.args.a.0 c.args.b.0

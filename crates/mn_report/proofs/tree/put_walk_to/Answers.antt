@@ -4,7 +4,7 @@ use Rattle.mn_ledger.specs.Transport.{view_of}
 use Rattle.mn_tables.proofs.Telling.{tells_as, tells_nothing}
 use Rattle.mn_base.proofs.Bools.{test_same, other_test}
 use Rattle.mn_report.proofs.Rows.{no_walk_row, one_walk_row}
-use Rattle.mn_report.proofs.Walks.{walk_told, hop_there}
+use Rattle.mn_report.proofs.Walks.{walk_told}
 use Rattle.mn_report.proofs.tree.put_walk_to.Goals as goal
 
 pub dist-dist-requires : goal.dist-dist-requires
@@ -12,16 +12,6 @@ dist-dist-requires g c = rw c.tree-tree.ensures.told.one_each.dists c.requires.t
 
 pub next-hop-requires : goal.next-hop-requires
 next-hop-requires g c = rw c.tree-tree.ensures.told.one_each.dists c.requires.to
-
-pub put_walk-requires : goal.put_walk-requires
-put_walk-requires g c = record {
-  node = rw c.topology-2.ensures c.requires.node;
-  to = rw c.topology-2.ensures c.requires.to;
-  hop = hop_there c.args.net.now.topology c.topology.result.now c.topology-2.result.now
-      (view_of (wiring_of c.args.net.now.topology) (world_of c.args.net.now.topology c.args.net.now.journal).views c.args.node.0) c.args.node.0 c.args.to.0
-      c.tree-tree.result.now c.next-hop.result
-      c.topology.ensures c.topology-2.ensures c.laws.ensures c.tree-tree.ensures.told c.requires.to c.if-to-node.false c.next-hop.ensures.value;
-}
 
 pub returns-then-to-node : goal.returns-then-to-node
 returns-then-to-node g c = tells_as _ _ _ _ _ (tells_nothing _)

@@ -41,7 +41,7 @@ returns-clause-course g c = λ all told.
     rw c.arrived_by.ensures
     (one_arrives c.args.arrivals c.args.item c.args.net.now c.set_clock.new.net c.step-stepped.new.self c.delivery-step.result c.step-stepped.result
     c.finish-played.result c.set_clock.ensures.past c.delivery-step.ensures answer c.step-stepped.ensures.longer
-        (leaves _ _ _ c.step-stepped.ensures.left c.step-stepped.ensures.for_good)
+    (leaves _ _ _ c.step-stepped.ensures.left c.step-stepped.ensures.for_good)
     c.finish-played.ensures.ended)
 
 pub returns-clause-after : goal.returns-clause-after

@@ -31,7 +31,7 @@ returns-clause-after g c =
     after_step c.step-stepped.result c.finish.result c.args.net.now c.step-stepped.new.self (g.W.Watch.packets c.args.watch.now)
     (g.W.Watch.stands c.args.watch.now) (g.W.Watch.stands c.finish.new.watch)
     (g.W.Watch.begins c.finish.new.watch) c.requires.together
-        (leaves _ _ _ c.step-stepped.ensures.left c.step-stepped.ensures.for_good) c.finish.ensures.ended c.finish.ensures.after
+    (leaves _ _ _ c.step-stepped.ensures.left c.step-stepped.ensures.for_good) c.finish.ensures.ended c.finish.ensures.after
     (err_then c.step-stepped.result _ _ c.finish.ensures.untouched (λ same t j i s. subst (λ w. g.W.Watch.stands w t j i) (sym same) s))
     (err_then c.step-stepped.result _ _ c.finish.ensures.untouched
     (λ same t j i s. subst (λ w. g.W.Watch.begins w t j i) (sym same) (g.met.W.Watch.begun c.args.watch.now t j i s)))

@@ -13,9 +13,13 @@ lines-preserved c =
       same = grind (arith, common_steps, before_both, said);
       fits = subst (AllFit c.args.topology.now) (sym c.in_ok-put-in-Ok.ensures)
           (fits_more c.args.topology.now c.lines.script.items c.lines.number c.in-Ok.said c.lines.invariant.fits c.in-Ok.ensures.fits);
-      few = omega
-          (arith, few_more c.lines.script.items c.lines.number c.in-Ok.said, ap length c.in_ok-put-in-Ok.ensures, ap length c.in-Some.ensures.first,
-          c.lines.invariant.few);
+      few = omega (
+        arith,
+        few_more c.lines.script.items c.lines.number c.in-Ok.said,
+        ap length c.in_ok-put-in-Ok.ensures,
+        ap length c.in-Some.ensures.first,
+        c.lines.invariant.few,
+      );
     }
 
 pub returns-in-Err-clause-value : goal.returns-in-Err-clause-value

@@ -23,10 +23,10 @@ loop-number-preserved c =
     elim c.if-up.branch [
       | then-up+in_ok-add+in_ok-add-2 w ↦
           subst (AreBelow v (k + 1))
-              (sym (ap (λ ls. ls.items) w.lists-is ∙ w.in_ok-add-2.ensures ∙ ap (λ (ls : List (List LinkNo)). put ls b (number k)) w.in_ok-add.ensures))
+          (sym (ap (λ ls. ls.items) w.lists-is ∙ w.in_ok-add-2.ensures ∙ ap (λ (ls : List (List LinkNo)). put ls b (number k)) w.in_ok-add.ensures))
           (up_below v k here (sym c.up.ensures ∙ w.if-up.true) a b (ap (λ (e : LinkEnds). e.a.0) is) (ap (λ (e : LinkEnds). e.b.0) is) c.loop-number.lists.items
           (omega (arith, (net.links k zero here).from, ap (λ (e : LinkEnds). e.a.0) is, c.loop-number.invariant.one_each))
-              (omega (arith, (net.links k zero here).to, ap (λ (e : LinkEnds). e.b.0) is, c.loop-number.invariant.one_each)) c.loop-number.invariant)
+          (omega (arith, (net.links k zero here).to, ap (λ (e : LinkEnds). e.b.0) is, c.loop-number.invariant.one_each)) c.loop-number.invariant)
       | else-up w ↦ subst (λ ls. AreBelow v (k + 1) ls.items) (sym w.lists-is)
           (down_below v k here c.loop-number.lists.items (sym c.up.ensures ∙ w.if-up.false) c.loop-number.invariant)
     ]
@@ -34,4 +34,4 @@ loop-number-preserved c =
 pub returns-clause-links : goal.returns-clause-links
 returns-clause-links c =
     all_below c.args.view.now c.loop-number.number c.loop-number.lists.items (let e = ap (λ (es : List LinkEnds). length es) c.ends-links.ensures.value in
-        omega (arith, e, c.loop-number-test.false)) c.loop-number.invariant
+    omega (arith, e, c.loop-number-test.false)) c.loop-number.invariant

@@ -19,7 +19,7 @@ entries-preserved c =
     let bytes : IsBytes rest = rw c.entries.invariant.rest (IsBytes-drop (4 * c.entries.depth) c.args.bytes.now whole) in
     let further : take (length rest - 4) (drop 4 rest) ≡ drop 4 rest = take_rest rest 4 in
     let long : length rest ≡ length c.args.bytes.now - 4 * c.entries.depth =
-        ap length c.entries.invariant.rest ∙ length-drop (4 * c.entries.depth) c.args.bytes.now in
+    ap length c.entries.invariant.rest ∙ length-drop (4 * c.entries.depth) c.args.bytes.now in
     record {
       there = omega arith;
       rest = further ∙ rest-further c.entries.depth rest c.args.bytes.now c.entries.invariant.rest;

@@ -12,8 +12,8 @@ returns-in-Err c =
     let entries = tables_of (items_view (drop (c.loop-value.value-index + 1) c.args.values.now)) in
     sym c.loop-value.invariant.rest
     ∙ ap (λ ts. nodes_from ts c.loop-value.nodes)
-        (tables_of-drop c.args.values.now c.loop-value.value-index c.value-item.result
-        (table_view c.in-Some.entry.now) c.loop-value-test.true c.value-item.is c.in-Some.ensures)
+    (tables_of-drop c.args.values.now c.loop-value.value-index c.value-item.result
+    (table_view c.in-Some.entry.now) c.loop-value-test.true c.value-item.is c.in-Some.ensures)
     ∙ ap (λ rule. unless_broken rule (Node (length c.loop-value.nodes.names))
-        (nodes_from entries (with_node c.loop-value.nodes (table_view c.in-Some.entry.now)))) c.in-Err.ensures
+    (nodes_from entries (with_node c.loop-value.nodes (table_view c.in-Some.entry.now)))) c.in-Err.ensures
     ∙ ap (λ n. Err (c.in-Err.rule, Node n)) (sym (c.len.ensures.value ∙ ap (λ names. length names) c.names.ensures))

@@ -14,8 +14,8 @@ returns-in-Err c =
     let broken : vrf_rule nodes c.loop-value.vrfs (table_view c.in-Some.entry.now) ≡ Some c.in-Err.rule = rw c.in-Err.is at c.in_ok-name.ensures in
     sym c.loop-value.invariant.rest
     ∙ ap (λ ts. vrfs_from nodes ts c.loop-value.vrfs)
-        (tables_of-drop c.args.values.now c.loop-value.value-index c.value-item.result
-        (table_view c.in-Some.entry.now) c.loop-value-test.true c.value-item.is c.in-Some.ensures)
+    (tables_of-drop c.args.values.now c.loop-value.value-index c.value-item.result
+    (table_view c.in-Some.entry.now) c.loop-value-test.true c.value-item.is c.in-Some.ensures)
     ∙ ap (λ rule. unless_broken rule (Vrf (length c.loop-value.vrfs.names))
-        (vrfs_from nodes entries (with_vrf nodes c.loop-value.vrfs (table_view c.in-Some.entry.now)))) broken
+    (vrfs_from nodes entries (with_vrf nodes c.loop-value.vrfs (table_view c.in-Some.entry.now)))) broken
     ∙ ap (λ n. Err (c.in-Err.rule, Vrf n)) (sym (c.len.ensures.value ∙ ap (λ names. length names) c.names.ensures))

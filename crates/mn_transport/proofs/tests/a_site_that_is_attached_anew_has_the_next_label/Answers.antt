@@ -10,9 +10,15 @@ use Rattle.mn_transport.proofs.tests.a_site_that_is_attached_anew_has_the_next_l
 pub detach-requires : goal.detach-requires
 detach-requires g c =
     let there : 0 < length c.in_ok-topology.topology.sites = search rules in
-    record { may =
-        λ works. record { journal = []; stands = c.in_ok-transport.ensures.stands; turn =
-        may-be-detached c.in_ok-topology.topology (record { 0 = 0 }) there } }
+    record {
+      may =
+          λ works. record {
+            journal = [];
+            stands = c.in_ok-transport.ensures.stands;
+            turn =
+                may-be-detached c.in_ok-topology.topology (record { 0 = 0 }) there;
+          };
+    }
 
 pub attach-requires : goal.attach-requires
 attach-requires g c =
@@ -35,5 +41,5 @@ node-requires-3 g c =
     let some : 0 < length c.in_ok-transport.transport.nodes = slice_get_within c.in_ok-transport.transport.nodes 0 c.node.result.now c.node.ensures in
     let stands : IsTransport t (pushed (pushed [] 0 (step.Detach a)) 0 (step.Attach a)) c.attach.new.self =
     c.in_ok-label.ensures.goes (pushed [] 0 (step.Detach a)) 0 (c.detach.ensures.goes [] 0 c.in_ok-transport.ensures.stands (may-be-detached t a there))
-        (may-be-attached t c.laws.ensures 0 a there) in
+    (may-be-attached t c.laws.ensures 0 a there) in
     omega (arith, stands.each, c.in_ok-transport.ensures.stands.each, some)

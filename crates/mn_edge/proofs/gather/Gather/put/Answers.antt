@@ -58,13 +58,13 @@ returns-in_err-end-clause-part g c = on_err c.from_residual-in_err-end.result _ 
     let here : c.args.file < length c.loop-rest.self = rw i.files c.requires.file in
     let held : HoldsOn names (grown contents c.args.file (i.done ++ front)) c.hold.new.self (g.S.Shelf.files c.loop-rest.shelf) =
     rw (c.in_ok-hold.ensures.ok, ← grown_twice contents c.args.file i.done front)
-        (more_held names (grown contents c.args.file i.done) c.loop-rest.self c.args.file front _ here (i.kept contents holds)) in
+    (more_held names (grown contents c.args.file i.done) c.loop-rest.self c.args.file front _ here (i.kept contents holds)) in
     let all : (i.done ++ front) ++ c.split_at.result.1.now ≡ c.args.piece.now =
-        append_assoc i.done front c.split_at.result.1.now
-        ∙ ap (λ l. i.done ++ l) ((λ i. c.split_at.ensures.front i ++ c.split_at.ensures.back i) ∙ take-append-drop _ c.loop-rest.rest.now) ∙ i.piece in
+    append_assoc i.done front c.split_at.result.1.now
+    ∙ ap (λ l. i.done ++ l) ((λ i. c.split_at.ensures.front i ++ c.split_at.ensures.back i) ∙ take-append-drop _ c.loop-rest.rest.now) ∙ i.piece in
     subst (λ p. BeginsOn names (grown contents c.args.file p) (g.S.Shelf.files c.end.new.shelf)) all
     (grown_part contents c.args.file (i.done ++ front) c.split_at.result.1.now _ _
-        (c.in_err-end.ensures.part (grown contents c.args.file (i.done ++ front)) held)))
+    (c.in_err-end.ensures.part (grown contents c.args.file (i.done ++ front)) held)))
 
 pub returns-in_err-end-clause-framed : goal.returns-in_err-end-clause-framed
 returns-in_err-end-clause-framed g c = framed_both _ _ _ _ c.loop-rest.invariant.framed c.in_err-end.ensures.framed
@@ -93,10 +93,10 @@ loop-rest-preserved g c =
     let front = c.split_at.result.0.now in
     let here : c.args.file < length c.loop-rest.self = rw i.files c.requires.file in
     let rejoined : front ++ c.split_at.result.1.now ≡ c.loop-rest.rest.now =
-        (λ i. c.split_at.ensures.front i ++ c.split_at.ensures.back i) ∙ take-append-drop _ c.loop-rest.rest.now in
+    (λ i. c.split_at.ensures.front i ++ c.split_at.ensures.back i) ∙ take-append-drop _ c.loop-rest.rest.now in
     let full : (held_bytes c.args.self.now + length c.args.piece.now ≤ 65536) → ⊥ = λ h.
     let room = c.room.ensures in let same = ap held_bytes c.self.view_is in let test = c.loop-rest-test.true in let a = ap held_bytes (i.held h) in let b =
-        ap length (i.rest h) in omega (arith, room, same, test, a, b, h) in
+    ap length (i.rest h) in omega (arith, room, same, test, a, b, h) in
     record {
       files = ap length c.in_ok-end.ensures.ended ∙ none_held-files _ ∙ ap length c.in_ok-hold.ensures.ok ∙ files_same _ _ _ ∙ i.files;
       done = i.done ++ front;
@@ -104,7 +104,7 @@ loop-rest-preserved g c =
       kept = λ contents holds.
           let held : HoldsOn names (grown contents c.args.file (i.done ++ front)) c.hold.new.self (g.S.Shelf.files c.loop-rest.shelf) =
           rw (c.in_ok-hold.ensures.ok, ← grown_twice contents c.args.file i.done front)
-              (more_held names (grown contents c.args.file i.done) c.loop-rest.self c.args.file front _ here (i.kept contents holds)) in
+          (more_held names (grown contents c.args.file i.done) c.loop-rest.self c.args.file front _ here (i.kept contents holds)) in
           c.in_ok-end.ensures.kept (grown contents c.args.file (i.done ++ front)) held;
       framed = framed_both _ _ _ _ i.framed c.in_ok-end.ensures.framed;
       shelf = λ h. absurd (full h);
@@ -120,7 +120,7 @@ returns-clause-grown g c = ok_then c.hold-2.result _ _ c.hold-2.ensures.ok (λ o
     let names = texts c.args.names.now in
     let here : c.args.file < length c.loop-rest.self = rw i.files c.requires.file in
     rw (ok, ← i.piece, ← grown_twice contents c.args.file i.done c.loop-rest.rest.now)
-        (more_held names (grown contents c.args.file i.done) c.loop-rest.self c.args.file c.loop-rest.rest.now _ here (i.kept contents holds)))
+    (more_held names (grown contents c.args.file i.done) c.loop-rest.self c.args.file c.loop-rest.rest.now _ here (i.kept contents holds)))
 
 pub returns-clause-part : goal.returns-clause-part
 returns-clause-part g c = on_err c.hold-2.result _ (λ contents holds.
@@ -134,7 +134,7 @@ returns-clause-room g c =
     let here : c.args.file < length c.loop-rest.self = rw i.files c.requires.file in
     either c.hold-2.result _ _ _ c.hold-2.ensures.ok c.hold-2.ensures.err
     (λ ok. let more = ap held_bytes ok ∙ bytes_more c.loop-rest.self c.args.file c.loop-rest.rest.now here in let room = c.room.ensures in let same =
-        ap held_bytes c.self.view_is in let test = c.loop-rest-test.false in omega (arith, more, room, same, test))
+    ap held_bytes c.self.view_is in let test = c.loop-rest-test.false in omega (arith, more, room, same, test))
     (λ err. let none = ap held_bytes err ∙ none_held-bytes c.loop-rest.self in omega (arith, none))
 
 pub returns-clause-dropped : goal.returns-clause-dropped

@@ -12,7 +12,7 @@ pub returns : goal.returns
 returns c =
     (λ i. all_waiting (c.clear.ensures.items i) (c.clear-2.ensures.items i) (c.fill.ensures.items (λ y h. h) i))
     ∙ none_waiting _
-        ∙ ap (λ n. replicate n [])
-        (c.self.inside.last.ok.0
-        ∙ sym (length-map c.self.inside.last.items (waiting c.self.inside.bytes.items c.self.inside.segments.items (length c.self.inside.segments.items))))
+    ∙ ap (λ n. replicate n [])
+    (c.self.inside.last.ok.0
+    ∙ sym (length-map c.self.inside.last.items (waiting c.self.inside.bytes.items c.self.inside.segments.items (length c.self.inside.segments.items))))
     ∙ sym (none_held_is _) ∙ ap none_held c.self.view_is

@@ -13,11 +13,11 @@ overflow_sub-at c =
     let last = c.self.inside.last.items in
     let whole = waiting bytes segments (length segments) (get_or last c.args.file 0) in
     let file : c.args.file < length last =
-        subst (λ l. c.args.file < l) (ap length (sym c.self.view_is) ∙ length-map last (waiting bytes segments (length segments))) c.requires.file in
+    subst (λ l. c.args.file < l) (ap length (sym c.self.view_is) ∙ length-map last (waiting bytes segments (length segments))) c.requires.file in
     let fits : length whole ≤ length c.loop-number.buf = let w = waiting_within bytes segments last c.args.file c.self.invariant file in let r =
-        c.requires.buf in let b = c.loop-number.auto.buf in omega (arith, w, r, b) in
+    c.requires.buf in let b = c.loop-number.auto.buf in omega (arith, w, r, b) in
     let on = copies_on bytes segments last c.loop-number.number c.loop-number.at c.loop-number.buf whole c.index-segment.result.now c.self.invariant
-        c.loop-number-test.true c.loop-number.invariant.there c.index-segment.ensures c.loop-number.invariant.within fits c.loop-number.invariant.copied in
+    c.loop-number-test.true c.loop-number.invariant.there c.index-segment.ensures c.loop-number.invariant.within fits c.loop-number.invariant.copied in
     rw c.deref.ensures.value on.room
 
 pub loop-number-preserved : goal.loop-number-preserved
@@ -28,21 +28,21 @@ loop-number-preserved c =
     let whole = waiting bytes segments (length segments) (get_or last c.args.file 0) in
     let s = c.index-segment.result.now in
     let file : c.args.file < length last =
-        subst (λ l. c.args.file < l) (ap length (sym c.self.view_is) ∙ length-map last (waiting bytes segments (length segments))) c.requires.file in
+    subst (λ l. c.args.file < l) (ap length (sym c.self.view_is) ∙ length-map last (waiting bytes segments (length segments))) c.requires.file in
     let fits : length whole ≤ length c.loop-number.buf = let w = waiting_within bytes segments last c.args.file c.self.invariant file in let r =
-        c.requires.buf in let b = c.loop-number.auto.buf in omega (arith, w, r, b) in
+    c.requires.buf in let b = c.loop-number.auto.buf in omega (arith, w, r, b) in
     let on = copies_on bytes segments last c.loop-number.number c.loop-number.at c.loop-number.buf whole s c.self.invariant c.loop-number-test.true
-        c.loop-number.invariant.there c.index-segment.ensures c.loop-number.invariant.within fits c.loop-number.invariant.copied in
+    c.loop-number.invariant.there c.index-segment.ensures c.loop-number.invariant.within fits c.loop-number.invariant.copied in
     let piece : List ℕ = take (s.end - s.from) (drop s.from c.deref.result.now) in
     let its : piece ≡ piece_of bytes s = ap (λ l. take (s.end - s.from) (drop s.from l)) c.deref.ensures.value in
     let n : length piece ≡ length (piece_of bytes s) = ap length its in
     let room = on.room in
     let within = c.loop-number.invariant.within in
     let copied : drop (c.loop-number.at - length piece)
-        (put_mid (c.loop-number.at - length piece) ((c.loop-number.at - length piece + length piece) - (c.loop-number.at - length piece)) c.loop-number.buf
-        c.copy_from_slice.new.self) ≡ piece_of bytes s ++ drop c.loop-number.at c.loop-number.buf =
+    (put_mid (c.loop-number.at - length piece) ((c.loop-number.at - length piece + length piece) - (c.loop-number.at - length piece)) c.loop-number.buf
+    c.copy_from_slice.new.self) ≡ piece_of bytes s ++ drop c.loop-number.at c.loop-number.buf =
     drop-put (c.loop-number.at - length piece) c.loop-number.at ((c.loop-number.at - length piece + length piece) - (c.loop-number.at - length piece))
-        c.loop-number.buf c.copy_from_slice.new.self (omega (arith, n, room)) within
+    c.loop-number.buf c.copy_from_slice.new.self (omega (arith, n, room)) within
     ∙ ap (λ l. l ++ drop c.loop-number.at c.loop-number.buf) (c.copy_from_slice.ensures.after ∙ its) in
     record {
       within = length_put (c.loop-number.at - length piece) ((c.loop-number.at - length piece + length piece) - (c.loop-number.at - length piece))
@@ -57,9 +57,9 @@ returns-clause-copied c =
     let segments = c.self.inside.segments.items in
     let last = c.self.inside.last.items in
     let file : c.args.file < length last =
-        subst (λ l. c.args.file < l) (ap length (sym c.self.view_is) ∙ length-map last (waiting bytes segments (length segments))) c.requires.file in
+    subst (λ l. c.args.file < l) (ap length (sym c.self.view_is) ∙ length-map last (waiting bytes segments (length segments))) c.requires.file in
     let none : c.loop-number.number ≡ 0 = let t = c.loop-number-test.false in omega (arith, t) in
     ap (λ l. l ++ drop c.loop-number.at c.loop-number.buf)
-        (sym (ap (waiting bytes segments (length segments)) none ∙ waiting_none bytes segments (length segments)))
+    (sym (ap (waiting bytes segments (length segments)) none ∙ waiting_none bytes segments (length segments)))
     ∙ c.loop-number.invariant.copied ∙ sym (get_or-map (waiting bytes segments (length segments)) last c.args.file 0 [] file)
-        ∙ ap (λ h. held_for h c.args.file) c.self.view_is
+    ∙ ap (λ h. held_for h c.args.file) c.self.view_is

@@ -14,10 +14,10 @@ kept-none {T = T} piece (Err e) h = ap (λ e. kept {T = T} piece (Err e)) h
 pub returns-in_err-extend-clause-files : goal.returns-in_err-extend-clause-files
 returns-in_err-extend-clause-files c =
     c.in_err-extend.ensures.err ∙ ap (λ s. s.files) c.self.view_is ∙ sym (extended-nil c.args.self.now.files c.args.name.now)
-        ∙ ap (extended c.args.self.now.files c.args.name.now) (sym (kept-none c.args.piece.now c.from_residual.result c.from_residual.ensures.1))
+    ∙ ap (extended c.args.self.now.files c.args.name.now) (sym (kept-none c.args.piece.now c.from_residual.result c.from_residual.ensures.1))
 
 pub returns-in_err-extend-2-clause-files : goal.returns-in_err-extend-2-clause-files
 returns-in_err-extend-2-clause-files c =
     c.in_err-extend-2.ensures.err ∙ ap (λ s. s.files) c.self.view_is ∙ sym (extended-nil c.args.self.now.files c.args.name.now)
     ∙ ap (extended c.args.self.now.files c.args.name.now)
-        (sym (kept-none c.args.piece.now c.from_residual-in_err-extend-2.result c.from_residual-in_err-extend-2.ensures.1))
+    (sym (kept-none c.args.piece.now c.from_residual-in_err-extend-2.result c.from_residual-in_err-extend-2.ensures.1))

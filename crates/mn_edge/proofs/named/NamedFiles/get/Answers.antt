@@ -9,7 +9,7 @@ pub returns-in-Some : goal.returns-in-Some
 returns-in-Some c =
     let at : IsAt (pairs c.self.inside.entries.items) c.args.name.now c.in-Some.i = rw c.deref.ensures.value at c.in-Some.ensures.found in
     ap Some c.deref-in-Some.ensures.value ∙ sym (files_of-at c.self.inside.entries.items c.in-Some.i c.index.result.now c.args.name.now at c.index.ensures)
-        ∙ ap (λ m. file m c.args.name.now) c.self.view_is
+    ∙ ap (λ m. file m c.args.name.now) c.self.view_is
 
 pub returns-in-None : goal.returns-in-None
 returns-in-None c =

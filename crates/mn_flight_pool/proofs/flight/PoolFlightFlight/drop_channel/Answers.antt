@@ -13,7 +13,7 @@ loop-node-preserved-in-Some g c =
       items =
           ap (λ l. off_channel c.args.channel l) c.take.ensures.items
           ∙ off_without (length pool.heads.items) c.args.channel (items_of pool) (flight pool c.loop-node.invariant.whole) c.take.result
-              (c.take.ensures.value ∙ c.in-Some.ensures.1) ∙ c.loop-node.invariant.items;
+          (c.take.ensures.value ∙ c.in-Some.ensures.1) ∙ c.loop-node.invariant.items;
       channels = ap (λ v. vec_len v) c.take.ensures.channels ∙ c.loop-node.invariant.channels;
       spare = omega (arith, c.take.ensures.spare, c.take.ensures.length, c.loop-node.invariant.spare);
     }
@@ -22,4 +22,4 @@ pub returns-clause-items : goal.returns-clause-items
 returns-clause-items g c =
     let pool = c.loop-node.self-inside.pool in
     sym (off_all (length pool.heads.items) c.args.channel (items_of pool) (flight pool c.loop-node.invariant.whole) (sym c.in_default.ensures))
-        ∙ c.loop-node.invariant.items
+    ∙ c.loop-node.invariant.items

@@ -13,7 +13,7 @@ returns-clause-whole g c =
           c.push.new.self.items heads;
       counted =
           channel_counted c.args.self.now c.requires.whole c.in_ok-first.first c.add.new.self added fresh c.requires.count c.lone.new.self c.lone.ensures
-              c.push-2.new.self.items (length c.push.new.self.items) counts
+          c.push-2.new.self.items (length c.push.new.self.items) counts
           (ap (λ l. length l) heads ∙ length-append c.args.self.now.heads.items (c.in_ok-first.first ∷ []));
       by_due = channel_by_due c.args.self.now c.requires.whole c.in_ok-first.first c.add.new.self added fresh c.requires.count c.lone.new.self c.lone.ensures;
       room = c.requires.whole.room;

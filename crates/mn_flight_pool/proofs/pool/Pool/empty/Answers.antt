@@ -6,7 +6,7 @@ use Rattle.mn_flight_pool.proofs.pool.Pool.empty.Goals as goal
 pub returns-clause-whole : goal.returns-clause-whole
 returns-clause-whole g c =
     let added : IsVacantFirst c.in_ok-head.head.ptr [] c.add.new.self =
-        subst (λ o. IsVacantFirst c.in_ok-head.head.ptr o c.add.new.self) c.new-store.ensures (c.in_ok-head.ensures).ok in
+    subst (λ o. IsVacantFirst c.in_ok-head.head.ptr o c.add.new.self) c.new-store.ensures (c.in_ok-head.ensures).ok in
     record {
       held = empty_held c.in_ok-head.head.ptr c.add.new.self c.lone.new.self c.lone-2.new.self added c.lone.ensures c.lone-2.ensures c.new.result.items
           c.new-4.result.items c.new.ensures.items c.new-4.ensures.items;

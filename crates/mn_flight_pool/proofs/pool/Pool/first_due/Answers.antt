@@ -11,10 +11,10 @@ pub returns-then-item-limit : goal.returns-then-item-limit
 returns-then-item-limit g c =
     let some : 0 < c.args.self.now.count = omega (arith, c.if-self-eq0.false) in
     first_due c.args.self.now c.requires some c.args.limit c.next-node.result.ptr c.next-node.ensures c.in_ok-item.item.now c.in_ok-item.ensures
-        c.if-item-limit.true
+    c.if-item-limit.true
 
 pub returns-else-item-limit : goal.returns-else-item-limit
 returns-else-item-limit g c =
     let some : 0 < c.args.self.now.count = omega (arith, c.if-self-eq0.false) in
     later_due c.args.self.now c.requires some c.args.limit c.next-node.result.ptr c.next-node.ensures c.in_ok-item.item.now c.in_ok-item.ensures
-        c.if-item-limit.false
+    c.if-item-limit.false

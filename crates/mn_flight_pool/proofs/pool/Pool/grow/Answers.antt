@@ -8,20 +8,45 @@ returns-clause-whole g c =
     let added = (c.in_ok-node.ensures).ok in
     let fresh = (c.in_ok-node.ensures).fresh in
     let pushed : c.push.new.self.items ≡ c.args.self.now.free.items ++ c.in_ok-node.node ∷ [] =
-        grind (arith, common_steps, c.push.ensures.items, c.push.ensures.succeeds, c.push.ensures.lower_bound, c.in_ok-reserve.ensures,
-        c.reserve.ensures.items) in
+    grind (
+      arith,
+      common_steps,
+      c.push.ensures.items,
+      c.push.ensures.succeeds,
+      c.push.ensures.lower_bound,
+      c.in_ok-reserve.ensures,
+      c.reserve.ensures.items,
+    ) in
     record {
       held = grown_held c.args.self.now c.requires c.in_ok-node.node c.add.new.self added fresh c.push.new.self.items pushed;
       counted = grown_counted c.args.self.now c.requires c.in_ok-node.node c.add.new.self added fresh;
       by_due =
           let same : c.reserve-2.new.self.items ≡ c.args.self.now.ticks.items = c.reserve-2.ensures.items in
           rw same (grown_by_due c.args.self.now c.requires c.in_ok-node.node c.add.new.self added fresh);
-      room = grind
-          (arith, common_steps, c.requires.room, c.push.ensures.capacity, c.push.ensures.len, c.push.ensures.upper_bound, c.in_ok-reserve.ensures,
-          c.reserve.ensures, c.in-Some.ensures);
+      room = grind (
+        arith,
+        common_steps,
+        c.requires.room,
+        c.push.ensures.capacity,
+        c.push.ensures.len,
+        c.push.ensures.upper_bound,
+        c.in_ok-reserve.ensures,
+        c.reserve.ensures,
+        c.in-Some.ensures,
+      );
       ticks_room =
-          grind (arith, common_steps, c.requires.ticks_room, c.push.ensures.upper_bound, c.in_ok-reserve-2.ensures, c.reserve-2.ensures,
-          c.reserve.ensures.len, c.in-Some.ensures, c.in-Some-checked_add.ensures, c.len.ensures);
+          grind (
+            arith,
+            common_steps,
+            c.requires.ticks_room,
+            c.push.ensures.upper_bound,
+            c.in_ok-reserve-2.ensures,
+            c.reserve-2.ensures,
+            c.reserve.ensures.len,
+            c.in-Some.ensures,
+            c.in-Some-checked_add.ensures,
+            c.len.ensures,
+          );
     }
 
 pub returns-clause-items : goal.returns-clause-items

@@ -13,7 +13,7 @@ pub returns-in_err-first : goal.returns-in_err-first
 returns-in_err-first g c =
     rw c.from_residual.ensures
     (no_channel c.args.self.now c.requires c.args.channel c.args.place
-        (subst (λ (l : List Place). length l ≤ c.args.channel) c.deref.ensures.value c.in_err-first.ensures.lookup.3))
+    (subst (λ (l : List Place). length l ≤ c.args.channel) c.deref.ensures.value c.in_err-first.ensures.lookup.3))
 
 pub returns-then-place-count : goal.returns-then-place-count
 returns-then-place-count g c =
@@ -23,9 +23,11 @@ pub forth-requires : goal.forth-requires
 forth-requires g c =
     let at = c.in_ok-first.ensures.lookup.3 in
     let below : c.args.channel < length c.args.self.now.heads.items = subst (λ (l : List Place). c.args.channel < length l) c.deref.ensures.value at.0 in
-    let read = at.1 c.in_ok-first.field-0.now ∙ ap (λ (l : List Place). slice_index_or l c.args.channel c.in_ok-first.field-0.now) c.deref.ensures.value in
-    (nodes_on c.args.self.now.store c.args.channel (order_in c.args.self.now), channel_ring c.args.self.now c.requires c.args.channel
-        c.in_ok-first.field-0.now below read)
+    let read = at.1 c.in_ok-first.field-0.now ∙ ap (λ (l : List Place). slice_index_or l c.args.channel c.in_ok-first.field-0.now) c.deref.ensures.value in (
+      nodes_on c.args.self.now.store c.args.channel (order_in c.args.self.now),
+      channel_ring c.args.self.now c.requires c.args.channel
+          c.in_ok-first.field-0.now below read,
+    )
 
 pub returns-then-place-count-2 : goal.returns-then-place-count-2
 returns-then-place-count-2 g c =
@@ -33,7 +35,7 @@ returns-then-place-count-2 g c =
     let below : c.args.channel < length c.args.self.now.heads.items = subst (λ (l : List Place). c.args.channel < length l) c.deref.ensures.value at.0 in
     let read = at.1 c.in_ok-first.field-0.now ∙ ap (λ (l : List Place). slice_index_or l c.args.channel c.in_ok-first.field-0.now) c.deref.ensures.value in
     let there : c.args.place < length (on_channel c.args.channel (items_of c.args.self.now)) =
-        omega (arith, c.if-place-count.false, c.from-place.ensures, c.count_on-count.ensures) in
+    omega (arith, c.if-place-count.false, c.from-place.ensures, c.count_on-count.ensures) in
     forth_placed c.args.self.now c.requires c.args.channel c.in_ok-first.field-0.now below read c.args.place c.forth.result.ptr
     (c.forth.ensures ∙ ap (λ n. steps_of (next_of Channel c.args.self.now.store) c.in_ok-first.field-0.now.ptr (n + 1)) c.from-place.ensures) there
 
@@ -41,9 +43,11 @@ pub back-requires : goal.back-requires
 back-requires g c =
     let at = c.in_ok-first.ensures.lookup.3 in
     let below : c.args.channel < length c.args.self.now.heads.items = subst (λ (l : List Place). c.args.channel < length l) c.deref.ensures.value at.0 in
-    let read = at.1 c.in_ok-first.field-0.now ∙ ap (λ (l : List Place). slice_index_or l c.args.channel c.in_ok-first.field-0.now) c.deref.ensures.value in
-    (nodes_on c.args.self.now.store c.args.channel (order_in c.args.self.now), channel_ring c.args.self.now c.requires c.args.channel
-        c.in_ok-first.field-0.now below read)
+    let read = at.1 c.in_ok-first.field-0.now ∙ ap (λ (l : List Place). slice_index_or l c.args.channel c.in_ok-first.field-0.now) c.deref.ensures.value in (
+      nodes_on c.args.self.now.store c.args.channel (order_in c.args.self.now),
+      channel_ring c.args.self.now c.requires c.args.channel
+          c.in_ok-first.field-0.now below read,
+    )
 
 pub returns : goal.returns
 returns g c =
@@ -53,5 +57,5 @@ returns g c =
     let there : c.args.place < c.count_on-count.result = omega (arith, c.if-place-count.false, c.from-place.ensures) in
     back_placed c.args.self.now c.requires c.args.channel c.in_ok-first.field-0.now below read c.args.place c.count_on-count.result c.back.result.ptr
     (c.back.ensures
-        ∙ ap (λ n. steps_of (prev_of Channel c.args.self.now.store) c.in_ok-first.field-0.now.ptr (c.count_on-count.result - n)) c.from-place.ensures)
-        c.count_on-count.ensures there
+    ∙ ap (λ n. steps_of (prev_of Channel c.args.self.now.store) c.in_ok-first.field-0.now.ptr (c.count_on-count.result - n)) c.from-place.ensures)
+    c.count_on-count.ensures there

@@ -12,7 +12,7 @@ pub enter-requires-clause-channel : goal.enter-requires-clause-channel
 enter-requires-clause-channel g c =
     let below : c.args.item.channel < length c.args.self.now.heads.items = omega (arith, c.requires.channel, c.args.self.now.heads.ok.0) in
     first_ring c.args.self.now c.requires.whole c.in-Some.node c.pop.new.self.items c.in-Some.ensures.items c.args.item c.index-first.result.now below
-        c.index-first.ensures
+    c.index-first.ensures
 
 pub link_due-requires-clause-room : goal.link_due-requires-clause-room
 link_due-requires-clause-room g c =
@@ -22,25 +22,25 @@ pub link_due-requires-clause-node : goal.link_due-requires-clause-node
 link_due-requires-clause-node g c =
     let below : c.args.item.channel < length c.args.self.now.heads.items = omega (arith, c.requires.channel, c.args.self.now.heads.ok.0) in
     node_in_one c.args.self.now c.requires.whole c.in-Some.node c.pop.new.self.items c.in-Some.ensures.items c.args.item c.index-first.result.now below
-        c.index-first.ensures c.requires.number c.enter.new.store c.enter.ensures
+    c.index-first.ensures c.requires.number c.enter.new.store c.enter.ensures
 
 pub link_due-requires-clause-at : goal.link_due-requires-clause-at
 link_due-requires-clause-at g c =
     let below : c.args.item.channel < length c.args.self.now.heads.items = omega (arith, c.requires.channel, c.args.self.now.heads.ok.0) in
     last_in_one c.args.self.now c.requires.whole c.in-Some.node c.pop.new.self.items c.in-Some.ensures.items c.args.item c.index-first.result.now below
-        c.index-first.ensures c.requires.number c.enter.new.store c.enter.ensures
+    c.index-first.ensures c.requires.number c.enter.new.store c.enter.ensures
 
 pub link_due-requires-clause-next : goal.link_due-requires-clause-next
 link_due-requires-clause-next g c =
     let below : c.args.item.channel < length c.args.self.now.heads.items = omega (arith, c.requires.channel, c.args.self.now.heads.ok.0) in
     next_in_one c.args.self.now c.requires.whole c.in-Some.node c.pop.new.self.items c.in-Some.ensures.items c.args.item c.index-first.result.now below
-        c.index-first.ensures c.requires.number c.enter.new.store c.enter.ensures
+    c.index-first.ensures c.requires.number c.enter.new.store c.enter.ensures
 
 pub overflow_add-index_mut : goal.overflow_add-index_mut
 overflow_add-index_mut g c =
     let below : c.args.item.channel < length c.args.self.now.heads.items = omega (arith, c.requires.channel, c.args.self.now.heads.ok.0) in
     let few : get_or c.args.self.now.counts.items c.args.item.channel 0 ≤ c.args.self.now.count =
-        count_within c.args.self.now c.requires.whole c.args.item.channel below in
+    count_within c.args.self.now c.requires.whole c.args.item.channel below in
     let read = count_read c.args.self.now c.requires.whole c.args.item.channel c.index_mut.result.now below c.index_mut.ensures.value in
     grind (arith, common_steps, few, read, c.requires.whole.room, c.requires.room, c.args.self.now.free.ok, c.args.self.now.free.small)
 
@@ -52,13 +52,13 @@ returns-in-Some-clause-whole g c =
           below c.index-first.ensures c.requires.number c.enter.new.store c.enter.ensures c.link_due.new.store c.link_due.ensures.store;
       counted =
           put_counted c.args.self.now c.requires.whole c.in-Some.node c.pop.new.self.items c.in-Some.ensures.items c.args.item c.index-first.result.now
-              below c.index-first.ensures c.requires.number c.enter.new.store c.enter.ensures c.link_due.new.store c.link_due.ensures.store
+          below c.index-first.ensures c.requires.number c.enter.new.store c.enter.ensures c.link_due.new.store c.link_due.ensures.store
           (slice_set c.args.self.now.counts.items c.args.item.channel (c.index_mut.result.now + 1))
-              (ap (λ n. slice_set c.args.self.now.counts.items c.args.item.channel (n + 1))
-              (count_read c.args.self.now c.requires.whole c.args.item.channel c.index_mut.result.now below c.index_mut.ensures.value));
+          (ap (λ n. slice_set c.args.self.now.counts.items c.args.item.channel (n + 1))
+          (count_read c.args.self.now c.requires.whole c.args.item.channel c.index_mut.result.now below c.index_mut.ensures.value));
       by_due =
           put_by_due c.args.self.now c.requires.whole c.in-Some.node c.pop.new.self.items c.in-Some.ensures.items c.args.item c.index-first.result.now below
-              c.index-first.ensures c.requires.number c.enter.new.store c.enter.ensures c.link_due.new.store c.link_due.ensures.store
+          c.index-first.ensures c.requires.number c.enter.new.store c.enter.ensures c.link_due.new.store c.link_due.ensures.store
           c.link_due.new.ticks.items c.link_due.ensures.ticks;
       room = omega (arith, c.requires.whole.room, c.in-Some.ensures.len, c.in-Some.ensures.capacity);
       ticks_room = omega (arith, c.requires.whole.ticks_room, c.in-Some.ensures.len, c.link_due.ensures.capacity);
@@ -68,4 +68,4 @@ pub returns-in-Some-clause-items : goal.returns-in-Some-clause-items
 returns-in-Some-clause-items g c =
     let below : c.args.item.channel < length c.args.self.now.heads.items = omega (arith, c.requires.channel, c.args.self.now.heads.ok.0) in
     put_items c.args.self.now c.requires.whole c.in-Some.node c.pop.new.self.items c.in-Some.ensures.items c.args.item c.index-first.result.now below
-        c.index-first.ensures c.requires.number c.enter.new.store c.enter.ensures c.link_due.new.store c.link_due.ensures.store
+    c.index-first.ensures c.requires.number c.enter.new.store c.enter.ensures c.link_due.new.store c.link_due.ensures.store

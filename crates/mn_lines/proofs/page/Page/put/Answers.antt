@@ -12,10 +12,12 @@ returns-then-piece-gt-ROOM-clause-put g c =
     let none = c.in_ok-end.ensures.ended in
     ok_then c.put.result _ _ c.put.ensures.put (λ put.
     puts_then [] c.args.piece.now c.args.self.now c.end.new.self c.end.new.self _ _ _ c.in_ok-end.ensures.put
-    (subst (λ (w : List ℕ). Puts c.args.piece.now w w (g.O.Sink.written c.end.new.out) (g.O.Sink.written c.put.new.self)) (sym none) (all_put c.args.piece.now [] c.args.piece.now _ _ refl put)))
+    (subst (λ (w : List ℕ). Puts c.args.piece.now w w (g.O.Sink.written c.end.new.out) (g.O.Sink.written c.put.new.self)) (sym none)
+    (all_put c.args.piece.now [] c.args.piece.now _ _ refl put)))
 
 pub returns-then-piece-gt-ROOM-clause-part : goal.returns-then-piece-gt-ROOM-clause-part
 returns-then-piece-gt-ROOM-clause-part g c =
     let none = c.in_ok-end.ensures.ended in
     err_then c.put.result _ _ c.put.ensures.refused (λ put.
-    cut_in_second [] c.args.piece.now c.args.self.now c.end.new.self _ _ _ c.in_ok-end.ensures.put (some_put c.args.piece.now c.end.new.self c.args.piece.now _ _ (ap (λ w. w ++ c.args.piece.now) (sym none)) put))
+    cut_in_second [] c.args.piece.now c.args.self.now c.end.new.self _ _ _ c.in_ok-end.ensures.put
+    (some_put c.args.piece.now c.end.new.self c.args.piece.now _ _ (ap (λ w. w ++ c.args.piece.now) (sym none)) put))

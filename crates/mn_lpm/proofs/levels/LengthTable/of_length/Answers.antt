@@ -10,8 +10,8 @@ returns-in_err-value-clause-pair g c =
     rw c.from_residual.ensures
     (none_pair (prefix_at c.args.length c.args.address) c.args.self.now
     (value_there c.self.inside.levels c.args.self.now c.from.result c.network-network.result c.index-self-from.result
-        (prefix_at c.args.length c.args.address) _ c.self.view_is c.self.invariant c.requires c.from.ensures c.network-network.ensures
-        c.in_err-value.ensures.value))
+    (prefix_at c.args.length c.args.address) _ c.self.view_is c.self.invariant c.requires c.from.ensures c.network-network.ensures
+    c.in_err-value.ensures.value))
 
 -- an address has a prefix of each length
 pub returns-in_err-prefix-clause-pair : goal.returns-in_err-prefix-clause-pair
@@ -23,8 +23,8 @@ returns-clause-pair g c =
     some_pair (prefix_at c.args.length c.args.address) c.in_ok-prefix.prefix c.in_ok-value.value.now c.args.self.now
     (rw (c.in_ok-prefix.ensures.value, c.network-network.ensures) refl)
     (value_there c.self.inside.levels c.args.self.now c.from.result c.network-network.result c.index-self-from.result
-        (prefix_at c.args.length c.args.address) (Some c.in_ok-value.value.now) c.self.view_is c.self.invariant c.requires c.from.ensures
-        c.network-network.ensures c.in_ok-value.ensures.value)
+    (prefix_at c.args.length c.args.address) (Some c.in_ok-value.value.now) c.self.view_is c.self.invariant c.requires c.from.ensures
+    c.network-network.ensures c.in_ok-value.ensures.value)
 
 pub returns-in_err-value-clause-table : goal.returns-in_err-value-clause-table
 returns-in_err-value-clause-table g c = subst IsTable c.self.view_is (levels_table c.self.inside.levels c.self.invariant)

@@ -7,7 +7,7 @@ returns-then-is_some-clause-best g c =
     let pair = c.of_length-found.ensures.pair in
     pair
     ∙ first_pair c.args.address (32 - c.loop-shorter.shorter) c.args.self.now c.of_length-found.ensures.table
-        (λ n longer short. c.loop-shorter.invariant.none n (omega (arith, longer, c.loop-shorter-test.true)) short)
+    (λ n longer short. c.loop-shorter.invariant.none n (omega (arith, longer, c.loop-shorter-test.true)) short)
     (mapped_some _ c.of_length-found.result _ pair (sym c.is_some.ensures ∙ c.if-is_some.true))
 
 pub returns-clause-best : goal.returns-clause-best

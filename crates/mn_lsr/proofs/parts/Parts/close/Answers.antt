@@ -1,10 +1,8 @@
-use Rattle.std.proofs.Common.{ℕ, ◌++◌, [], map, ◌∙◌, refl, sym, ap, append-nil}
+use Rattle.std.proofs.Common.{[], map, sym, ap, append-nil}
 use Rattle.std.specs.Option.{option_to_list}
 use Rattle.mn_node.specs.Machine.{Closes}
-use Rattle.mn_lsr.specs.declared.parts.Open.{Open}
 use Rattle.mn_lsr.specs.declared.said.Said.{Said}
 use Rattle.mn_lsr.specs.Said.{pdu_of}
-use Rattle.mn_lsr.specs.Parts.{wiring_in}
 use Rattle.std.proofs.Common.{List}
 use Rattle.mn_lsr.proofs.Closing.{closing-as}
 use Rattle.mn_lsr.proofs.Tail.{may-follow-then, after-all, none-before}
@@ -17,7 +15,8 @@ tell-requires c =
     let l = c.args.link.0 in
     let es = option_to_list c.closing-event.result in
     let happens = closing-as p st l c.requires.there c.requires.open c.session.result c.far.result es c.session.ensures c.far.ensures c.closing-event.ensures in
-    may-follow-then p st (Closes l) es _ l [] happens.0 c.set_session.new.self c.set_session.new.self.sessions 0 c.set_session.ensures.others c.set_session.ensures.set (happens.1 0)
+    may-follow-then p st (Closes l) es _ l [] happens.0 c.set_session.new.self c.set_session.new.self.sessions 0 c.set_session.ensures.others
+    c.set_session.ensures.set (happens.1 0)
 
 pub returns-clause-stands : goal.returns-clause-stands
 returns-clause-stands c =
@@ -26,7 +25,10 @@ returns-clause-stands c =
     let l = c.args.link.0 in
     let es = option_to_list c.closing-event.result in
     let happens = closing-as p st l c.requires.there c.requires.open c.session.result c.far.result es c.session.ensures c.far.ensures c.closing-event.ensures in
-    let done = after-all p st (Closes l) es _ l [] happens.0 c.set_session.new.self c.set_session.new.self.sessions c.tell.new.self 0 (map pdu_of c.new-out.result.items) (map pdu_of c.new-out.result.items) (map pdu_of c.tell.new.out.items) c.set_session.ensures.others c.set_session.ensures.set (sym (append-nil (map pdu_of c.new-out.result.items)))
+    let done =
+    after-all p st (Closes l) es _ l [] happens.0 c.set_session.new.self c.set_session.new.self.sessions c.tell.new.self 0
+    (map pdu_of c.new-out.result.items) (map pdu_of c.new-out.result.items)
+    (map pdu_of c.tell.new.out.items) c.set_session.ensures.others c.set_session.ensures.set (sym (append-nil (map pdu_of c.new-out.result.items)))
     (record {
       said = c.in_ok-tell.ensures.said;
       counted = c.in_ok-tell.ensures.counted;
@@ -44,7 +46,10 @@ returns-clause-node c =
     let l = c.args.link.0 in
     let es = option_to_list c.closing-event.result in
     let happens = closing-as p st l c.requires.there c.requires.open c.session.result c.far.result es c.session.ensures c.far.ensures c.closing-event.ensures in
-    let done = after-all p st (Closes l) es _ l [] happens.0 c.set_session.new.self c.set_session.new.self.sessions c.tell.new.self 0 (map pdu_of c.new-out.result.items) (map pdu_of c.new-out.result.items) (map pdu_of c.tell.new.out.items) c.set_session.ensures.others c.set_session.ensures.set (sym (append-nil (map pdu_of c.new-out.result.items)))
+    let done =
+    after-all p st (Closes l) es _ l [] happens.0 c.set_session.new.self c.set_session.new.self.sessions c.tell.new.self 0
+    (map pdu_of c.new-out.result.items) (map pdu_of c.new-out.result.items)
+    (map pdu_of c.tell.new.out.items) c.set_session.ensures.others c.set_session.ensures.set (sym (append-nil (map pdu_of c.new-out.result.items)))
     (record {
       said = c.in_ok-tell.ensures.said;
       counted = c.in_ok-tell.ensures.counted;
@@ -62,7 +67,10 @@ returns-clause-said c =
     let l = c.args.link.0 in
     let es = option_to_list c.closing-event.result in
     let happens = closing-as p st l c.requires.there c.requires.open c.session.result c.far.result es c.session.ensures c.far.ensures c.closing-event.ensures in
-    let done = after-all p st (Closes l) es _ l [] happens.0 c.set_session.new.self c.set_session.new.self.sessions c.tell.new.self 0 (map pdu_of c.new-out.result.items) (map pdu_of c.new-out.result.items) (map pdu_of c.tell.new.out.items) c.set_session.ensures.others c.set_session.ensures.set (sym (append-nil (map pdu_of c.new-out.result.items)))
+    let done =
+    after-all p st (Closes l) es _ l [] happens.0 c.set_session.new.self c.set_session.new.self.sessions c.tell.new.self 0
+    (map pdu_of c.new-out.result.items) (map pdu_of c.new-out.result.items)
+    (map pdu_of c.tell.new.out.items) c.set_session.ensures.others c.set_session.ensures.set (sym (append-nil (map pdu_of c.new-out.result.items)))
     (record {
       said = c.in_ok-tell.ensures.said;
       counted = c.in_ok-tell.ensures.counted;
@@ -71,4 +79,5 @@ returns-clause-said c =
       uses = c.in_ok-tell.ensures.uses;
       others = c.in_ok-tell.ensures.others;
     }) in
-    none-before (map pdu_of c.new-out.result.items) (map pdu_of c.tell.new.out.items) _ (ap (λ (xs : List Said). map pdu_of xs) c.new-out.ensures.items) done.said
+    none-before (map pdu_of c.new-out.result.items) (map pdu_of c.tell.new.out.items) _
+    (ap (λ (xs : List Said). map pdu_of xs) c.new-out.ensures.items) done.said

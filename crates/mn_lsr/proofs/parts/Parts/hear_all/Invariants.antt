@@ -1,6 +1,5 @@
 use Rattle.std.proofs.Common.{ℕ, ◌≡◌, ◌≢◌, ◌<◌, ◌++◌, map, length, drop, slice_index_or}
-use Rattle.std.specs.Prelude.{None, All}
-use Rattle.mn_ldp_wire.specs.Grammar.{IsLawful}
+use Rattle.std.specs.Prelude.{None}
 use Rattle.mn_node.specs.Node.{label_of}
 use Rattle.mn_lfib.specs.Uses.{use_of}
 use Rattle.mn_lsr.specs.Said.{pdu_of}
@@ -14,7 +13,10 @@ invariant-loop-message l = record {
   there : l.link.0 < length l.self.view.ends;
   others : l.self ≡ record l.fn.self { sessions = l.self.sessions; lib = l.self.lib; lfib = l.self.lfib };
   accepted : AcceptsAll (slice_index_or (machines_of l.self.sessions.items) l.link.0 None) l.from (drop l.message-index l.messages);
-  said : map pdu_of l.out.items ++ (after_messages (wiring_in l.fn.self) l.link.0 (node_in l.self) (drop l.message-index l.messages)).said ≡ (after_messages (wiring_in l.fn.self) l.link.0 (node_in l.fn.self) l.messages).said;
-  node : (after_messages (wiring_in l.fn.self) l.link.0 (node_in l.self) (drop l.message-index l.messages)).node ≡ (after_messages (wiring_in l.fn.self) l.link.0 (node_in l.fn.self) l.messages).node;
-  uses : (label : ℕ) → ((fec : ℕ) → fec < length l.fn.self.loopbacks.items → fec ≢ l.fn.self.me.0 → label ≢ label_of l.fn.self.me.0 fec) → use_of l.self.lfib label ≡ use_of l.fn.self.lfib label;
+  said : map pdu_of l.out.items ++ (after_messages (wiring_in l.fn.self) l.link.0 (node_in l.self) (drop l.message-index l.messages)).said ≡
+      (after_messages (wiring_in l.fn.self) l.link.0 (node_in l.fn.self) l.messages).said;
+  node : (after_messages (wiring_in l.fn.self) l.link.0 (node_in l.self) (drop l.message-index l.messages)).node ≡
+      (after_messages (wiring_in l.fn.self) l.link.0 (node_in l.fn.self) l.messages).node;
+  uses : (label : ℕ) → ((fec : ℕ) → fec < length l.fn.self.loopbacks.items → fec ≢ l.fn.self.me.0 → label ≢ label_of l.fn.self.me.0 fec) →
+      use_of l.self.lfib label ≡ use_of l.fn.self.lfib label;
 }

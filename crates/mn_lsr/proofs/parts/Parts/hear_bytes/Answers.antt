@@ -1,12 +1,10 @@
-use Rattle.std.proofs.Common.{◌≡◌, ◌≢◌, List, ℕ, map, ◌∙◌, sym, ap, subst, Option, Some, Ok, Err, Result}
-use Rattle.std.specs.Prelude.{None, MatchResult, slice_index_or}
-use Rattle.mn_node.specs.Node.{Session, session_at}
+use Rattle.std.proofs.Common.{◌≡◌, ◌≢◌, map, subst, Option, Ok, Err}
+use Rattle.std.specs.Prelude.{MatchResult}
 use Rattle.mn_ldp_session.specs.declared.session.Session.{Session as Machine}
-use Rattle.mn_lsr.specs.declared.refusal.LsrBad.{LsrBad}
 use Rattle.mn_lsr.specs.declared.refusal.LsrBad.TheVariants.{NoMemory}
 use Rattle.mn_lsr.specs.Said.{pdu_of}
-use Rattle.mn_lsr.specs.Hearing.{Heard, after_pdu}
-use Rattle.mn_lsr.specs.Parts.{wiring_in, node_in, machines_of}
+use Rattle.mn_lsr.specs.Hearing.{after_pdu}
+use Rattle.mn_lsr.specs.Parts.{wiring_in, node_in}
 use Rattle.mn_lsr.proofs.HeardMessage.{machine-over, machine-some}
 use Rattle.mn_lsr.proofs.parts.Parts.hear_bytes.Goals as goal
 
@@ -16,6 +14,10 @@ hear_ldp-requires-clause-open c = machine-some c.args.self.now c.requires.stands
 pub returns-clause-heard : goal.returns-clause-heard
 returns-clause-heard c = λ session e.
     subst (λ (o : Option Machine). MatchResult c.hear_ldp.result
-    (λ out. after_pdu (wiring_in c.args.self.now) c.args.link.0 (node_in c.args.self.now) o c.args.bytes.now ≡ Ok (record { node = node_in c.hear_ldp.new.self; said = map pdu_of out.items }))
+    (λ out. after_pdu (wiring_in c.args.self.now) c.args.link.0 (node_in c.args.self.now) o c.args.bytes.now ≡ Ok (record {
+      node =
+          node_in c.hear_ldp.new.self;
+      said = map pdu_of out.items;
+    }))
     (λ bad. bad ≢ NoMemory → after_pdu (wiring_in c.args.self.now) c.args.link.0 (node_in c.args.self.now) o c.args.bytes.now ≡ Err bad))
     (machine-over c.args.self.now c.requires.stands c.args.link.0 session e) c.hear_ldp.ensures.heard

@@ -1,4 +1,4 @@
-use Rattle.std.proofs.Common.{ℕ, List, map, ◌∙◌, ap, sym, refl, Option, Some, slice_index_or}
+use Rattle.std.proofs.Common.{List, map, ◌∙◌, ap, sym, refl, Option, slice_index_or}
 use Rattle.std.specs.Option.{option_to_list}
 use Rattle.std.specs.Prelude.{None}
 use Rattle.mn_node.specs.Machine.{Hears}
@@ -21,11 +21,16 @@ tell-requires c =
     let body = c.args.message.now.body in
     let es = option_to_list c.event_of-event.result in
     let meant = meant-is (wiring_in p) body m label c.requires.lawful c.requires.meant in
-    let happens = hearing-as p st l c.requires.there c.in-Some.was (sym c.session.ensures ∙ c.in-Some.is) body m label c.in-Ok.reply c.hear.new.self c.far.result es c.set_session.new.self.sessions.items meant
+    let happens =
+    hearing-as p st l c.requires.there c.in-Some.was (sym c.session.ensures ∙ c.in-Some.is) body m label c.in-Ok.reply c.hear.new.self c.far.result es
+    c.set_session.new.self.sessions.items meant
     c.in-Ok.ensures.table c.in-Ok.ensures.ends c.far.ensures c.event_of-event.ensures c.set_session.ensures.set in
-    let said = replied-then p c.set_session.new.self c.reply.new.self c.set_session.new.self.sessions.items l label c.in-Ok.reply (map pdu_of c.args.out.now.items) (map pdu_of c.reply.new.out.items) c.set_session.ensures.others refl
+    let said =
+    replied-then p c.set_session.new.self c.reply.new.self c.set_session.new.self.sessions.items l label c.in-Ok.reply (map pdu_of c.args.out.now.items)
+    (map pdu_of c.reply.new.out.items) c.set_session.ensures.others refl
     c.in_ok-reply.ensures.said c.in_ok-reply.ensures.counted c.in_ok-reply.ensures.others in
-    may-follow-then p st (Hears l m label) es c.set_session.new.self.sessions.items l (replied c.in-Ok.reply) happens.0 c.reply.new.self c.reply.new.self.sessions label said.parts said.ends_are happens.1
+    may-follow-then p st (Hears l m label) es c.set_session.new.self.sessions.items l
+    (replied c.in-Ok.reply) happens.0 c.reply.new.self c.reply.new.self.sessions label said.parts said.ends_are happens.1
 
 pub returns-clause-stands : goal.returns-clause-stands
 returns-clause-stands c =
@@ -37,11 +42,17 @@ returns-clause-stands c =
     let body = c.args.message.now.body in
     let es = option_to_list c.event_of-event.result in
     let meant = meant-is (wiring_in p) body m label c.requires.lawful c.requires.meant in
-    let happens = hearing-as p st l c.requires.there c.in-Some.was (sym c.session.ensures ∙ c.in-Some.is) body m label c.in-Ok.reply c.hear.new.self c.far.result es c.set_session.new.self.sessions.items meant
+    let happens =
+    hearing-as p st l c.requires.there c.in-Some.was (sym c.session.ensures ∙ c.in-Some.is) body m label c.in-Ok.reply c.hear.new.self c.far.result es
+    c.set_session.new.self.sessions.items meant
     c.in-Ok.ensures.table c.in-Ok.ensures.ends c.far.ensures c.event_of-event.ensures c.set_session.ensures.set in
-    let said = replied-then p c.set_session.new.self c.reply.new.self c.set_session.new.self.sessions.items l label c.in-Ok.reply (map pdu_of c.args.out.now.items) (map pdu_of c.reply.new.out.items) c.set_session.ensures.others refl
+    let said =
+    replied-then p c.set_session.new.self c.reply.new.self c.set_session.new.self.sessions.items l label c.in-Ok.reply (map pdu_of c.args.out.now.items)
+    (map pdu_of c.reply.new.out.items) c.set_session.ensures.others refl
     c.in_ok-reply.ensures.said c.in_ok-reply.ensures.counted c.in_ok-reply.ensures.others in
-    let done = after-all p st (Hears l m label) es c.set_session.new.self.sessions.items l (replied c.in-Ok.reply) happens.0 c.reply.new.self c.reply.new.self.sessions c.tell.new.self label
+    let done =
+    after-all p st (Hears l m label) es c.set_session.new.self.sessions.items l
+    (replied c.in-Ok.reply) happens.0 c.reply.new.self c.reply.new.self.sessions c.tell.new.self label
     (map pdu_of c.args.out.now.items) (map pdu_of c.reply.new.out.items) (map pdu_of c.tell.new.out.items) said.parts said.ends_are said.pdus_are
     (record {
       said = c.in_ok-tell.ensures.said;
@@ -63,11 +74,17 @@ returns-clause-node c =
     let body = c.args.message.now.body in
     let es = option_to_list c.event_of-event.result in
     let meant = meant-is (wiring_in p) body m label c.requires.lawful c.requires.meant in
-    let happens = hearing-as p st l c.requires.there c.in-Some.was (sym c.session.ensures ∙ c.in-Some.is) body m label c.in-Ok.reply c.hear.new.self c.far.result es c.set_session.new.self.sessions.items meant
+    let happens =
+    hearing-as p st l c.requires.there c.in-Some.was (sym c.session.ensures ∙ c.in-Some.is) body m label c.in-Ok.reply c.hear.new.self c.far.result es
+    c.set_session.new.self.sessions.items meant
     c.in-Ok.ensures.table c.in-Ok.ensures.ends c.far.ensures c.event_of-event.ensures c.set_session.ensures.set in
-    let said = replied-then p c.set_session.new.self c.reply.new.self c.set_session.new.self.sessions.items l label c.in-Ok.reply (map pdu_of c.args.out.now.items) (map pdu_of c.reply.new.out.items) c.set_session.ensures.others refl
+    let said =
+    replied-then p c.set_session.new.self c.reply.new.self c.set_session.new.self.sessions.items l label c.in-Ok.reply (map pdu_of c.args.out.now.items)
+    (map pdu_of c.reply.new.out.items) c.set_session.ensures.others refl
     c.in_ok-reply.ensures.said c.in_ok-reply.ensures.counted c.in_ok-reply.ensures.others in
-    let done = after-all p st (Hears l m label) es c.set_session.new.self.sessions.items l (replied c.in-Ok.reply) happens.0 c.reply.new.self c.reply.new.self.sessions c.tell.new.self label
+    let done =
+    after-all p st (Hears l m label) es c.set_session.new.self.sessions.items l
+    (replied c.in-Ok.reply) happens.0 c.reply.new.self c.reply.new.self.sessions c.tell.new.self label
     (map pdu_of c.args.out.now.items) (map pdu_of c.reply.new.out.items) (map pdu_of c.tell.new.out.items) said.parts said.ends_are said.pdus_are
     (record {
       said = c.in_ok-tell.ensures.said;
@@ -89,11 +106,17 @@ returns-clause-said c =
     let body = c.args.message.now.body in
     let es = option_to_list c.event_of-event.result in
     let meant = meant-is (wiring_in p) body m label c.requires.lawful c.requires.meant in
-    let happens = hearing-as p st l c.requires.there c.in-Some.was (sym c.session.ensures ∙ c.in-Some.is) body m label c.in-Ok.reply c.hear.new.self c.far.result es c.set_session.new.self.sessions.items meant
+    let happens =
+    hearing-as p st l c.requires.there c.in-Some.was (sym c.session.ensures ∙ c.in-Some.is) body m label c.in-Ok.reply c.hear.new.self c.far.result es
+    c.set_session.new.self.sessions.items meant
     c.in-Ok.ensures.table c.in-Ok.ensures.ends c.far.ensures c.event_of-event.ensures c.set_session.ensures.set in
-    let said = replied-then p c.set_session.new.self c.reply.new.self c.set_session.new.self.sessions.items l label c.in-Ok.reply (map pdu_of c.args.out.now.items) (map pdu_of c.reply.new.out.items) c.set_session.ensures.others refl
+    let said =
+    replied-then p c.set_session.new.self c.reply.new.self c.set_session.new.self.sessions.items l label c.in-Ok.reply (map pdu_of c.args.out.now.items)
+    (map pdu_of c.reply.new.out.items) c.set_session.ensures.others refl
     c.in_ok-reply.ensures.said c.in_ok-reply.ensures.counted c.in_ok-reply.ensures.others in
-    let done = after-all p st (Hears l m label) es c.set_session.new.self.sessions.items l (replied c.in-Ok.reply) happens.0 c.reply.new.self c.reply.new.self.sessions c.tell.new.self label
+    let done =
+    after-all p st (Hears l m label) es c.set_session.new.self.sessions.items l
+    (replied c.in-Ok.reply) happens.0 c.reply.new.self c.reply.new.self.sessions c.tell.new.self label
     (map pdu_of c.args.out.now.items) (map pdu_of c.reply.new.out.items) (map pdu_of c.tell.new.out.items) said.parts said.ends_are said.pdus_are
     (record {
       said = c.in_ok-tell.ensures.said;
@@ -115,12 +138,17 @@ returns-clause-machine c =
     let body = c.args.message.now.body in
     let es = option_to_list c.event_of-event.result in
     let meant = meant-is (wiring_in p) body m label c.requires.lawful c.requires.meant in
-    let happens = hearing-as p st l c.requires.there c.in-Some.was (sym c.session.ensures ∙ c.in-Some.is) body m label c.in-Ok.reply c.hear.new.self c.far.result es c.set_session.new.self.sessions.items meant
+    let happens =
+    hearing-as p st l c.requires.there c.in-Some.was (sym c.session.ensures ∙ c.in-Some.is) body m label c.in-Ok.reply c.hear.new.self c.far.result es
+    c.set_session.new.self.sessions.items meant
     c.in-Ok.ensures.table c.in-Ok.ensures.ends c.far.ensures c.event_of-event.ensures c.set_session.ensures.set in
-    let said = replied-then p c.set_session.new.self c.reply.new.self c.set_session.new.self.sessions.items l label c.in-Ok.reply (map pdu_of c.args.out.now.items) (map pdu_of c.reply.new.out.items) c.set_session.ensures.others refl
+    let said =
+    replied-then p c.set_session.new.self c.reply.new.self c.set_session.new.self.sessions.items l label c.in-Ok.reply (map pdu_of c.args.out.now.items)
+    (map pdu_of c.reply.new.out.items) c.set_session.ensures.others refl
     c.in_ok-reply.ensures.said c.in_ok-reply.ensures.counted c.in_ok-reply.ensures.others in
     ap (λ (ms : List (Option Session)). slice_index_or ms l None)
-    (machines-then p st (Hears l m label) es c.set_session.new.self.sessions.items l (replied c.in-Ok.reply) happens.0 c.reply.new.self c.reply.new.self.sessions c.tell.new.self label
+    (machines-then p st (Hears l m label) es c.set_session.new.self.sessions.items l
+    (replied c.in-Ok.reply) happens.0 c.reply.new.self c.reply.new.self.sessions c.tell.new.self label
     (map pdu_of c.reply.new.out.items) (map pdu_of c.tell.new.out.items) said.parts said.ends_are
     (record {
       said = c.in_ok-tell.ensures.said;
@@ -130,4 +158,6 @@ returns-clause-machine c =
       uses = c.in_ok-tell.ensures.uses;
       others = c.in_ok-tell.ensures.others;
     }))
-    ∙ machine-heard p st l c.requires.there c.in-Some.was (sym c.session.ensures ∙ c.in-Some.is) body c.in-Ok.reply c.hear.new.self c.set_session.new.self.sessions.items c.in-Ok.ensures.table c.in-Ok.ensures.ends c.set_session.ensures.set
+    ∙ machine-heard p st l c.requires.there c.in-Some.was
+    (sym c.session.ensures ∙ c.in-Some.is) body c.in-Ok.reply c.hear.new.self c.set_session.new.self.sessions.items c.in-Ok.ensures.table
+    c.in-Ok.ensures.ends c.set_session.ensures.set

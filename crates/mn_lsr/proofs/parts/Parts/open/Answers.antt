@@ -1,5 +1,4 @@
-use Rattle.std.proofs.Common.{ℕ, List, [], map, ◌∙◌, ap, sym, subst, Some}
-use Rattle.mn_base.specs.Wiring.{across}
+use Rattle.std.proofs.Common.{List, map, ◌∙◌, ap}
 use Rattle.mn_node.specs.Machine.{Opens, loopback_of}
 use Rattle.mn_lsr.specs.declared.said.Said.{Said}
 use Rattle.mn_lsr.specs.Said.{pdu_of}
@@ -14,11 +13,17 @@ returns-clause-stands c =
     let p = c.args.self.now in
     let st = c.requires.stands in
     let l = c.args.link.0 in
-    let happens = opening p st l c.requires.there c.requires.at_end c.requires.closed c.open-session.result c.loopback-me.result c.loopback-peer.result c.first_reply.result c.open-session.ensures c.loopback-me.ensures
+    let happens =
+    opening p st l c.requires.there c.requires.at_end c.requires.closed c.open-session.result c.loopback-me.result c.loopback-peer.result
+    c.first_reply.result c.open-session.ensures c.loopback-me.ensures
     (c.loopback-peer.ensures ∙ ap (loopback_of (wiring_in p)) c.far-far.ensures) c.first_reply.ensures in
-    let said = replied-then p c.set_session.new.self c.reply.new.self _ l 0 c.first_reply.result (map pdu_of c.new-out.result.items) (map pdu_of c.reply.new.out.items) c.set_session.ensures.others c.set_session.ensures.set
+    let said =
+    replied-then p c.set_session.new.self c.reply.new.self _ l 0 c.first_reply.result (map pdu_of c.new-out.result.items)
+    (map pdu_of c.reply.new.out.items) c.set_session.ensures.others c.set_session.ensures.set
     c.in_ok-reply.ensures.said c.in_ok-reply.ensures.counted c.in_ok-reply.ensures.others in
-    let done = after-said p st (Opens l) _ l (replied c.first_reply.result) happens c.reply.new.self 0 (map pdu_of c.new-out.result.items) (map pdu_of c.reply.new.out.items) said.parts said.ends_are said.pdus_are in
+    let done =
+    after-said p st (Opens l) _ l (replied c.first_reply.result) happens c.reply.new.self 0 (map pdu_of c.new-out.result.items)
+    (map pdu_of c.reply.new.out.items) said.parts said.ends_are said.pdus_are in
     done.stands
 
 pub returns-clause-node : goal.returns-clause-node
@@ -26,11 +31,17 @@ returns-clause-node c =
     let p = c.args.self.now in
     let st = c.requires.stands in
     let l = c.args.link.0 in
-    let happens = opening p st l c.requires.there c.requires.at_end c.requires.closed c.open-session.result c.loopback-me.result c.loopback-peer.result c.first_reply.result c.open-session.ensures c.loopback-me.ensures
+    let happens =
+    opening p st l c.requires.there c.requires.at_end c.requires.closed c.open-session.result c.loopback-me.result c.loopback-peer.result
+    c.first_reply.result c.open-session.ensures c.loopback-me.ensures
     (c.loopback-peer.ensures ∙ ap (loopback_of (wiring_in p)) c.far-far.ensures) c.first_reply.ensures in
-    let said = replied-then p c.set_session.new.self c.reply.new.self _ l 0 c.first_reply.result (map pdu_of c.new-out.result.items) (map pdu_of c.reply.new.out.items) c.set_session.ensures.others c.set_session.ensures.set
+    let said =
+    replied-then p c.set_session.new.self c.reply.new.self _ l 0 c.first_reply.result (map pdu_of c.new-out.result.items)
+    (map pdu_of c.reply.new.out.items) c.set_session.ensures.others c.set_session.ensures.set
     c.in_ok-reply.ensures.said c.in_ok-reply.ensures.counted c.in_ok-reply.ensures.others in
-    let done = after-said p st (Opens l) _ l (replied c.first_reply.result) happens c.reply.new.self 0 (map pdu_of c.new-out.result.items) (map pdu_of c.reply.new.out.items) said.parts said.ends_are said.pdus_are in
+    let done =
+    after-said p st (Opens l) _ l (replied c.first_reply.result) happens c.reply.new.self 0 (map pdu_of c.new-out.result.items)
+    (map pdu_of c.reply.new.out.items) said.parts said.ends_are said.pdus_are in
     done.node
 
 pub returns-clause-said : goal.returns-clause-said
@@ -38,9 +49,16 @@ returns-clause-said c =
     let p = c.args.self.now in
     let st = c.requires.stands in
     let l = c.args.link.0 in
-    let happens = opening p st l c.requires.there c.requires.at_end c.requires.closed c.open-session.result c.loopback-me.result c.loopback-peer.result c.first_reply.result c.open-session.ensures c.loopback-me.ensures
+    let happens =
+    opening p st l c.requires.there c.requires.at_end c.requires.closed c.open-session.result c.loopback-me.result c.loopback-peer.result
+    c.first_reply.result c.open-session.ensures c.loopback-me.ensures
     (c.loopback-peer.ensures ∙ ap (loopback_of (wiring_in p)) c.far-far.ensures) c.first_reply.ensures in
-    let said = replied-then p c.set_session.new.self c.reply.new.self _ l 0 c.first_reply.result (map pdu_of c.new-out.result.items) (map pdu_of c.reply.new.out.items) c.set_session.ensures.others c.set_session.ensures.set
+    let said =
+    replied-then p c.set_session.new.self c.reply.new.self _ l 0 c.first_reply.result (map pdu_of c.new-out.result.items)
+    (map pdu_of c.reply.new.out.items) c.set_session.ensures.others c.set_session.ensures.set
     c.in_ok-reply.ensures.said c.in_ok-reply.ensures.counted c.in_ok-reply.ensures.others in
-    let done = after-said p st (Opens l) _ l (replied c.first_reply.result) happens c.reply.new.self 0 (map pdu_of c.new-out.result.items) (map pdu_of c.reply.new.out.items) said.parts said.ends_are said.pdus_are in
-    none-before (map pdu_of c.new-out.result.items) (map pdu_of c.reply.new.out.items) _ (ap (λ (xs : List Said). map pdu_of xs) c.new-out.ensures.items) done.said
+    let done =
+    after-said p st (Opens l) _ l (replied c.first_reply.result) happens c.reply.new.self 0 (map pdu_of c.new-out.result.items)
+    (map pdu_of c.reply.new.out.items) said.parts said.ends_are said.pdus_are in
+    none-before (map pdu_of c.new-out.result.items) (map pdu_of c.reply.new.out.items) _
+    (ap (λ (xs : List Said). map pdu_of xs) c.new-out.ensures.items) done.said

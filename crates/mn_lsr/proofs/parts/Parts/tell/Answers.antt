@@ -14,8 +14,10 @@ use Rattle.mn_lsr.proofs.parts.Parts.tell.Goals as goal
 pub returns-in-None-clause-said : goal.returns-in-None-clause-said
 returns-in-None-clause-said c =
     let p = c.args.self.now in
-    sym (ap (λ (e : Option LibEvent). map pdu_of c.args.out.now.items ++ pdus_by (wiring_in p) p.me.0 c.args.withdrawn p.sessions.items (flat_map (said_by_tell (wiring_in p) p.me.0) (tells p.lib (option_to_list e)))) c.in-None.is
-    ∙ ap (λ (ts : List Tell). map pdu_of c.args.out.now.items ++ pdus_by (wiring_in p) p.me.0 c.args.withdrawn p.sessions.items (flat_map (said_by_tell (wiring_in p) p.me.0) ts)) (no_tells p.lib)
+    sym (ap (λ (e : Option LibEvent). map pdu_of c.args.out.now.items ++ pdus_by (wiring_in p) p.me.0 c.args.withdrawn p.sessions.items
+    (flat_map (said_by_tell (wiring_in p) p.me.0) (tells p.lib (option_to_list e)))) c.in-None.is
+    ∙ ap (λ (ts : List Tell). map pdu_of c.args.out.now.items ++ pdus_by (wiring_in p) p.me.0 c.args.withdrawn p.sessions.items
+    (flat_map (said_by_tell (wiring_in p) p.me.0) ts)) (no_tells p.lib)
     ∙ append-nil (map pdu_of c.args.out.now.items))
 
 pub returns-in-None-clause-counted : goal.returns-in-None-clause-counted

@@ -1,6 +1,6 @@
 use Rattle.std.proofs.Common.{◌<◌, ◌∙◌, ap, sym, subst, length}
 use Rattle.mn_ledger.specs.Ledger.{world_of}
-use Rattle.mn_ledger.specs.Vpn.{state_of}
+use Rattle.mn_ledger.specs.Vpn.{bgp_state_of}
 use Rattle.mn_net_now.specs.Now.{NetNow}
 use Rattle.mn_net_moves.proofs.Told.{net_is}
 use Rattle.mn_net.proofs.Held.{session_told, rows_length, row_length}
@@ -25,6 +25,6 @@ returns c =
     let peer = subst (λ (n : NetNow). c.args.peer.0 < length n.topology.loopbacks) (sym c.self.view_is) c.requires.peer in
     record {
       told = c.bgp_state.ensures ∙ session_told _ is c.args.at.0 c.args.peer.0 at peer
-          ∙ ap (λ (n : NetNow). state_of (world_of n.topology n.journal).config (world_of n.topology n.journal).peerings c.args.at.0 c.args.peer.0)
+          ∙ ap (λ (n : NetNow). bgp_state_of (world_of n.topology n.journal).config (world_of n.topology n.journal).peerings c.args.at.0 c.args.peer.0)
           c.self.view_is;
     }

@@ -13,7 +13,7 @@ pub returns-in_err-standing : goal.returns-in_err-standing
 returns-in_err-standing c =
     let f = err_from_is_err_and c.from_residual.result c.from_residual.ensures.1 in
     let a = settled_answers c.args.self.now c.from_residual.result c.args.piece.now f.0 f.1 (sym c.standing.ensures ∙ c.in_err-standing.was
-        ∙ ap Err (sym f.2)) in
+    ∙ ap Err (sym f.2)) in
     record { fed = a.fed; told = a.told; again = a.again; memory = a.memory; lost = a.lost }
 
 pub returns-then-saturating_add-ge-MOST-clause-again : goal.returns-then-saturating_add-ge-MOST-clause-again
@@ -31,9 +31,9 @@ returns-clause-again c = λ bytes bad fed kept before.
 pub returns-clause-told : goal.returns-clause-told
 returns-clause-told c = λ bytes fed kept within.
     let k = all_taken c.pieces.self bytes c.args.piece.now c.pieces.rest.now c.pieces.invariant.taken c.pieces.invariant.within c.pieces.invariant.rest_is
-        (none_left c.pieces.rest.now (sym c.is_empty.ensures ∙ c.pieces-test.false)) (c.pieces.invariant.keeps bytes (fed kept)) in
+    (none_left c.pieces.rest.now (sym c.is_empty.ensures ∙ c.pieces-test.false)) (c.pieces.invariant.keeps bytes (fed kept)) in
     subst (λ (a : Result (Unit {0}) PcapBad). Tells a (lasting (records_of (bytes ++ c.args.piece.now)))) (sym c.standing-2.ensures)
-        (told c.pieces.self (bytes ++ c.args.piece.now) k)
+    (told c.pieces.self (bytes ++ c.args.piece.now) k)
 
 pub pieces-preserved : goal.pieces-preserved
 pieces-preserved c =
@@ -44,7 +44,7 @@ pieces-preserved c =
     let within = c.pieces.invariant.within in
     let took = c.step-step.ensures.within in
     let all : drop m c.pieces.rest.now ≡ drop (n + m) c.args.piece.now =
-        ap (λ (xs : List ℕ). drop m xs) c.pieces.invariant.rest_is ∙ drop-drop m n c.args.piece.now in
+    ap (λ (xs : List ℕ). drop m xs) c.pieces.invariant.rest_is ∙ drop-drop m n c.args.piece.now in
     record {
       taken = n + m;
       within = omega arith;
@@ -58,6 +58,6 @@ pieces-preserved c =
       keeps = λ bytes k. subst (λ (xs : List ℕ). Keeps c.keep.new.self xs)
           (ap (λ (ys : List ℕ). (bytes ++ take n c.args.piece.now) ++ take m ys) c.pieces.invariant.rest_is ∙ one_piece bytes c.args.piece.now n m)
           (step_keeps c.pieces.self c.keep.new.self c.step-step.new.self
-              (bytes ++ take n c.args.piece.now) c.pieces.rest.now m c.step-step.result.place c.step-step.ensures.follows c.keep.ensures.cursor
-              c.keep.ensures.kept (c.pieces.invariant.keeps bytes k));
+          (bytes ++ take n c.args.piece.now) c.pieces.rest.now m c.step-step.result.place c.step-step.ensures.follows c.keep.ensures.cursor
+          c.keep.ensures.kept (c.pieces.invariant.keeps bytes k));
     }

@@ -7,4 +7,4 @@ pub returns-in_err-standing-clause-found : goal.returns-in_err-standing-clause-f
 returns-in_err-standing-clause-found c = λ bytes fed kept.
     let f = err_from_is_err_and c.from_residual.result c.from_residual.ensures.1 in
     finds_refusal c.from_residual.result bytes f.0 f.1
-        (refused_found c.args.self bytes f.0 (sym c.standing.ensures ∙ c.in_err-standing.was ∙ ap Err (sym f.2)) kept (fed kept))
+    (refused_found c.args.self bytes f.0 (sym c.standing.ensures ∙ c.in_err-standing.was ∙ ap Err (sym f.2)) kept (fed kept))

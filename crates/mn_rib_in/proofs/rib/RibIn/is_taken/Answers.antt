@@ -9,11 +9,16 @@ pub returns-then-at-len-clause-has : goal.returns-then-at-len-clause-has
 returns-then-at-len-clause-has c =
     let there : c.args.at < length c.args.self.now = rw (← c.self.view_is) (grind (arith, c.len.ensures, c.if-at-len.true)) in
     has_found c.args.self.now c.args.rd c.args.prefix c.args.at c.index.result.now c.stands_behind.result
-        (subst (Ascends heard_before) c.self.view_is c.self.invariant) c.requires there
+    (subst (Ascends heard_before) c.self.view_is c.self.invariant) c.requires there
     (rw (← c.self.view_is) c.index.ensures) (sym c.stands_behind.ensures)
 
 pub returns-else-at-len-clause-has : goal.returns-else-at-len-clause-has
 returns-else-at-len-clause-has c =
     let past : length c.args.self.now ≤ c.args.at = rw (← c.self.view_is) (grind (arith, c.len.ensures, c.if-at-len.false)) in
-    grind (arith, nat_tests, c.if-at-len.false, has_nowhere c.args.self.now c.args.rd c.args.prefix c.args.at
-        (subst (Ascends heard_before) c.self.view_is c.self.invariant) c.requires past)
+    grind (
+      arith,
+      nat_tests,
+      c.if-at-len.false,
+      has_nowhere c.args.self.now c.args.rd c.args.prefix c.args.at
+          (subst (Ascends heard_before) c.self.view_is c.self.invariant) c.requires past,
+    )

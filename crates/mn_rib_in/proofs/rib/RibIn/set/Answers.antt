@@ -12,16 +12,16 @@ returns-then-is_taken-clause-ok c =
     let up = subst (Ascends heard_before) c.self.view_is c.self.invariant in
     let new : Heard = record { rd = c.args.rd; prefix = c.args.prefix; label = c.args.label; targets = c.args.targets.now } in
     rw (c.in_ok-targets.ensures.items, c.self.view_is)
-        (replaced c.args.self.now new c.place-at.result up c.place-at.ensures (c.is_taken.ensures.taken c.if-is_taken.true))
+    (replaced c.args.self.now new c.place-at.result up c.place-at.ensures (c.is_taken.ensures.taken c.if-is_taken.true))
 
 pub invariant_of-self : goal.invariant_of-self
 invariant_of-self c =
     let up = subst (Ascends heard_before) c.self.view_is c.self.invariant in
     let new : Heard = record { rd = c.args.rd; prefix = c.args.prefix; label = c.args.label; targets = c.args.targets.now } in
     rw (c.in_ok-targets.ensures.items, c.self.view_is)
-        (subst (Ascends heard_before)
-        (sym (replaced c.args.self.now new c.place-at.result up c.place-at.ensures (c.is_taken.ensures.taken c.if-is_taken.true)))
-        (ascends_with heard_before new c.args.self.now heard_order up))
+    (subst (Ascends heard_before)
+    (sym (replaced c.args.self.now new c.place-at.result up c.place-at.ensures (c.is_taken.ensures.taken c.if-is_taken.true)))
+    (ascends_with heard_before new c.args.self.now heard_order up))
 
 -- it goes between its neighbours
 pub returns-clause-ok : goal.returns-clause-ok
@@ -29,13 +29,13 @@ returns-clause-ok c =
     let up = subst (Ascends heard_before) c.self.view_is c.self.invariant in
     let new : Heard = record { rd = c.args.rd; prefix = c.args.prefix; label = c.args.label; targets = c.args.targets.now } in
     rw (c.in_ok-insert.ensures.items, c.in_ok-targets.ensures.items, c.self.view_is)
-        (inserted c.args.self.now new c.place-at.result up c.place-at.ensures (c.is_taken.ensures.free c.if-is_taken.false))
+    (inserted c.args.self.now new c.place-at.result up c.place-at.ensures (c.is_taken.ensures.free c.if-is_taken.false))
 
 pub invariant_of-self-2 : goal.invariant_of-self-2
 invariant_of-self-2 c =
     let up = subst (Ascends heard_before) c.self.view_is c.self.invariant in
     let new : Heard = record { rd = c.args.rd; prefix = c.args.prefix; label = c.args.label; targets = c.args.targets.now } in
     rw (c.in_ok-insert.ensures.items, c.in_ok-targets.ensures.items, c.self.view_is)
-        (subst (Ascends heard_before)
-        (sym (inserted c.args.self.now new c.place-at.result up c.place-at.ensures (c.is_taken.ensures.free c.if-is_taken.false)))
-        (ascends_with heard_before new c.args.self.now heard_order up))
+    (subst (Ascends heard_before)
+    (sym (inserted c.args.self.now new c.place-at.result up c.place-at.ensures (c.is_taken.ensures.free c.if-is_taken.false)))
+    (ascends_with heard_before new c.args.self.now heard_order up))

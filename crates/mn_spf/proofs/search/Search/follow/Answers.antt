@@ -32,33 +32,44 @@ over-requires c =
     let v = c.args.view.now in
     let l = (get_or c.args.links.now c.loop-link.link-index (record { 0 = 0 })).0 in
     let bounded = (link_is v c.ends-ends.ensures.form.network c.args.way.to l (c.requires.links.each _ _ c.loop-link-test.true)).bounded in
-    omega (arith, bounded, ap (λ (e : LinkEnds). e.cost)
-        (ends_are v _ _ l c.ends-ends.ensures.value c.from.ensures), c.loop-link.invariant.followed.bounded, c.ends-ends.ensures.form.network.few_nodes)
+    omega (
+      arith,
+      bounded,
+      ap (λ (e : LinkEnds). e.cost)
+          (ends_are v _ _ l c.ends-ends.ensures.value c.from.ensures),
+      c.loop-link.invariant.followed.bounded,
+      c.ends-ends.ensures.form.network.few_nodes,
+    )
 
 pub offer-requires : goal.offer-requires
 offer-requires c =
     let v = c.args.view.now in
     let l = (get_or c.args.links.now c.loop-link.link-index (record { 0 = 0 })).0 in
     let is : c.over.result ≡ way_over c.args.root.0 c.args.way (link (wiring_of v) l) =
-        c.over.ensures ∙ ap (way_over c.args.root.0 c.args.way) (ends_are v _ _ l c.ends-ends.ensures.value c.from.ensures) in
-    omega (arith, ap (λ (w : Way). w.to) is, beyond_below v c.ends-ends.ensures.form.network c.args.way.to l
-        (c.requires.links.each _ _ c.loop-link-test.true), c.loop-link.invariant.search.one_each.dists)
+    c.over.ensures ∙ ap (way_over c.args.root.0 c.args.way) (ends_are v _ _ l c.ends-ends.ensures.value c.from.ensures) in
+    omega (
+      arith,
+      ap (λ (w : Way). w.to) is,
+      beyond_below v c.ends-ends.ensures.form.network c.args.way.to l
+          (c.requires.links.each _ _ c.loop-link-test.true),
+      c.loop-link.invariant.search.one_each.dists,
+    )
 
 pub loop-link-preserved : goal.loop-link-preserved
 loop-link-preserved c =
     let v = c.args.view.now in
     let l = (get_or c.args.links.now c.loop-link.link-index (record { 0 = 0 })).0 in
     let is : c.over.result ≡ way_over c.args.root.0 c.args.way (link (wiring_of v) l) =
-        c.over.ensures ∙ ap (way_over c.args.root.0 c.args.way) (ends_are v _ _ l c.ends-ends.ensures.value c.from.ensures) in
+    c.over.ensures ∙ ap (way_over c.args.root.0 c.args.way) (ends_are v _ _ l c.ends-ends.ensures.value c.from.ensures) in
     let kept =
-        offered v c.args.root.0 c.ends-ends.ensures.form.network c.requires.root
-        (state_of c.loop-link.self) c.args.way c.args.links.now c.loop-link.link-index l c.loop-link.invariant.search c.loop-link.invariant.followed
-        (c.requires.links.each _ _ c.loop-link-test.true)
-        (λ p d. ap (λ (n : LinkNo). n.0) (get_or_default c.args.links.now c.loop-link.link-index d (record { 0 = 0 }) p)) (state_of c.offer.new.self)
-        (subst (Offers (state_of c.loop-link.self) (state_of c.offer.new.self)) is c.in_ok-offer.ensures) in
+    offered v c.args.root.0 c.ends-ends.ensures.form.network c.requires.root
+    (state_of c.loop-link.self) c.args.way c.args.links.now c.loop-link.link-index l c.loop-link.invariant.search c.loop-link.invariant.followed
+    (c.requires.links.each _ _ c.loop-link-test.true)
+    (λ p d. ap (λ (n : LinkNo). n.0) (get_or_default c.args.links.now c.loop-link.link-index d (record { 0 = 0 }) p)) (state_of c.offer.new.self)
+    (subst (Offers (state_of c.loop-link.self) (state_of c.offer.new.self)) is c.in_ok-offer.ensures) in
     record { search = kept.0; followed = kept.1; count = kept.2 ∙ c.loop-link.invariant.count }
 
 pub returns-clause-search : goal.returns-clause-search
 returns-clause-search c =
     closed c.args.view.now c.args.root.0 c.ends-ends.ensures.form.network c.requires.root c.args.way.to _ c.loop-link.link-index c.args.links.now _
-        c.loop-link-test.false c.loop-link.invariant.search
+    c.loop-link-test.false c.loop-link.invariant.search

@@ -24,14 +24,14 @@ returns-then-not-index c = λ learned root limit h.
     let way = c.in-Some.field-0.0 in
     let s = state_of c.loop-way.self in
     let s' : State =
-        record { table = c.loop-way.self.tree; settled = set c.loop-way.self.settled.items c.from-to.result true; queue = heap_items c.pop.new.self } in
+    record { table = c.loop-way.self.tree; settled = set c.loop-way.self.settled.items c.from-to.result true; queue = heap_items c.pop.new.self } in
     let there : way.to < length s.settled =
-        All-head (λ (w : Reverse Way). w.0.to < length c.loop-way.self.settled.items) _ _
-        (All-permutation (λ (w : Reverse Way). w.0.to < length c.loop-way.self.settled.items) _ _ c.in-Some.ensures.permutation c.loop-way.invariant.there)
-        in
+    All-head (λ (w : Reverse Way). w.0.to < length c.loop-way.self.settled.items) _ _
+    (All-permutation (λ (w : Reverse Way). w.0.to < length c.loop-way.self.settled.items) _ _ c.in-Some.ensures.permutation c.loop-way.invariant.there)
+    in
     let marks : s'.settled ≡ set s.settled way.to true = ap (λ n. set c.loop-way.self.settled.items n true) c.from-to.ensures in
     let free : is_settled s way.to ≡ false =
-        mark_read s.settled c.from-to.result way.to c.index.result.now c.index.ensures c.from-to.ensures there ∙ c.if-not-index.true in (
+    mark_read s.settled c.from-to.result way.to c.index.result.now c.index.ensures c.from-to.ensures there ∙ c.if-not-index.true in (
       settles learned root s s' way limit k c.in-Some.ensures.permutation c.in-Some.ensures.heap_order refl marks free,
       settles_followed learned root s s' way limit k c.in-Some.ensures.permutation c.in-Some.ensures.heap_order refl marks free,
       one_settled learned root s s' way limit k c.in-Some.ensures.permutation c.in-Some.ensures.heap_order refl marks free
@@ -41,21 +41,21 @@ returns-then-not-index c = λ learned root limit h.
 pub loop-way-preserved : goal.loop-way-preserved
 loop-way-preserved c =
     let moved =
-        All-permutation (λ (w : Reverse Way). w.0.to < length c.loop-way.self.settled.items) _ _ c.in-Some.ensures.permutation c.loop-way.invariant.there in
+    All-permutation (λ (w : Reverse Way). w.0.to < length c.loop-way.self.settled.items) _ _ c.in-Some.ensures.permutation c.loop-way.invariant.there in
     let there : c.in-Some.field-0.0.to < length c.loop-way.self.settled.items =
-        All-head (λ (w : Reverse Way). w.0.to < length c.loop-way.self.settled.items) _ _ moved in
+    All-head (λ (w : Reverse Way). w.0.to < length c.loop-way.self.settled.items) _ _ moved in
     record {
       there = All-tail (λ (w : Reverse Way). w.0.to < length c.loop-way.self.settled.items) _ _ moved;
       settled = c.loop-way.invariant.settled;
       search = λ learned root limit h.
           stale learned root (state_of c.loop-way.self)
-              (state_of (record { tree = c.loop-way.self.tree; settled = c.loop-way.self.settled; queue = c.pop.new.self })) c.in-Some.field-0.0 limit
-              (c.loop-way.invariant.search learned root limit h) c.in-Some.ensures.permutation c.in-Some.ensures.heap_order refl refl
+          (state_of (record { tree = c.loop-way.self.tree; settled = c.loop-way.self.settled; queue = c.pop.new.self })) c.in-Some.field-0.0 limit
+          (c.loop-way.invariant.search learned root limit h) c.in-Some.ensures.permutation c.in-Some.ensures.heap_order refl refl
           (mark_read c.loop-way.self.settled.items c.from-to.result c.in-Some.field-0.0.to c.index.result.now c.index.ensures c.from-to.ensures there
-              ∙ c.if-not-index.false);
+          ∙ c.if-not-index.false);
     }
 
 pub returns : goal.returns
 returns c = λ learned root limit h.
     ended learned root (state_of c.loop-way.self) limit (c.loop-way.invariant.search learned root limit h)
-        (none_left _ (omega (arith, c.loop-way.self.queue.data.ok.0, c.in_default.ensures.none)))
+    (none_left _ (omega (arith, c.loop-way.self.queue.data.ok.0, c.in_default.ensures.none)))

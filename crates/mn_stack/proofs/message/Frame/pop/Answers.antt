@@ -7,7 +7,7 @@ deep : (c : goal.After-self-2-1) → 0 < c.self.inside.depth
 deep c =
     let same : length c.args.self.now.entries ≡ c.self.inside.depth =
     ap (λ (f : Labelled). length f.entries) (sym c.self.view_is)
-        ∙ length-entries c.self.inside.room c.self.inside.depth c.self.inside.bytes.items c.self.invariant in
+    ∙ length-entries c.self.inside.room c.self.inside.depth c.self.inside.bytes.items c.self.invariant in
     omega arith
 
 pub invariant_of-self : goal.invariant_of-self

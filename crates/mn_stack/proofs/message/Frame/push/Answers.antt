@@ -36,14 +36,17 @@ pub invariant_of-self : goal.invariant_of-self
 invariant_of-self c =
     subst (λ (xs : List ℕ). IsKept (c.self.inside.room - 1) (c.self.inside.depth + 1) xs) (sym (all c))
     (IsKept-pushed c.self.inside.room c.self.inside.depth c.self.inside.bytes.items c.put_entry.new.bytes (new_top c) (some c) c.self.invariant (fits c)
-        (bottom c) (same_length c) (written c))
+    (bottom c) (same_length c) (written c))
 
 pub returns : goal.returns
 unfolding new_top
 returns c =
     ap (λ (xs : List ℕ). kept (c.self.inside.room - 1) (c.self.inside.depth + 1) xs) (all c)
     ∙ kept-pushed c.self.inside.room c.self.inside.depth c.self.inside.bytes.items c.put_entry.new.bytes (new_top c) (some c) (fits c) (written c)
-    ∙ ap (λ (b : Bool). record (kept c.self.inside.room c.self.inside.depth c.self.inside.bytes.items) { entries =
-        record (new_top c) { bottom = b } ∷ (kept c.self.inside.room c.self.inside.depth c.self.inside.bytes.items).entries; room =
-        c.self.inside.room - 1 }) (bottom c)
+    ∙ ap (λ (b : Bool). record (kept c.self.inside.room c.self.inside.depth c.self.inside.bytes.items) {
+      entries =
+          record (new_top c) { bottom = b } ∷ (kept c.self.inside.room c.self.inside.depth c.self.inside.bytes.items).entries;
+      room =
+          c.self.inside.room - 1;
+    }) (bottom c)
     ∙ ap (λ (f : Labelled). record f { entries = pushed f.entries c.args.label c.args.ttl; room = f.room - 1 }) c.self.view_is

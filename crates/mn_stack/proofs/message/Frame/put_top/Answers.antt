@@ -9,7 +9,7 @@ deep : (c : goal.After-self-1) → 0 < c.self.inside.depth
 deep c =
     let same : length c.args.self.now.entries ≡ c.self.inside.depth =
     ap (λ (f : Labelled). length f.entries) (sym c.self.view_is)
-        ∙ length-entries c.self.inside.room c.self.inside.depth c.self.inside.bytes.items c.self.invariant in
+    ∙ length-entries c.self.inside.room c.self.inside.depth c.self.inside.bytes.items c.self.invariant in
     omega (arith, c.requires.some)
 
 written : (c : goal.After-self-1) →
@@ -30,11 +30,11 @@ invariant_of-self c =
     c.requires.bottom ∙ ap (λ (f : Labelled). length f.entries == 1) (sym c.self.view_is) in
     subst (λ (xs : List ℕ). IsKept c.self.inside.room c.self.inside.depth xs) (sym (all c))
     (IsKept-put_top c.self.inside.room c.self.inside.depth items c.put_entry.new.bytes c.args.entry (deep c) c.self.invariant c.requires.fits bottom
-        (same_length c) (written c))
+    (same_length c) (written c))
 
 pub returns : goal.returns
 returns c =
     ap (λ (xs : List ℕ). kept c.self.inside.room c.self.inside.depth xs) (all c)
     ∙ kept-put_top c.self.inside.room c.self.inside.depth c.self.inside.bytes.items c.put_entry.new.bytes c.args.entry
-        (deep c) c.self.invariant c.requires.fits (written c)
+    (deep c) c.self.invariant c.requires.fits (written c)
     ∙ ap (λ (f : Labelled). record f { entries = c.args.entry ∷ popped f.entries }) c.self.view_is

@@ -13,8 +13,12 @@ good c = sym (c.if-not-is_packet.ensures ∙ ap is_packet c.from_place.ensures.r
 deep : (c : goal.In-Ok) → depth_of c.args.bytes.now ≡ Some c.in-Some.depth
 deep c = sym c.in-Some.ensures.depth
 
-seen : (c : goal.In-Ok) → kept 2 c.in-Some.depth c.in-Ok.bytes.items ≡ record { entries = take c.in-Some.depth (entries_of c.args.bytes.now); packet =
-    drop (4 * c.in-Some.depth) c.args.bytes.now; room = 2 }
+seen : (c : goal.In-Ok) → kept 2 c.in-Some.depth c.in-Ok.bytes.items ≡ record {
+  entries = take c.in-Some.depth (entries_of c.args.bytes.now);
+  packet =
+      drop (4 * c.in-Some.depth) c.args.bytes.now;
+  room = 2;
+}
 seen c = ap (λ (xs : List ℕ). kept 2 c.in-Some.depth xs) c.in-Ok.ensures ∙ kept-read c.args.bytes.now c.in-Some.depth
 
 pub invariant_of-result : goal.invariant_of-result

@@ -40,7 +40,7 @@ pub invariant_of-self : goal.invariant_of-self
 invariant_of-self c =
     subst (λ (xs : List ℕ). IsKept c.self.inside.room c.self.inside.depth xs) (sym (all c))
     (IsKept-repacked c.self.inside.room c.self.inside.depth c.self.inside.bytes.items c.set_ttl_behind.new.bytes
-        (with_ttl (packet c) c.args.ttl) c.self.invariant (same_length c) (written c) (still c))
+    (with_ttl (packet c) c.args.ttl) c.self.invariant (same_length c) (written c) (still c))
 
 -- the packet after the call
 new_packet : (c : goal.After-self-1) →

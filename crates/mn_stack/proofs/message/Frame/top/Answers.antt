@@ -11,7 +11,7 @@ returns-clause-bottom c =
     let same : length c.args.self.now.entries ≡ c.self.inside.depth =
     ap (λ (f : Labelled). length f.entries) (sym c.self.view_is) ∙ length-entries room c.self.inside.depth items c.self.invariant in
     let frame : drop (4 * room) items ≡ c.from_place.result.now =
-        ap (λ (xs : List ℕ). drop (4 * room) xs) (sym c.deref.ensures.value) ∙ sym c.from_place.ensures.rest in
+    ap (λ (xs : List ℕ). drop (4 * room) xs) (sym c.deref.ensures.value) ∙ sym c.from_place.ensures.rest in
     bottom-first room c.self.inside.depth items c.first_entry.result (entries_of (drop 4 c.from_place.result.now))
-        (omega (arith, c.requires)) c.self.invariant (ap entries_of frame ∙ c.first_entry.ensures.first)
+    (omega (arith, c.requires)) c.self.invariant (ap entries_of frame ∙ c.first_entry.ensures.first)
     ∙ ap (λ (f : Labelled). length f.entries == 1) c.self.view_is

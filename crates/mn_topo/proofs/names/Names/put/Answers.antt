@@ -6,4 +6,4 @@ pub returns : goal.returns
 returns c =
     let fresh = rw (← c.self.view_is) at c.requires.fresh in
     put_name c.args.name.now c.in_ok-copy.copy _ _ c.in_ok-copy.ensures.items fresh c.in_ok-insert.ensures.keys
-        ∙ ap (λ names. names ++ c.args.name.now ∷ []) c.self.view_is
+    ∙ ap (λ names. names ++ c.args.name.now ∷ []) c.self.view_is

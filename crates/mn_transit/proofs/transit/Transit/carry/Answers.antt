@@ -15,7 +15,7 @@ use Rattle.mn_transit.proofs.transit.Transit.carry.Goals as goal
 pub arrive-requires-clause-number : goal.arrive-requires-clause-number
 arrive-requires-clause-number c =
     rw (c.visit.ensures, c.in-Some.ensures.left, c.begin.ensures.begun)
-        (holds_left (λ (item : Item Flown). item.number < c.args.clock.number) c.args.self.now.flying (Some c.in-Some.taken) c.requires.number)
+    (holds_left (λ (item : Item Flown). item.number < c.args.clock.number) c.args.self.now.flying (Some c.in-Some.taken) c.requires.number)
 
 pub arrive-requires-clause-bytes : goal.arrive-requires-clause-bytes
 arrive-requires-clause-bytes c =
@@ -26,13 +26,13 @@ arrive-requires-clause-bytes c =
 pub returns-clause-moved : goal.returns-clause-moved
 returns-clause-moved c = λ given world packets bytes.
     stands_carried _ given world _ _ _ _ _ packets _ _ c.args.link c.args.dir c.receiver-node.result c.in-Some.taken _ bytes c.begin.ensures.begun
-        c.channel_of-at.ensures c.receiver-node.ensures.end
+    c.channel_of-at.ensures c.receiver-node.ensures.end
     (record { found = c.in-Some.ensures.taken; left = c.in-Some.ensures.left; flight = c.take.ensures.flight }) c.visit.ensures c.arrive.ensures.stands
 
 pub returns-clause-made : goal.returns-clause-made
 returns-clause-made c =
     let before : c.visit.new.self.flying ≡ without (slice_get (on_channel (channel c.args.link.0 c.args.dir) c.args.self.now.flying) c.args.place)
-        c.args.self.now.flying =
+    c.args.self.now.flying =
     ap (λ (m : Moving). m.flying) c.visit.ensures ∙ ap (λ (m : Moving). m.flying) c.in-Some.ensures.left
     ∙ ap (λ r. without r c.begin.new.self.flying) c.in-Some.ensures.taken
     ∙ ap (λ a. without (slice_get (on_channel a c.begin.new.self.flying) c.args.place) c.begin.new.self.flying) c.channel_of-at.ensures

@@ -22,13 +22,17 @@ frames-preserved c = record {
       (record { found = c.in-Some.ensures.taken; left = c.in-Some.ensures.left; flight = c.take.ensures.flight }) c.judge.ensures before.1 in
       (step.0, step.1, step.2 ∙ before.2);
   left =
-      off_first c.frames.self c.take.new.self c.judge.new.self c.channel_of-at.result c.in-Some.taken _ (record { found = c.in-Some.ensures.taken; left =
-          c.in-Some.ensures.left; flight = c.take.ensures.flight }) c.judge.ensures
+      off_first c.frames.self c.take.new.self c.judge.new.self c.channel_of-at.result c.in-Some.taken _ (record {
+        found = c.in-Some.ensures.taken;
+        left =
+            c.in-Some.ensures.left;
+        flight = c.take.ensures.flight;
+      }) c.judge.ensures
       ∙ c.frames.invariant.left;
   counts =
       let taken = counts_taken c.frames.self c.take.new.self _ _ c.in-Some.taken c.take.ensures.flight c.in-Some.ensures.taken c.in-Some.ensures.left in
       counts_then c.args.self.now c.frames.self c.judge.new.self 0 0 0 0 0 0 c.frames.invariant.counts
-          (counts_then _ c.take.new.self _ 0 0 0 0 0 0 taken.0 (counts_judged _ _ _ 0 0 _ c.judge.ensures));
+      (counts_then _ c.take.new.self _ 0 0 0 0 0 0 taken.0 (counts_judged _ _ _ 0 0 _ c.judge.ensures));
 }
 
 pub returns-clause-cut : goal.returns-clause-cut
@@ -36,7 +40,7 @@ returns-clause-cut c = λ given packets stands.
     let before = c.frames.invariant.cuts given packets stands in
     let done = cuts_none _ given _ before.0 _ c.args.link.0 c.args.dir c.frames.invariant.at c.in_default.ensures.taken before.1 in
     subst (λ k. StandsFor c.args.topology.now given c.take.new.self k) (sym done ∙ before.2)
-        (stands_still _ given _ _ before.0 _ c.in_default.ensures.left before.1)
+    (stands_still _ given _ _ before.0 _ c.in_default.ensures.left before.1)
 
 pub returns-clause-left : goal.returns-clause-left
 returns-clause-left c =

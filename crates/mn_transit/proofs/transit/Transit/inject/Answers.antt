@@ -9,14 +9,14 @@ use Rattle.mn_transit.proofs.transit.Transit.inject.Goals as goal
 pub returns-in-Drop-clause-moved : goal.returns-in-Drop-clause-moved
 returns-in-Drop-clause-moved c = λ given world packets site number bytes home is out stands.
     stands_fallen _ given world _ _ packets c.args.node _ number site bytes c.in-Drop.rule c.judge.ensures home
-        (subst (IsItsFate c.args.topology.now given world site.0 bytes) c.in-Drop.is is)
+    (subst (IsItsFate c.args.topology.now given world site.0 bytes) c.in-Drop.is is)
     (ready _ given _ _ _ packets c.args.node _ _ _ c.in-Ok.ensures.more c.in-Ok.ensures.number c.begin.ensures.begun stands)
 
 pub returns-in-Local-clause-moved : goal.returns-in-Local-clause-moved
 returns-in-Local-clause-moved c = λ given world packets site number bytes home is out stands.
     let local = subst (IsItsFate c.args.topology.now given world site.0 bytes) c.in-Local.is is in
     stands_stayed _ given world _ _ packets c.args.node _ number _ site c.in-Local.site bytes c.in-Local.frame c.deliver.ensures
-        (c.ttl_of-ttl.ensures ∙ ap ttl_of c.packet.ensures.packet) home local.0 local.1
+    (c.ttl_of-ttl.ensures ∙ ap ttl_of c.packet.ensures.packet) home local.0 local.1
     (ready _ given _ _ _ packets c.args.node _ _ _ c.in-Ok.ensures.more c.in-Ok.ensures.number c.begin.ensures.begun stands)
 
 pub returns-in-Tunnel-clause-moved : goal.returns-in-Tunnel-clause-moved

@@ -1,0 +1,323 @@
+"""Makes random topologies, scripts and captures: small networks in which much happens, and now and then a wrong input.
+
+The script is made line by line beside the network of examples/reference.py as the lines so far have left it, so that most
+lines ask for something that can be done: in any order, though, and not for what would come next."""
+
+import random
+import struct
+import sys
+from pathlib import Path
+
+sys.path.insert(0, str(Path(__file__).resolve().parents[1] / "examples"))
+import reference  # noqa: E402
+import reference_inputs as inputs  # noqa: E402
+
+PREFIXES = ["0.0.0.0/0", "10.0.0.0/8", "10.1.0.0/16", "10.1.2.0/24", "10.1.2.3/32", "10.1.2.2/31", "10.128.0.0/9", "192.168.0.0/17"]
+PREFIXES += ["172.16.0.0/12", "255.255.255.255/32", "128.0.0.0/1", "0.0.0.0/32", "0.0.0.0/1"]
+ADDRESSES = ["10.1.2.3", "10.1.2.2", "10.1.2.9", "10.1.9.9", "10.200.0.1", "10.9.9.9", "192.168.1.1", "172.31.0.1", "8.8.8.8"]
+ADDRESSES += ["127.0.0.1", "224.0.0.5", "0.1.2.3", "255.255.255.255", "128.1.1.1"]
+TARGETS = ["65000:1", "65000:2", "0:0", "65535:4294967295", "10.0.0.1:7", "10.0.0.1:65535", "1:7", "255.255.255.255:0"]
+NAMES = ["pe1", "p", "pe2", "a", "b", "A", "n-1", "n_2", "n.pcap", "up", "x" * 32, "9", ".", "drain", "p2", "ldp"]
+VERBS = {
+    "link up": 24, "link down": 2, "learn": 12, "ldp on": 12, "ldp off": 1, "hear ldp": 20, "hear bgp": 20, "bgp up": 24, "bgp down": 1,
+    "route add": 6, "route del": 2, "import add": 6, "import del": 1, "export add": 6, "export del": 1, "site up": 12, "site down": 2,
+    "inject": 40, "carry": 40, "lose": 4, "run": 8, "drain": 14, "flush": 6, "show links": 2, "show tree": 3, "show ldp": 3,
+    "show bgp": 2, "show vrf": 5, "show flight": 4,
+}  # fmt: skip
+
+
+def toml(value):
+    if isinstance(value, dict):
+        return "{" + ", ".join(f"{key} = {toml(one)}" for key, one in value.items()) + "}"
+    if isinstance(value, list):
+        return "[" + ", ".join(map(toml, value)) + "]"
+    if isinstance(value, bool):
+        return str(value).lower()
+    return '"' + value + '"' if isinstance(value, str) else str(value)
+
+
+def toml_text(top):
+    arrays = {key: value for key, value in top.items() if key in ("node", "link", "vrf", "site") and isinstance(value, list)}
+    lines = [f"{key} = {toml(value)}" for key, value in top.items() if key not in arrays]
+    for kind, tables in arrays.items():
+        for table in tables:
+            lines += [f"[[{kind}]]"] + [f"{key} = {toml(value)}" for key, value in table.items()]
+    return "\n".join(lines) + "\n"
+
+
+def some(rng, table, chance, **more):
+    """The table with some of these keys, each a function that makes its value."""
+    return table | {key: make() for key, make in more.items() if rng.random() < chance}
+
+
+def random_topology(rng):
+    names = rng.sample(NAMES, 16)
+    loopbacks = rng.sample(["192.0.2.1", "192.0.2.2", "10.0.0.9", "1.0.0.1", "223.255.255.255", "128.0.0.1", "126.9.9.9"], 7)
+    count = rng.choice([1, 2, 2, 3, 3, 3, 4, 4, 4, 5, 5, 5, 6, 6])
+    nodes = [{"name": name, "loopback": loopback} for name, loopback in zip(names[:count], loopbacks)]
+    pairs = [(a["name"], b["name"]) for i, a in enumerate(nodes) for b in nodes[i + 1 :]]
+    rng.shuffle(pairs)
+    links = []
+    for a, b in pairs[: max(count - 1, 0) + rng.choice([0, 0, 0, 1, 2, 3])]:
+        ends = {"a": a, "b": b} if rng.random() < 0.6 else {"a": b, "b": a}
+        link = some(rng, ends, 0.4, cost=lambda: rng.choice([1, 2, 3, 10, 20, 65535]), delay=lambda: rng.choice([1, 2, 3, 7, 1000]))
+        links.append(some(rng, link, 0.2, loss=lambda: rng.choice([0, 1, 2, 3, 65535])))
+    top = some(rng, {}, 0.2, **{"as": lambda: rng.choice([1, 64512, 65535])})
+    top = some(rng, top, 0.2, notice_delay=lambda: rng.choice([1, 3, 10, 1000]), bgp_delay=lambda: rng.choice([1, 2, 5, 1000]))
+    top |= {"node": nodes, "link": links}
+    rds = rng.sample(["65000:1", "65000:2", "1.2.3.4:5", "0:0", "65535:4294967295", "1:1", "192.0.2.1:1"], 7)
+    targets = rng.sample(TARGETS, rng.choice([1, 1, 1, 2, 3]))
+    vrfs = []
+    edges = rng.sample(nodes, count) if rng.random() < 0.92 else [rng.choice(nodes)]
+    for at, (name, rd) in enumerate(list(zip(rng.sample(NAMES, 16), rds))[: rng.choice([0, 1, 2, 2, 2, 3, 3, 3, 4, 4, 5, 6])]):
+        vrf = {"name": name, "node": edges[at % len(edges)]["name"], "rd": rd}
+        vrfs.append(some(rng, vrf, 0.93, **{key: lambda: rng.sample(targets, rng.randint(rng.random() < 0.8, min(2, len(targets)))) for key in ("import", "export")}))
+    own_prefixes = rng.random() < 0.7
+    sites, free = [], {vrf["name"]: rng.sample(PREFIXES, len(PREFIXES)) for vrf in vrfs}
+    for name in rng.sample(NAMES, 16)[: rng.choice([0, 1, 4, 4, 5, 6, 7, 8]) if vrfs else 0]:
+        vrf = vrfs[len(sites) % len(vrfs) if own_prefixes else rng.randrange(len(vrfs))]["name"]
+        prefixes = [free[vrf].pop() for _ in range(min(rng.choice([0, 1, 1, 2, 3]), len(free[vrf])))]
+        prefixes = [f"10.{len(sites) + 2}.0.0/16"] if own_prefixes else prefixes
+        sites.append({"name": name, "vrf": vrf} | ({"prefixes": prefixes} if prefixes or rng.random() < 0.5 else {}))
+    return top | {"vrf": vrfs, "site": sites}
+
+
+WRONG = [True, 1.5, 0, -1, 1, 65535, 65536, 1001, "", "x", "10.0.0.1", "127.0.0.1", "240.0.0.1", "1:1", "65536:1", "1:4294967296", "01:1", "x:y"]
+WRONG += ["1.2.3.4:65536", "10.0.0.0/8", "10.0.0.1/8", "0.0.0.0/33", [], ["1:1"], ["1:1", "1:1"], ["10.0.0.0/8", "10.0.0.0/8"], [1], [[]], {}]
+WRONG += [[f"1:{n}" for n in range(16)], [f"1:{n}" for n in range(17)], [{}], "n\u00e9", "n 1", "y" * 33, 10**19, -(10**19), "1.2.3", "1.2.3.4.5"]
+
+
+def wrong_topology(rng, top):
+    """The topology with one to three values that may be wrong."""
+    for _ in range(rng.randint(1, 3)):
+        tables = [table for kind in ("node", "link", "vrf", "site") for table in top[kind]] + [top]
+        table = rng.choice(tables)
+        keys = ["name", "loopback", "a", "b", "cost", "delay", "loss", "node", "rd", "import", "export", "vrf", "prefixes", "as", "other"]
+        present = [key for key in table if key not in ("link", "site") and not isinstance(top.get(key), list)] or ["as"]
+        deed = rng.random()
+        if deed < 0.15 and table is not top:
+            table.pop(rng.choice(present), None)
+        elif deed < 0.3:
+            table[rng.choice(keys if table is not top else ["as", "notice_delay", "bgp_delay", "more"])] = rng.choice(WRONG)
+        elif deed < 0.5 and table is not top:
+            twin = rng.choice([one for one in tables if one is not top])
+            table |= {key: value for key, value in twin.items() if rng.random() < 0.4 and key in table}
+        else:
+            table[rng.choice(present)] = rng.choice(WRONG)
+    return top
+
+
+def damaged(rng, text):
+    """The text with a few letters changed, left out or doubled."""
+    letters = list(text)
+    for _ in range(rng.randint(1, 3)):
+        at = rng.randrange(len(letters) + 1)
+        letters[at : at + rng.randint(0, 2)] = rng.choice(["", " ", "\n", "\r", "\t", "0", "9", "#", "=", "[", '"', "x", ":", "/", "\x00", "\u00e9"])
+    return "".join(letters)
+
+
+def words_in_flight(rng, verb, network):
+    """The words that take something that is in flight, None where nothing of the kind is."""
+    kind = {"learn": "notice", "hear ldp": "ldp", "hear bgp": "bgp"}.get(verb, "frame")
+    items = [item for item in network.in_flight if item.kind == kind]
+    if not items:
+        return None
+    item = rng.choice(items)
+    if kind == "notice":
+        step = verb, *item.channel[::-1]
+    elif kind == "frame":
+        step = verb, *item.channel, network.on(kind, item.channel).index(item)
+    else:
+        step = verb, *item.channel
+    return reference.step_words(network.topology, step)[1:]
+
+
+def words_for(rng, verb, top, records, network):
+    """The words behind the verb, which name what there is but for a few."""
+    if verb in ("learn", "hear ldp", "hear bgp", "carry", "lose") and rng.random() < 0.9:
+        if words := words_in_flight(rng, verb, network):
+            return words
+    nodes = [node["name"] for node in top["node"]]
+    vrfs, sites = ([thing["name"] for thing in top[kind]] or ["none"] for kind in ("vrf", "site"))
+    edges = [vrf["node"] for vrf in top["vrf"]] or nodes
+    ends = [[link["a"], link["b"]] for link in top["link"]] or [nodes[:1] * 2]
+    link = rng.choice(ends)[:: rng.choice([1, -1])]
+    first = verb.split()[0]
+    if verb in ("hear bgp", "bgp up", "bgp down"):
+        return [rng.choice(edges), rng.choice([edge for edge in edges if edge != edges[0]] or edges)]
+    if first in ("link", "ldp") or verb == "hear ldp":
+        return link
+    if verb == "learn":
+        return [rng.choice(nodes), *link]
+    if first in ("carry", "lose"):
+        return [*link, str(rng.choice([0, 0, 0, 0, 1, 2, 4294967295]))]
+    if first == "route":
+        site = rng.choice(top["site"] or [{"name": "none"}])
+        return [site["name"], rng.choice(site.get("prefixes", []) + rng.sample(PREFIXES, 2))]
+    if first in ("import", "export"):
+        return [rng.choice(vrfs), rng.choice(TARGETS)]
+    if first == "site":
+        return [rng.choice(sites)]
+    if verb == "inject":
+        return [rng.choice(sites), str(rng.randint(1, records + 1 if rng.random() < 0.1 else max(records, 1)))]
+    if verb == "run":
+        return [str(rng.choice([0, 1, 1, 2, 3, 5, 10, 100, 1000, 1000000]))]
+    if verb == "drain":
+        return [] if rng.random() < 0.5 else [str(rng.choice([0, 1, 2, 3, 5, 8, 13, 1000, 4000000]))]
+    return {"show tree": [rng.choice(nodes)], "show vrf": [rng.choice(vrfs)]}.get(verb, [])
+
+
+def makes_sense(verb, top):
+    """The line isn't refused as it is read."""
+    edges = {vrf["node"] for vrf in top["vrf"]}
+    if verb in ("link up", "link down", "learn", "ldp on", "ldp off", "hear ldp", "carry", "lose"):
+        return bool(top["link"])
+    if "bgp" in verb and "show" not in verb:
+        return len(edges) > 1
+    if verb.split()[0] in ("route", "site", "inject"):
+        return bool(top["site"])
+    return verb.split()[0] not in ("import", "export") and verb != "show vrf" or bool(top["vrf"])
+
+
+def bring_up(rng, top):
+    """Lines that bring most of the network up."""
+    edges = sorted({vrf["node"] for vrf in top["vrf"]}, key=[node["name"] for node in top["node"]].index)
+    lines = [["link", "up", link["a"], link["b"]] for link in top["link"] if rng.random() < 0.95]
+    lines += [["bgp", "up", a, b] for i, a in enumerate(edges) for b in edges[i + 1 :] if rng.random() < 0.95]
+    rng.shuffle(lines)
+    return lines + [rng.choice([["drain"], ["drain"], ["drain", "1000"], ["drain", "25"], ["run", "20"]])]
+
+
+def leaves_its_edge(network, site, packet):
+    """The packet would leave its edge over a link."""
+    vrf = network.topology.sites[site].vrf
+    edge = network.topology.vrfs[vrf].node
+    if network.attachment[site] is None or reference.fault_of(packet) or packet[8] < 2:
+        return False
+    route = network.best(vrf, int.from_bytes(packet[16:20], "big"))
+    return route is not None and route.edge != edge and network.usable_hop(edge, route.edge) is not None
+
+
+def random_line(rng, verb, top, packets, network):
+    words = words_for(rng, verb, top, len(packets), network)
+    if verb == "inject" and rng.random() < 0.85:
+        pairs = [(site, k) for site in range(len(top["site"])) for k in range(len(packets))]
+        pairs = [(site, k) for site, k in pairs if leaves_its_edge(network, site, packets[k])]
+        if not pairs and rng.random() < 0.5:
+            return ["drain"]
+        site, k = rng.choice(pairs or [(0, 0)])
+        words = [top["site"][site]["name"], str(k + 1)]
+    if "bgp" in verb and "show" not in verb and len({*words}) < 2:
+        words = rng.sample(sorted({vrf["node"] for vrf in top["vrf"]}), 2)
+    return [*verb.split(), *words]
+
+
+def is_refused(network, words, packets):
+    """Does the line's command; whether it was refused, in which case nothing was done."""
+    verb, *given = inputs.read_line(network.topology, words, 1)
+    if verb == "inject":
+        return given[1] > len(packets) or bool(network.do((verb, *given), 1, packets[given[1] - 1]))
+    if verb in ("run", "drain", "flush"):
+        getattr(reference, verb)(network, *given)
+    return verb.split()[0] not in ("run", "drain", "flush", "show") and bool(network.do((verb, *given)))
+
+
+def random_lines(rng, top, packets, network):
+    """Lines one after another; of those that would be refused most are left out."""
+    verbs = [verb for verb in VERBS if makes_sense(verb, top)]
+    weights = [VERBS[verb] for verb in verbs]
+    if rng.random() < 0.5:  # here little arrives by itself
+        weights = [weight // 4 if verb in ("run", "drain", "flush") else weight for verb, weight in zip(verbs, weights)]
+    for words in bring_up(rng, top) if rng.random() < 0.85 else []:
+        is_refused(network, words, packets)
+        yield words
+    for _ in range(rng.choice([0, 3, 10, 20, 40, 80])):
+        for _ in range(6):
+            words = random_line(rng, rng.choices(verbs, weights)[0], top, packets, network)
+            if not is_refused(network, words, packets) or rng.random() < 0.08:
+                yield words
+                break
+
+
+def random_script(rng, top, packets, network):
+    lines = []
+    for words in random_lines(rng, top, packets, network):
+        line = rng.choice([" ", " ", " ", " ", "  ", "\t", " \t "]).join(words)
+        lines.append(line + (rng.choice([" # why", " #", "\r", "\t", " #\r"]) if rng.random() < 0.1 else ""))
+        lines += [rng.choice(["", "  ", "# a comment", "\t# one more"])] * (rng.random() < 0.03)
+    return "\n".join(lines + rng.choice([["flush"], ["drain", "show flight"], [], []])) + rng.choice(["\n", "\n", ""])
+
+
+def checksum(header):
+    total = sum(struct.unpack(f">{len(header) // 2}H", header))
+    while total >> 16:
+        total = (total & 0xFFFF) + (total >> 16)
+    return 0xFFFF - total
+
+
+def random_packet(rng, top):
+    prefixes = [of for site in top["site"] for of in site.get("prefixes", [])] * 3
+    to = bytes(map(int, rng.choice([of.split("/")[0] for of in prefixes] * 4 + ADDRESSES).split(".")))
+    words = rng.choice([0, 0, 0, 0, 1, 10])
+    body = rng.randbytes(rng.choice([0, 1, 8, 8, 8, 100]))
+    ttl = rng.choice([64, 64, 64, 64, 255, rng.randrange(2), 2, 3, 4, 5, 6])
+    total = 20 + 4 * words + len(body)
+    header = struct.pack(">BBHHHBBH4s4s", 0x45 + words, 0, total, rng.randrange(65536), 0, ttl, 17, 0, bytes([10, 1, 0, 1]), to) + rng.randbytes(4 * words)
+    packet = bytearray(header[:10] + struct.pack(">H", checksum(header)) + header[12:] + body)
+    if rng.random() < 0.1:
+        return spoiled(rng, packet)
+    return bytes(packet) + rng.randbytes(rng.choice([0, 0, 0, 5]))
+
+
+def spoiled(rng, packet):
+    deed = rng.randrange(7)
+    if deed == 0:
+        return bytes(packet[: rng.randrange(len(packet) + 1)])
+    if deed == 1:
+        packet[0] = rng.choice([0x40, 0x44, 0x46, 0x4F, 0x55, 0x65, 0x05])
+    elif deed == 2:
+        packet[2:4] = rng.choice([0, 19, 20, 21, 24, 65535, len(packet) + 1]).to_bytes(2, "big")
+    elif deed == 3:
+        packet[rng.randrange(len(packet))] ^= 1 << rng.randrange(8)
+    elif deed == 4:
+        packet[10:12] = rng.choice([b"\0\0", b"\xff\xff"])
+    elif deed == 5:
+        return b""
+    if deed > 3 or rng.random() < 0.3:
+        return bytes(packet)
+    header = bytes(packet[:10]) + b"\0\0" + bytes(packet[12 : 4 * (packet[0] & 15)])
+    if len(header) % 2 == 0:
+        packet[10:12] = checksum(header).to_bytes(2, "big")
+    return bytes(packet)
+
+
+def random_capture(rng, top):
+    order, magic, link_type = rng.choice("<<>"), rng.choice([0xA1B2C3D4, 0xA1B2C3D4, 0xA1B23C4D]), rng.choice([228, 228, 101, 1])
+    packets = [random_packet(rng, top) for _ in range(rng.choice([0, 1, 3, 6, 10, 10]))]
+    bytes_ = struct.pack(order + "IHHiIII", magic, 2, 4, rng.randrange(9), 0, rng.choice([0, 0x40000]), link_type | rng.choice([0, 0, 0x10000]))
+    for packet in packets:
+        if link_type == 1:
+            packet = rng.randbytes(12) + rng.choice([b"\x08\0"] * 18 + [b"\x81\0", b"\x86\xdd"]) + packet
+            packet = packet[: rng.randrange(16)] if rng.random() < 0.05 else packet
+        bytes_ += struct.pack(order + "4I", rng.randrange(2**32), rng.randrange(2**32), len(packet), rng.choice([len(packet), 0, 2**32 - 1])) + packet
+    if rng.random() < 0.05:
+        at = rng.randrange(len(bytes_))
+        bytes_ = rng.choice([bytes_[:at], bytes_[:at] + rng.randbytes(1) + bytes_[at + 1 :], bytes_ + rng.randbytes(3), b"\x0a\x0d\x0d\x0a" + bytes_])
+    return bytes_
+
+
+def random_run(seed):
+    """Topology, script and capture as bytes."""
+    rng = random.Random(seed)
+    top = random_topology(rng)
+    capture = random_capture(rng, top)
+    network = reference.Network(inputs.read_topology(toml_text(top).encode()))
+    _, link_type, records = inputs.scan(capture)
+    packets = [inputs.packet_of(link_type, record) for record in records]
+    script = random_script(rng, top, packets, network)
+    if rng.random() < 0.06:
+        script = damaged(rng, script)
+    text = toml_text(wrong_topology(rng, top) if rng.random() < 0.12 else top)
+    if rng.random() < 0.02:
+        text = damaged(rng, text)
+    return text.encode(), script.encode(), capture
