@@ -130,7 +130,8 @@ unfolding next knowledge_of news sessions_after peerings_after held packets_afte
 an_edge_tells_138_bytes = refl
 
 -- before a node learns, another is out of its reach
-pub links_that_are_learned : table_text two_links (at 0 (LinkUp (link_no 0)) ∷ at 0 (LinkUp (link_no 1)) ∷ at 0 (Learn (node_no 0) (link_no 0)) ∷ []) [] (Tree (node_no 0))
+pub links_that_are_learned : table_text two_links (at 0 (LinkUp (link_no 0)) ∷ at 0 (LinkUp (link_no 1)) ∷ at 0 (Learn (node_no 0) (link_no 0)) ∷ []) []
+    (Tree (node_no 0))
     ≡ codes "tree pe1 to p cost 10 next p\ntree pe1 to pe2 unreachable\n"
 unfolding next knowledge_of news sessions_after peerings_after held packets_after is_not_ipv4 is_malformed is_truncated has_bad_checksum good
     checksum_for with_ttl aged in_flight bytes_flying digits given prefix_text address_text

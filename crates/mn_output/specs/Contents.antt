@@ -36,7 +36,7 @@ raw_ipv4 = 228
 abbrev pub ppp : ℕ
 ppp = 9
 
--- MPLS over PPP: RFC 3032, section 4.1
+-- MPLS over PPP: RFC 3032, section 4.3
 abbrev pub over_ppp : List ℕ → List ℕ
 over_ppp frame = 0x02 ∷ 0x81 ∷ frame
 

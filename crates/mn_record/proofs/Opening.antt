@@ -1,24 +1,22 @@
 -- With what files begin, and what they are in the end.
-use Rattle.std.proofs.Common.{◌≡◌, ◌≢◌, ℕ, zero, suc, ◌+◌, ◌-◌, ◌<◌, ◌≤◌, ◌==◌, ◌⊎◌, inl, inr, nat_lt, not, filter, take, subst, Bool, true, false}
+use Rattle.std.proofs.Common.{◌≡◌, ◌≢◌, ℕ, zero, suc, ◌+◌, ◌-◌, ◌<◌, ◌≤◌, ◌==◌, nat_lt, take, subst, Bool, true, false}
 use Rattle.std.proofs.Common.{if◌then◌else◌, List, [], ◌∷◌, ◌++◌, map, length, slice_index_or, get_or, Some, refl, sym, ◌∙◌, ap, arith, append_assoc}
 use Rattle.std.proofs.lemmas.List.{append-nil, take_more, length-take-le}
 use Rattle.std.proofs.lemmas.Grind.{flat_map-append}
 use Rattle.std.specs.List.{flat_map, range_with_len}
 use Rattle.mn_base.proofs.Bools.{other_test, other_numbers, same_numbers, less_is, not_less, less_tells, not_less_tells}
-use Rattle.mn_base.proofs.Members.{In, in_append, in_map, in_flat_map, in_range}
-use Rattle.mn_base.specs.Wiring.{links_of, nodes_of}
-use Rattle.mn_base.specs.declared.links.Dir.TheVariants.{Forth, Back}
+use Rattle.mn_base.specs.Wiring.{nodes_of}
 use Rattle.mn_labels.specs.declared.meaning.Bind.{Bind}
 use Rattle.mn_frames.specs.Given.{given}
-use Rattle.mn_ledger.specs.Places.{edges}
 use Rattle.mn_pcap.specs.Format.{header}
 use Rattle.mn_edge.specs.Laid.{named}
 use Rattle.mn_topo.specs.Network.{Network, wiring_of}
 use Rattle.mn_topo.specs.declared.steps.JournalEntry.{JournalEntry}
-use Rattle.mn_output.specs.Files.{OutputFile, Journal, Labels, Deliveries, Frames, Said, files_of, file_name, told_files}
+use Rattle.mn_output.specs.Files.{OutputFile, Journal, Labels, Deliveries, Frames, Said, files_of, file_name}
 use Rattle.mn_output.specs.Files as file
 use Rattle.mn_output.specs.Contents.{contents, whole, output, head_of, label_lines, raw_ipv4, ppp}
 use Rattle.mn_files.specs.Numbers.{file_at}
+use Rattle.mn_files.proofs.Finding.{is_there, frames_there}
 use Rattle.mn_record.specs.Recorded.{whole_at}
 use Rattle.mn_record.specs.Labels.{frame_heads, label_line}
 use Rattle.mn_record.specs.Parts.{in_file}
@@ -115,45 +113,8 @@ heads_more fewer more (Said l dir) le = ([], refl)
 heads_more fewer more (file.Told edge peer) le = ([], refl)
 
 -- the captures of links that there are
-member : (outs : List OutputFile) (k : ℕ) → k < length outs → In outs (slice_index_or outs k Journal)
-member [] k within = absurd (omega arith)
-member (out ∷ outs) zero within = inl refl
-member (out ∷ outs) (suc k) within = inr (member outs k (omega arith))
-
-no_said : (k l : ℕ) → In (Said k Forth ∷ Said k Back ∷ []) (Frames l) → ⊥
-no_said k l (inl e) = let f : Said k Forth ≡ Frames l = e in cc
-no_said k l (inr (inl e)) = let f : Said k Back ≡ Frames l = e in cc
-no_said k l (inr (inr e)) = e
-
-pub frames_there : (t : Network) (l : ℕ) → In (files_of t) (Frames l) → l < length t.links
-frames_there t l (inl e) = absurd (let f : Journal ≡ Frames l = e in cc)
-frames_there t l (inr (inl e)) = absurd (let f : Labels ≡ Frames l = e in cc)
-frames_there t l (inr (inr (inl e))) = absurd (let f : Deliveries ≡ Frames l = e in cc)
-frames_there t l (inr (inr (inr i))) = on (in_append (map (λ k. Frames k) (links_of (wiring_of t)))
-    (flat_map (λ k. Said k Forth ∷ Said k Back ∷ []) (links_of (wiring_of t)) ++ flat_map (told_files t) (edges t)) (Frames l) i)
-  where
-    told : (edge : ℕ) → In (told_files t edge) (Frames l) → ⊥
-    told edge m =
-        let x = in_map (λ peer. file.Told edge peer) (filter (λ peer. not (edge == peer)) (edges t)) (Frames l) m in
-        let f : file.Told edge x.0 ≡ Frames l = x.2 in cc
-
-    rest : In (flat_map (λ k. Said k Forth ∷ Said k Back ∷ []) (links_of (wiring_of t))) (Frames l) ⊎ In (flat_map (told_files t) (edges t)) (Frames l) → ⊥
-    rest (inl m) = let x = in_flat_map (λ k. Said k Forth ∷ Said k Back ∷ []) (links_of (wiring_of t)) (Frames l) m in no_said x.0 l x.2
-    rest (inr m) = let x = in_flat_map (told_files t) (edges t) (Frames l) m in told x.0 x.2
-
-    on : In (map (λ k. Frames k) (links_of (wiring_of t))) (Frames l)
-        ⊎ In (flat_map (λ k. Said k Forth ∷ Said k Back ∷ []) (links_of (wiring_of t)) ++ flat_map (told_files t) (edges t)) (Frames l) → l < length t.links
-    on (inl m) =
-        let x = in_map (λ k. Frames k) (links_of (wiring_of t)) (Frames l) m in
-        let e : x.0 ≡ l = (let f : Frames x.0 ≡ Frames l = x.2 in cc) in
-        let b : x.0 < 0 + length t.links = (in_range 0 (length t.links) x.0 x.1).1 in
-        omega (arith, e, b)
-    on (inr m) =
-        absurd (rest (in_append (flat_map (λ k. Said k Forth ∷ Said k Back ∷ []) (links_of (wiring_of t))) (flat_map (told_files t) (edges t))
-        (Frames l) m))
-
 pub frames_within : (t : Network) (k l : ℕ) → k < length (files_of t) → file_at t k ≡ Frames l → l < length t.links
-frames_within t k l within is = frames_there t l (subst (In (files_of t)) is (member (files_of t) k within))
+frames_within t k l within is = frames_there t l (is_there t k (Frames l) within is)
 
 -- what the files begin with is their contents before the first step
 pub head_parts : (t : Network) (k : ℕ) → k < length (files_of t) →

@@ -1,7 +1,5 @@
 -- The lines of labels, one by one, and the headers of captures.
 use Rattle.std.specs.Prelude.{ℕ, List, [], ◌∷◌, codes, nat_lt, if◌then◌else◌}
-use Rattle.std.specs.Borrow.{Bor}
-use Rattle.std.specs.List.{flat_map}
 use Rattle.std.specs.Fmt.{decimal}
 use Rattle.mn_labels.specs.declared.meaning.Bind.{Bind}
 use Rattle.mn_pcap.specs.Format.{header}
@@ -9,10 +7,6 @@ use Rattle.mn_topo.specs.Network.{Network}
 use Rattle.mn_lines.specs.Lines.{text}
 use Rattle.mn_output.specs.Files.{OutputFile, Frames, node_name}
 use Rattle.mn_output.specs.Contents.{bind_text, ppp}
-
--- pieces that are borrowed, one behind the other
-abbrev pub joined : List (Bor (List ℕ)) → List ℕ
-joined pieces = flat_map (λ piece. piece.now) pieces
 
 abbrev pub label_line : Network → ℕ → ℕ → Bind → List ℕ
 label_line topology node label bind =

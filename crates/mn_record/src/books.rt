@@ -124,7 +124,6 @@ fn put_labels_of<S: Shelf>(
     shelf: &mut S,
     output: &mut Output,
 ) -> Result<(), DeviceBad>
-    requires { node.0 < length topology.now.loopbacks }
     ensures adds { OnOk result (Adds (only_in 1 (label_lines topology.now node.0 16 binds.now)) output.old output.new (S.files shelf.old) (S.files shelf.new)) }
     ensures may { OnErr result (MayAdd (only_in 1 (label_lines topology.now node.0 16 binds.now)) output.old output.new (S.files shelf.old) (S.files shelf.new)) }
     ensures names { output.new.names ≡ output.old.names }

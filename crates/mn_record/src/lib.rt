@@ -3,7 +3,7 @@
 //! ```text
 //!  a line --play--> step --done--> journal.txt     the step's line
 //!                                  delivered.pcap  the packet that it delivered
-//!                                  A+B.pcap        each frame that it sent (RFC 3032, section 4.1)
+//!                                  A+B.pcap        each frame that it sent (RFC 3032, section 4.3)
 //!                                  A+B.ldp         each PDU that it said (RFC 5036, section 3.1)
 //!                                  A+B.bgp         each message that it told (RFC 4271, section 4.1)
 //! ```

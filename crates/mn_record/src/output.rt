@@ -189,7 +189,6 @@ impl Output {
         label: u64,
         bind: Bind,
     ) -> Result<(), DeviceBad>
-        requires { node.0 < length topology.now.loopbacks }
         ensures adds { OnOk result (Adds (only_in 1 (label_line topology.now node.0 label bind)) self.old self.new (S.files shelf.old) (S.files shelf.new)) }
         ensures may { OnErr result (MayAdd (only_in 1 (label_line topology.now node.0 label bind)) self.old self.new (S.files shelf.old) (S.files shelf.new)) }
         ensures names { self.new.names ≡ self.old.names }

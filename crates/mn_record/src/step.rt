@@ -17,7 +17,7 @@ use mn_edge::{DeviceBad, Shelf};
 use mn_files::deliveries_file;
 use mn_net::{Channel, Done, Net};
 
-/// A PPP frame that carries MPLS begins with its protocol's number: RFC 3032, section 4.1.
+/// A PPP frame that carries MPLS begins with its protocol's number: RFC 3032, section 4.3.
 const MPLS_OVER_PPP: [u8; 2] = [0x02, 0x81];
 
 /// Writes the packet that the net's last step delivered, if it did.

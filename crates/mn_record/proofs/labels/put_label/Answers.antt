@@ -1,6 +1,5 @@
-use Rattle.std.proofs.Common.{◌≡◌, ◌++◌, ◌∷◌, [], ◌∙◌, ap, append_assoc, List, ℕ, OnOk, Result, Ok, Err, is_ok, if◌then◌else◌, sym}
+use Rattle.std.proofs.Common.{◌≡◌, ◌++◌, ◌∷◌, [], ◌∙◌, ap, append_assoc, List, ℕ, OnOk, Result, Ok, Err, is_ok, if◌then◌else◌}
 use Rattle.std.specs.Fmt.{decimal}
-use Rattle.std.proofs.lemmas.Option.{get_or_from_slice_get}
 use Rattle.mn_output.specs.Files.{node_name}
 use Rattle.mn_output.specs.Contents.{bind_text}
 use Rattle.mn_record.proofs.labels.put_label.Goals as goal
@@ -17,13 +16,11 @@ put (Ok x) line name digits bind one two three a b c =
 
 pub returns : goal.returns
 returns c =
-    let name : c.node_name.result.now ≡ node_name c.args.topology.now c.args.node.0 =
-    sym (get_or_from_slice_get c.args.topology.now.node_names c.args.node.0 c.node_name.result.now [] c.node_name.ensures) in
     let digits : c.as_bytes.result.now ≡ decimal c.args.label = c.as_bytes.ensures.value ∙ c.format.ensures.text in
     put c.extend_from_slice.result c.args.line.now.items (node_name c.args.topology.now c.args.node.0) (decimal c.args.label)
     (bind_text c.args.topology.now c.args.bind)
     c.put_pieces.new.line.items c.put_bind.new.line.items c.extend_from_slice.new.self.items
-    (c.in_ok-put_pieces.ensures
-    ∙ ap (λ l. c.args.line.now.items ++ (l ++ 32 ∷ (c.as_bytes.result.now ++ 32 ∷ []))) name
+    (c.in_ok-put_pieces.ensures.ok
+    ∙ ap (λ l. c.args.line.now.items ++ (l ++ 32 ∷ (c.as_bytes.result.now ++ 32 ∷ []))) c.node_name.ensures
     ∙ ap (λ l. c.args.line.now.items ++ (node_name c.args.topology.now c.args.node.0 ++ 32 ∷ (l ++ 32 ∷ []))) digits)
     c.in_ok-put_bind.ensures c.extend_from_slice.ensures.items
