@@ -222,6 +222,26 @@ def is_refused(network, words, packets):
     return verb.split()[0] not in ("run", "drain", "flush", "show") and bool(network.do((verb, *given)))
 
 
+def disturbance(rng, network):
+    """Lines that end what a frame in flight relies on: its site's attachment, its link, or a way on from where it goes."""
+    frames = [item for item in network.in_flight if item.kind == "frame"]
+    if not frames:
+        return []
+    item = rng.choice(frames)
+    link, sender = item.channel
+    site = network.topology.sites[item.token.site].name
+    ways_on = [way for _, way in network.neighbours[network.links[link].other(sender)]]
+    ends = {no: [network.topology.nodes[end].name for end in (way.a, way.b)] for no, way in enumerate(network.links)}
+    deeds = [
+        [["site", "down", site]],
+        [["site", "down", site], ["site", "up", site]],
+        [["link", "down", *ends[link]]],
+        [["ldp", "off", *ends[rng.choice(ways_on)]]],
+        [["link", "down", *ends[rng.choice(ways_on)]], ["drain", str(rng.choice([1, 3, 10, 100]))]],
+    ]
+    return rng.choice(deeds)
+
+
 def random_lines(rng, top, packets, network):
     """Lines one after another; of those that would be refused most are left out."""
     verbs = [verb for verb in VERBS if makes_sense(verb, top)]
@@ -237,6 +257,9 @@ def random_lines(rng, top, packets, network):
             if not is_refused(network, words, packets) or rng.random() < 0.08:
                 yield words
                 break
+        for words in disturbance(rng, network) if rng.random() < 0.08 else []:
+            is_refused(network, words, packets)
+            yield words
 
 
 def random_script(rng, top, packets, network):
