@@ -1,11 +1,11 @@
 #!/usr/bin/env python3
 """Works out what `mplsnet run` leaves and reports for any topology, script and capture, without the program.
 
-It is a second telling of the rules of docs/FORMATS.md and docs/WIRE.md (texts, bytes) and docs/LEDGER.md (who says what, and when),
-written from these and not from the program's source. It goes by the definitions and not by speed: the best route is
-chosen from the whole list, what a neighbour mentioned last is looked up in all that it said, what comes next in all
-that is in flight. The inputs are read by reference_inputs.py; here are IPv4, the network and its steps, a script's
-course, the bytes of frames, LDP and BGP, the report, the files.
+It is a second telling of the rules of docs/FORMATS.md and docs/WIRE.md (texts, bytes) and docs/LEDGER.md (who says
+what, and when), written from these and not from the program's source. It goes by the definitions and not by speed:
+the best route is chosen from the whole list, what a neighbour mentioned last is looked up in all that it said, what
+comes next in all that is in flight. The inputs are read by reference_inputs.py; here are IPv4, the network and its
+steps, a script's course, the bytes of frames, LDP and BGP, the report, the files.
 """
 
 import argparse

@@ -1,7 +1,8 @@
 """Makes random topologies, scripts and captures: small networks in which much happens, and now and then a wrong input.
 
-The script is made line by line beside the network of examples/reference.py as the lines so far have left it, so that most
-lines ask for something that can be done: in any order, though, and not for what would come next."""
+The script is made line by line beside the network of examples/reference.py as the lines so far have left it, so that
+most lines ask for something that can be done: in any order, though, and not for what would come next.
+"""
 
 import random
 import struct
@@ -12,17 +13,23 @@ sys.path.insert(0, str(Path(__file__).resolve().parents[1] / "examples"))
 import reference  # noqa: E402
 import reference_inputs as inputs  # noqa: E402
 
-PREFIXES = ["0.0.0.0/0", "10.0.0.0/8", "10.1.0.0/16", "10.1.2.0/24", "10.1.2.3/32", "10.1.2.2/31", "10.128.0.0/9", "192.168.0.0/17"]
-PREFIXES += ["172.16.0.0/12", "255.255.255.255/32", "128.0.0.0/1", "0.0.0.0/32", "0.0.0.0/1"]
-ADDRESSES = ["10.1.2.3", "10.1.2.2", "10.1.2.9", "10.1.9.9", "10.200.0.1", "10.9.9.9", "192.168.1.1", "172.31.0.1", "8.8.8.8"]
-ADDRESSES += ["127.0.0.1", "224.0.0.5", "0.1.2.3", "255.255.255.255", "128.1.1.1"]
-TARGETS = ["65000:1", "65000:2", "0:0", "65535:4294967295", "10.0.0.1:7", "10.0.0.1:65535", "1:7", "255.255.255.255:0"]
+PREFIXES = """
+0.0.0.0/0 10.0.0.0/8 10.1.0.0/16 10.1.2.0/24 10.1.2.3/32 10.1.2.2/31 10.128.0.0/9 192.168.0.0/17 172.16.0.0/12
+255.255.255.255/32 128.0.0.0/1 0.0.0.0/32 0.0.0.0/1
+""".split()
+ADDRESSES = """
+10.1.2.3 10.1.2.2 10.1.2.9 10.1.9.9 10.200.0.1 10.9.9.9 192.168.1.1 172.31.0.1 8.8.8.8 127.0.0.1 224.0.0.5 0.1.2.3
+255.255.255.255 128.1.1.1
+""".split()
+LOOPBACKS = "192.0.2.1 192.0.2.2 10.0.0.9 1.0.0.1 223.255.255.255 128.0.0.1 126.9.9.9".split()
+RDS = "65000:1 65000:2 1.2.3.4:5 0:0 65535:4294967295 1:1 192.0.2.1:1".split()
+TARGETS = "65000:1 65000:2 0:0 65535:4294967295 10.0.0.1:7 10.0.0.1:65535 1:7 255.255.255.255:0".split()
 NAMES = ["pe1", "p", "pe2", "a", "b", "A", "n-1", "n_2", "n.pcap", "up", "x" * 32, "9", ".", "drain", "p2", "ldp"]
-VERBS = {
-    "link up": 24, "link down": 2, "learn": 12, "ldp on": 12, "ldp off": 1, "hear ldp": 20, "hear bgp": 20, "bgp up": 24, "bgp down": 1,
-    "route add": 6, "route del": 2, "import add": 6, "import del": 1, "export add": 6, "export del": 1, "site up": 12, "site down": 2,
-    "inject": 40, "carry": 40, "lose": 4, "run": 8, "drain": 14, "flush": 6, "show links": 2, "show tree": 3, "show ldp": 3,
-    "show bgp": 2, "show vrf": 5, "show flight": 4,
+VERBS = {  # how often each is drawn
+    "link up": 24, "link down": 2, "learn": 12, "ldp on": 12, "ldp off": 1, "hear ldp": 20, "hear bgp": 20,
+    "bgp up": 24, "bgp down": 1, "route add": 6, "route del": 2, "import add": 6, "import del": 1, "export add": 6,
+    "export del": 1, "site up": 12, "site down": 2, "inject": 40, "carry": 40, "lose": 4, "run": 8, "drain": 14,
+    "flush": 6, "show links": 2, "show tree": 3, "show ldp": 3, "show bgp": 2, "show vrf": 5, "show flight": 4,
 }  # fmt: skip
 
 
@@ -37,7 +44,8 @@ def toml(value):
 
 
 def toml_text(top):
-    arrays = {key: value for key, value in top.items() if key in ("node", "link", "vrf", "site") and isinstance(value, list)}
+    kinds = ("node", "link", "vrf", "site")
+    arrays = {kind: top[kind] for kind in kinds if isinstance(top.get(kind), list)}
     lines = [f"{key} = {toml(value)}" for key, value in top.items() if key not in arrays]
     for kind, tables in arrays.items():
         for table in tables:
@@ -50,41 +58,62 @@ def some(rng, table, chance, **more):
     return table | {key: make() for key, make in more.items() if rng.random() < chance}
 
 
-def random_topology(rng):
-    names = rng.sample(NAMES, 16)
-    loopbacks = rng.sample(["192.0.2.1", "192.0.2.2", "10.0.0.9", "1.0.0.1", "223.255.255.255", "128.0.0.1", "126.9.9.9"], 7)
-    count = rng.choice([1, 2, 2, 3, 3, 3, 4, 4, 4, 5, 5, 5, 6, 6])
-    nodes = [{"name": name, "loopback": loopback} for name, loopback in zip(names[:count], loopbacks)]
+def random_links(rng, nodes):
     pairs = [(a["name"], b["name"]) for i, a in enumerate(nodes) for b in nodes[i + 1 :]]
     rng.shuffle(pairs)
-    links = []
-    for a, b in pairs[: max(count - 1, 0) + rng.choice([0, 0, 0, 1, 2, 3])]:
-        ends = {"a": a, "b": b} if rng.random() < 0.6 else {"a": b, "b": a}
-        link = some(rng, ends, 0.4, cost=lambda: rng.choice([1, 2, 3, 10, 20, 65535]), delay=lambda: rng.choice([1, 2, 3, 7, 1000]))
-        links.append(some(rng, link, 0.2, loss=lambda: rng.choice([0, 1, 2, 3, 65535])))
-    top = some(rng, {}, 0.2, **{"as": lambda: rng.choice([1, 64512, 65535])})
-    top = some(rng, top, 0.2, notice_delay=lambda: rng.choice([1, 3, 10, 1000]), bgp_delay=lambda: rng.choice([1, 2, 5, 1000]))
-    top |= {"node": nodes, "link": links}
-    rds = rng.sample(["65000:1", "65000:2", "1.2.3.4:5", "0:0", "65535:4294967295", "1:1", "192.0.2.1:1"], 7)
+    for a, b in pairs[: len(nodes) - 1 + rng.choice([0, 0, 0, 1, 2, 3])]:
+        link = {"a": a, "b": b} if rng.random() < 0.6 else {"a": b, "b": a}
+        link = some(rng, link, 0.4, cost=lambda: rng.choice([1, 2, 3, 10, 20, 65535]))
+        link = some(rng, link, 0.4, delay=lambda: rng.choice([1, 2, 3, 7, 1000]))
+        yield some(rng, link, 0.2, loss=lambda: rng.choice([0, 1, 2, 3, 65535]))
+
+
+def random_vrfs(rng, nodes):
+    edges = rng.sample(nodes, len(nodes)) if rng.random() < 0.92 else [rng.choice(nodes)]
     targets = rng.sample(TARGETS, rng.choice([1, 1, 1, 2, 3]))
-    vrfs = []
-    edges = rng.sample(nodes, count) if rng.random() < 0.92 else [rng.choice(nodes)]
-    for at, (name, rd) in enumerate(list(zip(rng.sample(NAMES, 16), rds))[: rng.choice([0, 1, 2, 2, 2, 3, 3, 3, 4, 4, 5, 6])]):
-        vrf = {"name": name, "node": edges[at % len(edges)]["name"], "rd": rd}
-        vrfs.append(some(rng, vrf, 0.93, **{key: lambda: rng.sample(targets, rng.randint(rng.random() < 0.8, min(2, len(targets)))) for key in ("import", "export")}))
+
+    def some_targets():
+        return rng.sample(targets, rng.randint(rng.random() < 0.8, min(2, len(targets))))
+
+    names, rds = rng.sample(NAMES, 6), rng.sample(RDS, 6)
+    for at in range(rng.choice([0, 1, 2, 2, 2, 3, 3, 3, 4, 4, 5, 6])):
+        vrf = {"name": names[at], "node": edges[at % len(edges)]["name"], "rd": rds[at]}
+        yield some(rng, vrf, 0.93, **{"import": some_targets, "export": some_targets})
+
+
+def random_sites(rng, vrfs):
+    """Sites; in most topologies each has a prefix of its own, and in the others the prefixes lie in each other."""
     own_prefixes = rng.random() < 0.7
-    sites, free = [], {vrf["name"]: rng.sample(PREFIXES, len(PREFIXES)) for vrf in vrfs}
-    for name in rng.sample(NAMES, 16)[: rng.choice([0, 1, 4, 4, 5, 6, 7, 8]) if vrfs else 0]:
-        vrf = vrfs[len(sites) % len(vrfs) if own_prefixes else rng.randrange(len(vrfs))]["name"]
+    free = {vrf["name"]: rng.sample(PREFIXES, len(PREFIXES)) for vrf in vrfs}
+    for at, name in enumerate(rng.sample(NAMES, rng.choice([0, 1, 4, 4, 5, 6, 7, 8]) if vrfs else 0)):
+        vrf = vrfs[at % len(vrfs) if own_prefixes else rng.randrange(len(vrfs))]["name"]
         prefixes = [free[vrf].pop() for _ in range(min(rng.choice([0, 1, 1, 2, 3]), len(free[vrf])))]
-        prefixes = [f"10.{len(sites) + 2}.0.0/16"] if own_prefixes else prefixes
-        sites.append({"name": name, "vrf": vrf} | ({"prefixes": prefixes} if prefixes or rng.random() < 0.5 else {}))
-    return top | {"vrf": vrfs, "site": sites}
+        prefixes = [f"10.{at + 2}.0.0/16"] if own_prefixes else prefixes
+        yield {"name": name, "vrf": vrf} | ({"prefixes": prefixes} if prefixes or rng.random() < 0.5 else {})
 
 
-WRONG = [True, 1.5, 0, -1, 1, 65535, 65536, 1001, "", "x", "10.0.0.1", "127.0.0.1", "240.0.0.1", "1:1", "65536:1", "1:4294967296", "01:1", "x:y"]
-WRONG += ["1.2.3.4:65536", "10.0.0.0/8", "10.0.0.1/8", "0.0.0.0/33", [], ["1:1"], ["1:1", "1:1"], ["10.0.0.0/8", "10.0.0.0/8"], [1], [[]], {}]
-WRONG += [[f"1:{n}" for n in range(16)], [f"1:{n}" for n in range(17)], [{}], "n\u00e9", "n 1", "y" * 33, 10**19, -(10**19), "1.2.3", "1.2.3.4.5"]
+def random_topology(rng):
+    count = rng.choice([1, 2, 2, 3, 3, 3, 4, 4, 4, 5, 5, 5, 6, 6])
+    names, loopbacks = rng.sample(NAMES, count), rng.sample(LOOPBACKS, count)
+    nodes = [{"name": name, "loopback": loopback} for name, loopback in zip(names, loopbacks)]
+    top = some(rng, {}, 0.2, **{"as": lambda: rng.choice([1, 64512, 65535])})
+    top = some(rng, top, 0.2, notice_delay=lambda: rng.choice([1, 3, 10, 1000]))
+    top = some(rng, top, 0.2, bgp_delay=lambda: rng.choice([1, 2, 5, 1000]))
+    vrfs = list(random_vrfs(rng, nodes))
+    links, sites = list(random_links(rng, nodes)), list(random_sites(rng, vrfs))
+    return top | {"node": nodes, "link": links, "vrf": vrfs, "site": sites}
+
+
+WRONG = """
+x 10.0.0.1 127.0.0.1 240.0.0.1 1:1 65536:1 1:4294967296 01:1 x:y 1.2.3.4:65536 10.0.0.0/8 10.0.0.1/8 0.0.0.0/33 1.2.3
+1.2.3.4.5 n\u00e9
+""".split()
+WRONG += [True, 1.5, 0, -1, 1, 65535, 65536, 1001, 10**19, -(10**19), "", "n 1", "y" * 33, [], [1], [[]], {}, [{}]]
+WRONG += [["1:1"], ["1:1", "1:1"], ["10.0.0.0/8", "10.0.0.0/8"]]
+WRONG += [[f"1:{n}" for n in range(most)] for most in (16, 17)]
+KEYS = "name loopback a b cost delay loss node rd import export vrf prefixes as other".split()
+TOP_KEYS = ["as", "notice_delay", "bgp_delay", "more"]
+LETTERS = ["", " ", "\n", "\r", "\t", "0", "9", "#", "=", "[", '"', "x", ":", "/", "\x00", "\u00e9"]
 
 
 def wrong_topology(rng, top):
@@ -92,13 +121,12 @@ def wrong_topology(rng, top):
     for _ in range(rng.randint(1, 3)):
         tables = [table for kind in ("node", "link", "vrf", "site") for table in top[kind]] + [top]
         table = rng.choice(tables)
-        keys = ["name", "loopback", "a", "b", "cost", "delay", "loss", "node", "rd", "import", "export", "vrf", "prefixes", "as", "other"]
         present = [key for key in table if key not in ("link", "site") and not isinstance(top.get(key), list)] or ["as"]
         deed = rng.random()
         if deed < 0.15 and table is not top:
             table.pop(rng.choice(present), None)
         elif deed < 0.3:
-            table[rng.choice(keys if table is not top else ["as", "notice_delay", "bgp_delay", "more"])] = rng.choice(WRONG)
+            table[rng.choice(KEYS if table is not top else TOP_KEYS)] = rng.choice(WRONG)
         elif deed < 0.5 and table is not top:
             twin = rng.choice([one for one in tables if one is not top])
             table |= {key: value for key, value in twin.items() if rng.random() < 0.4 and key in table}
@@ -112,7 +140,7 @@ def damaged(rng, text):
     letters = list(text)
     for _ in range(rng.randint(1, 3)):
         at = rng.randrange(len(letters) + 1)
-        letters[at : at + rng.randint(0, 2)] = rng.choice(["", " ", "\n", "\r", "\t", "0", "9", "#", "=", "[", '"', "x", ":", "/", "\x00", "\u00e9"])
+        letters[at : at + rng.randint(0, 2)] = rng.choice(LETTERS)
     return "".join(letters)
 
 
@@ -223,7 +251,7 @@ def is_refused(network, words, packets):
 
 
 def disturbance(rng, network):
-    """Lines that end what a frame in flight relies on: its site's attachment, its link, or a way on from where it goes."""
+    """Lines that end what a frame in flight relies on: its site's attachment, its link, or a way on."""
     frames = [item for item in network.in_flight if item.kind == "frame"]
     if not frames:
         return []
@@ -285,7 +313,8 @@ def random_packet(rng, top):
     body = rng.randbytes(rng.choice([0, 1, 8, 8, 8, 100]))
     ttl = rng.choice([64, 64, 64, 64, 255, rng.randrange(2), 2, 3, 4, 5, 6])
     total = 20 + 4 * words + len(body)
-    header = struct.pack(">BBHHHBBH4s4s", 0x45 + words, 0, total, rng.randrange(65536), 0, ttl, 17, 0, bytes([10, 1, 0, 1]), to) + rng.randbytes(4 * words)
+    header = struct.pack(">BBHHHBBHI", 0x45 + words, 0, total, rng.randrange(65536), 0, ttl, 17, 0, 0x0A010001) + to
+    header += rng.randbytes(4 * words)
     packet = bytearray(header[:10] + struct.pack(">H", checksum(header)) + header[12:] + body)
     if rng.random() < 0.1:
         return spoiled(rng, packet)
@@ -314,19 +343,31 @@ def spoiled(rng, packet):
     return bytes(packet)
 
 
+def random_record(rng, packet, link_type):
+    """The packet, behind a header of Ethernet where that is due: now and then of another type, or cut short."""
+    if link_type != 1:
+        return packet
+    type_ = rng.choice([b"\x08\0"] * 18 + [b"\x81\0", b"\x86\xdd"])
+    record = rng.randbytes(12) + type_ + packet
+    return record[: rng.randrange(16)] if rng.random() < 0.05 else record
+
+
 def random_capture(rng, top):
-    order, magic, link_type = rng.choice("<<>"), rng.choice([0xA1B2C3D4, 0xA1B2C3D4, 0xA1B23C4D]), rng.choice([228, 228, 101, 1])
-    packets = [random_packet(rng, top) for _ in range(rng.choice([0, 1, 3, 6, 10, 10]))]
-    bytes_ = struct.pack(order + "IHHiIII", magic, 2, 4, rng.randrange(9), 0, rng.choice([0, 0x40000]), link_type | rng.choice([0, 0, 0x10000]))
-    for packet in packets:
-        if link_type == 1:
-            packet = rng.randbytes(12) + rng.choice([b"\x08\0"] * 18 + [b"\x81\0", b"\x86\xdd"]) + packet
-            packet = packet[: rng.randrange(16)] if rng.random() < 0.05 else packet
-        bytes_ += struct.pack(order + "4I", rng.randrange(2**32), rng.randrange(2**32), len(packet), rng.choice([len(packet), 0, 2**32 - 1])) + packet
-    if rng.random() < 0.05:
-        at = rng.randrange(len(bytes_))
-        bytes_ = rng.choice([bytes_[:at], bytes_[:at] + rng.randbytes(1) + bytes_[at + 1 :], bytes_ + rng.randbytes(3), b"\x0a\x0d\x0d\x0a" + bytes_])
-    return bytes_
+    order, magic = rng.choice("<<>"), rng.choice([0xA1B2C3D4, 0xA1B2C3D4, 0xA1B23C4D])
+    link_type = rng.choice([228, 228, 101, 1])
+    bytes_ = struct.pack(order + "IHHiII", magic, 2, 4, rng.randrange(9), 0, rng.choice([0, 0x40000]))
+    bytes_ += struct.pack(order + "I", link_type | rng.choice([0, 0, 0x10000]))
+    for _ in range(rng.choice([0, 1, 3, 6, 10, 10])):
+        record = random_record(rng, random_packet(rng, top), link_type)
+        bytes_ += struct.pack(order + "3I", rng.randrange(2**32), rng.randrange(2**32), len(record))
+        bytes_ += struct.pack(order + "I", rng.choice([len(record), 0, 2**32 - 1])) + record
+    return damaged_capture(rng, bytes_) if rng.random() < 0.05 else bytes_
+
+
+def damaged_capture(rng, bytes_):
+    at = rng.randrange(len(bytes_))
+    changed = bytes_[:at] + rng.randbytes(1) + bytes_[at + 1 :]
+    return rng.choice([bytes_[:at], changed, bytes_ + rng.randbytes(3), b"\x0a\x0d\x0d\x0a" + bytes_])
 
 
 def random_run(seed):

@@ -9,7 +9,7 @@ import subprocess
 import tempfile
 
 CHROMIUM = next((found for name in ("chromium", "chromium-browser", "google-chrome") if (found := shutil.which(name))), None)
-PATIENCE = 30
+PATIENCE = 120  # seconds, for a busy machine
 
 
 class Browser:
@@ -32,6 +32,14 @@ class Browser:
         os.close(to_browser)
         os.close(from_browser)
         self.number, self.waiting, self.session, self.errors, self.asked, self.events = 0, b"", None, [], [], []
+        try:
+            self.attach()
+        except BaseException:
+            self.close()
+            raise
+
+    def attach(self):
+        """Takes hold of the page."""
         page = next(one for one in self.call("Target.getTargets")["targetInfos"] if one["type"] == "page")
         self.session = self.call("Target.attachToTarget", targetId=page["targetId"], flatten=True)["sessionId"]
         for domain in ("Page", "Runtime", "Network"):

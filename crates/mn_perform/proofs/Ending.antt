@@ -1,5 +1,5 @@
 -- How a run ends: its files, and its report.
-use Rattle.std.proofs.Common.{◌≡◌, ◌<◌, ℕ, suc, arith, Bool, true, false, cond, List, [], ◌∷◌, ◌++◌, map, length, append_assoc, append-nil, Option, Some}
+use Rattle.std.proofs.Common.{◌≡◌, ◌<◌, ℕ, suc, arith, false, cond, List, [], ◌∷◌, ◌++◌, map, length, append_assoc, append-nil, Option, Some}
 use Rattle.std.proofs.Common.{None, Ok, Err, Result, OnOk, OnErr, inl, inr, refl, sym, ◌∙◌, ap, subst}
 use Rattle.std.specs.Prelude.{◌⊎◌, codes}
 use Rattle.mn_edge.specs.Files.{Files, file}
@@ -252,7 +252,7 @@ write_reads_none bad.NoMemory found is e = let same : fault.NoMemory ≡ fault.R
 pub stands_at : (t : Network) (all : List (List ℕ)) (begun : Option (List ℕ)) (run : Expansion) (net : NetNow) (books : BooksNow) (desk : Desk)
     (files : Option Files) (written : Option (List ℕ))
     → Keeps t all begun run net books desk files written → Stands all net books files
-stands_at t all begun run net books desk files written keeps = record {
+stands_at t all begun _ net books desk files written keeps = record {
   stands = keeps.stands;
   holds = subst (λ n. HoldsOn books.names (contents_at n all net.journal) books.held files) (sym keeps.topology_is) keeps.holds;
 }

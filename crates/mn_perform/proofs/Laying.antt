@@ -1,6 +1,6 @@
 -- The files of a run, laid over those of before.
-use Rattle.std.proofs.Common.{◌≡◌, ℕ, zero, suc, ◌<◌, Bool, true, false, ◌&&◌, nat_lt, nat_eq, ◌==◌, List, [], ◌∷◌, ◌++◌, map, length, length-append}
-use Rattle.std.proofs.Common.{append_assoc, take, Option, Some, None, refl, sym, ◌∙◌, ap, subst, arith}
+use Rattle.std.proofs.Common.{◌≡◌, ℕ, ◌<◌, Bool, true, false, ◌&&◌, nat_lt, nat_eq, ◌==◌, List, [], ◌∷◌, ◌++◌, map, length, length-append}
+use Rattle.std.proofs.Common.{append_assoc, take, Option, Some, refl, sym, ◌∙◌, ap, subst, arith}
 use Rattle.std.specs.Prelude.{slice_index_or, ◌||◌}
 use Rattle.std.proofs.lemmas.Bool.Decides.{nat_tests}
 use lib.Pointwise.{pointwise}
@@ -9,7 +9,7 @@ use Rattle.mn_edge.specs.Kept.{BeginsOn, Framed}
 use Rattle.mn_edge.specs.KeptLaws.{begins_on_more}
 use Rattle.mn_edge.specs.Laid.{named, part_written}
 use Rattle.mn_edge.specs.FileLaws.{same_name-eq}
-use Rattle.mn_edge.specs.Written.{IsPrefix, PartWritten, same_name, is_known}
+use Rattle.mn_edge.specs.Written.{PartWritten, same_name, is_known}
 use Rattle.mn_capture.specs.Packets.{CaptureView, packets_in}
 use Rattle.mn_topo.specs.Network.{Network}
 use Rattle.mn_topo.specs.declared.steps.JournalEntry.{JournalEntry}

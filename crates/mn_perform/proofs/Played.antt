@@ -1,15 +1,13 @@
 -- What a line makes of a run part way.
-use Rattle.std.proofs.Common.{◌≡◌, ℕ, ◌+◌, Bool, true, false, List, [], ◌∷◌, ◌++◌, map, length, filter, append_assoc, append-nil, length-append, Option}
-use Rattle.std.proofs.Common.{Some, None, Ok, Err, refl, sym, ◌∙◌, ap, subst, arith}
+use Rattle.std.proofs.Common.{◌≡◌, ℕ, ◌+◌, true, false, List, [], ◌∷◌, ◌++◌, map, length, filter, append-nil, length-append, Option}
+use Rattle.std.proofs.Common.{Some, Ok, Err, refl, sym, ◌∙◌, ap, subst, arith}
 use Rattle.std.specs.List.{flat_map}
 use Rattle.std.proofs.lemmas.List.Concat.{flat_map-append}
 use Rattle.std.proofs.lemmas.List.Elements.{filter-append}
 use Rattle.mn_edge.specs.Files.{Files}
 use Rattle.mn_edge.specs.Kept.{HoldsOn, BeginsOn}
 use Rattle.mn_edge.specs.KeptLaws.{begins_on, begins_on_more}
-use Rattle.mn_edge.specs.Written.{IsPrefix}
 use Rattle.mn_topo.specs.Network.{Network}
-use Rattle.mn_topo.specs.declared.steps.JournalEntry.{JournalEntry}
 use Rattle.mn_script.specs.declared.command.Command.{Command}
 use Rattle.mn_script.specs.declared.command.Command.TheVariants.{Do, Run, Drain, Flush, Show}
 use Rattle.mn_script.specs.declared.command.Line.{Line}
@@ -22,20 +20,18 @@ use Rattle.mn_lines.specs.Putting.{PutOn, PartPut, Puts, PutsPart}
 use Rattle.mn_output.specs.Report.{note_text, count, is_refusal}
 use Rattle.mn_output.specs.Tables.{table_text}
 use Rattle.mn_files.specs.Numbers.{file_at}
-use Rattle.mn_net_now.specs.Now.{NetNow, StandsFor}
+use Rattle.mn_net_now.specs.Now.{NetNow}
 use Rattle.mn_sched.specs.Playing.{past_of, is_show, IsFirstPart, Takes}
 use Rattle.mn_sched.specs.declared.line.Played.{Played}
 use Rattle.mn_sched.specs.declared.line.Played.TheVariants.{All, Refused, NoRecord}
-use Rattle.mn_sched.specs.declared.line.Stopped.{Stopped}
-use Rattle.mn_sched.specs.declared.line.Stopped.TheVariants.{TooManySteps, Read, Write, NoMemory}
+use Rattle.mn_sched.specs.declared.line.Stopped.TheVariants.{TooManySteps}
 use Rattle.mn_record.specs.Recorded.{BooksNow, contents_at, RecordedAfter}
 use Rattle.mn_report.specs.Shown.{sending_of}
 use Rattle.mn_perform.specs.declared.desk.Desk.{Desk}
-use Rattle.mn_perform.specs.declared.ended.Ended.{Ended}
 use Rattle.mn_perform.specs.declared.ended.Ended.TheVariants as ended
 use Rattle.mn_perform.specs.declared.ended.Fault.{Fault}
-use Rattle.mn_perform.specs.Running.{line_text, refusals_by, sendings_by, Notes, notes_text, Keeps, Breaks, Went}
-use Rattle.mn_perform.proofs.Growing.{BeginsNotes, line_grows, contents_first, prefix_trans, texts_first}
+use Rattle.mn_perform.specs.Running.{line_text, refusals_by, sendings_by, Notes, notes_text, Keeps, Went}
+use Rattle.mn_perform.proofs.Growing.{line_grows, contents_first, prefix_trans, texts_first}
 
 -- 1. Notes
 

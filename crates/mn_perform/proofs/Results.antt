@@ -1,5 +1,5 @@
 -- A fact of one outcome, carried to another fact of it.
-use Rattle.std.proofs.Common.{Result, Ok, Err, OnOk, OnErr}
+use Rattle.std.proofs.Common.{Result, Ok, Err, OnErr}
 
 pub err : {T E : Type 0} (r : Result T E) (P : Type 0) → P → OnErr r P
 err (Ok x) P p = tt

@@ -1,5 +1,5 @@
 -- From line to line of a script.
-use Rattle.std.proofs.Common.{◌≡◌, ℕ, ◌+◌, ◌<◌, zero, suc, Bool, true, false, List, [], ◌∷◌, length, drop, get_or, Option, Some, Result, Ok, Err, refl, sym}
+use Rattle.std.proofs.Common.{◌≡◌, ℕ, ◌+◌, ◌<◌, zero, suc, Bool, true, false, List, [], ◌∷◌, length, drop, get_or, Option, Result, Ok, Err, refl, sym}
 use Rattle.std.proofs.Common.{◌∙◌, ap, subst, arith}
 use Rattle.mn_edge.specs.Files.{Files}
 use Rattle.mn_edge.specs.KeptLaws.{begins_on_more}
@@ -14,7 +14,7 @@ use Rattle.mn_perform.specs.declared.desk.Desk.{Desk}
 use Rattle.mn_perform.specs.declared.ended.Ended.{Ended}
 use Rattle.mn_perform.specs.declared.ended.Ended.TheVariants as ended
 use Rattle.mn_perform.specs.declared.ended.Fault.{Fault}
-use Rattle.mn_perform.specs.Running.{notes_text, Keeps, Breaks, Went, IsAt}
+use Rattle.mn_perform.specs.Running.{Keeps, Went, IsAt}
 use Rattle.mn_perform.proofs.Growing.{Grows, script_grows, contents_first, prefix_trans, texts_first}
 
 -- a line, and those after it

@@ -1,16 +1,15 @@
 -- A run of which only the total is told.
-use Rattle.std.proofs.Common.{◌≡◌, ℕ, ◌+◌, ◌<◌, Bool, true, false, cond, List, [], ◌∷◌, ◌++◌, map, length, drop, get_or, append_assoc, append-nil, Option}
+use Rattle.std.proofs.Common.{◌≡◌, ℕ, ◌+◌, ◌<◌, true, false, cond, List, [], ◌∷◌, ◌++◌, map, length, drop, get_or, append_assoc, Option}
 use Rattle.std.proofs.Common.{Some, Result, Ok, Err, OnOk, OnErr, refl, sym, ◌∙◌, ap, subst, arith}
 use Rattle.std.specs.Prelude.{codes}
 use Rattle.mn_topo.specs.Network.{Network}
-use Rattle.mn_topo.specs.declared.steps.JournalEntry.{JournalEntry}
 use Rattle.mn_script.specs.declared.command.Command.TheVariants.{Show}
 use Rattle.mn_script.specs.declared.command.Line.{Line}
 use Rattle.mn_script.specs.declared.command.Show as show
 use Rattle.mn_ledger.specs.declared.verdict.Verdict.{Verdict}
 use Rattle.mn_ledger.specs.Packets.{Packets}
 use Rattle.mn_ledger.specs.Ledger.{packets_of}
-use Rattle.mn_course.specs.Course.{Past, Course, inputs_of, played}
+use Rattle.mn_course.specs.Course.{Course, inputs_of, played}
 use Rattle.mn_course.specs.Expansion.{Table, Expansion, after_line, start_of, with_line, expanded_from, expanded}
 use Rattle.mn_lines.specs.declared.lines.Totals.{Totals}
 use Rattle.mn_lines.specs.Lines.{total_line}
@@ -25,7 +24,7 @@ use Rattle.mn_perform.specs.declared.desk.Desk.{Desk}
 use Rattle.mn_perform.specs.declared.ended.Ended.{Ended}
 use Rattle.mn_perform.specs.declared.ended.Ended.TheVariants as ended
 use Rattle.mn_perform.specs.declared.ended.Fault.{Fault}
-use Rattle.mn_perform.specs.Running.{refusals_by, sendings_by, is_stopped}
+use Rattle.mn_perform.specs.Running.{refusals_by, is_stopped}
 use Rattle.mn_perform.specs.Total.{heading_of, total_text, PutsWhole, Plays, PlayedTo, PlaysAt}
 use Rattle.mn_perform.specs.Whole.{last_text}
 use Rattle.mn_perform.proofs.Played.{notes_by, notes_count, count_more, played_is}

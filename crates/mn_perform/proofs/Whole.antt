@@ -1,12 +1,10 @@
 -- A whole run, from its parts.
-use Rattle.std.proofs.Common.{◌≡◌, ℕ, Bool, false, List, [], ◌++◌, map, append-nil, Option, Some, None, Ok, Err, Result, inl, inr, refl, sym, ◌∙◌, ap, subst}
-use Rattle.std.specs.Prelude.{◌⊎◌}
+use Rattle.std.proofs.Common.{◌≡◌, ℕ, false, List, [], map, append-nil, Option, Some, None, Ok, Err, Result, inl, inr, refl, sym, ◌∙◌, ap, subst}
 use Rattle.mn_edge.specs.Files.{Files, file}
 use Rattle.mn_edge.specs.Kept.{HoldsOn, Framed}
 use Rattle.mn_edge.specs.KeptLaws.{begins_on, same_some}
 use Rattle.mn_edge.specs.Written.{laid, PartWritten, is_known}
 use Rattle.mn_topo.specs.Network.{Network}
-use Rattle.mn_topo.specs.declared.steps.JournalEntry.{JournalEntry}
 use Rattle.mn_script.specs.declared.command.Line.{Line}
 use Rattle.mn_course.specs.Course.{inputs_of}
 use Rattle.mn_course.specs.Expansion.{expanded, start_of}
@@ -17,7 +15,7 @@ use Rattle.mn_output.specs.Files.{files_of, file_name}
 use Rattle.mn_output.specs.Contents.{output}
 use Rattle.mn_output.specs.Report.{run_answer}
 use Rattle.mn_net_now.specs.Now.{NetNow, StandsFor}
-use Rattle.mn_record.specs.Recorded.{BooksNow, contents_at, whole_at, told_packets}
+use Rattle.mn_record.specs.Recorded.{BooksNow, contents_at, told_packets}
 use Rattle.mn_report.specs.Shown.{sending_of}
 use Rattle.mn_perform.specs.declared.desk.Desk.{Desk}
 use Rattle.mn_perform.specs.declared.ended.Ended.{Ended}
@@ -26,7 +24,7 @@ use Rattle.mn_edge.specs.declared.device.DeviceBad.{DeviceBad}
 use Rattle.mn_edge.specs.declared.device.DeviceBad.TheVariants as bad
 use Rattle.mn_perform.specs.Fails.{fault_of}
 use Rattle.mn_perform.specs.Inside.{is_inside}
-use Rattle.mn_perform.specs.Running.{Keeps, notes_text, is_stopped}
+use Rattle.mn_perform.specs.Running.{Keeps, notes_text}
 use Rattle.mn_perform.specs.Whole.{whole_files, BegunAtRead, RunEnds, RunFiles, RunText, IsLate, FilesOf, TextOf, EndsAs, TellsLate}
 use Rattle.mn_perform.proofs.Laying.{named_output, cut_off, outside, told_is}
 

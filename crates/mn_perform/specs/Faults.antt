@@ -1,8 +1,8 @@
 -- Where a run is cut off: the counts of failed reads, of failed writes and of the sink's faults.
-use Rattle.std.specs.Prelude.{◌≡◌, ◌⊎◌, ℕ, Result, Ok, Err}
+use Rattle.std.specs.Prelude.{◌≡◌, ◌⊎◌, ℕ, Result, Err}
 use Rattle.mn_edge.specs.Faults.{Grew}
 use Rattle.mn_perform.specs.declared.ended.Fault.{Fault}
-use Rattle.mn_perform.specs.declared.ended.Fault.TheVariants.{Read, Write, NoMemory}
+use Rattle.mn_perform.specs.declared.ended.Fault.TheVariants.{Read, Write}
 
 abbrev pub Counts : Type 0
 Counts = ℕ × ℕ × ℕ

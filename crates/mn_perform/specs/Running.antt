@@ -1,10 +1,9 @@
 -- A run part way: network, files and report are what the lines so far make them.
-use Rattle.std.specs.Prelude.{◌≡◌, ℕ, ◌+◌, Bool, true, false, List, [], ◌∷◌, ◌++◌, map, length, drop, Option, Some, Result, Ok, Err, codes}
+use Rattle.std.specs.Prelude.{◌≡◌, ℕ, ◌+◌, Bool, true, false, List, [], ◌++◌, map, drop, Option, Some, Result, Ok, Err, codes}
 use Rattle.std.specs.List.{flat_map}
 use Rattle.mn_edge.specs.Files.{Files}
 use Rattle.mn_edge.specs.Kept.{HoldsOn, BeginsOn}
 use Rattle.mn_topo.specs.Network.{Network}
-use Rattle.mn_topo.specs.declared.steps.JournalEntry.{JournalEntry}
 use Rattle.mn_script.specs.declared.command.Line.{Line}
 use Rattle.mn_course.specs.Course.{inputs_of}
 use Rattle.mn_course.specs.Expansion.{Sending, Expansion, sending_by, expanded_from, expanded}

@@ -1,13 +1,12 @@
 -- What a whole run leaves and puts.
-use Rattle.std.specs.Prelude.{◌≡◌, ◌⊎◌, ℕ, Bool, cond, List, ◌++◌, map, Option, Some, Result, Ok, Err, codes, ⊤}
+use Rattle.std.specs.Prelude.{◌≡◌, ◌⊎◌, ℕ, cond, List, ◌++◌, map, Option, Some, Result, Ok, Err, codes, ⊤}
 use Rattle.std.specs.Option.{ForSome}
 use Rattle.mn_edge.specs.Files.{Files, file}
 use Rattle.mn_edge.specs.Written.{laid, IsPart, PartWritten}
 use Rattle.mn_topo.specs.Network.{Network}
 use Rattle.mn_script.specs.declared.command.Line.{Line}
 use Rattle.mn_ledger.specs.Packets.{Packets}
-use Rattle.mn_ledger.specs.Ledger.{packets_of}
-use Rattle.mn_course.specs.Expansion.{Expansion, expanded}
+use Rattle.mn_course.specs.Expansion.{expanded}
 use Rattle.mn_capture.specs.Packets.{CaptureView, packets_in}
 use Rattle.mn_lines.specs.Lines.{total_line}
 use Rattle.mn_lines.specs.Putting.{PartPut}

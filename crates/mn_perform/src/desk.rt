@@ -8,7 +8,7 @@ ghost use Rattle.mn_output.specs.Tables.{table_text};
 ghost use Rattle.mn_net_now.specs.Now.{StandsFor};
 ghost use Rattle.mn_report.specs.Shown.{sending_of, shown_text};
 ghost use Rattle.mn_perform.specs.Faults.{SinkBlamed};
-ghost use Rattle.mn_perform.specs.Running.{line_text, refusals_by, Notes};
+ghost use Rattle.mn_perform.specs.Running.{line_text, Notes};
 ghost use Rattle.mn_perform.specs.Whole.{last_text};
 
 use crate::ended::{Ended, Fault};

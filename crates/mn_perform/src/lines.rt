@@ -1,15 +1,14 @@
 //! The lines of a script, one after another.
-ghost use Rattle.std.specs.Prelude.{◌≡◌, ◌-◌, ◌+◌, ◌*◌, ◌<◌, ◌≤◌, ◌^◌, true, false, [], List, ℕ, length, Option, IfOk, OnOk, OnErr};
+ghost use Rattle.std.specs.Prelude.{◌≡◌, ◌-◌, ◌+◌, ◌<◌, ◌≤◌, ◌^◌, true, false, [], List, ℕ, length, Option, IfOk, OnOk};
 ghost use Rattle.std.specs.Option.{ForSome};
 ghost use Rattle.mn_edge.specs.Kept.{Framed};
 ghost use Rattle.mn_script.specs.Lines.{command_fits};
 ghost use Rattle.mn_script.specs.Script.{AllFit};
-ghost use Rattle.mn_course.specs.Course.{Past};
 ghost use Rattle.mn_course.specs.Expansion.{Expansion, with_line, start_of, expanded};
 ghost use Rattle.mn_sched.specs.Playing.{is_show, IsPaced};
 ghost use Rattle.mn_record.specs.Recorded.{IsFor, told_packets};
 ghost use Rattle.mn_perform.specs.Faults.{Blamed};
-ghost use Rattle.mn_perform.specs.Running.{Stands, Keeps, Went, IsAt};
+ghost use Rattle.mn_perform.specs.Running.{Stands, Keeps, Went};
 
 use crate::desk::Desk;
 use crate::ended::{Ended, Fault};

@@ -1,5 +1,5 @@
 //! A capture in memory, and a watch that hands out its packets and keeps nothing.
-ghost use Rattle.std.specs.Prelude.{◌≡◌, ◌≢◌, ◌≤◌, true, length, Some, Ok, Err, IfOk, IfErr, refl, ⊤};
+ghost use Rattle.std.specs.Prelude.{◌≡◌, ◌≢◌, ◌≤◌, length, Some, Ok, Err, IfOk, IfErr, ⊤};
 ghost use Rattle.mn_pcap.specs.Reading.{packets_of, end_of};
 ghost use Rattle.mn_pcap.specs.declared.refusal.PcapBad.TheVariants.{NoMemory};
 ghost use Rattle.mn_sched.specs.Watching.{Found, is_record};

@@ -8,14 +8,13 @@ ghost use Rattle.mn_edge.specs.Written.{laid, PartWritten};
 ghost use Rattle.mn_script.specs.Script.{AllFit};
 ghost use Rattle.mn_ledger.specs.Ledger.{packets_of};
 ghost use Rattle.mn_course.specs.Course.{inputs_of};
-ghost use Rattle.mn_course.specs.Expansion.{expanded};
 ghost use Rattle.mn_lines.specs.Putting.{PutOn, PartPut};
 ghost use Rattle.mn_record.specs.Recorded.{whole_at};
-ghost use Rattle.mn_perform.specs.Faults.{Blamed, ShelfBlamed};
+ghost use Rattle.mn_perform.specs.Faults.{Blamed};
 ghost use Rattle.mn_perform.specs.Inside.{is_inside};
 ghost use Rattle.mn_record.specs.Recorded.{IsFor, told_packets};
 ghost use Rattle.mn_course.specs.Expansion.{start_of};
-ghost use Rattle.mn_perform.specs.Running.{Keeps, Stands, notes_text};
+ghost use Rattle.mn_perform.specs.Running.{Keeps, Stands};
 ghost use Rattle.mn_perform.specs.Whole.{last_text, whole_files, BegunAtRead, RunEnds, RunFiles, RunText, IsLate, ForRun, FilesOf, TextOf, EndsAs, TellsLate};
 
 use crate::desk::Desk;

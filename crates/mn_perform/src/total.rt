@@ -1,5 +1,5 @@
 //! A run that writes no file, and of whose report only the total is put.
-ghost use Rattle.std.specs.Prelude.{◌≡◌, ◌-◌, ◌+◌, ◌<◌, ◌≤◌, ◌^◌, ◌++◌, true, false, [], List, ℕ, length, Some, IfOk, OnOk, OnErr};
+ghost use Rattle.std.specs.Prelude.{◌≡◌, ◌-◌, ◌+◌, ◌<◌, ◌≤◌, ◌^◌, true, false, [], List, ℕ, length, IfOk, OnOk, OnErr};
 ghost use Rattle.std.specs.Option.{ForSome};
 ghost use Rattle.mn_script.specs.Lines.{command_fits};
 ghost use Rattle.mn_script.specs.Script.{AllFit};

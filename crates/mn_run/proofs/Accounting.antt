@@ -1,9 +1,9 @@
 -- The promise of a run, from the definition of its answer.
-use Rattle.std.proofs.Common.{◌≡◌, ◌==◌, ◌&&◌, arith, ℕ, Bool, true, false, nat_lt, if◌then◌else◌, List, [], ◌∷◌, ◌++◌, length, Option, Some, None, Result}
+use Rattle.std.proofs.Common.{◌≡◌, ◌==◌, ◌&&◌, arith, ℕ, Bool, true, false, nat_lt, if◌then◌else◌, List, [], ◌++◌, length, Option, Some, None, Result}
 use Rattle.std.proofs.Common.{Ok, Err, option_map, IsSomeAnd, refl, ap, sym, ◌∙◌}
 use Rattle.std.specs.Str.Lines.{lines}
 use Rattle.std.proofs.lemmas.Bool.Decides.{nat_tests}
-use Rattle.std.specs.Prelude.{cond, codes, nat_eq, ⊤}
+use Rattle.std.specs.Prelude.{cond, codes, nat_eq}
 use lib.Pointwise.{pointwise}
 use Rattle.mn_base.proofs.Bools.{and_left, and_right}
 use Rattle.mn_edge.proofs.Entries.{text-eq}
@@ -16,26 +16,21 @@ use Rattle.mn_base.proofs.Rules.{some_is}
 use Rattle.mn_edge.specs.Files.{Files, file}
 use Rattle.mn_edge.specs.Written.{laid}
 use Rattle.mn_pcap.specs.Reading as pcap
-use Rattle.mn_pcap.specs.Reading.{count_of}
-use Rattle.mn_pcap.specs.declared.refusal.PcapBad.{PcapBad}
-use Rattle.mn_pcap.specs.declared.refusal.PcapBad.TheVariants as bad
 use Rattle.mn_topo.specs.Lawful.{IsLawful}
 use Rattle.mn_topo.specs.declared.refusal.TopoRule.{TopoRule}
 use Rattle.mn_topo.specs.declared.refusal.Place.{Place}
 use Rattle.mn_topo.specs.Network.{Network}
 use Rattle.mn_topo.specs.Topology.{topology_of}
-use Rattle.mn_script.specs.declared.refusal.ScriptRule.{ScriptRule}
-use Rattle.mn_script.specs.declared.command.Line.{Line}
-use Rattle.mn_script.specs.Script.{script_of, AllFit}
+use Rattle.mn_script.specs.Script.{AllFit}
 use Rattle.mn_course.specs.Course.{inputs_of}
 use Rattle.mn_course.specs.Expansion.{Expansion, expanded}
 use Rattle.mn_course.specs.Lawful.{IsLawfulRun}
-use Rattle.mn_run.specs.declared.outcome.Limit.TheVariants.{TopologyBytes, ScriptBytes, ScriptLines, CaptureBytes, CaptureRecords, Steps}
+use Rattle.mn_run.specs.declared.outcome.Limit.TheVariants.{TopologyBytes, Steps}
 use Rattle.mn_run.specs.declared.outcome.Outcome.{Outcome}
 use Rattle.mn_run.specs.declared.outcome.Outcome.TheVariants.{Done, Usage, BadTopology, BadScript, BadCapture, TooLarge, ReadFault, WriteFault, NoMemory}
 use Rattle.mn_run.specs.Words.{word, is_run, is_check, generator_number}
-use Rattle.mn_run.specs.Answer.{Answer, refusal, if_accepted, with_lines, with_script, most_script_bytes, most_script_lines, if_captured, with_records}
-use Rattle.mn_run.specs.Answer.{with_capture, most_capture_bytes, most_capture_records, most_topology_bytes, if_lawful, with_topology, answer_over}
+use Rattle.mn_run.specs.Answer.{Answer, refusal}
+use Rattle.mn_run.specs.Answer.{most_topology_bytes, if_lawful, with_topology}
 use Rattle.mn_run.specs.Answer.{run_answer, check_answer, checked, generate_answer, answer_of}
 use Rattle.mn_run.specs.Answer.{run_done}
 use Rattle.mn_run.specs.Endings.{OutcomeIs, FilesAre, TextIs}

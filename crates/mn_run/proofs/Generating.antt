@@ -1,10 +1,9 @@
 -- What the generator makes, and the end of its run.
-use Rattle.std.proofs.Common.{◌≡◌, ◌≤◌, ◌++◌, ℕ, Bool, true, false, cond, nat_lt, if◌then◌else◌, ◌||◌, List, [], Option, Some, None, MatchOption, Result}
-use Rattle.std.proofs.Common.{Ok, Err, IfOk, Vec, Global, length, inl, inr, refl, sym, ◌∙◌, ap, subst}
+use Rattle.std.proofs.Common.{◌≡◌, ℕ, Bool, true, false, cond, nat_lt, if◌then◌else◌, ◌||◌, List, [], Option, Some, None, MatchOption, Result}
+use Rattle.std.proofs.Common.{Ok, Err, IfOk, Vec, Global, length, inr, refl, sym, ◌∙◌, ap, subst}
 use Rattle.std.specs.Prelude.{is_some, option_map, ⊤}
 use Rattle.std.specs.Str.Lines.{lines}
 use Rattle.mn_edge.specs.Files.{Files}
-use Rattle.mn_edge.specs.Written.{laid}
 use Rattle.mn_topo.specs.Network.{Network}
 use Rattle.mn_topo.specs.Topology.{topology_of}
 use Rattle.mn_topo.specs.declared.refusal.TopoRule.{TopoRule}
@@ -35,11 +34,11 @@ use Rattle.mn_run.specs.declared.outcome.Limit.TheVariants.{TopologyBytes, Scrip
 use Rattle.mn_run.specs.Words.{is_run, is_check, is_command, generator_number}
 use Rattle.mn_run.specs.Answer.{Answer, refusal, run_answer, check_answer, answer_of, generated_line, generated_done, generated_over, generated}
 use Rattle.mn_run.specs.Answer.{generate_answer}
-use Rattle.mn_run.specs.Answer.{if_lawful, with_topology_bytes, if_accepted, with_lines, with_script_bytes, if_captured, with_records, with_capture_bytes}
+use Rattle.mn_run.specs.Answer.{if_lawful, if_accepted, if_captured, with_capture_bytes}
 use Rattle.mn_run.specs.Answer.{most_topology_bytes, most_script_bytes, most_script_lines, most_capture_bytes, most_capture_records}
 use Rattle.mn_run.specs.Endings.{OutcomeIs, FilesAre, TextIs, CausedBy, IsLate}
-use Rattle.mn_run.specs.Jobs.{TopologyIs, ScriptIs, ScriptFits, HeldIs, AreMadeOver, AreMade, MadeOverIs, MadeIs, outcome_of}
-use Rattle.mn_run.proofs.Ending.{files_untouched, whole_untouched, untouched_files}
+use Rattle.mn_run.specs.Jobs.{TopologyIs, ScriptIs, ScriptFits, HeldIs, AreMadeOver, MadeOverIs, MadeIs, outcome_of}
+use Rattle.mn_run.proofs.Ending.{files_untouched, whole_untouched}
 
 -- 1. Its inputs
 

@@ -1,6 +1,5 @@
 -- The answer, input by input.
-use Rattle.std.proofs.Common.{◌≡◌, ℕ, ◌<◌, true, List, length, get_or, [], String, Global, string_bytes, Option, Some, Result, Ok, Err, sym, ◌∙◌, ap, subst}
-use Rattle.std.proofs.Common.{arith}
+use Rattle.std.proofs.Common.{◌≡◌, ℕ, ◌<◌, true, List, length, get_or, [], String, Global, string_bytes, Some, Result, Ok, Err, sym, ◌∙◌, ap, subst}
 use Rattle.std.proofs.lemmas.List.{get_or-map, length-map}
 use Rattle.mn_base.proofs.Bools.{and_left}
 use Rattle.mn_edge.specs.Written.{texts}

@@ -1,6 +1,5 @@
 -- The end of a played script as the end of the call.
-use Rattle.std.proofs.Common.{◌≡◌, ℕ, true, false, cond, List, [], ◌∷◌, ◌++◌, Option, Some, Ok, Err, Result, inl, inr, refl, sym, ◌∙◌, ap}
-use Rattle.std.specs.Prelude.{◌⊎◌}
+use Rattle.std.proofs.Common.{◌≡◌, ℕ, cond, List, [], ◌∷◌, Option, Some, Ok, Err, Result, inl, inr, ap}
 use Rattle.mn_edge.specs.Files.{Files, file}
 use Rattle.mn_topo.specs.Network.{Network}
 use Rattle.mn_script.specs.declared.command.Line.{Line}
@@ -12,7 +11,6 @@ use Rattle.mn_perform.specs.declared.ended.Fault.{Fault}
 use Rattle.mn_perform.specs.declared.ended.Fault.TheVariants as fault
 use Rattle.mn_perform.specs.Faults.{Counts, Blamed}
 use Rattle.mn_perform.specs.Whole.{EndsAs, FilesOf, BegunAtRead, TextOf, TellsLate}
-use Rattle.mn_run.specs.declared.outcome.Outcome.{Outcome}
 use Rattle.mn_run.specs.declared.outcome.Outcome.TheVariants.{Done, Usage, TooLarge}
 use Rattle.mn_run.specs.declared.outcome.Limit.TheVariants.{Steps}
 use Rattle.mn_run.specs.Answer.{run_done}

@@ -4,7 +4,7 @@ use Rattle.mn_run.specs.declared.outcome.Outcome.{Outcome}
 use Rattle.mn_run.specs.declared.outcome.Outcome.TheVariants.{Usage, ReadFault, WriteFault, NoMemory}
 use Rattle.mn_edge.specs.Files.{Files}
 use Rattle.mn_edge.specs.Faults.{Rose}
-use Rattle.mn_edge.specs.Written.{laid, IsPrefix, PartWritten}
+use Rattle.mn_edge.specs.Written.{laid, PartWritten}
 use Rattle.mn_lines.specs.Putting.{PartPut}
 use Rattle.mn_perform.specs.Whole.{AllBegun}
 use Rattle.mn_run.specs.Answer.{Answer}

@@ -1,8 +1,8 @@
-use Rattle.std.proofs.Common.{Err, sym, subst}
+use Rattle.std.proofs.Common.{sym, subst}
 use Rattle.mn_course.specs.Course.{inputs_of}
 use Rattle.mn_course.specs.Expansion.{with_line}
 use Rattle.mn_perform.specs.Running.{Breaks}
-use Rattle.mn_perform.proofs.Played.{table_put, table_cut}
+use Rattle.mn_perform.proofs.Played.{table_cut}
 use Rattle.mn_perform.proofs.lines.play_line.Goals as goal
 
 pub returns-in-Err-clause-went : goal.returns-in-Err-clause-went

@@ -1,10 +1,9 @@
-use Rattle.std.proofs.Common.{◌≡◌, ◌+◌, ◌*◌, [], length, true, false, not, Ok, Err, refl, sym, ◌∙◌, ap, subst, arith}
+use Rattle.std.proofs.Common.{◌≡◌, [], length, true, false, not, Ok, Err, refl, sym, ◌∙◌, ap, subst, arith}
 use Rattle.mn_edge.specs.Kept.{Framed}
 use Rattle.mn_edge.specs.KeptLaws.{framed_same, framed_both}
-use Rattle.mn_course.specs.Expansion.{with_line, start_of}
+use Rattle.mn_course.specs.Expansion.{start_of}
 use Rattle.mn_record.specs.Recorded.{told_packets}
 use Rattle.mn_perform.specs.declared.ended.Ended.TheVariants.{All, TooManySteps}
-use Rattle.mn_perform.specs.Running.{Stands, Went}
 use Rattle.mn_perform.proofs.Ending.{stands_at, still_for}
 use Rattle.mn_perform.proofs.Script.{line_went, goes_on, stops, breaks, all_gone}
 use Rattle.mn_perform.proofs.lines.play_lines.Goals as goal

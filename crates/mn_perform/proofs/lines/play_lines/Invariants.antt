@@ -1,4 +1,4 @@
-use Rattle.std.proofs.Common.{◌≡◌, ◌≤◌, ◌+◌, ◌*◌, ℕ, List, length}
+use Rattle.std.proofs.Common.{◌≡◌, ◌≤◌, ◌+◌, ◌*◌, length}
 use Rattle.std.specs.Option.{ForSome}
 use Rattle.mn_edge.specs.Kept.{Framed}
 use Rattle.mn_record.specs.Recorded.{told_packets}

@@ -1,9 +1,9 @@
-use Rattle.std.proofs.Common.{◌≡◌, Some, Err, [], inr, sym, ◌∙◌, ap, subst}
+use Rattle.std.proofs.Common.{Err, inr, sym, subst}
 use Rattle.mn_edge.specs.Kept.{Framed}
 use Rattle.mn_script.specs.Script.{AllFit}
 use Rattle.mn_course.specs.Expansion.{expanded}
 use Rattle.mn_capture.specs.Packets.{packets_in}
-use Rattle.mn_perform.proofs.Whole.{told, put_nothing, unplayed_files, unplayed_late, played_ends, played_files, played_text, played_late, played_begun}
+use Rattle.mn_perform.proofs.Whole.{told, put_nothing, unplayed_files, played_ends, played_files, played_text, played_late, played_begun}
 use Rattle.mn_perform.proofs.Whole.{written_failed, at_start, told_before}
 use Rattle.mn_perform.specs.Whole.{BegunAtRead, RunEnds, RunFiles, RunText, IsLate, whole_files}
 use Rattle.mn_output.specs.Report.{run_answer}

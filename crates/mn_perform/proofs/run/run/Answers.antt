@@ -1,8 +1,6 @@
-use Rattle.std.proofs.Common.{sym, ap, ◌∙◌, subst}
 use Rattle.mn_course.specs.Expansion.{expanded}
-use Rattle.mn_edge.specs.Kept.{Framed}
 use Rattle.mn_edge.specs.KeptLaws.{framed_both}
-use Rattle.mn_perform.proofs.Ending.{run_files, run_text, run_late, run_ends, broken_files, broken_begun, no_read, notes_begin}
+use Rattle.mn_perform.proofs.Ending.{run_files, run_text, run_late, broken_files, broken_begun, no_read, notes_begin}
 use Rattle.mn_perform.proofs.run.run.Goals as goal
 
 pub returns-in-Ok-clause-files : goal.returns-in-Ok-clause-files

@@ -1,4 +1,4 @@
-use Rattle.std.proofs.Common.{◌≡◌, ◌+◌, ◌*◌, length, refl, ◌∙◌, arith}
+use Rattle.std.proofs.Common.{◌≡◌, length, refl, ◌∙◌, arith}
 use Rattle.mn_perform.specs.declared.ended.Ended.TheVariants.{All, TooManySteps}
 use Rattle.mn_perform.proofs.Totals.{line_played, plays_on, plays_no_more, plays_from_start, all_played}
 use Rattle.mn_perform.proofs.total.play_lines.Goals as goal

@@ -1,4 +1,4 @@
-use Rattle.std.proofs.Common.{Ok, subst}
+use Rattle.std.proofs.Common.{subst}
 use Rattle.mn_run.specs.Jobs.{MadeIs, AreMade}
 use Rattle.mn_run.proofs.Accounting.{total_told}
 use Rattle.mn_run.proofs.generate.generate.Goals as goal

@@ -1,4 +1,4 @@
-use Rattle.std.proofs.Common.{Ok, ◌∙◌, subst}
+use Rattle.std.proofs.Common.{◌∙◌, subst}
 use Rattle.mn_edge.specs.Files.{file}
 use Rattle.mn_run.specs.Jobs.{TopologyIs}
 use Rattle.mn_run.proofs.Results.{if_ok}

@@ -3,7 +3,7 @@ use Rattle.mn_capture.specs.Packets.{packets_in}
 use Rattle.mn_output.specs.Report as output
 use Rattle.mn_perform.specs.Whole.{EndsAs, FilesOf, BegunAtRead, TextOf, TellsLate}
 use Rattle.mn_run.specs.Answer.{run_done}
-use Rattle.mn_run.specs.Endings.{OutcomeIs, FilesAre, TextIs, IsLate, IsUnread}
+use Rattle.mn_run.specs.Endings.{OutcomeIs, FilesAre, TextIs, IsUnread}
 use Rattle.mn_run.proofs.Playing.{ends, leaves, tells, late, unread}
 use Rattle.mn_run.proofs.top.play.Goals as goal
 

@@ -1,4 +1,4 @@
-use Rattle.std.proofs.Common.{◌≡◌, length, sym, ◌∙◌, ap, subst, arith}
+use Rattle.std.proofs.Common.{◌≡◌, length, sym, subst, arith}
 use Rattle.mn_edge.specs.Written.{texts}
 use Rattle.mn_run.specs.Words.{word}
 use Rattle.mn_run.specs.Endings.{TextIs, IsUnread}

@@ -1,4 +1,4 @@
-use Rattle.std.proofs.Common.{◌++◌, [], List, ℕ, append-nil, subst, sym, ◌∙◌, ap, Some}
+use Rattle.std.proofs.Common.{◌++◌, [], List, ℕ, append-nil, subst, ◌∙◌, ap, Some}
 use Rattle.mn_ledger.specs.Ledger.{packets_of}
 use Rattle.mn_lines.specs.Putting.{PartPut, PutOn}
 use Rattle.mn_lines.proofs.Putting.{ended}

@@ -1,4 +1,3 @@
-use Rattle.std.proofs.Common.{Result, Ok, Err, OnErr, sym}
 use Rattle.mn_lines.proofs.Putting.{puts_then, cut_in_first, cut_in_second}
 use Rattle.mn_perform.proofs.Results.{err}
 use Rattle.mn_perform.proofs.desk.Desk.tell.Goals as goal

@@ -1,4 +1,4 @@
-use Rattle.std.proofs.Common.{◌≡◌, ◌+◌, ℕ, true, List, length, Some, refl, sym, ap, ◌∙◌, subst, rules}
+use Rattle.std.proofs.Common.{◌≡◌, ◌+◌, ℕ, true, List, length, Some, ap, ◌∙◌, subst, rules}
 use Rattle.std.specs.Prelude.{slice_range}
 use Rattle.mn_pcap.specs.Reading.{bytes_at, packet_of}
 use Rattle.mn_course.specs.Course.{record_of}
