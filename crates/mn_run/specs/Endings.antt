@@ -62,7 +62,7 @@ CausedBy old new ReadFault = Grew old.0 new.0 × (new.1 ≡ old.1) × (new.2 ≡
 CausedBy old new WriteFault = (new.0 ≡ old.0) × ((Grew old.1 new.1 × (new.2 ≡ old.2)) ⊎ (Grew old.2 new.2 × (new.1 ≡ old.1)))
 CausedBy old new outcome = (new.0 ≡ old.0) × (new.1 ≡ old.1) × (new.2 ≡ old.2)
 
--- usage is answered exactly where the words are no run; the sink's fault and want of memory may come in its place
+-- usage is answered exactly where the words are no command line; the sink's fault and want of memory may come in its place
 abbrev pub UsageIff : Bool → Outcome → Type 0
 UsageIff is_good Usage = is_good ≡ false
 UsageIff is_good WriteFault = ⊤
