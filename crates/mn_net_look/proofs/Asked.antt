@@ -9,7 +9,7 @@ use Rattle.mn_topo.specs.Network.{Network}
 use Rattle.mn_targets.specs.Targets.{has_target}
 use Rattle.mn_vrf.specs.Vrf.{Static, VrfState, static_of}
 use Rattle.mn_pe.specs.Edge.{Edge}
-use Rattle.mn_pe.specs.Held.{site_label}
+use Rattle.mn_pe.specs.Held.{site_label as label_of}
 use Rattle.mn_pe.specs.Pe.{PeNow, found_in}
 use Rattle.mn_ledger.specs.Places.{edge_of, home_of}
 use Rattle.mn_routing_model.specs.Routed.{Routed}
@@ -82,10 +82,10 @@ site_by t r v p o e =
     ∙ sym (of_vrf_by t r v (λ vrf. option_map (λ (static : Static). static.site) (static_of p vrf.statics)))
 
 pub label_by : (t : Network) (r : Routed) (s : ℕ) (o : Option PeNow) → o ≡ slice_index_or r.edges (home_of t s) None →
-    is_some (asked (λ edge. site_label edge s) (option_map (λ (pe : PeNow). pe.edge) o)) ≡ is_some (site_label t (shown r) s)
+    is_some (asked (λ edge. label_of edge s) (option_map (λ (pe : PeNow). pe.edge) o)) ≡ is_some (site_label t (shown r) s)
 label_by t r s o e =
-    ap (λ q. is_some (asked (λ edge. site_label edge s) (option_map (λ (pe : PeNow). pe.edge) q))) e
-    ∙ ap is_some (sym (of_edge_shown r (home_of t s) (λ edge. site_label edge s)))
+    ap (λ q. is_some (asked (λ edge. label_of edge s) (option_map (λ (pe : PeNow). pe.edge) q))) e
+    ∙ ap is_some (sym (of_edge_shown r (home_of t s) (λ edge. label_of edge s)))
 
 -- a VRF that an edge answers
 pub vrf_by : (t : Network) (r : Routed) (v : ℕ) (o : Option PeNow) → o ≡ slice_index_or r.edges (edge_of t v) None →

@@ -20,7 +20,7 @@ use Rattle.mn_laws.proofs.There.{vrf_there, edge_there}
 use Rattle.mn_targets.specs.Targets.{has_target}
 use Rattle.mn_vrf.specs.Vrf.{VrfState}
 use Rattle.mn_pe.specs.Edge.{Edge}
-use Rattle.mn_pe.specs.Held.{site_label}
+use Rattle.mn_pe.specs.Held.{site_label as label_of}
 use Rattle.mn_pe.specs.Pe.{found_in}
 use Rattle.mn_bgp_spelling.specs.Spelling.{Labels, as_targets, session_in}
 use Rattle.mn_bgp_session.specs.declared.session.BgpSession.{BgpSession}
@@ -128,7 +128,7 @@ module _ (t : Network) (l : Labels) (c : Config) (p : Peerings) (lawful : IsLawf
 
   pub attached_is : (s : ℕ) → s < length t.sites → is_some (site_label t (routes_in t l c p) s) ≡ is_some (c.attached s)
   attached_is s h =
-      ap (λ o. is_some (asked (λ edge. site_label edge s) o)) (its_edge (vrf_of t s) (vrf_there t s lawful h))
+      ap (λ o. is_some (asked (λ edge. label_of edge s) o)) (its_edge (vrf_of t s) (vrf_there t s lawful h))
       ∙ ap is_some (map_numbers_at (label_in t l c (home_of t s)) (length t.sites) s None h)
       ∙ ap (λ b. is_some (if b then option_map (l s) (c.attached s) else None)) (same_test (home_of t s))
       ∙ mapped_some (l s) (c.attached s)

@@ -16,7 +16,7 @@ use Rattle.mn_ledger.specs.Refusal.{first_cause, where_holds, agree, prefix_refu
 use Rattle.mn_targets.specs.Targets.{has_target}
 use Rattle.mn_vrf.specs.Vrf.{Static, VrfState, static_of}
 use Rattle.mn_pe.specs.Edge.{Edge}
-use Rattle.mn_pe.specs.Held.{site_label}
+use Rattle.mn_pe.specs.Held.{site_label as label_of}
 use Rattle.mn_pe.specs.Pe.{found_in}
 use Rattle.mn_bgp_session.specs.declared.session.BgpSession.{BgpSession}
 use Rattle.mn_routing_model.specs.Whole.{RoutesNow}
@@ -52,7 +52,7 @@ exports_it topology routes v target = unwrap_or (of_vrf topology routes v (λ vr
 
 -- the label of a site's present attachment
 abbrev pub site_label : Network → RoutesNow → ℕ → Option ℕ
-site_label topology routes s = of_edge routes (home_of topology s) (λ edge. site_label edge s)
+site_label topology routes s = of_edge routes (home_of topology s) (λ edge. label_of edge s)
 
 -- the site over which a VRF has a prefix
 abbrev pub site_with : Network → RoutesNow → ℕ → AddressBlock → Option ℕ
