@@ -212,7 +212,29 @@ def read_run(folder):
             run.bgp[ends] = bgp_lives(file)
     run.links.sort(key=lambda link: sorted(map(run.nodes.index, link)))
     run.delivered = records_of(run.folder / "delivered.pcap", 228)
+    check_names(run)
     return run
+
+
+def check_names(run):
+    """What the steps name is there: links by their captures, nodes and sites by their labels."""
+    joined = {frozenset(link) for link in run.links}
+    for step, (_, words) in enumerate(run.steps):
+        kind, *rest = words
+        if kind in ("site", "inject", "route"):
+            name = rest[0] if kind == "inject" else rest[1]
+            fault = None if name in run.node_of else f"labels.txt has no site '{name}'"
+        elif kind == "bgp" or words[:2] == ("hear", "bgp"):
+            fault = next((f"labels.txt has no node '{name}'" for name in rest[1:] if name not in run.loopbacks), None)
+        elif kind in ("import", "export"):
+            continue
+        else:
+            ends = rest[:2] if kind in ("carry", "lose") else rest[-2:]
+            fault = None if frozenset(ends) in joined else f"there is no {'+'.join(ends)}.pcap"
+            if kind == "learn" and rest[0] not in run.nodes:
+                fault = f"labels.txt has no node '{rest[0]}'"
+        if fault:
+            raise Fault(f"{run.place(step)}: {fault}")
 
 
 def read_journal(run):

@@ -42,8 +42,6 @@ def sessions_of(run):
     up, off = set(), set()
 
     def begin(at, protocol, a, b):
-        if a not in run.loopbacks or b not in run.loopbacks:
-            raise Fault(f"{run.place(at)}: labels.txt has no node '{a if a not in run.loopbacks else b}'")
         other, opener = sorted((a, b), key=run.loopbacks.get)
         session = Session(protocol, opener, other, at, heard={a: 0, b: 0})
         sessions.append(session)

@@ -17,10 +17,11 @@ LINKS = ROOT / "examples/two-links"
 RUNS = sorted(file.parents[1] for file in ROOT.glob("examples/*/expected/journal.txt"))
 
 # What a reader of the page sees of each packet at the end, as the report says it.
-ENDS = """stateAfter(steps.length).ways.map((way, p) => {
-    const key = Object.keys(stateAfter(steps.length).queues).find(key => stateAfter(steps.length).queues[key].some(flight => flights[flight].p === p));
-    return [way.end ? `${way.end} ${way.words}` : `flying ${key.split(" ").map(n => nodes[n].name).join(" ")}`, way.path.map(n => nodes[n].name).join(" ")];
-})"""
+ENDS = """(state => {
+    const flying = Object.fromEntries(Object.entries(state.queues).flatMap(([key, queue]) => queue.map(flight => [flights[flight].p, key])));
+    const named = numbers => numbers.map(n => nodes[n].name).join(" ");
+    return state.ways.map((way, p) => [way.end ? `${way.end} ${way.words}` : `flying ${named(flying[p].split(" "))}`, named(way.path)]);
+})(stateAfter(steps.length))"""
 
 
 def ends_of(report):
@@ -180,7 +181,7 @@ class InABrowser(unittest.TestCase):
         for run in RUNS:
             with self.subTest(run.name):
                 browser = self.opened(run)
-                shown = browser.value("(() => { const every = Math.max(1, Math.floor(steps.length / 60)); for (let s = 0; s <= steps.length; s += every) go(s); return go(steps.length), at; })()")
+                shown = browser.value("(() => { const every = Math.max(1, Math.floor(steps.length / 20)); for (let s = 0; s <= steps.length; s += every) go(s); return go(steps.length), at; })()")
                 self.assertEqual(len((run / "expected/journal.txt").read_text().splitlines()), shown)
                 report = (run / "expected/report.txt").read_text()
                 self.assertEqual(list(ends_of(report)), browser.value(ENDS))
