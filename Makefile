@@ -1,4 +1,4 @@
-# make test      the whole gate: proofs from nothing, must-fail edits, tests, programs
+# make test      the whole gate: proofs, must-fail edits, tests, programs
 # make build     proves and builds the program, and prints where it is
 # make demo      runs an example (EXAMPLE=first; two-links where none is named), and says whether what ran was the proved build
 # make examples  runs all examples and compares everything they write with what is expected (EXAMPLES="loss ring" for some)

@@ -56,7 +56,7 @@ class Index(unittest.TestCase):
         self.assertEqual(0, ran.returncode)
         self.assertIn("crates/mn_ledger/specs/Packets.antt:", ran.stdout)
         self.assertIn("penultimate hop", self.run_index("RFC 3031, section 3.16").stdout)
-        self.assertIn(": `hop`: ", self.run_index("hop").stdout.splitlines()[0])
+        self.assertIn(": `hop_on`: ", self.run_index("hop_on").stdout.splitlines()[0])
         self.assertEqual(1, self.run_index("NoSuchRule").returncode)
 
 

@@ -15,7 +15,7 @@ use Rattle.mn_topo.specs.declared.steps.JournalEntry.{JournalEntry}
 use Rattle.mn_ipv4.specs.Header.{ttl_of, destination_of}
 use Rattle.mn_ledger.specs.Places.{home_of, vrf_of}
 use Rattle.mn_ledger.specs.World.{World}
-use Rattle.mn_ledger.specs.Vpn.{HeldRoute}
+use Rattle.mn_ledger.specs.Held.{HeldRoute}
 use Rattle.mn_ledger.specs.Packets.{Packets}
 use Rattle.mn_ledger.specs.Ledger.{world_of, packets_of, next_of, but_next, left_by, injects}
 use Rattle.mn_ledger.specs.Verdicts.{one_if, injections, verdict_on}

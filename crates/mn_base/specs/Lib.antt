@@ -7,3 +7,4 @@ pub mod Rules
 pub mod Refusals
 pub mod Found
 pub mod Ordered
+pub mod Limits

@@ -12,7 +12,8 @@ use Rattle.mn_bgp_wire.specs.Grammar.{IsBgp}
 use Rattle.mn_bgp_wire.specs.Reading.{message_of}
 use Rattle.mn_bgp_wire.proofs.Messages as wire
 use Rattle.mn_ledger.specs.World.{World, Telling}
-use Rattle.mn_ledger.specs.Vpn.{bgp_state_of, exports_of}
+use Rattle.mn_ledger.specs.Exports.{exports_of}
+use Rattle.mn_ledger.specs.Bgp.{bgp_state_of}
 use Rattle.mn_ledger.specs.Turns.{IsInTurn, has_bgp_row}
 use Rattle.mn_ledger.proofs.InTurn.{rows}
 use Rattle.mn_bgp_spelling.specs.Spelling.{Labels, message_in, bytes_in, IsWritable}

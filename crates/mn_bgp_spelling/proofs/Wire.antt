@@ -14,8 +14,8 @@ use Rattle.mn_vpn_nlri.proofs.Communities.{written_are_targets}
 use Rattle.mn_bgp_session.specs.declared.session.BgpSession.{BgpSession}
 use Rattle.mn_bgp_session.specs.Table.{kind_of, has_row, is_of_peer, next_state, reply_in, answer_in, state_if, after_message}
 use Rattle.mn_ledger.specs.Places.{loopback, vrf_at}
-use Rattle.mn_ledger.specs.World.{Config, Export, Telling, Open, Alive, Announce, Unreach, Peerings}
-use Rattle.mn_ledger.specs.Vpn.{peers_live, state_heard, bgp_state_of, reply, peerings_after}
+use Rattle.mn_ledger.specs.World.{Config, Export, Telling, Open, BgpKeepAlive, Announcement, Withdrawal, Peerings}
+use Rattle.mn_ledger.specs.Bgp.{peers_live, state_heard, bgp_state_of, reply, peerings_after}
 use Rattle.mn_ledger.specs.Turns.{has_bgp_row}
 use Rattle.mn_ledger.proofs.GoingBy.{pair_here}
 use Rattle.mn_base.proofs.Bools.{same_test}
@@ -25,29 +25,29 @@ use Rattle.mn_bgp_spelling.specs.Spelling.{Labels, as_targets, route_of, session
 
 rows_same : (t : Network) (l : Labels) (teller : ℕ) (state : BgpState) (m : Telling) → has_row state (kind_of (message_in t l teller m)) ≡ has_bgp_row state m
 rows_same t l teller Idle Open = refl
-rows_same t l teller Idle Alive = refl
-rows_same t l teller Idle (Announce e) = refl
-rows_same t l teller Idle (Unreach v p) = refl
+rows_same t l teller Idle BgpKeepAlive = refl
+rows_same t l teller Idle (Announcement e) = refl
+rows_same t l teller Idle (Withdrawal v p) = refl
 rows_same t l teller OpenSent Open = refl
-rows_same t l teller OpenSent Alive = refl
-rows_same t l teller OpenSent (Announce e) = refl
-rows_same t l teller OpenSent (Unreach v p) = refl
+rows_same t l teller OpenSent BgpKeepAlive = refl
+rows_same t l teller OpenSent (Announcement e) = refl
+rows_same t l teller OpenSent (Withdrawal v p) = refl
 rows_same t l teller OpenConfirm Open = refl
-rows_same t l teller OpenConfirm Alive = refl
-rows_same t l teller OpenConfirm (Announce e) = refl
-rows_same t l teller OpenConfirm (Unreach v p) = refl
+rows_same t l teller OpenConfirm BgpKeepAlive = refl
+rows_same t l teller OpenConfirm (Announcement e) = refl
+rows_same t l teller OpenConfirm (Withdrawal v p) = refl
 rows_same t l teller Established Open = refl
-rows_same t l teller Established Alive = refl
-rows_same t l teller Established (Announce e) = refl
-rows_same t l teller Established (Unreach v p) = refl
+rows_same t l teller Established BgpKeepAlive = refl
+rows_same t l teller Established (Announcement e) = refl
+rows_same t l teller Established (Withdrawal v p) = refl
 
 of_peer : (t : Network) (l : Labels) (c : Config) (p : Peerings) (edge peer : ℕ) (m : Telling) →
     is_of_peer (session_in t c p edge peer) (message_in t l peer m) ≡ true
 of_peer t l c p edge peer Open =
     ap (λ b. b && ((loopback t peer == loopback t peer) && true)) (same_test t.asn) ∙ ap (λ b. b && true) (same_test (loopback t peer))
-of_peer t l c p edge peer Alive = refl
-of_peer t l c p edge peer (Announce e) = refl
-of_peer t l c p edge peer (Unreach v q) = refl
+of_peer t l c p edge peer BgpKeepAlive = refl
+of_peer t l c p edge peer (Announcement e) = refl
+of_peer t l c p edge peer (Withdrawal v q) = refl
 
 -- where its state has a row for the message, the session takes it
 pub taken : (t : Network) (l : Labels) (c : Config) (p : Peerings) (edge peer : ℕ) (m : Telling) → has_bgp_row (bgp_state_of c p edge peer) m ≡ true
@@ -62,27 +62,27 @@ taken t l c p edge peer m row =
 
 -- what the edge then tells
 pub told_back : (state : BgpState) (m : Telling) (exports : List Export) → has_bgp_row state m ≡ true
-    → reply state m exports ≡ cond (reply_in state).say_keep (Alive ∷ []) [] ++ cond (reply_in state).became_established
-    (map (λ export. Announce export) exports) []
+    → reply state m exports ≡ cond (reply_in state).say_keep (BgpKeepAlive ∷ []) [] ++ cond (reply_in state).became_established
+    (map (λ export. Announcement export) exports) []
 told_back Idle m exports h = idle m h
   where
     idle : (m : Telling) → has_bgp_row Idle m ≡ true → reply Idle m exports ≡ []
     idle Open h = refl
-    idle Alive h = refl
-    idle (Announce e) h = refl
-    idle (Unreach v p) h = refl
+    idle BgpKeepAlive h = refl
+    idle (Announcement e) h = refl
+    idle (Withdrawal v p) h = refl
 told_back OpenSent Open exports h = refl
-told_back OpenSent Alive exports h = cc
-told_back OpenSent (Announce e) exports h = cc
-told_back OpenSent (Unreach v p) exports h = cc
+told_back OpenSent BgpKeepAlive exports h = cc
+told_back OpenSent (Announcement e) exports h = cc
+told_back OpenSent (Withdrawal v p) exports h = cc
 told_back OpenConfirm Open exports h = cc
-told_back OpenConfirm Alive exports h = refl
-told_back OpenConfirm (Announce e) exports h = cc
-told_back OpenConfirm (Unreach v p) exports h = cc
+told_back OpenConfirm BgpKeepAlive exports h = refl
+told_back OpenConfirm (Announcement e) exports h = cc
+told_back OpenConfirm (Withdrawal v p) exports h = cc
 told_back Established Open exports h = cc
-told_back Established Alive exports h = refl
-told_back Established (Announce e) exports h = refl
-told_back Established (Unreach v p) exports h = refl
+told_back Established BgpKeepAlive exports h = refl
+told_back Established (Announcement e) exports h = refl
+told_back Established (Withdrawal v p) exports h = refl
 
 -- 2. The session goes on as the table says
 
@@ -113,10 +113,10 @@ hears t l c p a b alive row =
 pub read_again : (t : Network) (l : Labels) (teller : ℕ) (m : Telling) → t.asn < 2 ^ 16 → loopback t teller < 2 ^ 32 → IsWritable t l m →
     IsBgp (bytes_in t l teller m) (message_in t l teller m)
 read_again t l teller Open asn address w = open_is_spelled t.asn (loopback t teller) asn address
-read_again t l teller Alive asn address w = record { body = []; is_body = refl; within = omega arith; whole = refl }
-read_again t l teller (Announce e) asn address w =
+read_again t l teller BgpKeepAlive asn address w = record { body = []; is_body = refl; within = omega arith; whole = refl }
+read_again t l teller (Announcement e) asn address w =
     announced_is_spelled (loopback t teller) (route_of t l e) (as_targets e.targets) address (written_short (route_of t l e) false w.0) w.1
     (written_is_route (route_of t l e) false w.0) (written_are_targets (as_targets e.targets) w.2)
-read_again t l teller (Unreach v p) asn address w =
+read_again t l teller (Withdrawal v p) asn address w =
     withdrawn_is_spelled (vrf_at t v).rd p (written_short (withdrawn_route (vrf_at t v).rd p) true w)
     (written_is_route (withdrawn_route (vrf_at t v).rd p) true w)

@@ -21,9 +21,10 @@ use Rattle.mn_topo.specs.declared.steps.Step.TheVariants as step
 use Rattle.mn_topo.specs.declared.steps.JournalEntry.{JournalEntry}
 use Rattle.mn_ledger.specs.Tables.{put, put_pair}
 use Rattle.mn_ledger.specs.Places.{vrf_at, edges}
-use Rattle.mn_ledger.specs.World.{Config, Export, Telling, Open, Alive, Announce, Unreach, Peerings, World}
-use Rattle.mn_ledger.specs.Vpn.{Told, exports_of, tellings_of, told_to, reply, bgp_replies, is_for, same_export, withdrawn, announced, changed, steady_peers}
-use Rattle.mn_ledger.specs.Vpn.{route_news, told_in, bgp_counted, peerings_after}
+use Rattle.mn_ledger.specs.World.{Config, Export, Telling, Open, BgpKeepAlive, Announcement, Withdrawal, Peerings, World}
+use Rattle.mn_ledger.specs.Exports.{exports_of}
+use Rattle.mn_ledger.specs.Bgp.{Told, tellings_of, told_to, reply, bgp_replies, is_for, same_export, withdrawn, announced, changed, steady_peers}
+use Rattle.mn_ledger.specs.Bgp.{route_news, told_in, bgp_counted, peerings_after}
 use Rattle.mn_ledger.specs.Ledger.{with_target, ascending, config_after, after, start, no_packets, next_of, left_by, world_from, world_of}
 use Rattle.mn_ledger.specs.Packets.{Packets, packets_after}
 use Rattle.mn_ledger.specs.Refusal.{is_targets_full}
@@ -119,8 +120,8 @@ first_sets t lawful v = by_index t.vrfs v lawful.vrfs.targets
 -- 3. What is told
 
 abbrev pub IsGood : Network → Telling → Type 0
-IsGood t (Announce e) = (e.vrf < length t.vrfs) × IsPrefix e.prefix.address e.prefix.length × IsFewAndFormed e.targets
-IsGood t (Unreach v p) = (v < length t.vrfs) × IsPrefix p.address p.length
+IsGood t (Announcement e) = (e.vrf < length t.vrfs) × IsPrefix e.prefix.address e.prefix.length × IsFewAndFormed e.targets
+IsGood t (Withdrawal v p) = (v < length t.vrfs) × IsPrefix p.address p.length
 IsGood t _ = ⊤
 
 abbrev IsGoodExport : Network → Export → Type 0
@@ -147,15 +148,15 @@ AreGood t ms = (m : Telling) → In ms m → IsGood t m
 abbrev AllTold : Network → List Told → Type 0
 AllTold t xs = (x : Told) → In xs x → IsGood t x.telling
 
-good_announced : (t : Network) (es : List Export) → ((e : Export) → In es e → IsGoodExport t e) → AreGood t (map (λ export. Announce export) es)
-good_announced t es h m i = let f = in_map (λ export. Announce export) es m i in subst (IsGood t) f.2 (h f.0 f.1)
+good_announced : (t : Network) (es : List Export) → ((e : Export) → In es e → IsGoodExport t e) → AreGood t (map (λ export. Announcement export) es)
+good_announced t es h m i = let f = in_map (λ export. Announcement export) es m i in subst (IsGood t) f.2 (h f.0 f.1)
 
 one_good : (t : Network) (m : Telling) → IsGood t m → AreGood t (m ∷ [])
 one_good t m g x i = elim i [ inl e ↦ subst (IsGood t) e g | inr j ↦ absurd j ]
 
 good_reply : (t : Network) (state : BgpState) (m : Telling) (es : List Export) → ((e : Export) → In es e → IsGoodExport t e) → AreGood t (reply state m es)
-good_reply t OpenSent Open es h = one_good t Alive tt
-good_reply t OpenConfirm Alive es h = good_announced t es h
+good_reply t OpenSent Open es h = one_good t BgpKeepAlive tt
+good_reply t OpenConfirm BgpKeepAlive es h = good_announced t es h
 good_reply t _ _ es h = λ x i. absurd i
 
 good_told_to : (t : Network) (a b : ℕ) (ms : List Telling) → AreGood t ms → AllTold t (told_to a b ms)
@@ -177,7 +178,7 @@ good_changed : (t : Network) (before now : List Export) → ((e : Export) → In
     ((e : Export) → In now e → IsGoodExport t e) → AreGood t (changed before now)
 good_changed t before now g h m i = elim (in_append (withdrawn before now) (announced before now) m i) [
   | inl j ↦
-      let f = in_map (λ (export : Export). Unreach export.vrf export.prefix)
+      let f = in_map (λ (export : Export). Withdrawal export.vrf export.prefix)
       (filter (λ export. not (list_any (is_for export.vrf export.prefix) now)) before) m j in
       let e = g f.0 (in_filter (λ (export : Export). not (list_any (is_for export.vrf export.prefix) now)) before f.0 f.1).0 in
       subst (IsGood t) f.2 (e.0, e.1)
@@ -272,14 +273,14 @@ all_targets [] all = tt
 all_targets (x ∷ xs) all = (all.0, all_targets xs all.1)
 
 good_is_writable : (t : Network) (l : Labels) (m : Telling) → IsLawful t → AreLabels l → IsGood t m → IsWritable t l m
-good_is_writable t l (Announce e) lawful labels g = (
+good_is_writable t l (Announcement e) lawful labels g = (
   record { distinguisher = rd_formed t e.vrf lawful g.0; label = labels e.site e.attachment; prefix = g.1 },
   (let few : length e.targets ≤ 16 = g.2.0 in omega (arith, few, as_many e.targets)),
   all_targets e.targets g.2.1,
 )
-good_is_writable t l (Unreach v p) lawful labels g = record { distinguisher = rd_formed t v lawful g.0; label = lit< tt; prefix = g.1 }
+good_is_writable t l (Withdrawal v p) lawful labels g = record { distinguisher = rd_formed t v lawful g.0; label = lit< tt; prefix = g.1 }
 good_is_writable t l Open lawful labels g = tt
-good_is_writable t l Alive lawful labels g = tt
+good_is_writable t l BgpKeepAlive lawful labels g = tt
 
 pub writable : (t : Network) (l : Labels) (es : List JournalEntry) (ps : List (List ℕ)) (teller peer : ℕ) (m : Telling) → IsLawful t → AreLabels l →
     IsLawfulJournal t es ps → Contains ((world_of t es).peerings.told teller peer) m → IsWritable t l m

@@ -4,8 +4,9 @@ use Rattle.mn_base.specs.declared.numbers.NodeNo.{NodeNo}
 use Rattle.mn_topo.specs.Network.{Network}
 use Rattle.mn_topo.specs.declared.steps.Step.TheVariants.{HearBgp}
 use Rattle.mn_bgp_session.specs.Table.{reply_in, answer_in, after_message}
-use Rattle.mn_ledger.specs.World.{World, Export, Telling, Open, Alive, Announce}
-use Rattle.mn_ledger.specs.Vpn.{peers_live, bgp_state_of, reply, exports_of, peerings_after}
+use Rattle.mn_ledger.specs.World.{World, Export, Telling, Open, BgpKeepAlive, Announcement}
+use Rattle.mn_ledger.specs.Exports.{exports_of}
+use Rattle.mn_ledger.specs.Bgp.{peers_live, bgp_state_of, reply, peerings_after}
 use Rattle.mn_bgp_spelling.specs.Spelling.{Labels, message_in, session_in}
 
 -- the next message that an edge hears of a peer
@@ -35,8 +36,8 @@ abbrev pub RepliesByTheTable : Network → World → ℕ → ℕ → Type 0
 RepliesByTheTable topology world edge peer =
     let answer = reply_in (bgp_state_of world.config world.peerings edge peer) in
     reply (bgp_state_of world.config world.peerings edge peer) (next_of world edge peer) (exports_of topology world.config edge)
-    ≡ cond answer.say_keep (Alive ∷ []) [] ++ cond answer.became_established
-    (map (λ (export : Export). Announce export) (exports_of topology world.config edge)) []
+    ≡ cond answer.say_keep (BgpKeepAlive ∷ []) [] ++ cond answer.became_established
+    (map (λ (export : Export). Announcement export) (exports_of topology world.config edge)) []
 
 -- labels are of 20 bits: RFC 3032, section 2.1
 abbrev pub AreLabels : Labels → Type 0

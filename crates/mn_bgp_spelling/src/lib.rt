@@ -5,10 +5,10 @@
 //! count them:
 //!
 //! ```text
-//! Open        OPEN of the network's AS, hold time 0, the teller's loopback, with VPN-IPv4
-//! Alive       KEEPALIVE
-//! Announce    UPDATE with MP_REACH_NLRI: the loopback as next hop, distinguisher, prefix, label; and the targets
-//! Unreach     UPDATE with MP_UNREACH_NLRI: distinguisher, prefix
+//! Open          OPEN of the network's AS, hold time 0, the teller's loopback, with VPN-IPv4
+//! BgpKeepAlive  KEEPALIVE
+//! Announcement  UPDATE with MP_REACH_NLRI: the loopback as next hop, distinguisher, prefix, label; and the targets
+//! Withdrawal    UPDATE with MP_UNREACH_NLRI: distinguisher, prefix
 //! ```
 //!
 //! Nothing is here but laws: what is told can be written, a message is read as what was told, and the session that hears it

@@ -31,7 +31,7 @@ use Rattle.mn_course.specs.declared.coming.Coming.{Coming}
 use Rattle.mn_course.specs.declared.coming.Arrivals.TheVariants.{News}
 use Rattle.mn_course.specs.declared.coming.Ending.TheVariants as ending
 use Rattle.mn_course.specs.Coming.{kind_of, is_kind, is_due, is_lost, coming, or_else, lost, delivery, ever}
-use Rattle.mn_course.specs.Course.{Past, Course, ends, with_step, inputs_of, is_full, one_by_one, next_now, deliver, all}
+use Rattle.mn_course.specs.Course.{Past, Course, ends, with_step, inputs_of, is_journal_full, one_by_one, next_now, deliver, all}
 use Rattle.mn_course.specs.Drains.{DrainsOn, DrainsAll}
 use Rattle.mn_course.specs.Lawful.{IsLawfulPast}
 use Rattle.mn_course.specs.Next.{IsNext, ComesNext}
@@ -171,10 +171,10 @@ module _ (t : Network) (lawful : IsLawful t) (capture : List (List ℕ)) where
   line_drains : (most : ℕ) (past : Past) → IsLawfulPast t capture past → past.clock ≤ 2 ^ 61 → Drained most past (deliver t capture News most past)
   line_drains zero past h early = none_done zero past
   line_drains (suc most) past h early =
-      by (is_full past) (next_now t capture News past) refl (next_can_come t lawful capture News past h) (next_drains past h early)
+      by (is_journal_full past) (next_now t capture News past) refl (next_can_come t lawful capture News past h) (next_drains past h early)
       (λ later g e. line_drains most later g e)
     where
-      by : (full : Bool) (o : Option Coming) → is_full past ≡ full → Has (CanCome t lawful capture past) o → Has (Steps past) o
+      by : (full : Bool) (o : Option Coming) → is_journal_full past ≡ full → Has (CanCome t lawful capture past) o → Has (Steps past) o
           → ((later : Past) → IsLawfulPast t capture later → later.clock ≤ 2 ^ 61 → Drained most later (deliver t capture News most later))
           → Drained (suc most) past (one_by_one News (λ later. deliver t capture News most later) past full o)
       by full None f c d rest = none_done (suc most) past

@@ -16,7 +16,7 @@ use Rattle.mn_course.specs.declared.coming.Coming.{Coming}
 use Rattle.mn_course.specs.declared.coming.Arrivals.{Arrivals}
 use Rattle.mn_course.specs.declared.coming.Arrivals.TheVariants.{DueBy, News, AllFrames}
 use Rattle.mn_course.specs.declared.coming.Ending.TheVariants as ending
-use Rattle.mn_course.specs.Coming.{kind_of, is_kind, comes_before, is_due, coming, earlier, or_else, ever}
+use Rattle.mn_course.specs.Coming.{kind_of, is_kind, is_due_before, is_due, coming, earlier, or_else, ever}
 use Rattle.mn_course.specs.Course.{Past, inputs_of, next_now, deliver, all}
 use Rattle.mn_course.specs.Lawful.{IsLawfulPast}
 use Rattle.mn_course.specs.Next.{IsNext}
@@ -32,7 +32,7 @@ use Rattle.mn_course.proofs.Pace.{deliver_paced}
 pub neither_comes : (a b : Option Coming) → earlier a b ≡ None → (a ≡ None) × (b ≡ None)
 neither_comes None b h = (refl, h)
 neither_comes (Some x) None h = absurd (cc)
-neither_comes (Some x) (Some y) h = by (comes_before y.due y.number x.due x.number) h
+neither_comes (Some x) (Some y) h = by (is_due_before y.due y.number x.due x.number) h
   where
     by : (b : Bool) → (if b then Some y else Some x) ≡ None → (Some x ≡ None) × (Some y ≡ None)
     by true e = cc

@@ -34,9 +34,9 @@ use Rattle.mn_course.specs.declared.coming.Arrivals.{Arrivals}
 use Rattle.mn_course.specs.declared.coming.Arrivals.TheVariants.{DueBy, News, AllFrames}
 use Rattle.mn_course.specs.declared.coming.Ending.{Ending}
 use Rattle.mn_course.specs.declared.coming.Ending.TheVariants as ending
-use Rattle.mn_course.specs.Coming.{comes_before, lost, delivery, coming, earlier, or_else, ever}
+use Rattle.mn_course.specs.Coming.{is_due_before, lost, delivery, coming, earlier, or_else, ever}
 use Rattle.mn_course.specs.Course.{Past, Course, with_step, on_to, record_of, bytes_of, input_before, inputs_of, tried, refusal_now, injected, stepped}
-use Rattle.mn_course.specs.Course.{arrived, is_full, one_by_one, next_now, deliver, all, until, most_of, played}
+use Rattle.mn_course.specs.Course.{arrived, is_journal_full, one_by_one, next_now, deliver, all, until, most_of, played}
 use Rattle.mn_course.specs.Expansion.{Note, Refusal, Missing, Table, Expansion, table_by, after_line, with_line, unless_stopped, expanded_from, start_of}
 use Rattle.mn_course.specs.Expansion.{expanded}
 use Rattle.mn_course.specs.Next.{IsNext}
@@ -98,7 +98,7 @@ Has P (Some item) = P item
 has_earlier : (P : Coming → Type 0) (a b : Option Coming) → Has P a → Has P b → Has P (earlier a b)
 has_earlier P None b h g = g
 has_earlier P (Some x) None h g = h
-has_earlier P (Some x) (Some y) h g = by (comes_before y.due y.number x.due x.number)
+has_earlier P (Some x) (Some y) h g = by (is_due_before y.due y.number x.due x.number)
   where
     by : (b : Bool) → Has P (if b then Some y else Some x)
     by true = g
@@ -186,15 +186,15 @@ module _ (t : Network) (lawful : IsLawful t) (capture : List (List ℕ)) where
       clash e = cc
   unrefused false why h = refl
 
-  arrives : (past : Past) (item : Coming) → IsGood past → CanCome past item → is_full past ≡ false → IsGood (with_step past (delivery item))
+  arrives : (past : Past) (item : Coming) → IsGood past → CanCome past item → is_journal_full past ≡ false → IsGood (with_step past (delivery item))
   arrives past item h c room =
       step_more past (delivery item) h c.delivered.fitting
-      (ap (refusal_now t capture past (delivery item)) c.quiet ∙ c.delivered.refused ∙ unrefused (is_full past) cause.TooManySteps room)
+      (ap (refusal_now t capture past (delivery item)) c.quiet ∙ c.delivered.refused ∙ unrefused (is_journal_full past) cause.TooManySteps room)
 
   on_its_tick : (tick : ℕ) (past : Past) (item : Coming) → CanCome past item → CanCome (on_to tick past) item
   on_its_tick tick past item c = record { delivered = c.delivered; quiet = c.quiet; soon = c.soon }
 
-  pub arrived_goes : (arrivals : Arrivals) (past : Past) (item : Coming) → IsGood past → CanCome past item → is_full past ≡ false
+  pub arrived_goes : (arrivals : Arrivals) (past : Past) (item : Coming) → IsGood past → CanCome past item → is_journal_full past ≡ false
       → IsGood (arrived arrivals past item)
   arrived_goes News past item h c room = arrives past item h c room
   arrived_goes (DueBy end) past item h c room = arrives (on_to item.due past) item (time_passes item.due past h) (on_its_tick item.due past item c) room
@@ -203,9 +203,9 @@ module _ (t : Network) (lawful : IsLawful t) (capture : List (List ℕ)) where
   pub deliver_goes : (arrivals : Arrivals) (most : ℕ) (past : Past) → IsGood past → IsGood (deliver t capture arrivals most past).past
   deliver_goes arrivals zero past h = h
   deliver_goes arrivals (suc more) past h =
-      by (is_full past) (next_now t capture arrivals past) refl (next_can_come arrivals past h) (λ later g. deliver_goes arrivals more later g)
+      by (is_journal_full past) (next_now t capture arrivals past) refl (next_can_come arrivals past h) (λ later g. deliver_goes arrivals more later g)
     where
-      by : (full : Bool) (o : Option Coming) → is_full past ≡ full → Has (CanCome past) o
+      by : (full : Bool) (o : Option Coming) → is_journal_full past ≡ full → Has (CanCome past) o
           → ((later : Past) → IsGood later → IsGood (deliver t capture arrivals more later).past)
           → IsGood (one_by_one arrivals (λ later. deliver t capture arrivals more later) past full o).past
       by full None f c rest = h

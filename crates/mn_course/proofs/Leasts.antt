@@ -5,7 +5,7 @@ use Rattle.mn_base.proofs.Bools.{no, two_ways, or_off, or_ways, and_parts, and_o
 use Rattle.mn_base.proofs.Bools.{test_same, same_numbers}
 use Rattle.mn_base.proofs.Members.{In}
 use Rattle.mn_ledger.specs.Items.{Item}
-use Rattle.mn_course.specs.Coming.{comes_before, lesser, least}
+use Rattle.mn_course.specs.Coming.{is_due_before, lesser, least}
 
 -- 1. What comes before what
 
@@ -13,7 +13,7 @@ use Rattle.mn_course.specs.Coming.{comes_before, lesser, least}
 abbrev pub NotBefore : ℕ → ℕ → ℕ → ℕ → Type 0
 NotBefore due number other_due other = (other_due ≤ due) × (due ≡ other_due → other ≤ number)
 
-not_before : (d n e m : ℕ) → comes_before d n e m ≡ false → NotBefore d n e m
+not_before : (d n e m : ℕ) → is_due_before d n e m ≡ false → NotBefore d n e m
 not_before d n e m h =
     let off = or_off (nat_lt d e) ((d == e) && nat_lt n m) h in
     (not_less_tells d e off.0, λ same. by (nat_lt n m) refl (test_same d e same) off.1)
@@ -25,13 +25,13 @@ not_before d n e m h =
 neither : (a b : Bool) → a ≡ false → b ≡ false → (a || b) ≡ false
 neither a b h g = rw (h, g) refl
 
-before_not : (d n e m : ℕ) → NotBefore d n e m → comes_before d n e m ≡ false
+before_not : (d n e m : ℕ) → NotBefore d n e m → is_due_before d n e m ≡ false
 before_not d n e m h = neither (nat_lt d e) ((d == e) && nat_lt n m) (not_less d e h.0) (elim (two_ways (d == e)) [
   | inl s ↦ and_off_right (d == e) (nat_lt n m) (not_less n m (h.1 (same_numbers d e s)))
   | inr s ↦ and_off_left (d == e) (nat_lt n m) s
 ])
 
-pub earlier_is : (d n e m : ℕ) → d ≤ e → n < m → comes_before d n e m ≡ false → ⊥
+pub earlier_is : (d n e m : ℕ) → d ≤ e → n < m → is_due_before d n e m ≡ false → ⊥
 earlier_is d n e m h g f =
     let off = not_before d n e m f in
     none (off.1 (same h off.0)) g
@@ -42,11 +42,11 @@ earlier_is d n e m h g f =
     none : m ≤ n → n < m → ⊥
     none a b = omega (arith, a, b)
 
-before_itself : (d n : ℕ) → comes_before d n d n ≡ false
+before_itself : (d n : ℕ) → is_due_before d n d n ≡ false
 before_itself d n = before_not d n d n (omega arith, λ e. omega arith)
 
 -- what one doesn't come before, and that not before a third
-in_turn : (d n e m a b : ℕ) → comes_before d n e m ≡ false → comes_before e m a b ≡ false → comes_before d n a b ≡ false
+in_turn : (d n e m a b : ℕ) → is_due_before d n e m ≡ false → is_due_before e m a b ≡ false → is_due_before d n a b ≡ false
 in_turn d n e m a b h g =
     let one = not_before d n e m h in
     let two = not_before e m a b g in
@@ -55,7 +55,7 @@ in_turn d n e m a b h g =
     by : e ≤ d → a ≤ e → (d ≡ e → m ≤ n) → (e ≡ a → b ≤ m) → d ≡ a → b ≤ n
     by p q r s same = let x : m ≤ n = r (omega (arith, p, q, same)) in let y : b ≤ m = s (omega (arith, p, q, same)) in omega (arith, x, y)
 
-not_both : (d n e m : ℕ) → comes_before d n e m ≡ true → comes_before e m d n ≡ false
+not_both : (d n e m : ℕ) → is_due_before d n e m ≡ true → is_due_before e m d n ≡ false
 not_both d n e m h = before_not e m d n (elim (or_ways (nat_lt d e) ((d == e) && nat_lt n m) h) [
   | inl g ↦ later (less_tells d e g)
   | inr g ↦ (let both = and_parts (d == e) (nat_lt n m) g in after (same_numbers d e both.0) (less_tells n m both.1))
@@ -74,22 +74,22 @@ not_both d n e m h = before_not e m d n (elim (or_ways (nat_lt d e) ((d == e) &&
 
 -- none of these comes before the item
 abbrev pub NoneBefore : List Item → Item → Type 0
-NoneBefore items x = (y : Item) → In items y → comes_before y.due y.number x.due x.number ≡ false
+NoneBefore items x = (y : Item) → In items y → is_due_before y.due y.number x.due x.number ≡ false
 
 -- one item more, which comes before the least of the others or doesn't
-one_more : (z : Item) (zs : List Item) (o : Item) → In zs o → NoneBefore zs o → (b : Bool) → comes_before o.due o.number z.due z.number ≡ b →
+one_more : (z : Item) (zs : List Item) (o : Item) → In zs o → NoneBefore zs o → (b : Bool) → is_due_before o.due o.number z.due z.number ≡ b →
     In (z ∷ zs) (if b then o else z) × NoneBefore (z ∷ zs) (if b then o else z)
 one_more z zs o i none true h = (
   inr i,
   λ y j. elim j [
-    | inl e ↦ subst (λ (v : Item). comes_before v.due v.number o.due o.number ≡ false) e (not_both o.due o.number z.due z.number h)
+    | inl e ↦ subst (λ (v : Item). is_due_before v.due v.number o.due o.number ≡ false) e (not_both o.due o.number z.due z.number h)
     | inr k ↦ none y k
   ],
 )
 one_more z zs o i none false h = (
   inl refl,
   λ y j. elim j [
-    | inl e ↦ subst (λ (v : Item). comes_before v.due v.number z.due z.number ≡ false) e (before_itself z.due z.number)
+    | inl e ↦ subst (λ (v : Item). is_due_before v.due v.number z.due z.number ≡ false) e (before_itself z.due z.number)
     | inr k ↦ in_turn y.due y.number o.due o.number z.due z.number (none y k) h
   ],
 )
@@ -107,8 +107,8 @@ least_is (z ∷ zs) = by (least zs) (least_is zs)
     by None h = (
       inl refl,
       λ y j. elim j [
-        | inl e ↦ subst (λ (v : Item). comes_before v.due v.number z.due z.number ≡ false) e (before_itself z.due z.number)
+        | inl e ↦ subst (λ (v : Item). is_due_before v.due v.number z.due z.number ≡ false) e (before_itself z.due z.number)
         | inr k ↦ absurd (subst (λ ys. In ys y) h k)
       ],
     )
-    by (Some o) h = one_more z zs o h.0 h.1 (comes_before o.due o.number z.due z.number) refl
+    by (Some o) h = one_more z zs o h.0 h.1 (is_due_before o.due o.number z.due z.number) refl

@@ -7,7 +7,7 @@ use Rattle.mn_course.specs.declared.coming.Arrivals.{Arrivals}
 use Rattle.mn_course.specs.declared.coming.Arrivals.TheVariants.{DueBy, News, AllFrames}
 use Rattle.mn_course.specs.declared.coming.Coming.{Coming}
 use Rattle.mn_course.specs.declared.coming.Ending.TheVariants as ending
-use Rattle.mn_course.specs.Course.{Past, arrived, one_by_one, is_full, next_now, deliver, all}
+use Rattle.mn_course.specs.Course.{Past, arrived, one_by_one, is_journal_full, next_now, deliver, all}
 
 one_longer : (arrivals : Arrivals) (past : Past) (item : Coming) → length (arrived arrivals past item).entries ≡ length past.entries + 1
 one_longer News past item = length-append past.entries _
@@ -22,9 +22,9 @@ pub none_left : (topology : Network) (capture : List (List ℕ)) (arrivals : Arr
     → next_now topology capture arrivals (deliver topology capture arrivals most past).past ≡ None
 none_left topology capture arrivals zero past room more over = absurd (omega arith)
 none_left topology capture arrivals (suc most) past room more over =
-    by (is_full past) (next_now topology capture arrivals past) refl refl over (λ later. none_left topology capture arrivals most later)
+    by (is_journal_full past) (next_now topology capture arrivals past) refl refl over (λ later. none_left topology capture arrivals most later)
   where
-    by : (full : Bool) (item : Option Coming) → is_full past ≡ full → next_now topology capture arrivals past ≡ item
+    by : (full : Bool) (item : Option Coming) → is_journal_full past ≡ full → next_now topology capture arrivals past ≡ item
         → (one_by_one arrivals (λ later. deliver topology capture arrivals most later) past full item).ending ≡ ending.All
         → ((later : Past) → length later.entries ≤ 4000000 → 4000000 < length later.entries + most
         → (deliver topology capture arrivals most later).ending ≡ ending.All

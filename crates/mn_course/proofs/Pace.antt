@@ -20,7 +20,8 @@ use Rattle.mn_course.specs.declared.coming.Arrivals.TheVariants.{DueBy, News, Al
 use Rattle.mn_course.specs.declared.coming.Ending.{Ending}
 use Rattle.mn_course.specs.declared.coming.Ending.TheVariants as ending
 use Rattle.mn_course.specs.Coming.{delivery}
-use Rattle.mn_course.specs.Course.{Past, Course, with_step, on_to, record_of, tried, refusal_now, injected, stepped, arrived, is_full, one_by_one, next_now}
+use Rattle.mn_course.specs.Course.{Past, Course, with_step, on_to, record_of, tried, refusal_now, injected, stepped, arrived, is_journal_full, one_by_one}
+use Rattle.mn_course.specs.Course.{next_now}
 use Rattle.mn_course.specs.Course.{deliver, all, until, most_of, played}
 use Rattle.mn_course.specs.Expansion.{Expansion, after_line, with_line, unless_stopped, expanded_from, start_of, expanded}
 use Rattle.mn_course.specs.Lawful.{IsLawfulPast}
@@ -74,10 +75,10 @@ module _ (t : Network) (lawful : IsLawful t) (capture : List (List ℕ)) where
   pub deliver_paced : (arrivals : Arrivals) (most : ℕ) (past : Past) → IsLawfulPast t capture past → IsPaced 0 past (deliver t capture arrivals most past).past
   deliver_paced arrivals zero past h = same_pace past
   deliver_paced arrivals (suc more) past h =
-      by (is_full past) (next_now t capture arrivals past) refl (next_can_come t lawful capture arrivals past h)
+      by (is_journal_full past) (next_now t capture arrivals past) refl (next_can_come t lawful capture arrivals past h)
       (λ later g. deliver_paced arrivals more later g)
     where
-      by : (full : Bool) (o : Option Coming) → is_full past ≡ full → Has (CanCome t lawful capture past) o
+      by : (full : Bool) (o : Option Coming) → is_journal_full past ≡ full → Has (CanCome t lawful capture past) o
           → ((later : Past) → IsLawfulPast t capture later → IsPaced 0 later (deliver t capture arrivals more later).past)
           → IsPaced 0 past (one_by_one arrivals (λ later. deliver t capture arrivals more later) past full o).past
       by full None f c rest = same_pace past

@@ -20,7 +20,8 @@ use Rattle.mn_ledger.specs.declared.refused.Refused.TheVariants.{Unchanged, Empt
 use Rattle.mn_ledger.specs.declared.verdict.Verdict.{Verdict}
 use Rattle.mn_ledger.specs.declared.verdict.Verdict.TheVariants.{Delivered, Dropped, Flying}
 use Rattle.mn_ledger.specs.Transport.{knowledge_of, news, sessions_after}
-use Rattle.mn_ledger.specs.Vpn.{peerings_after, held}
+use Rattle.mn_ledger.specs.Bgp.{peerings_after}
+use Rattle.mn_ledger.specs.Held.{held}
 use Rattle.mn_ledger.specs.Packets.{packets_after}
 use Rattle.mn_ledger.specs.Ledger.{packets_of}
 use Rattle.mn_ledger.specs.Refusal.{in_flight, bytes_flying}
@@ -32,7 +33,7 @@ use Rattle.mn_course.specs.Coming.{coming}
 use Rattle.mn_course.specs.Course.{Past, inputs_of, deliver, all, played}
 use Rattle.mn_course.specs.Lawful.{IsLawfulRun}
 use Rattle.mn_course.proofs.Going.{expanded_goes}
-use Rattle.mn_course.specs.Expansion.{Refusal, Missing, Table, Sending, Expansion, expanded}
+use Rattle.mn_course.specs.Expansion.{Refusal, Missing, Table, SentLine, Expansion, expanded}
 
 -- UDP from 10.2.0.1 to 10.1.0.1
 abbrev pub packet_back : List ℕ
@@ -237,7 +238,7 @@ unfolding next knowledge_of news sessions_after peerings_after held packets_afte
 refused_lines_are_told = refl
 
 -- the first record is sent by a line
-abbrev pub sent_by : ℕ → Sending
+abbrev pub sent_by : ℕ → SentLine
 sent_by line = record { line = line; site = site_no 0; number = 1 }
 
 pub sendings_are_told : cut_off.sendings ≡ sent_by 5 ∷ sent_by 6 ∷ sent_by 7 ∷ []

@@ -148,10 +148,10 @@ module _ (t : Network) (lawful : IsLawful t) (capture : List (List ℕ)) where
   deliver_ends : (arrivals : Arrivals) (most : ℕ) (past : Past) → IsLawfulPast t capture past → Ends (deliver t capture arrivals most past)
   deliver_ends arrivals zero past h = inl refl
   deliver_ends arrivals (suc most) past h =
-      by (course.is_full past) (next_now t capture arrivals past) refl (next_can_come t lawful capture arrivals past h)
+      by (course.is_journal_full past) (next_now t capture arrivals past) refl (next_can_come t lawful capture arrivals past h)
       (λ later g. deliver_ends arrivals most later g)
     where
-      by : (full : Bool) (o : Option Coming) → course.is_full past ≡ full → Has (CanCome t lawful capture past) o
+      by : (full : Bool) (o : Option Coming) → course.is_journal_full past ≡ full → Has (CanCome t lawful capture past) o
           → ((later : Past) → IsLawfulPast t capture later → Ends (deliver t capture arrivals most later))
           → Ends (one_by_one arrivals (λ later. deliver t capture arrivals most later) past full o)
       by full None f c rest = inl refl

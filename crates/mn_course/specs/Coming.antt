@@ -30,12 +30,12 @@ is_kind Frame Frame = true
 is_kind _ _ = false
 
 -- due earlier, or made earlier where both are due at one tick
-abbrev pub comes_before : ℕ → ℕ → ℕ → ℕ → Bool
-comes_before due number other_due other = nat_lt due other_due || ((due == other_due) && nat_lt number other)
+abbrev pub is_due_before : ℕ → ℕ → ℕ → ℕ → Bool
+is_due_before due number other_due other = nat_lt due other_due || ((due == other_due) && nat_lt number other)
 
 abbrev pub lesser : Item → Option Item → Item
 lesser item None = item
-lesser item (Some other) = if comes_before other.due other.number item.due item.number then other else item
+lesser item (Some other) = if is_due_before other.due other.number item.due item.number then other else item
 
 abbrev pub least : List Item → Option Item
 least [] = None
@@ -95,7 +95,7 @@ delivery coming = lost coming.lossy coming.step
 abbrev pub earlier : Option Coming → Option Coming → Option Coming
 earlier None other = other
 earlier one None = one
-earlier (Some one) (Some other) = if comes_before other.due other.number one.due one.number then Some other else Some one
+earlier (Some one) (Some other) = if is_due_before other.due other.number one.due one.number then Some other else Some one
 
 abbrev pub or_else : Option Coming → Option Coming → Option Coming
 or_else None other = other

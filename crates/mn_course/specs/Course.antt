@@ -1,5 +1,6 @@
 -- The course of one line of a script.
 use Rattle.std.specs.Prelude.{ℕ, zero, suc, ◌+◌, max, Bool, true, false, nat_le, List, [], ◌∷◌, ◌++◌, length, slice_get, Option, Some, None}
+use Rattle.mn_base.specs.Limits.{most_steps}
 use Rattle.mn_topo.specs.Network.{Network}
 use Rattle.mn_topo.specs.declared.steps.Step.{Step}
 use Rattle.mn_topo.specs.declared.steps.Step.TheVariants.{Inject}
@@ -92,8 +93,8 @@ abbrev pub arrived : Arrivals → Past → Coming → Past
 arrived arrivals past item = with_step (as_due arrivals item.due past) (delivery item)
 
 -- the journal has the most steps that it may have
-abbrev pub is_full : Past → Bool
-is_full past = nat_le 4000000 (length past.entries)
+abbrev pub is_journal_full : Past → Bool
+is_journal_full past = nat_le most_steps (length past.entries)
 
 -- one item arrives, if any comes and the journal isn't full, and then `on`
 abbrev pub one_by_one : Arrivals → (Past → Course) → Past → Bool → Option Coming → Course
@@ -108,7 +109,7 @@ next_now topology capture arrivals past = next_arrival topology past.entries (in
 abbrev pub deliver : Network → List (List ℕ) → Arrivals → ℕ → Past → Course
 deliver topology capture arrivals zero past = ends ending.All past
 deliver topology capture arrivals (suc more) past =
-    one_by_one arrivals (λ later. deliver topology capture arrivals more later) past (is_full past) (next_now topology capture arrivals past)
+    one_by_one arrivals (λ later. deliver topology capture arrivals more later) past (is_journal_full past) (next_now topology capture arrivals past)
 
 -- more items than a journal has room for, so all of them
 unfoldable pub all : ℕ

@@ -1,5 +1,6 @@
 -- What a line `drain` comes to: a drain of the network, and with no number its end.
 use Rattle.std.specs.Prelude.{◌≡◌, ◌≤◌, ◌+◌, List, ◌++◌, map, length}
+use Rattle.mn_base.specs.Limits.{most_steps}
 use Rattle.mn_topo.specs.Network.{Network}
 use Rattle.mn_topo.specs.declared.steps.Step.{Step}
 use Rattle.mn_ledger.specs.Ledger.{world_of}
@@ -20,7 +21,7 @@ pub record DrainsOn (topology : Network) (past : Past) (course : Course) : Type 
 -- switched on for each link that is up and BGP between all edges
 pub record DrainsAll (topology : Network) (past : Past) (course : Course) : Type 0 where
   pub drains : DrainsOn topology past course
-  pub ends : length past.entries + drain_bound topology (world_of topology past.entries) ≤ 4000000 → course.ending ≡ ending.All
+  pub ends : length past.entries + drain_bound topology (world_of topology past.entries) ≤ most_steps → course.ending ≡ ending.All
   pub drained : course.ending ≡ ending.All → IsDrained topology (world_of topology course.past.entries)
   pub settled : course.ending ≡ ending.All → IsSwitchedOn topology (world_of topology past.entries).config
       → IsSettled topology (world_of topology course.past.entries)

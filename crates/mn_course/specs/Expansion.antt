@@ -20,7 +20,7 @@ pub data Note : Type 0 where
   Table : (table : show.Show) → (past : Past) → Note
 
 -- the line, site and record of an injection that was done
-pub record Sending : Type 0 where
+pub record SentLine : Type 0 where
   pub line : ℕ
   pub site : SiteNo
   pub number : ℕ
@@ -28,10 +28,10 @@ pub record Sending : Type 0 where
 pub record Expansion : Type 0 where
   pub past : Past
   pub notes : List Note
-  pub sendings : List Sending
+  pub sendings : List SentLine
   pub is_stopped : Bool
 
-abbrev pub sending_by : ℕ → Command → List Sending
+abbrev pub sending_by : ℕ → Command → List SentLine
 sending_by line (Do (Inject s number)) = record { line = line; site = s; number = number } ∷ []
 sending_by line command = []
 

@@ -8,13 +8,13 @@ use Rattle.mn_ledger.specs.OneMore.{tick_from}
 use Rattle.mn_laws.specs.Flight.{delivering, IsOpen}
 use Rattle.mn_course.specs.declared.coming.Kind.{Kind}
 use Rattle.mn_course.specs.declared.coming.Coming.{Coming}
-use Rattle.mn_course.specs.Coming.{is_due, comes_before, is_lost, delivery}
+use Rattle.mn_course.specs.Coming.{is_due, is_due_before, is_lost, delivery}
 
 -- of the items of a kind that are due by the limit it is the one that none comes before
 pub record IsLeast (kind : Kind) (limit : ℕ) (items : List Item) (item : Item) : Type 0 where
   pub there : Contains items item
   pub in_time : is_due kind limit item ≡ true
-  pub least : (other : Item) → Contains items other → is_due kind limit other ≡ true → comes_before other.due other.number item.due item.number ≡ false
+  pub least : (other : Item) → Contains items other → is_due kind limit other ≡ true → is_due_before other.due other.number item.due item.number ≡ false
 
 -- this comes next: it is the least item, at place 0 of its channel; it is due within 1,000 ticks of the last step; and nothing but
 -- a full journal refuses the step that delivers it

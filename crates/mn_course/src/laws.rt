@@ -1,5 +1,6 @@
 //! Laws of the definitions, each the contract of a function that does nothing.
 ghost use Rattle.std.specs.Prelude.{◌≡◌, ◌≤◌, ◌^◌, ◌*◌, List, [], ℕ, Some, None, true, length};
+ghost use Rattle.mn_base.specs.Limits.{most_steps};
 ghost use Rattle.mn_topo.specs.Lawful.{IsLawful};
 ghost use Rattle.mn_topo.specs.Network.{Network};
 ghost use Rattle.mn_topo.specs.declared.steps.JournalEntry.{JournalEntry};
@@ -54,7 +55,7 @@ pub fn a_script_makes_a_lawful_journal()
 /// since it had too many.
 pub fn nothing_is_left()
     ensures { (topology : Network) (capture : List (List ℕ)) (arrivals : Arrivals) (past : Past) →
-        length past.entries ≤ 4000000 → (deliver topology capture arrivals all past).ending ≡ ending.All →
+        length past.entries ≤ most_steps → (deliver topology capture arrivals all past).ending ≡ ending.All →
         next_now topology capture arrivals (deliver topology capture arrivals all past).past ≡ None }
 {}
 

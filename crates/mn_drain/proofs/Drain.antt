@@ -16,8 +16,9 @@ use Rattle.mn_topo.specs.declared.steps.Step.TheVariants as step
 use Rattle.mn_topo.specs.declared.steps.JournalEntry.{JournalEntry}
 use Rattle.mn_ledger.specs.World.{Config, Views, World, Address, Open, Telling}
 use Rattle.mn_ledger.specs.Transport.{lives, is_active, state_by, view_of, knowledge_of, answer, said_on, news, ldp_counted, with_said, sessions_after}
-use Rattle.mn_ledger.specs.Vpn as vpn
-use Rattle.mn_ledger.specs.Vpn.{peers_live, reply, told_to, with_told, exports_of, peerings_after}
+use Rattle.mn_ledger.specs.Bgp as ledger_bgp
+use Rattle.mn_ledger.specs.Exports.{exports_of}
+use Rattle.mn_ledger.specs.Bgp.{peers_live, reply, told_to, with_told, peerings_after}
 use Rattle.mn_ledger.specs.Places.{edges}
 use Rattle.mn_ledger.specs.Ledger.{after, no_packets, world_of}
 use Rattle.mn_ledger.specs.Lawful.{IsLawfulJournal}
@@ -106,9 +107,10 @@ bgp-lowers t w a b lawful g d =
     let alive : peers_live w.config a.0 b.0 ≡ true = not_false _ parts.0 in
     let back : peers_live w.config b.0 a.0 ≡ true = sym (live_sym w.config a.0 b.0 apart) ∙ alive in
     let message : Telling = slice_index_or (w.peerings.told a.0 b.0) (w.peerings.heard b.0 a.0) Open in
-    subst (λ st. bgp_ahead t w.config (with_told (vpn.bgp_counted w.peerings (step.HearBgp a b))
+    subst (λ st. bgp_ahead t w.config (with_told (ledger_bgp.bgp_counted w.peerings (step.HearBgp a b))
     (told_to b.0 a.0 (reply st message (exports_of t w.config b.0))
-    ++ flat_map (vpn.route_news t w.config w.peerings w.config (vpn.bgp_counted w.peerings (step.HearBgp a b))) (edges t))) + 1 ≤ bgp_ahead t w.config
+    ++ flat_map (ledger_bgp.route_news t w.config w.peerings w.config (ledger_bgp.bgp_counted w.peerings (step.HearBgp a b))) (edges t))) + 1 ≤ bgp_ahead t
+    w.config
     w.peerings)
     (sym (state_alive w.config w.peerings b.0 a.0 back))
     (telling-lowers t w.config w.peerings a.0 b.0 message apart (edge-below t lawful a.0 both.0) (edge-below t lawful b.0 both.1)

@@ -14,7 +14,7 @@ use Rattle.mn_topo.specs.declared.steps.Step.TheVariants as step
 use Rattle.mn_topo.specs.declared.steps.JournalEntry.{JournalEntry}
 use Rattle.mn_ledger.specs.World.{World}
 use Rattle.mn_ledger.specs.Transport.{lives}
-use Rattle.mn_ledger.specs.Vpn.{peers_live}
+use Rattle.mn_ledger.specs.Bgp.{peers_live}
 use Rattle.mn_ledger.specs.Packets.{Packets}
 use Rattle.mn_ledger.specs.Ledger.{after, start, world_from, world_of}
 use Rattle.mn_ledger.specs.Lawful.{IsLawfulJournal}

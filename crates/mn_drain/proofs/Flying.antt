@@ -13,7 +13,7 @@ use Rattle.mn_topo.specs.Lawful.{IsLawful}
 use Rattle.mn_ledger.specs.Places.{edges}
 use Rattle.mn_ledger.specs.World.{Config, Views, Sessions, Peerings}
 use Rattle.mn_ledger.specs.Transport.{lives}
-use Rattle.mn_ledger.specs.Vpn.{peers_live}
+use Rattle.mn_ledger.specs.Bgp.{peers_live}
 use Rattle.mn_ledger.specs.Refusal.{notices_unlearned, unheard_over, unheard_by}
 use Rattle.mn_ledger.proofs.Turning.{across-a, across-b}
 use Rattle.mn_drain.specs.Sums.{total, where_so}

@@ -11,9 +11,10 @@ use Rattle.mn_topo.specs.Network.{Network}
 use Rattle.mn_ledger.specs.Turns.{PeersAreInTurn}
 use Rattle.mn_ledger.specs.Tables.{put_pair}
 use Rattle.mn_ledger.specs.Places.{edges}
-use Rattle.mn_ledger.specs.World.{Config, Export, Telling, Open, Alive, Announce, Unreach, Peerings}
-use Rattle.mn_ledger.specs.Vpn.{Told, tellings_of, told_to, state_heard, exports_of, is_for, same_export, reply, announced, changed, steady_peers, route_news}
-use Rattle.mn_ledger.specs.Vpn.{with_told}
+use Rattle.mn_ledger.specs.World.{Config, Export, Telling, Open, BgpKeepAlive, Announcement, Withdrawal, Peerings}
+use Rattle.mn_ledger.specs.Exports.{exports_of}
+use Rattle.mn_ledger.specs.Bgp.{Told, tellings_of, told_to, state_heard, is_for, same_export, reply, announced, changed, steady_peers, route_news}
+use Rattle.mn_ledger.specs.Bgp.{with_told}
 use Rattle.mn_ledger.proofs.Members.{In}
 use Rattle.mn_ledger.proofs.GoingBy.{pair_here, pair_off}
 use Rattle.mn_drain.specs.Sums.{total, where_so}
@@ -41,10 +42,10 @@ none-left p (x ∷ xs) h = ap (λ b. cond b (x ∷ filter p xs) (filter p xs)) (
 
 nothing-changed : (es : List Export) → changed es es ≡ []
 nothing-changed es =
-    ap (λ ys. map (λ (export : Export). Unreach export.vrf export.prefix) ys ++ announced es es)
+    ap (λ ys. map (λ (export : Export). Withdrawal export.vrf export.prefix) ys ++ announced es es)
     (none-left (λ export. not (list_any (is_for export.vrf export.prefix) es)) es
     (λ x i. ap not (any-here (is_for x.vrf x.prefix) es x i (is-for-same x x (refl, refl)))))
-    ∙ ap (map (λ export. Announce export)) (none-left (λ export. not (list_any (same_export export) es)) es
+    ∙ ap (map (λ export. Announcement export)) (none-left (λ export. not (list_any (same_export export) es)) es
     (λ x i. ap not (any-here (same_export x) es x i (same-as-itself x))))
 
 no-news : (t : Network) (c : Config) (p k : Peerings) (es : List ℕ) → flat_map (route_news t c p c k) es ≡ []
@@ -62,25 +63,25 @@ answer-length zero m es = first m
   where
     first : (m : Telling) → length (reply OpenSent m es) + greeting_length (0 + 1) (length es) ≤ greeting_length 0 (length es)
     first Open = omega arith
-    first Alive = omega arith
-    first (Announce x) = omega arith
-    first (Unreach v x) = omega arith
+    first BgpKeepAlive = omega arith
+    first (Announcement x) = omega arith
+    first (Withdrawal v x) = omega arith
 answer-length (suc zero) m es = second m
   where
     second : (m : Telling) → length (reply OpenConfirm m es) + greeting_length (1 + 1) (length es) ≤ greeting_length 1 (length es)
-    second Alive = omega (arith, length-map es (λ export. Announce export))
+    second BgpKeepAlive = omega (arith, length-map es (λ export. Announcement export))
     second Open = omega arith
-    second (Announce x) = omega arith
-    second (Unreach v x) = omega arith
+    second (Announcement x) = omega arith
+    second (Withdrawal v x) = omega arith
 answer-length (suc (suc n)) m es =
     subst (λ i. length (reply (state_heard (suc (suc n))) m es) + greeting_length i (length es) ≤ greeting_length (suc (suc n)) (length es))
     (sym (add-one (suc (suc n)))) (later m)
   where
     later : (m : Telling) → length (reply Established m es) + greeting_length (suc (suc (suc n))) (length es) ≤ greeting_length (suc (suc n)) (length es)
     later Open = omega arith
-    later Alive = omega arith
-    later (Announce x) = omega arith
-    later (Unreach v x) = omega arith
+    later BgpKeepAlive = omega arith
+    later (Announcement x) = omega arith
+    later (Withdrawal v x) = omega arith
 
 where-if : (a : Bool) (x y : ℕ) → (a ≡ true → x ≤ y) → where_so a x ≤ where_so a y
 where-if true x y h = h refl

@@ -3,7 +3,8 @@ use Rattle.std.proofs.Common.{rules, ◌≡◌, [], refl}
 use Rattle.mn_base.specs.Paths.{next}
 use Rattle.mn_ipv4.specs.Header.{is_not_ipv4, is_malformed, is_truncated, has_bad_checksum, good, checksum_for, with_ttl, aged}
 use Rattle.mn_ledger.specs.Transport.{knowledge_of, news, sessions_after}
-use Rattle.mn_ledger.specs.Vpn.{peerings_after, held}
+use Rattle.mn_ledger.specs.Bgp.{peerings_after}
+use Rattle.mn_ledger.specs.Held.{held}
 use Rattle.mn_ledger.specs.Packets.{packets_after}
 use Rattle.mn_ledger.specs.Refusal.{in_flight, bytes_flying}
 use Rattle.mn_ledger.specs.Ledger.{world_of}

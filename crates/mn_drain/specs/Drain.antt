@@ -10,7 +10,8 @@ use Rattle.mn_topo.specs.declared.steps.Step.{Step}
 use Rattle.mn_topo.specs.declared.steps.Step.TheVariants.{Learn, HearLdp, HearBgp}
 use Rattle.mn_ledger.specs.World.{Config, Views, Sessions, Peerings, World}
 use Rattle.mn_ledger.specs.Transport.{lives}
-use Rattle.mn_ledger.specs.Vpn.{peers_live, exports_of}
+use Rattle.mn_ledger.specs.Exports.{exports_of}
+use Rattle.mn_ledger.specs.Bgp.{peers_live}
 use Rattle.mn_ledger.specs.Ledger.{after, no_packets}
 use Rattle.mn_ledger.specs.Refusal.{is_empty, notices_unlearned, unheard_over, unheard_by}
 use Rattle.mn_ledger.specs.Items.{Channel, Notices, Messages, Routes}

@@ -14,6 +14,7 @@
 #![tactic(auto)]
 
 ghost use Rattle.std.specs.Prelude.{ℕ, List, Some, None, true, false, nat_le, ◌≡◌, ◌≤◌, [], length};
+ghost use Rattle.mn_base.specs.Limits.{most_steps};
 ghost use Rattle.mn_topo.specs.Network.{Network};
 ghost use Rattle.mn_topo.specs.Lawful.{IsLawful};
 ghost use Rattle.mn_topo.specs.declared.steps.JournalEntry.{JournalEntry};
@@ -42,7 +43,7 @@ pub fn what_flies_can_be_taken()
 /// A step of a drain is refused only where the journal is full.
 pub fn a_drain_step_is_not_refused()
     ensures { (topology : Network) (world : World) (packets : Packets) (count : ℕ) (step : Step) (bytes : List ℕ) →
-        nat_le 4000000 count ≡ false → IsDrainStep topology world step → refusal_at topology world packets count step bytes ≡ None }
+        nat_le most_steps count ≡ false → IsDrainStep topology world step → refusal_at topology world packets count step bytes ≡ None }
 {}
 
 /// After a lawful journal nothing is left to a drain where no notice and no message is in flight.

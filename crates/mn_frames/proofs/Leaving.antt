@@ -9,7 +9,7 @@ use Rattle.mn_topo.specs.Network.{Network, Leads}
 use Rattle.mn_topo.specs.Lawful.{IsLawful}
 use Rattle.mn_ledger.specs.World.{World}
 use Rattle.mn_ledger.specs.Transport.{usable}
-use Rattle.mn_ledger.specs.Vpn.{HeldRoute}
+use Rattle.mn_ledger.specs.Held.{HeldRoute}
 use Rattle.mn_ledger.specs.Packets.{Packets, bound, hop_over, away_from}
 use Rattle.mn_frames.specs.Given.{Labelling, label_for}
 use Rattle.mn_frames.specs.Frames.{entry, inner}

@@ -10,8 +10,8 @@ use Rattle.mn_stack.specs.Grammar.{is_packet}
 use Rattle.mn_topo.specs.Network.{Network}
 use Rattle.mn_topo.specs.declared.steps.JournalEntry.{JournalEntry}
 use Rattle.mn_ledger.specs.Places.{home_of, edge_of, vrf_of}
-use Rattle.mn_ledger.specs.World.{Config, Export, Announce, World}
-use Rattle.mn_ledger.specs.Vpn.{HeldRoute, held, best}
+use Rattle.mn_ledger.specs.World.{Config, Export, Announcement, World}
+use Rattle.mn_ledger.specs.Held.{HeldRoute, held, best}
 use Rattle.mn_ledger.specs.Entry.{first_rule}
 use Rattle.mn_ledger.specs.Packets.{Token, Packets, entry_rules}
 use Rattle.mn_ledger.specs.Ledger.{world_of, packets_of}
@@ -44,7 +44,7 @@ all_have_labels t entries inputs topology lawful =
     let names = names_what_exists t entries inputs topology lawful in
     record {
       told = λ teller peer export there. labelled t entries teller export.site export.attachment
-          (of_export t (world_of t entries).config teller export (names.bgp teller peer (Announce export) there));
+          (of_export t (world_of t entries).config teller export (names.bgp teller peer (Announcement export) there));
       held = λ v route there is.
           let site = names.routes v route there is in
           labelled t entries route.edge route.site route.attachment (record { home = site.home; there = site.site; first = site.first; last = site.given });

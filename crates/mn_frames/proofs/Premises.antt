@@ -26,7 +26,8 @@ use Rattle.mn_topo.specs.declared.steps.Step.TheVariants.{Attach, Detach, Inject
 use Rattle.mn_topo.specs.declared.steps.JournalEntry.{JournalEntry}
 use Rattle.mn_ledger.specs.World.{World}
 use Rattle.mn_ledger.specs.Transport.{knowledge_of, news, sessions_after, usable, usable_by}
-use Rattle.mn_ledger.specs.Vpn.{HeldRoute, Far, peerings_after, held}
+use Rattle.mn_ledger.specs.Bgp.{peerings_after}
+use Rattle.mn_ledger.specs.Held.{HeldRoute, Far, held}
 use Rattle.mn_ledger.specs.Packets.{Token, flying_on, packets_after}
 use Rattle.mn_ledger.specs.Ledger.{start, world_of, packets_of, after}
 use Rattle.mn_ledger.specs.Lawful.{IsLawfulJournal}

@@ -6,8 +6,8 @@ use Rattle.mn_topo.specs.Network.{Network}
 use Rattle.mn_topo.specs.Lawful.{IsLawful}
 use Rattle.mn_topo.specs.declared.steps.JournalEntry.{JournalEntry}
 use Rattle.mn_ledger.specs.Places.{home_of, edge_of}
-use Rattle.mn_ledger.specs.World.{Config, Export, Announce}
-use Rattle.mn_ledger.specs.Vpn.{HeldRoute, held}
+use Rattle.mn_ledger.specs.World.{Config, Export, Announcement}
+use Rattle.mn_ledger.specs.Held.{HeldRoute, held}
 use Rattle.mn_ledger.specs.Packets.{Token, flying_on, bound}
 use Rattle.mn_ledger.specs.Ledger.{world_of, packets_of}
 use Rattle.mn_ledger.specs.Lawful.{IsLawfulJournal}
@@ -38,7 +38,7 @@ GivesToNoOther = (topology : Network) (entries : List JournalEntry) (inputs : Li
 
 -- each announcement that was told, and each route that a VRF holds, names an attachment that has a label at its edge
 pub record NamesWhatHasLabels (topology : Network) (entries : List JournalEntry) : Type 0 where
-  pub told : (teller peer : ℕ) (export : Export) → Contains ((world_of topology entries).peerings.told teller peer) (Announce export) →
+  pub told : (teller peer : ℕ) (export : Export) → Contains ((world_of topology entries).peerings.told teller peer) (Announcement export) →
       Contains (given topology entries teller) (attachment_of export.site export.attachment)
   pub held : (v : ℕ) (route : HeldRoute) → v < length topology.vrfs →
       Contains (held topology (world_of topology entries).config (world_of topology entries).peerings (edge_of topology v) v) route →

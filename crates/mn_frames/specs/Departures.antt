@@ -10,8 +10,8 @@ use Rattle.mn_topo.specs.Network.{Network, Leads}
 use Rattle.mn_topo.specs.Links.{are_joined}
 use Rattle.mn_topo.specs.Lawful.{IsLawful}
 use Rattle.mn_ledger.specs.World.{World}
-use Rattle.mn_ledger.specs.Vpn.{HeldRoute}
-use Rattle.mn_ledger.specs.Packets.{Token, Packets, bound, drop_at, deliver, hop}
+use Rattle.mn_ledger.specs.Held.{HeldRoute}
+use Rattle.mn_ledger.specs.Packets.{Token, Packets, bound, drop_at, deliver, hop_on}
 use Rattle.mn_frames.specs.Given.{Labelling}
 use Rattle.mn_frames.specs.Frames.{IsFrameOf, IsSound}
 use Rattle.mn_frames.specs.Entries.{IsPushed, IsAged, outer_for}
@@ -38,7 +38,7 @@ abbrev pub LeavesAsTold : Type 0
 LeavesAsTold =
     (topology : Network) (given : Labelling) (world : World) (packets : Packets) (packet : ℕ) (route : HeldRoute) (bytes : List ℕ) (node : ℕ) (frame : Labelled)
     → IsLawful topology → node < length topology.loopbacks → node ≢ route.edge → IsPushed topology given route bytes frame
-    → Departs topology given packets (bound packet route bytes) node (hop topology world packets (bound packet route bytes) node rule.NoLsp)
+    → Departs topology given packets (bound packet route bytes) node (hop_on topology world packets (bound packet route bytes) node rule.NoLsp)
     (outer_for topology given world node route.edge) frame
 
 -- one for a site of the same edge is delivered there at once, one hop older

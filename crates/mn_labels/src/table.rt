@@ -1,4 +1,5 @@
 ghost use Rattle.std.specs.Prelude.{◌≡◌, ◌≢◌, ◌+◌, ◌≤◌, ◌<◌, ◌^◌, ◌↔◌, ℕ, [], ◌∷◌, ◌++◌, length, None, Some, OnOk, OnErr, IfOk, IsErrOf};
+ghost use Rattle.mn_base.specs.Limits.{most_labels};
 ghost use Rattle.mn_labels.specs.Labels.{meaning_of};
 
 use crate::meaning::Bind;
@@ -22,13 +23,14 @@ pub struct Labels {
 
 impl Model for Labels {
     ghost use Rattle.std.specs.Prelude.{◌-◌, ◌≤◌, vec_len, vec_capacity};
+    ghost use Rattle.mn_base.specs.Limits.{most_labels};
     ghost use Rattle.mn_labels.specs.Labels.{LabelTable};
 
     ghost Value = { LabelTable };
 
     ghost view = { λ l. record { given = l.table.items; spare = vec_capacity l.table - vec_len l.table } };
 
-    ghost invariant = { λ l. vec_len l.table ≤ 1048560 };
+    ghost invariant = { λ l. vec_len l.table ≤ most_labels };
 }
 
 impl Labels {
@@ -63,7 +65,7 @@ impl Labels {
             meaning_of self.new.given other ≡ meaning_of self.old.given other) }
         ensures in_range { IfOk result (λ label. (16 ≤ label) × (label < 2 ^ 20)) }
 
-        ensures spent { IsErrOf result LabelBad.Spent ↔ (length self.old.given ≡ 1048560) }
+        ensures spent { IsErrOf result LabelBad.Spent ↔ (length self.old.given ≡ most_labels) }
         ensures no_room { result ≡ Err LabelBad.NoMemory → self.old.spare ≡ 0 }
         ensures spare { OnOk result (self.old.spare ≤ self.new.spare + 1) }
         ensures unchanged { OnErr result (self.new.given ≡ self.old.given) }
@@ -88,7 +90,7 @@ impl Labels {
     /// What each label was given for, in order: the first is that of label 16.
     pub fn table(&self) -> &[Bind]
         ensures whole { result.now ≡ self.now.given }
-        ensures few { length result.now ≤ 1048560 }
+        ensures few { length result.now ≤ most_labels }
     {
         &self.table
     }

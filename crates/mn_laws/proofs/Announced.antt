@@ -23,9 +23,10 @@ use Rattle.mn_ledger.specs.declared.refused.Refused.{Refused}
 use Rattle.mn_ledger.specs.declared.refused.Refused.TheVariants as why
 use Rattle.mn_ledger.specs.Tables.{put, put_pair}
 use Rattle.mn_ledger.specs.Places.{vrf_at, vrf_of, edge_of, vrfs_at, edges}
-use Rattle.mn_ledger.specs.World.{SiteRoute, Config, Export, Telling, Open, Alive, Announce, Unreach, Peerings, World}
-use Rattle.mn_ledger.specs.Vpn.{Told, exports_with, exports_of, is_from_to, tellings_of, told_to, reply, bgp_replies, is_for, same_export, withdrawn, announced}
-use Rattle.mn_ledger.specs.Vpn.{changed, steady_peers, route_news, told_in, bgp_counted, peerings_after}
+use Rattle.mn_ledger.specs.World.{SiteRoute, Config, Export, Telling, Open, BgpKeepAlive, Announcement, Withdrawal, Peerings, World}
+use Rattle.mn_ledger.specs.Exports.{exports_with, exports_of}
+use Rattle.mn_ledger.specs.Bgp.{Told, is_from_to, tellings_of, told_to, reply, bgp_replies, is_for, same_export, withdrawn, announced}
+use Rattle.mn_ledger.specs.Bgp.{changed, steady_peers, route_news, told_in, bgp_counted, peerings_after}
 use Rattle.mn_ledger.specs.Packets.{Packets}
 use Rattle.mn_ledger.specs.Ledger.{with_target, statics_from, is_static, config_after, after, start}
 use Rattle.mn_ledger.specs.Refusal.{is_unchanged, is_empty, static_refusal, is_targets_full, is_spent, is_full, where_holds, first_cause, limits, refusal_at}
@@ -290,16 +291,16 @@ abbrev ExportsNamed : Network → Config → Type 0
 ExportsNamed t c = (edge : ℕ) (e : Export) → In (exports_of t c edge) e → NamesAnAttachment t c edge e
 
 named_announced : (t : Network) (c : Config) (edge : ℕ) (es : List Export) → ((e : Export) → In es e → NamesAnAttachment t c edge e)
-    → AllNamed t c edge (map (λ export. Announce export) es)
-named_announced t c edge es h m i = let f = in_map (λ export. Announce export) es m i in subst (NamesItsVrf t c edge) f.2 (h f.0 f.1)
+    → AllNamed t c edge (map (λ export. Announcement export) es)
+named_announced t c edge es h m i = let f = in_map (λ export. Announcement export) es m i in subst (NamesItsVrf t c edge) f.2 (h f.0 f.1)
 
 one_named : (t : Network) (c : Config) (edge : ℕ) (m : Telling) → NamesItsVrf t c edge m → AllNamed t c edge (m ∷ [])
 one_named t c edge m g x i = elim i [ inl e ↦ subst (NamesItsVrf t c edge) e g | inr j ↦ absurd j ]
 
 named_reply : (t : Network) (c : Config) (edge : ℕ) (state : BgpState) (m : Telling) → ExportsNamed t c
     → AllNamed t c edge (reply state m (exports_of t c edge))
-named_reply t c edge OpenSent Open h = one_named t c edge Alive tt
-named_reply t c edge OpenConfirm Alive h = named_announced t c edge (exports_of t c edge) (h edge)
+named_reply t c edge OpenSent Open h = one_named t c edge BgpKeepAlive tt
+named_reply t c edge OpenConfirm BgpKeepAlive h = named_announced t c edge (exports_of t c edge) (h edge)
 named_reply t c edge _ _ h = λ x i. absurd i
 
 named_told_to : (t : Network) (c : Config) (a b : ℕ) (ms : List Telling) → AllNamed t c a ms → AllTold t c (told_to a b ms)
@@ -322,7 +323,7 @@ named_changed : (t : Network) (old new : Config) (edge : ℕ) → ExportsNamed t
 named_changed t old new edge h g m
     i = elim (in_append (withdrawn (exports_of t old edge) (exports_of t new edge)) (announced (exports_of t old edge) (exports_of t new edge)) m i) [
       | inl j ↦
-          let f = in_map (λ (export : Export). Unreach export.vrf export.prefix)
+          let f = in_map (λ (export : Export). Withdrawal export.vrf export.prefix)
           (filter (λ export. not (list_any (is_for export.vrf export.prefix) (exports_of t new edge))) (exports_of t old edge)) m j in
           let e = h edge f.0
           (in_filter (λ export. not (list_any (is_for export.vrf export.prefix) (exports_of t new edge))) (exports_of t old edge) f.0 f.1).0 in
@@ -367,9 +368,9 @@ still_named t c p _ h = h
 -- what was named by an attachment is named by one later
 later_named : (t : Network) (c : Config) (s : Step) (edge : ℕ) (m : Telling) → NamesItsVrf t c edge m → NamesItsVrf t (config_after c s) edge m
 later_named t c s edge Open h = tt
-later_named t c s edge Alive h = tt
-later_named t c s edge (Unreach v prefix) h = h
-later_named t c s edge (Announce e) h = record {
+later_named t c s edge BgpKeepAlive h = tt
+later_named t c s edge (Withdrawal v prefix) h = h
+later_named t c s edge (Announcement e) h = record {
   vrf = h.vrf;
   at_teller = h.at_teller;
   site = h.site;

@@ -5,8 +5,9 @@ use Rattle.std.specs.List.{list_any}
 use Rattle.std.proofs.lemmas.Bool.Decides.{eqb_tells}
 use Rattle.mn_base.proofs.Bools.{no, or_off, not_true, not_on, other_test}
 use Rattle.mn_prefix.specs.Prefix.{AddressBlock, same_prefix}
-use Rattle.mn_ledger.specs.World.{Config, Export, Telling, Open, Alive, Announce, Unreach, Peerings}
-use Rattle.mn_ledger.specs.Vpn.{peers_live, is_for, believed_after, believed_from, heard_of, believed}
+use Rattle.mn_ledger.specs.World.{Config, Export, Telling, Open, BgpKeepAlive, Announcement, Withdrawal, Peerings}
+use Rattle.mn_ledger.specs.Bgp.{peers_live, is_for}
+use Rattle.mn_ledger.specs.Held.{believed_after, believed_from, heard_of, believed}
 use Rattle.mn_ledger.proofs.Members.{In, in_append, in_front, in_rest, in_filter, filter_in, in_contained, contained_in}
 use Rattle.mn_laws.specs.Believed.{mentions, IsLastMention, BelievesLastMentions}
 
@@ -45,43 +46,43 @@ kept_through m es fs ms x h g = elim g [ inl l ↦ inl (one_earlier m ms x l) | 
 
 from_believed : (es : List Export) (ms : List Telling) (x : Export) → In (believed_from es ms) x → LastOrBefore es ms x
 from_believed es [] x i = inr (i, refl)
-from_believed es (Announce e ∷ ms) x i =
-    kept_through (Announce e) es (believed_after es (Announce e)) ms x
+from_believed es (Announcement e ∷ ms) x i =
+    kept_through (Announcement e) es (believed_after es (Announcement e)) ms x
     (λ j none. elim (in_append (filter (λ other. not (is_for e.vrf e.prefix other)) es) (e ∷ []) x j) [
       | inl k ↦
           let f = in_filter (λ other. not (is_for e.vrf e.prefix other)) es x k in
-          inr (f.0, none_more (Announce e) ms x (both_turned x.vrf e.vrf x.prefix e.prefix ∙ not_true (is_for e.vrf e.prefix x) f.1) none)
+          inr (f.0, none_more (Announcement e) ms x (both_turned x.vrf e.vrf x.prefix e.prefix ∙ not_true (is_for e.vrf e.prefix x) f.1) none)
       | inr k ↦ elim k [
-        | inl q ↦ inl (record { before = []; after = ms; split = ap (λ y. Announce y ∷ ms) q; last = none })
+        | inl q ↦ inl (record { before = []; after = ms; split = ap (λ y. Announcement y ∷ ms) q; last = none })
         | inr z ↦ absurd z
       ]
     ])
-    (from_believed (believed_after es (Announce e)) ms x i)
-from_believed es (Unreach v p ∷ ms) x i =
-    kept_through (Unreach v p) es (believed_after es (Unreach v p)) ms x
+    (from_believed (believed_after es (Announcement e)) ms x i)
+from_believed es (Withdrawal v p ∷ ms) x i =
+    kept_through (Withdrawal v p) es (believed_after es (Withdrawal v p)) ms x
     (λ j none. let f = in_filter (λ other. not (is_for v p other)) es x j in
-    inr (f.0, none_more (Unreach v p) ms x (both_turned x.vrf v x.prefix p ∙ not_true (is_for v p x) f.1) none))
-    (from_believed (believed_after es (Unreach v p)) ms x i)
+    inr (f.0, none_more (Withdrawal v p) ms x (both_turned x.vrf v x.prefix p ∙ not_true (is_for v p x) f.1) none))
+    (from_believed (believed_after es (Withdrawal v p)) ms x i)
 from_believed es (Open ∷ ms) x i = kept_through Open es es ms x (λ j none. inr (j, none)) (from_believed es ms x i)
-from_believed es (Alive ∷ ms) x i = kept_through Alive es es ms x (λ j none. inr (j, none)) (from_believed es ms x i)
+from_believed es (BgpKeepAlive ∷ ms) x i = kept_through BgpKeepAlive es es ms x (λ j none. inr (j, none)) (from_believed es ms x i)
 
 -- 3. And back
 
 still_in : (es : List Export) (m : Telling) (x : Export) → mentions x.vrf x.prefix m ≡ false → In es x → In (believed_after es m) x
-still_in es (Announce e) x h i =
+still_in es (Announcement e) x h i =
     in_front (filter (λ other. not (is_for e.vrf e.prefix other)) es) (e ∷ []) x
     (filter_in (λ other. not (is_for e.vrf e.prefix other)) es x i (not_on (is_for e.vrf e.prefix x) (both_turned e.vrf x.vrf e.prefix x.prefix ∙ h)))
-still_in es (Unreach v p) x h i = filter_in (λ other. not (is_for v p other)) es x i (not_on (is_for v p x) (both_turned v x.vrf p x.prefix ∙ h))
+still_in es (Withdrawal v p) x h i = filter_in (λ other. not (is_for v p other)) es x i (not_on (is_for v p x) (both_turned v x.vrf p x.prefix ∙ h))
 still_in es Open x h i = i
-still_in es Alive x h i = i
+still_in es BgpKeepAlive x h i = i
 
 kept_on : (es : List Export) (ms : List Telling) (x : Export) → In es x → Unmentioned ms x → In (believed_from es ms) x
 kept_on es [] x i h = i
 kept_on es (m ∷ ms) x i h = let parts = or_off (mentions x.vrf x.prefix m) (list_any (mentions x.vrf x.prefix) ms) h in kept_on
     (believed_after es m) ms x (still_in es m x parts.0 i) parts.1
 
-announced : (es : List Export) (before after : List Telling) (x : Export) → Unmentioned after x → In (believed_from es (before ++ Announce x ∷ after)) x
-announced es [] after x h = kept_on (believed_after es (Announce x)) after x
+announced : (es : List Export) (before after : List Telling) (x : Export) → Unmentioned after x → In (believed_from es (before ++ Announcement x ∷ after)) x
+announced es [] after x h = kept_on (believed_after es (Announcement x)) after x
     (in_rest (filter (λ other. not (is_for x.vrf x.prefix other)) es) (x ∷ []) x (inl refl)) h
 announced es (m ∷ before) after x h = announced (believed_after es m) before after x h
 
@@ -105,8 +106,8 @@ believed_last c p edge peer x i =
     (l.0, last_of (heard_of p edge peer) x (from_believed [] (heard_of p edge peer) x l.1))
 
 -- what is believed was announced
-pub announced_in : (ms : List Telling) (x : Export) → IsLastMention ms x → In ms (Announce x)
-announced_in ms x h = subst (λ ys. In ys (Announce x)) (sym h.split) (in_rest h.before (Announce x ∷ h.after) (Announce x) (inl refl))
+pub announced_in : (ms : List Telling) (x : Export) → IsLastMention ms x → In ms (Announcement x)
+announced_in ms x h = subst (λ ys. In ys (Announcement x)) (sym h.split) (in_rest h.before (Announcement x ∷ h.after) (Announcement x) (inl refl))
 
 pub believes_last_mentions : (c : Config) (p : Peerings) (edge peer : ℕ) (x : Export) → BelievesLastMentions c p edge peer x
 believes_last_mentions c p edge peer x = record {

@@ -22,8 +22,9 @@ use Rattle.mn_node.specs.Ldp.{Message, Initialization, Said, Knowledge, is_opera
 use Rattle.mn_node.specs.Ldp.{by_neighbour, news}
 use Rattle.mn_ledger.specs.World.{World, Config, Views, Sessions, Peerings, Telling, Open}
 use Rattle.mn_ledger.specs.Transport.{lives, opening, ldp_replies, knowledge_of, speakers, said_in, ldp_counted, is_transport}
-use Rattle.mn_ledger.specs.Vpn as vpn
-use Rattle.mn_ledger.specs.Vpn.{peerings_after, Told, told_to, peers_live, is_established, steady_peers, is_routing, exports_of, changed}
+use Rattle.mn_ledger.specs.Bgp as ledger_bgp
+use Rattle.mn_ledger.specs.Exports.{exports_of}
+use Rattle.mn_ledger.specs.Bgp.{peerings_after, Told, told_to, peers_live, is_established, steady_peers, is_routing, changed}
 use Rattle.mn_ledger.specs.Packets.{Token, Packets, flying_on, packets_after}
 use Rattle.mn_ledger.specs.Ledger.{config_after, after, start, no_packets, next_of, left_by, world_from, world_of}
 use Rattle.mn_ledger.specs.Lawful.{IsLawfulFrom, IsLawfulJournal}
@@ -142,7 +143,7 @@ edges-in-order t a b fit =
     apart : a < b → a ≢ b
     apart l e = omega (arith, l, e)
 
-told-replies : (t : Network) (c : Config) (p : Peerings) (st : Step) → fits t st ≡ true → AllTold t (vpn.bgp_replies t c p st)
+told-replies : (t : Network) (c : Config) (p : Peerings) (st : Step) → fits t st ≡ true → AllTold t (ledger_bgp.bgp_replies t c p st)
 told-replies t c p (step.BgpUp a b) fit = λ x i. elim (in_append (told_to a.0 b.0 (Open ∷ [])) (told_to b.0 a.0 (Open ∷ [])) x i) [
   | inl j ↦ told-between t a.0 b.0 (Open ∷ []) (edges-in-order t a.0 b.0 fit) x j
   | inr j ↦ told-between t b.0 a.0 (Open ∷ []) (back-edges t a.0 b.0 (edges-in-order t a.0 b.0 fit)) x j
@@ -150,7 +151,7 @@ told-replies t c p (step.BgpUp a b) fit = λ x i. elim (in_append (told_to a.0 b
 told-replies t c p (step.HearBgp a b) fit = told-between t b.0 a.0 _ (back-edges t a.0 b.0 (edges-fit t a.0 b.0 fit))
 told-replies t c p _ fit = λ x i. absurd i
 
-told-news : (t : Network) (c : Config) (p : Peerings) (new : Config) (k : Peerings) (e : ℕ) → JoinEdges t c → AllTold t (vpn.route_news t c p new k e)
+told-news : (t : Network) (c : Config) (p : Peerings) (new : Config) (k : Peerings) (e : ℕ) → JoinEdges t c → AllTold t (ledger_bgp.route_news t c p new k e)
 told-news t c p new k e h x i =
     let m = in_flat_map (λ telling. map (λ peer. record { teller = e; peer = peer; telling = telling }) (steady_peers t c p new k e))
     (changed (exports_of t c e) (exports_of t new e)) x i in
@@ -160,10 +161,10 @@ told-news t c p new k e h x i =
     subst (λ (y : Told). AreEdges t y.teller y.peer) n.2 (live-edges t c e n.0 h live)
 
 all-told : (t : Network) (c : Config) (p : Peerings) (new : Config) (k : Peerings) (st : Step) → fits t st ≡ true → JoinEdges t c
-    → AllTold t (vpn.told_in t c p new k st)
-all-told t c p new k st fit h x i = elim (in_append (vpn.bgp_replies t new p st) (flat_map (vpn.route_news t c p new k) (edges t)) x i) [
+    → AllTold t (ledger_bgp.told_in t c p new k st)
+all-told t c p new k st fit h x i = elim (in_append (ledger_bgp.bgp_replies t new p st) (flat_map (ledger_bgp.route_news t c p new k) (edges t)) x i) [
   | inl j ↦ told-replies t new p st fit x j
-  | inr j ↦ let m = in_flat_map (vpn.route_news t c p new k) (edges t) x j in told-news t c p new k m.0 h x m.2
+  | inr j ↦ let m = in_flat_map (ledger_bgp.route_news t c p new k) (edges t) x j in told-news t c p new k m.0 h x m.2
 ]
 
 joins-put : (t : Network) (c : Config) (a b : ℕ) (on : Bool) → AreEdges t a b → JoinEdges t c → JoinEdges t (record c { bgp_on = put_pair c.bgp_on a b on })
@@ -224,7 +225,7 @@ step-made t w v p q st differ fit h linked x i = elim (in_append (notices_in t s
     | inr k ↦ elim (in_append (routes_in t w v st) (frames_in p q st) x k) [
       | inl r ↦ if-made t (is_routing st) (map route_of told)
           (λ y m. let f = in_map route_of told y m in subst (λ (z : Channel × Load). IsOfChannel t z.0 z.1) f.2
-          (all-told t w.config w.peerings v.config (vpn.bgp_counted w.peerings st) st fit h f.0 f.1)) x r
+          (all-told t w.config w.peerings v.config (ledger_bgp.bgp_counted w.peerings st) st fit h f.0 f.1)) x r
       | inr r ↦ frames-made t p q st linked x r
     ]
   ]
@@ -234,7 +235,7 @@ step-made t w v p q st differ fit h linked x i = elim (in_append (notices_in t s
     said = said_in t w.config w.views w.sessions v.config v.views (ldp_counted t w.sessions st) st
 
     told : List Told
-    told = vpn.told_in t w.config w.peerings v.config (vpn.bgp_counted w.peerings st) st
+    told = ledger_bgp.told_in t w.config w.peerings v.config (ledger_bgp.bgp_counted w.peerings st) st
 
 -- 4. Over a journal
 
@@ -272,12 +273,12 @@ channels_are t es ps item lawful journal c =
 
 -- 5. No edge tells itself anything
 
-none_between : (t : Network) (edge : ℕ) (xs : List Told) → AllTold t xs → vpn.tellings_of edge edge xs ≡ []
+none_between : (t : Network) (edge : ℕ) (xs : List Told) → AllTold t xs → ledger_bgp.tellings_of edge edge xs ≡ []
 none_between t edge [] h = refl
-none_between t edge (x ∷ xs) h = by_test (vpn.is_from_to edge edge x) refl (none_between t edge xs (λ y i. h y (inr i)))
+none_between t edge (x ∷ xs) h = by_test (ledger_bgp.is_from_to edge edge x) refl (none_between t edge xs (λ y i. h y (inr i)))
   where
-    by_test : (b : Bool) → vpn.is_from_to edge edge x ≡ b → vpn.tellings_of edge edge xs ≡ []
-        → map (λ (told : Told). told.telling) (cond b (x ∷ filter (vpn.is_from_to edge edge) xs) (filter (vpn.is_from_to edge edge) xs)) ≡ []
+    by_test : (b : Bool) → ledger_bgp.is_from_to edge edge x ≡ b → ledger_bgp.tellings_of edge edge xs ≡ []
+        → map (λ (told : Told). told.telling) (cond b (x ∷ filter (ledger_bgp.is_from_to edge edge) xs) (filter (ledger_bgp.is_from_to edge edge) xs)) ≡ []
     by_test true e rest =
         let parts = and_parts (x.teller == edge) (x.peer == edge) e in
         absurd ((h x (inl refl)).2 (same_numbers x.teller edge parts.0 ∙ sym (same_numbers x.peer edge parts.1)))
@@ -295,19 +296,20 @@ cleared f a b edge h = elim (eqb_tells edge a) [
   ]
 ]
 
-still_none : (p : Peerings) (st : Step) → NoneToItself p → NoneToItself (vpn.bgp_counted p st)
+still_none : (p : Peerings) (st : Step) → NoneToItself p → NoneToItself (ledger_bgp.bgp_counted p st)
 still_none p (step.BgpUp a b) h edge = cleared (put_pair p.told a.0 b.0 []) b.0 a.0 edge (cleared p.told a.0 b.0 edge (h edge))
 still_none p (step.BgpDown a b) h edge = cleared (put_pair p.told a.0 b.0 []) b.0 a.0 edge (cleared p.told a.0 b.0 edge (h edge))
 still_none p _ h edge = h edge
 
 none_go_on : (t : Network) (w : World) (st : Step) → fits t st ≡ true → JoinEdges t w.config → NoneToItself w.peerings
-    → (edge : ℕ) → (vpn.bgp_counted w.peerings st).told edge edge ++ vpn.tellings_of edge edge
-    (vpn.told_in t w.config w.peerings (config_after w.config st) (vpn.bgp_counted w.peerings st) st) ≡ []
+    → (edge : ℕ) → (ledger_bgp.bgp_counted w.peerings st).told edge edge ++ ledger_bgp.tellings_of edge edge
+    (ledger_bgp.told_in t w.config w.peerings (config_after w.config st) (ledger_bgp.bgp_counted w.peerings st) st) ≡ []
 none_go_on t w st fit joins h edge =
-    ap (λ xs. xs ++ vpn.tellings_of edge edge (vpn.told_in t w.config w.peerings (config_after w.config st) (vpn.bgp_counted w.peerings st) st))
+    ap (λ xs. xs ++ ledger_bgp.tellings_of edge edge
+    (ledger_bgp.told_in t w.config w.peerings (config_after w.config st) (ledger_bgp.bgp_counted w.peerings st) st))
     (still_none w.peerings st h edge)
-    ∙ none_between t edge (vpn.told_in t w.config w.peerings (config_after w.config st) (vpn.bgp_counted w.peerings st) st)
-    (all-told t w.config w.peerings (config_after w.config st) (vpn.bgp_counted w.peerings st) st fit joins)
+    ∙ none_between t edge (ledger_bgp.told_in t w.config w.peerings (config_after w.config st) (ledger_bgp.bgp_counted w.peerings st) st)
+    (all-told t w.config w.peerings (config_after w.config st) (ledger_bgp.bgp_counted w.peerings st) st fit joins)
 
 none_go : (t : Network) (w : World) (st : Step) → fits t st ≡ true → JoinEdges t w.config → NoneToItself w.peerings → NoneToItself (after t w st).peerings
 unfolding peerings_after

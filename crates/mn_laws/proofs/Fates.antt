@@ -20,7 +20,7 @@ use Rattle.mn_topo.specs.declared.steps.JournalEntry.{JournalEntry}
 use Rattle.mn_ledger.specs.declared.verdict.Verdict.{Verdict}
 use Rattle.mn_ledger.specs.declared.verdict.Verdict.TheVariants.{Delivered, Dropped, Flying}
 use Rattle.mn_ledger.specs.Places.{home_of}
-use Rattle.mn_ledger.specs.Vpn.{HeldRoute}
+use Rattle.mn_ledger.specs.Held.{HeldRoute}
 use Rattle.mn_ledger.specs.Packets.{Token, Packets, channel}
 use Rattle.mn_ledger.specs.Ledger.{injects, packets_of}
 use Rattle.mn_ledger.specs.Verdicts.{one_if, injections, times_in, times_by, verdict_on, AreInOnePlace}

@@ -17,9 +17,10 @@ use Rattle.mn_node.specs.Ldp.{Message, Initialization, KeepAlive, Address, Mappi
 use Rattle.mn_node.specs.Ldp.{Knowledge, is_operational, offers, offered, mention, by_neighbour, mentioned_on, mentioned_from, news}
 use Rattle.mn_ledger.specs.Tables.{put}
 use Rattle.mn_ledger.specs.Places.{loopback, vrf_at, vrf_of, edge_of, home_of, edges}
-use Rattle.mn_ledger.specs.World.{Config, Views, Sessions, Export, Announce, Peerings, World}
+use Rattle.mn_ledger.specs.World.{Config, Views, Sessions, Export, Announcement, Peerings, World}
 use Rattle.mn_ledger.specs.Transport.{is_active, lives, opening, ldp_replies, speakers, said_in, ldp_counted, knowledge_of, views_after, sessions_after}
-use Rattle.mn_ledger.specs.Vpn.{HeldRoute, Own, Near, Far, held_by, meet, own_routes, near_routes, far_routes, imported, exports_of, heard_of, believed, held}
+use Rattle.mn_ledger.specs.Exports.{meet, exports_of}
+use Rattle.mn_ledger.specs.Held.{HeldRoute, Own, Near, Far, held_by, own_routes, near_routes, far_routes, imported, heard_of, believed, held}
 use Rattle.mn_ledger.specs.Ledger.{config_after, after, start, world_from, world_of}
 use Rattle.mn_ledger.specs.Lawful.{IsLawfulJournal}
 use Rattle.mn_ledger.proofs.OnePlace.{arms}
@@ -75,7 +76,7 @@ far_named t c p edge v a named i =
     (imported c v (believed c p edge peer)) a m.2 in
     let b = (in_filter (λ (export : Export). meet export.targets (c.imports v)) (believed c p edge peer) n.0 n.1).0 in
     let told = announced_in (heard_of p edge peer) n.0 (believed_last c p edge peer n.0 b).1 in
-    let e : NamesAnAttachment t c peer n.0 = named peer edge (Announce n.0) (in_take (p.heard edge peer) (p.told peer edge) (Announce n.0) told) in
+    let e : NamesAnAttachment t c peer n.0 = named peer edge (Announcement n.0) (in_take (p.heard edge peer) (p.told peer edge) (Announcement n.0) told) in
     let site : a.site ≡ n.0.site = ap (λ (r : HeldRoute). r.site) (sym n.2) in
     let attachment : a.attachment ≡ n.0.attachment = ap (λ (r : HeldRoute). r.attachment) (sym n.2) in
     let same : a.edge ≡ peer = ap (λ (r : HeldRoute). r.edge) (sym n.2) in

@@ -15,7 +15,7 @@ use Rattle.mn_ledger.specs.Entry.{first_rule}
 use Rattle.mn_ledger.specs.Places.{home_of, vrf_of}
 use Rattle.mn_ledger.specs.World.{World}
 use Rattle.mn_ledger.specs.Transport.{usable, sessions_after}
-use Rattle.mn_ledger.specs.Vpn.{peerings_after}
+use Rattle.mn_ledger.specs.Bgp.{peerings_after}
 use Rattle.mn_ledger.specs.Packets.{Token, Packets, channel, flying_on, drop_at, visited, deliver, hop_over, bound, entry_rules, enter_by, one_more, taken}
 use Rattle.mn_ledger.specs.Packets.{is_attachment, arrive, carry, lose, cut, before_step, packets_after}
 use Rattle.mn_ledger.specs.Ledger.{after}

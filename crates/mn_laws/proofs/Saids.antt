@@ -17,7 +17,7 @@ use Rattle.mn_ledger.specs.Tables.{put}
 use Rattle.mn_ledger.specs.World.{World}
 use Rattle.mn_ledger.specs.Packets.{Token, Packets, flying_on, packets_after}
 use Rattle.mn_ledger.specs.Transport.{lives, is_active, said_in, ldp_counted, sessions_after}
-use Rattle.mn_ledger.specs.Vpn as vpn
+use Rattle.mn_ledger.specs.Bgp as ledger_bgp
 use Rattle.mn_ledger.specs.Ledger.{after, start, no_packets, next_of, left_by, world_from, world_of}
 use Rattle.mn_ledger.specs.Lawful.{IsLawfulJournal}
 use Rattle.mn_ledger.specs.Turns.{AreLabelMessages, IsTalk}
@@ -42,8 +42,9 @@ frames_none l node p q _ = refl
 
 routes_none : (l node : ℕ) (t : Network) (w v : World) (s : Step) → loads_in (Messages l node) (routes_in t w v s) ≡ []
 routes_none l node t w v s =
-    if_none (Messages l node) (vpn.is_routing s) (map route_of (vpn.told_in t w.config w.peerings v.config (vpn.bgp_counted w.peerings s) s))
-    (none_of (Messages l node) route_of (λ x. refl) (vpn.told_in t w.config w.peerings v.config (vpn.bgp_counted w.peerings s) s))
+    if_none (Messages l node) (ledger_bgp.is_routing s)
+    (map route_of (ledger_bgp.told_in t w.config w.peerings v.config (ledger_bgp.bgp_counted w.peerings s) s))
+    (none_of (Messages l node) route_of (λ x. refl) (ledger_bgp.told_in t w.config w.peerings v.config (ledger_bgp.bgp_counted w.peerings s) s))
 
 -- what an end says in a step
 abbrev said_now : Network → World → Step → ℕ → ℕ → List Message

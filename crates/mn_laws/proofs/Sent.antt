@@ -24,7 +24,7 @@ use Rattle.mn_ledger.specs.Entry.{first_rule}
 use Rattle.mn_ledger.specs.Lawful.{IsLawfulJournal}
 use Rattle.mn_ledger.specs.Places.{home_of, vrf_of}
 use Rattle.mn_ledger.specs.Transport.{usable}
-use Rattle.mn_ledger.specs.Vpn.{HeldRoute}
+use Rattle.mn_ledger.specs.Held.{HeldRoute}
 use Rattle.mn_ledger.specs.Packets as packets
 use Rattle.mn_ledger.specs.Packets.{Token, Packets, channel, away_from, drop_at, deliver, hop_over, bound, enter_by, one_more, before_step}
 use Rattle.mn_ledger.specs.Verdicts.{injections, verdict_on}

@@ -18,7 +18,8 @@ use Rattle.mn_ledger.specs.Lawful.{IsLawfulJournal}
 use Rattle.mn_ledger.specs.Packets.{packets_after}
 use Rattle.mn_ledger.specs.Refusal.{in_flight, bytes_flying}
 use Rattle.mn_ledger.specs.Transport.{knowledge_of, sessions_after}
-use Rattle.mn_ledger.specs.Vpn.{peerings_after, held}
+use Rattle.mn_ledger.specs.Bgp.{peerings_after}
+use Rattle.mn_ledger.specs.Held.{held}
 use Rattle.mn_ledger.proofs.TwoLinks.{link_no, site_no, two_links, at_start, settling, packet, across_both, the_run_is_lawful, the_topology_is_lawful}
 use Rattle.mn_laws.specs.Accounts.{Sending, IsSent}
 use Rattle.mn_laws.specs.Deliveries.{deliveries_of}

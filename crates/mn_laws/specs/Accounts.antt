@@ -23,7 +23,7 @@ use Rattle.mn_ledger.specs.Entry.{is_unicast}
 use Rattle.mn_ledger.specs.Places.{home_of, vrf_of}
 use Rattle.mn_ledger.specs.World.{World}
 use Rattle.mn_ledger.specs.Transport.{usable}
-use Rattle.mn_ledger.specs.Vpn.{HeldRoute, held, best}
+use Rattle.mn_ledger.specs.Held.{HeldRoute, held, best}
 use Rattle.mn_ledger.specs.Best.{IsBest}
 use Rattle.mn_ledger.specs.Packets.{Packets, is_attachment}
 use Rattle.mn_ledger.specs.Ledger.{world_of, packets_of}

@@ -1,6 +1,7 @@
 -- What is in flight: its numbers and ticks, its channels, the steps that deliver it, and how much of it counts against a full network.
 use Rattle.std.specs.Prelude.{◌≡◌, ◌≢◌, ◌<◌, ◌≤◌, ℕ, suc, ◌+◌, Bool, true, false, not, nat_le, List, [], ◌∷◌, map, filter, length, sum, ⊤}
 use Rattle.std.specs.List.{Contains, AllByRecursion}
+use Rattle.mn_base.specs.Limits.{most_steps}
 use Rattle.mn_base.specs.declared.links.Dir.{Dir}
 use Rattle.mn_base.specs.declared.numbers.LinkNo.{LinkNo}
 use Rattle.mn_base.specs.Wiring.{is_end}
@@ -53,7 +54,7 @@ delivering topology (Frames l dir) place = Carry (record { 0 = l }) dir place
 -- the step fits the topology, and nothing refuses it but a full journal
 pub record IsOpen (topology : Network) (entries : List JournalEntry) (inputs : List (List ℕ)) (step : Step) : Type 0 where
   pub fitting : fits topology step ≡ true
-  pub refused : refusal topology entries inputs step [] ≡ where_holds (nat_le 4000000 (length entries)) TooManySteps
+  pub refused : refusal topology entries inputs step [] ≡ where_holds (nat_le most_steps (length entries)) TooManySteps
 
 -- 4. Counts
 

@@ -8,8 +8,8 @@ use Rattle.mn_topo.specs.Network.{Network}
 use Rattle.mn_topo.specs.VrfTable.{is_edge}
 use Rattle.mn_node.specs.Ldp.{Message, Initialization, KeepAlive, Address, Mapping, Withdraw, Release}
 use Rattle.mn_ledger.specs.Places.{vrf_of, edge_of, home_of}
-use Rattle.mn_ledger.specs.World.{Config, Export, Telling, Open, Alive, Announce, Unreach, World}
-use Rattle.mn_ledger.specs.Vpn.{HeldRoute, held}
+use Rattle.mn_ledger.specs.World.{Config, Export, Telling, Open, BgpKeepAlive, Announcement, Withdrawal, World}
+use Rattle.mn_ledger.specs.Held.{HeldRoute, held}
 use Rattle.mn_ledger.specs.Packets.{Token, Packets, flying_on}
 
 -- 1. LDP: the FEC of a message is a node
@@ -46,9 +46,9 @@ pub record NamesAnAttachment (topology : Network) (config : Config) (teller : �
 -- and a withdrawal is of a VRF of the edge that tells it
 abbrev pub NamesItsVrf : Network → Config → ℕ → Telling → Type 0
 NamesItsVrf topology config teller Open = ⊤
-NamesItsVrf topology config teller Alive = ⊤
-NamesItsVrf topology config teller (Announce export) = NamesAnAttachment topology config teller export
-NamesItsVrf topology config teller (Unreach v prefix) = (v < length topology.vrfs) × (edge_of topology v ≡ teller)
+NamesItsVrf topology config teller BgpKeepAlive = ⊤
+NamesItsVrf topology config teller (Announcement export) = NamesAnAttachment topology config teller export
+NamesItsVrf topology config teller (Withdrawal v prefix) = (v < length topology.vrfs) × (edge_of topology v ≡ teller)
 
 -- 3. A held route: its site is one of its edge, and at the VRF's own edge the site is attached as the route says
 

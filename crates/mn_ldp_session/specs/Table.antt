@@ -50,13 +50,13 @@ row state kind = None
 abbrev pub has_row : LdpState → LdpKind → Bool
 has_row state kind = is_some (row state kind)
 
-abbrev pub state_by : LdpState → Option (Reply × LdpState) → LdpState
-state_by state None = state
-state_by state (Some next) = next.1
+abbrev pub state_after_row : LdpState → Option (Reply × LdpState) → LdpState
+state_after_row state None = state
+state_after_row state (Some next) = next.1
 
 -- the state after a message; where the table has no row, it stays
 abbrev pub then_state : LdpState → LdpKind → LdpState
-then_state state kind = state_by state (row state kind)
+then_state state kind = state_after_row state (row state kind)
 
 -- 2. What is refused
 

@@ -55,28 +55,67 @@ session_parameters version keepalive flags limit greatest receiver =
     big_bytes 2 version ++ big_bytes 2 keepalive ++ flags ∷ limit ∷ big_bytes 2 greatest ++ ldp_id receiver
 
 -- The types of messages, by the sections 3.5.1, 3.5.3, 3.5.4, 3.5.5, 3.5.7, 3.5.10 and 3.5.11.
+abbrev pub notification_type : ℕ
+notification_type = 0x0001
+
+abbrev pub initialization_type : ℕ
+initialization_type = 0x0200
+
+abbrev pub keepalive_type : ℕ
+keepalive_type = 0x0201
+
+abbrev pub address_type : ℕ
+address_type = 0x0300
+
+abbrev pub mapping_type : ℕ
+mapping_type = 0x0400
+
+abbrev pub withdraw_type : ℕ
+withdraw_type = 0x0402
+
+abbrev pub release_type : ℕ
+release_type = 0x0403
+
+-- The types of TLVs, by the sections 3.4.1, 3.4.2.1, 3.4.3, 3.4.6 and 3.5.3.
+abbrev pub fec_tlv : ℕ
+fec_tlv = 0x0100
+
+abbrev pub generic_label_tlv : ℕ
+generic_label_tlv = 0x0200
+
+abbrev pub address_list_tlv : ℕ
+address_list_tlv = 0x0101
+
+abbrev pub status_tlv : ℕ
+status_tlv = 0x0300
+
+abbrev pub session_parameters_tlv : ℕ
+session_parameters_tlv = 0x0500
+
 abbrev pub type_of : LdpBody → ℕ
-type_of (Notification status about kind) = 0x0001
-type_of (Initialization version keepalive flags limit greatest receiver) = 0x0200
-type_of KeepAlive = 0x0201
-type_of (Address addresses) = 0x0300
-type_of (Mapping prefix label) = 0x0400
-type_of (Withdraw prefix label) = 0x0402
-type_of (Release prefix label) = 0x0403
+type_of (Notification status about kind) = notification_type
+type_of (Initialization version keepalive flags limit greatest receiver) = initialization_type
+type_of KeepAlive = keepalive_type
+type_of (Address addresses) = address_type
+type_of (Mapping prefix label) = mapping_type
+type_of (Withdraw prefix label) = withdraw_type
+type_of (Release prefix label) = release_type
 
 abbrev pub is_known_message : ℕ → Bool
-is_known_message kind = list_any (λ known. kind == known) (0x0001 ∷ 0x0200 ∷ 0x0201 ∷ 0x0300 ∷ 0x0400 ∷ 0x0402 ∷ 0x0403 ∷ [])
+is_known_message kind =
+    list_any (λ known. kind == known) (notification_type ∷ initialization_type ∷ keepalive_type ∷ address_type ∷ mapping_type ∷ withdraw_type ∷ release_type
+    ∷ [])
 
 -- The mandatory TLVs of a message, in their order, by the same sections. U bit and F bit are zero.
 abbrev pub binding : AddressBlock → ℕ → List ℕ
-binding prefix label = framed 0x0100 (prefix_element prefix) ++ framed 0x0200 (big_bytes 4 label)
+binding prefix label = framed fec_tlv (prefix_element prefix) ++ framed generic_label_tlv (big_bytes 4 label)
 
 abbrev pub mandatory_tlvs : LdpBody → List ℕ
-mandatory_tlvs (Notification status about kind) = framed 0x0300 (status_value status about kind)
+mandatory_tlvs (Notification status about kind) = framed status_tlv (status_value status about kind)
 mandatory_tlvs (Initialization version keepalive flags limit greatest receiver) =
-    framed 0x0500 (session_parameters version keepalive flags limit greatest receiver)
+    framed session_parameters_tlv (session_parameters version keepalive flags limit greatest receiver)
 mandatory_tlvs KeepAlive = []
-mandatory_tlvs (Address addresses) = framed 0x0101 (address_list addresses)
+mandatory_tlvs (Address addresses) = framed address_list_tlv (address_list addresses)
 mandatory_tlvs (Mapping prefix label) = binding prefix label
 mandatory_tlvs (Withdraw prefix label) = binding prefix label
 mandatory_tlvs (Release prefix label) = binding prefix label

@@ -12,6 +12,8 @@ use Rattle.mn_ldp_wire.specs.declared.refusal.WireBad.TheVariants.{Short, BadVer
 use Rattle.mn_ldp_wire.specs.declared.refusal.WireBad.TheVariants.{BadFec, NoMemory}
 use Rattle.mn_ldp_wire.specs.Message.{PduContents}
 use Rattle.mn_ldp_wire.specs.Grammar.{u_bit, is_known_message}
+use Rattle.mn_ldp_wire.specs.Grammar.{address_list_tlv, address_type, fec_tlv, generic_label_tlv, initialization_type, keepalive_type, mapping_type}
+use Rattle.mn_ldp_wire.specs.Grammar.{notification_type, release_type, session_parameters_tlv, status_tlv, withdraw_type}
 use Rattle.mn_prefix.specs.Octets.{octets, address_of}
 pub use Rattle.mn_base.specs.Refusals.{◌>>=◌}
 
@@ -99,7 +101,7 @@ is_address_list value = nat_le 6 (length value) && (big_number 2 value == 1) && 
 
 unfoldable pub notification_of : List ℕ → Result (LdpBody × List ℕ) WireBad
 notification_of tlvs = do
-  status ← mandatory_at 0x0300 tlvs
+  status ← mandatory_at status_tlv tlvs
   if length status.0 == 10
       then Ok (Notification (big_number 4 status.0) (big_number 4 (drop 4 status.0)) (big_number 2 (drop 8 status.0)), status.1)
       else Err BadTlv
@@ -114,19 +116,19 @@ asked value =
 
 unfoldable pub initialization_of : List ℕ → Result (LdpBody × List ℕ) WireBad
 initialization_of tlvs = do
-  parameters ← mandatory_at 0x0500 tlvs
+  parameters ← mandatory_at session_parameters_tlv tlvs
   if length parameters.0 == 14 then Ok (asked parameters.0, parameters.1) else Err BadTlv
 
 unfoldable pub address_message_of : List ℕ → Result (LdpBody × List ℕ) WireBad
 address_message_of tlvs = do
-  list ← mandatory_at 0x0101 tlvs
+  list ← mandatory_at address_list_tlv tlvs
   if is_address_list list.0 then Ok (Address (addresses_of (drop 2 list.0)), list.1) else Err BadTlv
 
 unfoldable pub binding_of : List ℕ → Result (AddressBlock × ℕ × List ℕ) WireBad
 binding_of tlvs = do
-  fec ← mandatory_at 0x0100 tlvs
+  fec ← mandatory_at fec_tlv tlvs
   prefix ← ok_or (prefix_of fec.0) BadFec
-  value ← mandatory_at 0x0200 fec.1
+  value ← mandatory_at generic_label_tlv fec.1
   label ← ok_or (read_label value.0) BadTlv
   Ok (prefix, label, value.1)
 
@@ -135,13 +137,13 @@ bound body tlvs = binding_of tlvs >>= λ b. Ok (body b.0 b.1, b.2)
 
 unfoldable pub body_of : ℕ → List ℕ → Result (LdpBody × List ℕ) WireBad
 body_of kind tlvs =
-    if kind == 0x0001 then notification_of tlvs
-    else if kind == 0x0200 then initialization_of tlvs
-    else if kind == 0x0201 then Ok (KeepAlive, tlvs)
-    else if kind == 0x0300 then address_message_of tlvs
-    else if kind == 0x0400 then bound Mapping tlvs
-    else if kind == 0x0402 then bound Withdraw tlvs
-    else if kind == 0x0403 then bound Release tlvs
+    if kind == notification_type then notification_of tlvs
+    else if kind == initialization_type then initialization_of tlvs
+    else if kind == keepalive_type then Ok (KeepAlive, tlvs)
+    else if kind == address_type then address_message_of tlvs
+    else if kind == mapping_type then bound Mapping tlvs
+    else if kind == withdraw_type then bound Withdraw tlvs
+    else if kind == release_type then bound Release tlvs
     else Err UnknownMessage
 
 -- A message of this type with these contents: none where it is passed over.

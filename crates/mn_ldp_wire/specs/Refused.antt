@@ -9,6 +9,8 @@ use Rattle.mn_ldp_wire.specs.declared.refusal.WireBad.{WireBad}
 use Rattle.mn_ldp_wire.specs.declared.refusal.WireBad.TheVariants.{Short, BadVersion, BadPduLength, BadMessageLength, UnknownMessage, MissingTlv, BadTlv}
 use Rattle.mn_ldp_wire.specs.declared.refusal.WireBad.TheVariants.{BadFec}
 use Rattle.mn_ldp_wire.specs.Grammar.{framed, FitsFrame, u_bit, is_known_message, type_of, mandatory_tlvs, status_value, session_parameters, address_list}
+use Rattle.mn_ldp_wire.specs.Grammar.{address_list_tlv, address_type, fec_tlv, generic_label_tlv, initialization_type, mapping_type, notification_type}
+use Rattle.mn_ldp_wire.specs.Grammar.{release_type, session_parameters_tlv, status_tlv, withdraw_type}
 use Rattle.mn_ldp_wire.specs.Grammar.{prefix_element, IsStatus, IsAsked, AreAddresses, IsLabel, IsLawful, ArePassedOver, AreSaid}
 use Rattle.mn_ldp_wire.specs.Reading.{size_at}
 
@@ -58,16 +60,17 @@ pub record IsLabelRefused (tlvs : List ℕ) (bad : WireBad) : Type 0 where
   pub prefix : AddressBlock
   pub rest : List ℕ
   pub is_prefix : IsPrefix prefix.address prefix.length
-  pub whole : tlvs ≡ framed 0x0100 (prefix_element prefix) ++ rest
-  pub refused : IsDueRefused 0x0200 IsLabelValue BadTlv rest bad
+  pub whole : tlvs ≡ framed fec_tlv (prefix_element prefix) ++ rest
+  pub refused : IsDueRefused generic_label_tlv IsLabelValue BadTlv rest bad
 
 -- by the type of the message; a KeepAlive has no mandatory TLV
 abbrev pub IsMandatoryRefused : ℕ → List ℕ → WireBad → Type 0
 IsMandatoryRefused kind tlvs bad =
-    ((kind ≡ 0x0001) × IsDueRefused 0x0300 IsStatusValue BadTlv tlvs bad)
-    ⊎ (((kind ≡ 0x0200) × IsDueRefused 0x0500 AreParameters BadTlv tlvs bad)
-    ⊎ (((kind ≡ 0x0300) × IsDueRefused 0x0101 IsAddressList BadTlv tlvs bad)
-    ⊎ (((kind ≡ 0x0400) ⊎ ((kind ≡ 0x0402) ⊎ (kind ≡ 0x0403))) × (IsDueRefused 0x0100 IsOnePrefix BadFec tlvs bad ⊎ IsLabelRefused tlvs bad))))
+    ((kind ≡ notification_type) × IsDueRefused status_tlv IsStatusValue BadTlv tlvs bad)
+    ⊎ (((kind ≡ initialization_type) × IsDueRefused session_parameters_tlv AreParameters BadTlv tlvs bad)
+    ⊎ (((kind ≡ address_type) × IsDueRefused address_list_tlv IsAddressList BadTlv tlvs bad)
+    ⊎ (((kind ≡ mapping_type) ⊎ ((kind ≡ withdraw_type) ⊎ (kind ≡ release_type)))
+    × (IsDueRefused fec_tlv IsOnePrefix BadFec tlvs bad ⊎ IsLabelRefused tlvs bad))))
 
 -- the mandatory TLVs are right, and what stands behind them isn't passed over
 pub record IsFurtherRefused (kind : ℕ) (tlvs : List ℕ) (bad : WireBad) : Type 0 where

@@ -13,7 +13,7 @@ use Rattle.mn_ledger.specs.declared.verdict.Verdict.{Verdict}
 use Rattle.mn_ledger.specs.declared.verdict.Verdict.TheVariants.{Flying}
 use Rattle.mn_ledger.specs.Packets.{Packets, flying_on}
 use Rattle.mn_ledger.specs.Transport.{Said, is_by, messages_of}
-use Rattle.mn_ledger.specs.Vpn.{Told, is_from_to, tellings_of}
+use Rattle.mn_ledger.specs.Bgp.{Told, is_from_to, tellings_of}
 use Rattle.mn_ledger.specs.Items.{Channel, Notices, Messages, Routes, Frames, Load, Notice, Says, Tells, Item, same_channel, items_on, loads_on, message_of}
 use Rattle.mn_ledger.specs.Items.{route_of, last_of, frame_by, numbered, without}
 use Rattle.mn_ledger.specs.InFlight.{is_in_order, AreLastOf}

@@ -9,7 +9,7 @@ use Rattle.mn_topo.specs.Network.{Network}
 use Rattle.mn_topo.specs.Lawful.{IsLawful}
 use Rattle.mn_topo.specs.declared.steps.JournalEntry.{JournalEntry}
 use Rattle.mn_ledger.specs.World.{World}
-use Rattle.mn_ledger.specs.Vpn.{Source, Own, Near, Far, HeldRoute, is_preferred, is_better, matching, unbeaten, first_of, best, held}
+use Rattle.mn_ledger.specs.Held.{Source, Own, Near, Far, HeldRoute, is_preferred, is_better, matching, unbeaten, first_of, best, held}
 use Rattle.mn_ledger.specs.Packets.{Packets, packets_after}
 use Rattle.mn_ledger.specs.Ledger.{after, start, no_packets, next_of, left_by, world_from, world_of}
 use Rattle.mn_ledger.specs.Lawful.{IsLawfulFrom, IsLawfulJournal}

@@ -8,9 +8,10 @@ use Rattle.mn_ipv4.specs.Header.{is_not_ipv4, is_malformed, is_truncated, has_ba
 use Rattle.mn_topo.specs.declared.steps.Step.{Step}
 use Rattle.mn_topo.specs.declared.steps.Step.TheVariants.{LinkUp, LinkDown, Learn, LdpAdmin, HearLdp, BgpUp, BgpDown, HearBgp, AddRoute, Inject, Carry}
 use Rattle.mn_topo.specs.declared.steps.JournalEntry.{JournalEntry}
-use Rattle.mn_ledger.specs.World.{Initialization, KeepAlive, Open, Alive}
+use Rattle.mn_ledger.specs.World.{Initialization, KeepAlive, Open, BgpKeepAlive}
 use Rattle.mn_ledger.specs.Transport.{knowledge_of, news, sessions_after}
-use Rattle.mn_ledger.specs.Vpn.{peerings_after, held}
+use Rattle.mn_ledger.specs.Bgp.{peerings_after}
+use Rattle.mn_ledger.specs.Held.{held}
 use Rattle.mn_ledger.specs.Packets.{Token, packets_after}
 use Rattle.mn_ledger.specs.Items.{Channel, Notices, Messages, Routes, Frames, Load, Notice, Says, Tells, Carries, Item, flight_of}
 use Rattle.mn_ledger.specs.Refusal.{in_flight, bytes_flying}
@@ -50,7 +51,7 @@ what_is_heard_leaves = refl
 pub what_a_peer_hears_leaves : (flight_of two_links (beginning ++ at 11 (HearBgp (node_no 0) (node_no 2)) ∷ []) []).items
     ≡ item 0 5 (Notices 0 0) Notice ∷ item 1 5 (Notices 0 1) Notice ∷ item 2 5 (Notices 0 2) Notice
     ∷ item 3 6 (Messages 0 1) (Says Initialization)
-    ∷ item 5 10 (Routes 2 0) (Tells Open) ∷ item 6 14 (Routes 2 0) (Tells Alive) ∷ []
+    ∷ item 5 10 (Routes 2 0) (Tells Open) ∷ item 6 14 (Routes 2 0) (Tells BgpKeepAlive) ∷ []
 unfolding next knowledge_of news sessions_after peerings_after held packets_after is_not_ipv4 is_malformed is_truncated has_bad_checksum good checksum_for
     with_ttl aged in_flight bytes_flying
 what_a_peer_hears_leaves = refl

@@ -19,8 +19,8 @@ use Rattle.mn_topo.specs.declared.steps.JournalEntry.{JournalEntry}
 use Rattle.mn_ledger.specs.Tables.{put, put_pair}
 use Rattle.mn_ledger.specs.World.{World, Message, Telling, Sessions, Peerings, Views}
 use Rattle.mn_ledger.specs.Transport.{Said, is_transport, said_in, messages_of, ldp_counted, ldp_restarted, sessions_after}
-use Rattle.mn_ledger.specs.Vpn as vpn
-use Rattle.mn_ledger.specs.Vpn.{Told, tellings_of, peerings_after}
+use Rattle.mn_ledger.specs.Bgp as ledger_bgp
+use Rattle.mn_ledger.specs.Bgp.{Told, tellings_of, peerings_after}
 use Rattle.mn_ledger.specs.Packets.{Token, Packets, packets_after}
 use Rattle.mn_ledger.specs.Ledger.{after, start, no_packets, next_of, left_by, injects, world_from, world_of, packets_from, packets_of}
 use Rattle.mn_ledger.specs.Refusal.{is_empty}
@@ -141,8 +141,8 @@ no_messages on h t w v s =
 no_routes : (on : Channel) → ((x : Told) → same_channel on (route_of x).0 ≡ false) →
     (t : Network) (w v : World) (s : Step) → loads_in on (routes_in t w v s) ≡ []
 no_routes on h t w v s =
-    let told : List Told = vpn.told_in t w.config w.peerings v.config (vpn.bgp_counted w.peerings s) s in
-    if_none on (vpn.is_routing s) (map route_of told) (none_of on route_of h told)
+    let told : List Told = ledger_bgp.told_in t w.config w.peerings v.config (ledger_bgp.bgp_counted w.peerings s) s in
+    if_none on (ledger_bgp.is_routing s) (map route_of told) (none_of on route_of h told)
 
 made_notices : (t : Network) (w v : World) (p q : Packets) (s : Step) (l node : ℕ) →
     loads_in (Notices l node) (made_in t w v p q s) ≡ loads_in (Notices l node) (notices_in t s)
@@ -511,28 +511,30 @@ all_left k new edge peer left items same told heard u = (
 -- a session begins or ends
 begun : (k : Peerings) (a b edge peer : ℕ) (left items : List Item) → a ≢ b → (is_between a b (Routes edge peer) ≡ true → loads_on (Routes edge peer) left ≡ [])
     → (is_between a b (Routes edge peer) ≡ false → loads_on (Routes edge peer) left ≡ loads_on (Routes edge peer) items) → Unheard k edge peer items →
-    Unheard (vpn.bgp_restarted k a b) edge peer left
+    Unheard (ledger_bgp.bgp_restarted k a b) edge peer left
 unfolding Which
 begun k a b edge peer left items differ here off u = elim (which a b edge peer) [
   | inl p ↦
-      none_left (vpn.bgp_restarted k a b) edge peer left
+      none_left (ledger_bgp.bgp_restarted k a b) edge peer left
       (here (ap (λ x. (x && (b == peer)) || ((b == edge) && (a == peer))) (same_is edge a p.0)
       ∙ ap (λ x. x || ((b == edge) && (a == peer))) (same_is peer b p.1)))
-      (ap (λ j. (vpn.bgp_restarted k a b).told j peer) p.0 ∙ ap (λ j. (vpn.bgp_restarted k a b).told a j) p.1
+      (ap (λ j. (ledger_bgp.bgp_restarted k a b).told j peer) p.0 ∙ ap (λ j. (ledger_bgp.bgp_restarted k a b).told a j) p.1
       ∙ pair_off (put_pair k.told a b []) b a [] a b (inl differ)
       ∙ pair_here k.told a b [])
-      (ap (λ j. (vpn.bgp_restarted k a b).heard peer j) p.0 ∙ ap (λ j. (vpn.bgp_restarted k a b).heard j a) p.1 ∙ pair_here (put_pair k.heard a b 0) b a 0)
+      (ap (λ j. (ledger_bgp.bgp_restarted k a b).heard peer j) p.0 ∙ ap (λ j. (ledger_bgp.bgp_restarted k a b).heard j a) p.1
+      ∙ pair_here (put_pair k.heard a b 0) b a 0)
   | inr d ↦ elim d [
     | inl p ↦
-        none_left (vpn.bgp_restarted k a b) edge peer left
+        none_left (ledger_bgp.bgp_restarted k a b) edge peer left
         (here (ap (λ x. ((a == edge) && (b == peer)) || (x && (a == peer))) (same_is edge b p.0)
         ∙ ap (λ x. ((a == edge) && (b == peer)) || x) (same_is peer a p.1) ∙ or_true ((a == edge) && (b == peer))))
-        (ap (λ j. (vpn.bgp_restarted k a b).told j peer) p.0 ∙ ap (λ j. (vpn.bgp_restarted k a b).told b j) p.1 ∙ pair_here (put_pair k.told a b []) b a [])
-        (ap (λ j. (vpn.bgp_restarted k a b).heard peer j) p.0 ∙ ap (λ j. (vpn.bgp_restarted k a b).heard j b) p.1
+        (ap (λ j. (ledger_bgp.bgp_restarted k a b).told j peer) p.0 ∙ ap (λ j. (ledger_bgp.bgp_restarted k a b).told b j) p.1
+        ∙ pair_here (put_pair k.told a b []) b a [])
+        (ap (λ j. (ledger_bgp.bgp_restarted k a b).heard peer j) p.0 ∙ ap (λ j. (ledger_bgp.bgp_restarted k a b).heard j b) p.1
         ∙ pair_off (put_pair k.heard a b 0) b a 0 a b (inl differ)
         ∙ pair_here k.heard a b 0)
     | inr p ↦
-        all_left k (vpn.bgp_restarted k a b) edge peer left items
+        all_left k (ledger_bgp.bgp_restarted k a b) edge peer left items
         (off (ap (λ x. x || ((b == edge) && (a == peer))) (both (a == edge) (b == peer) (tests a b p.0)) ∙ both (b == edge) (a == peer) (tests b a p.1)))
         (pair_off (put_pair k.told a b []) b a [] edge peer p.1 ∙ pair_off k.told a b [] edge peer p.0)
         (pair_off (put_pair k.heard a b 0) b a 0 peer edge (swap p.0) ∙ pair_off k.heard a b 0 peer edge (swap p.1)) u
@@ -574,7 +576,7 @@ heeds k a b edge peer left items less is off u =
         )
 
 abbrev told_by : Network → World → Step → List Told
-told_by t w s = vpn.told_in t w.config w.peerings (after t w s).config (vpn.bgp_counted w.peerings s) s
+told_by t w s = ledger_bgp.told_in t w.config w.peerings (after t w s).config (ledger_bgp.bgp_counted w.peerings s) s
 
 routes_go : (t : Network) (w : World) (p q : Packets) (s : Step) (tick n : ℕ) (items : List Item) (edge peer : ℕ) → AreInOrder s →
     is_empty t w p s ≡ false → Unheard w.peerings edge peer items → RoutesGo t w p q s tick n items edge peer

@@ -11,9 +11,12 @@ use Rattle.mn_topo.specs.Network.{Network}
 use Rattle.mn_topo.specs.Lawful.{IsLawful}
 use Rattle.mn_topo.specs.declared.vrfs.VrfDef.{VrfDef}
 use Rattle.mn_ledger.specs.Places.{loopback, vrf_at, vrf_of, edges}
-use Rattle.mn_ledger.specs.World.{SiteRoute, Config, Export, Telling, Open, Alive, Announce, Unreach, Peerings}
-use Rattle.mn_ledger.specs.Vpn.{peers_live, is_for, is_present, export_of, exports_of, HeldRoute, Source, Own, Near, Far, held_by, own_routes, imported}
-use Rattle.mn_ledger.specs.Vpn.{near_routes, believed_after, believed_from, heard_of, believed, far_routes, held, meet}
+use Rattle.mn_ledger.specs.World.{SiteRoute, Config, Export, Telling, Open, BgpKeepAlive, Announcement, Withdrawal, Peerings}
+use Rattle.mn_ledger.specs.Exports.{is_present, export_of, exports_of}
+use Rattle.mn_ledger.specs.Bgp.{peers_live, is_for}
+use Rattle.mn_ledger.specs.Held.{HeldRoute, Source, Own, Near, Far, held_by, own_routes, imported}
+use Rattle.mn_ledger.specs.Exports.{meet}
+use Rattle.mn_ledger.specs.Held.{near_routes, believed_after, believed_from, heard_of, believed, far_routes, held}
 use Rattle.mn_ledger.proofs.Peers.{same_test, same_numbers, and_left}
 use Rattle.mn_ledger.proofs.Turning.{Apart}
 use Rattle.mn_ledger.proofs.Members.{In, in_append, in_map, in_filter, in_flat_map, in_take, in_range, AreApart, one_alike, apart_filter, apart_push}
@@ -33,13 +36,14 @@ is_for_it x e a =
 
 believed_apart : (es : List Export) (ms : List Telling) → AreApart SameRoute es → AreApart SameRoute (believed_from es ms)
 believed_apart es [] h = h
-believed_apart es (Announce e ∷ ms) h =
-    believed_apart (believed_after es (Announce e)) ms
+believed_apart es (Announcement e ∷ ms) h =
+    believed_apart (believed_after es (Announcement e)) ms
     (apart_push SameRoute (filter (λ other. not (is_for e.vrf e.prefix other)) es) e (apart_filter SameRoute (λ other. not (is_for e.vrf e.prefix other)) es h)
     (λ x i a. no (sym (ap not (is_for_it x e a)) ∙ (in_filter (λ other. not (is_for e.vrf e.prefix other)) es x i).1)))
-believed_apart es (Unreach v p ∷ ms) h = believed_apart (believed_after es (Unreach v p)) ms (apart_filter SameRoute (λ other. not (is_for v p other)) es h)
+believed_apart es (Withdrawal v p ∷ ms) h =
+    believed_apart (believed_after es (Withdrawal v p)) ms (apart_filter SameRoute (λ other. not (is_for v p other)) es h)
 believed_apart es (Open ∷ ms) h = believed_apart es ms h
-believed_apart es (Alive ∷ ms) h = believed_apart es ms h
+believed_apart es (BgpKeepAlive ∷ ms) h = believed_apart es ms h
 
 pub believed_is_apart : (c : Config) (p : Peerings) (edge peer : ℕ) → AreApart SameRoute (believed c p edge peer)
 believed_is_apart c p edge peer = either (peers_live c edge peer)
@@ -49,21 +53,21 @@ believed_is_apart c p edge peer = either (peers_live c edge peer)
     either false = tt
 
 -- what is believed was announced
-pub announced_once : (es : List Export) (ms : List Telling) (x : Export) → In (believed_from es ms) x → In es x ⊎ In ms (Announce x)
+pub announced_once : (es : List Export) (ms : List Telling) (x : Export) → In (believed_from es ms) x → In es x ⊎ In ms (Announcement x)
 announced_once es [] x i = inl i
-announced_once es (Announce e ∷ ms) x i = elim (announced_once (believed_after es (Announce e)) ms x i) [
+announced_once es (Announcement e ∷ ms) x i = elim (announced_once (believed_after es (Announcement e)) ms x i) [
   | inr j ↦ inr (inr j)
   | inl j ↦ elim (in_append (filter (λ other. not (is_for e.vrf e.prefix other)) es) (e ∷ []) x j) [
     | inl k ↦ inl (in_filter (λ other. not (is_for e.vrf e.prefix other)) es x k).0
-    | inr k ↦ elim k [ inl q ↦ inr (inl (ap (λ y. Announce y) q)) | inr n ↦ absurd n ]
+    | inr k ↦ elim k [ inl q ↦ inr (inl (ap (λ y. Announcement y) q)) | inr n ↦ absurd n ]
   ]
 ]
-announced_once es (Unreach v p ∷ ms) x i = elim (announced_once (believed_after es (Unreach v p)) ms x i) [
+announced_once es (Withdrawal v p ∷ ms) x i = elim (announced_once (believed_after es (Withdrawal v p)) ms x i) [
   | inr j ↦ inr (inr j)
   | inl j ↦ inl (in_filter (λ other. not (is_for v p other)) es x j).0
 ]
 announced_once es (Open ∷ ms) x i = elim (announced_once es ms x i) [ inl j ↦ inl j | inr j ↦ inr (inr j) ]
-announced_once es (Alive ∷ ms) x i = elim (announced_once es ms x i) [ inl j ↦ inl j | inr j ↦ inr (inr j) ]
+announced_once es (BgpKeepAlive ∷ ms) x i = elim (announced_once es ms x i) [ inl j ↦ inl j | inr j ↦ inr (inr j) ]
 
 if_in : {A : Type 0} (b : Bool) (xs : List A) (x : A) → In (if b then xs else []) x → In xs x
 if_in true xs x i = i
@@ -75,7 +79,7 @@ in_believed c p edge peer x i = if_in (peers_live c edge peer) (believed_from []
 pub good_believed : (t : Network) (c : Config) (p : Peerings) (edge peer : ℕ) (x : Export) → AllGood t p → In (believed c p edge peer) x → IsGoodExport t x
 good_believed t c p edge peer x good i = elim (announced_once [] (heard_of p edge peer) x (in_believed c p edge peer x i)) [
   | inl j ↦ absurd j
-  | inr j ↦ good peer edge (Announce x) (in_take (p.heard edge peer) (p.told peer edge) (Announce x) j)
+  | inr j ↦ good peer edge (Announcement x) (in_take (p.heard edge peer) (p.told peer edge) (Announcement x) j)
 ]
 
 one_believed : (c : Config) (p : Peerings) (edge peer : ℕ) (x y : Export) → In (believed c p edge peer) x → In (believed c p edge peer) y → SameRoute x y →

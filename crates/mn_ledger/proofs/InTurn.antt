@@ -14,7 +14,7 @@ use Rattle.mn_topo.specs.declared.steps.JournalEntry.{JournalEntry}
 use Rattle.mn_ledger.specs.Tables.{put, put_pair}
 use Rattle.mn_ledger.specs.World.{World, Views, Open}
 use Rattle.mn_ledger.specs.Transport.{is_active}
-use Rattle.mn_ledger.specs.Vpn.{peers_live}
+use Rattle.mn_ledger.specs.Bgp.{peers_live}
 use Rattle.mn_ledger.specs.Packets.{Packets, packets_after}
 use Rattle.mn_ledger.specs.Ledger.{after, start, no_packets, next_of, left_by, world_from, world_of}
 use Rattle.mn_ledger.specs.Refusal.{is_empty, refusal_at}

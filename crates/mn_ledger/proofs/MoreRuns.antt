@@ -18,9 +18,11 @@ use Rattle.mn_ledger.specs.declared.refused.Refused.TheVariants.{Unchanged, Empt
 use Rattle.mn_ledger.specs.declared.refused.Refused.TheVariants.{TooManySteps}
 use Rattle.mn_ledger.specs.Tables.{everywhere}
 use Rattle.mn_ledger.specs.World as world
-use Rattle.mn_ledger.specs.World.{World, Config, Initialization, KeepAlive, Address, Mapping, Withdraw, Release, Open, Alive, Announce, Unreach}
+use Rattle.mn_ledger.specs.World.{World, Config, Initialization, KeepAlive, Address, Mapping, Withdraw, Release, Open, BgpKeepAlive, Announcement, Withdrawal}
 use Rattle.mn_ledger.specs.Transport.{knowledge_of, news, sessions_after, speakers, by_neighbour, is_mapped}
-use Rattle.mn_ledger.specs.Vpn.{peerings_after, held, exports_of, announced, Source, Own, Near, Far, HeldRoute, best, told_in}
+use Rattle.mn_ledger.specs.Exports.{exports_of}
+use Rattle.mn_ledger.specs.Bgp.{peerings_after, announced, told_in}
+use Rattle.mn_ledger.specs.Held.{held, Source, Own, Near, Far, HeldRoute, best}
 use Rattle.mn_ledger.specs.Packets.{Packets, packets_after}
 use Rattle.mn_ledger.specs.Ledger.{start, no_packets, first_config, world_of, packets_of}
 use Rattle.mn_ledger.specs.Refusal.{refusal, refusal_at, prefix_refusal, is_targets_full, is_spent, is_full, labels_given, in_flight, bytes_flying}
@@ -193,9 +195,9 @@ a_new_announcement_takes_the_place = refl
 -- changed targets are announced, in ascending order, and a route without targets is withdrawn
 pub changed_targets_are_announced : (world_of two_links
     (settled_then (Export (vrf_no 1) lesser_target true ∷ Export (vrf_no 1) target false ∷ Export (vrf_no 1) lesser_target false ∷ []))).peerings.told 2 0 ≡
-    Open ∷ Alive ∷ Announce (record { vrf = 1; prefix = far_block; site = 1; attachment = 1; targets = target.0 ∷ [] })
-    ∷ Announce (record { vrf = 1; prefix = far_block; site = 1; attachment = 1; targets = lesser_target.0 ∷ target.0 ∷ [] })
-    ∷ Announce (record { vrf = 1; prefix = far_block; site = 1; attachment = 1; targets = lesser_target.0 ∷ [] }) ∷ Unreach 1 far_block ∷ []
+    Open ∷ BgpKeepAlive ∷ Announcement (record { vrf = 1; prefix = far_block; site = 1; attachment = 1; targets = target.0 ∷ [] })
+    ∷ Announcement (record { vrf = 1; prefix = far_block; site = 1; attachment = 1; targets = lesser_target.0 ∷ target.0 ∷ [] })
+    ∷ Announcement (record { vrf = 1; prefix = far_block; site = 1; attachment = 1; targets = lesser_target.0 ∷ [] }) ∷ Withdrawal 1 far_block ∷ []
 unfolding next knowledge_of news sessions_after peerings_after held packets_after is_not_ipv4 is_malformed is_truncated has_bad_checksum good checksum_for
     with_ttl aged in_flight bytes_flying
 changed_targets_are_announced = refl
@@ -283,7 +285,7 @@ abbrev over : ℕ → world.Export
 over attachment = record { vrf = 1; prefix = far_block; site = 1; attachment = attachment; targets = target.0 ∷ [] }
 
 -- over another attachment it is another route, and announced anew; the same one isn't
-pub another_attachment_is_announced : announced (over 1 ∷ []) (over 2 ∷ []) ++ announced (over 1 ∷ []) (over 1 ∷ []) ≡ Announce (over 2) ∷ []
+pub another_attachment_is_announced : announced (over 1 ∷ []) (over 2 ∷ []) ++ announced (over 1 ∷ []) (over 1 ∷ []) ≡ Announcement (over 2) ∷ []
 another_attachment_is_announced = refl
 
 -- with a session ends what was told and heard in it, at both ends

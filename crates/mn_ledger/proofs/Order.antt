@@ -12,8 +12,10 @@ use Rattle.mn_topo.specs.declared.steps.JournalEntry.{JournalEntry}
 use Rattle.mn_topo.specs.VrfTable.{is_edge}
 use Rattle.mn_ledger.specs.Places.{loopback, vrf_at, edge_of, vrfs_at, edges}
 use Rattle.mn_ledger.specs.World.{SiteRoute, Config, Export, Peerings}
-use Rattle.mn_ledger.specs.Vpn.{HeldRoute, Own, Near, Far, comes_before, placed, in_order, is_present, export_of, present_with, exports_with, exports_of}
-use Rattle.mn_ledger.specs.Vpn.{held_by, own_routes, imported, near_routes, believed, far_routes, held, meet}
+use Rattle.mn_ledger.specs.Exports.{comes_before, placed, in_order, is_present, export_of, present_with, exports_with, exports_of}
+use Rattle.mn_ledger.specs.Held.{HeldRoute, Own, Near, Far}
+use Rattle.mn_ledger.specs.Exports.{meet}
+use Rattle.mn_ledger.specs.Held.{held_by, own_routes, imported, near_routes, believed, far_routes, held}
 use Rattle.mn_ledger.specs.Ledger.{world_of}
 use Rattle.mn_ledger.specs.Lawful.{IsLawfulJournal}
 use Rattle.mn_ledger.specs.Tidy.{ComesBefore, DifferInVrf, DifferBySource, IsTidy}

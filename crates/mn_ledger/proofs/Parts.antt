@@ -12,10 +12,12 @@ use Rattle.mn_topo.specs.declared.steps.JournalEntry.{JournalEntry}
 use Rattle.mn_ledger.specs.World.{World}
 use Rattle.mn_ledger.specs.Packets.{Packets, packets_after, before_step}
 use Rattle.mn_ledger.specs.Transport.{is_transport, knowledge_of, usable_by, sessions_after}
-use Rattle.mn_ledger.specs.Vpn.{is_routing, peerings_after, exports_of, held}
+use Rattle.mn_ledger.specs.Exports.{exports_of}
+use Rattle.mn_ledger.specs.Bgp.{is_routing, peerings_after}
+use Rattle.mn_ledger.specs.Held.{held}
 use Rattle.mn_ledger.specs.Ledger.{after, start, world_from, with_target, is_static}
 use Rattle.mn_prefix.specs.Prefix.{AddressBlock}
-use Rattle.mn_ledger.specs.Vpn.{has_target}
+use Rattle.mn_ledger.specs.Exports.{has_target}
 use Rattle.mn_ledger.specs.World.{SiteRoute}
 use Rattle.std.specs.List.{list_any}
 use Rattle.mn_ledger.specs.Parts.{is_configuring, is_viewing, is_moving, KeepsOtherParts, later, last_said, makes_up, switches, starts, times, turns}

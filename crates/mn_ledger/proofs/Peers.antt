@@ -16,9 +16,10 @@ use Rattle.mn_topo.specs.declared.steps.Step.{Step}
 use Rattle.mn_topo.specs.declared.steps.Step.TheVariants as step
 use Rattle.mn_ledger.specs.Tables.{put_pair}
 use Rattle.mn_ledger.specs.Places.{edges}
-use Rattle.mn_ledger.specs.World.{Config, Export, Telling, Open, Alive, Announce, Unreach, Peerings, World}
-use Rattle.mn_ledger.specs.Vpn.{Told, peers_live, state_heard, bgp_state_of, is_established, is_from_to, tellings_of, told_to, reply, is_for, same_export}
-use Rattle.mn_ledger.specs.Vpn.{withdrawn, announced, changed, exports_of, steady_peers, route_news, bgp_restarted, bgp_counted, with_told, peerings_after}
+use Rattle.mn_ledger.specs.World.{Config, Export, Telling, Open, BgpKeepAlive, Announcement, Withdrawal, Peerings, World}
+use Rattle.mn_ledger.specs.Bgp.{Told, peers_live, state_heard, bgp_state_of, is_established, is_from_to, tellings_of, told_to, reply, is_for, same_export}
+use Rattle.mn_ledger.specs.Exports.{exports_of}
+use Rattle.mn_ledger.specs.Bgp.{withdrawn, announced, changed, steady_peers, route_news, bgp_restarted, bgp_counted, with_told, peerings_after}
 use Rattle.mn_ledger.specs.Packets.{Packets}
 use Rattle.mn_ledger.specs.Ledger.{config_after, after}
 use Rattle.mn_ledger.specs.Refusal.{is_empty}
@@ -32,10 +33,10 @@ use Rattle.mn_ledger.proofs.Turning.{lt_tells}
 
 abbrev pub IsPeerNth : ℕ → Telling → Type 0
 IsPeerNth zero x = x ≡ Open
-IsPeerNth (suc zero) x = x ≡ Alive
+IsPeerNth (suc zero) x = x ≡ BgpKeepAlive
 IsPeerNth (suc (suc n)) x = IsUpdate x
 
-full-nth : (rest : List Telling) (k : ℕ) → AreUpdates rest → k < length (Open ∷ Alive ∷ rest) → IsPeerNth k (get_or (Open ∷ Alive ∷ rest) k Open)
+full-nth : (rest : List Telling) (k : ℕ) → AreUpdates rest → k < length (Open ∷ BgpKeepAlive ∷ rest) → IsPeerNth k (get_or (Open ∷ BgpKeepAlive ∷ rest) k Open)
 full-nth rest zero m h = refl
 full-nth rest (suc zero) m h = refl
 full-nth rest (suc (suc k)) m h = all_at IsUpdate rest m k Open (omega (arith, h))
@@ -53,33 +54,33 @@ pub peer-row : (k : ℕ) (x : Telling) → IsPeerNth k x → has_bgp_row (state_
 peer-row zero x e = rw e refl
 peer-row (suc zero) x e = rw e refl
 peer-row (suc (suc n)) Open e = absurd e
-peer-row (suc (suc n)) Alive e = absurd e
-peer-row (suc (suc n)) (Announce export) e = refl
-peer-row (suc (suc n)) (Unreach v prefix) e = refl
+peer-row (suc (suc n)) BgpKeepAlive e = absurd e
+peer-row (suc (suc n)) (Announcement export) e = refl
+peer-row (suc (suc n)) (Withdrawal v prefix) e = refl
 
-updates-announce : (es : List Export) → AreUpdates (map (λ export. Announce export) es)
+updates-announce : (es : List Export) → AreUpdates (map (λ export. Announcement export) es)
 updates-announce [] = tt
 updates-announce (e ∷ es) = (tt, updates-announce es)
 
-updates-gone : (es : List Export) → AreUpdates (map (λ (export : Export). Unreach export.vrf export.prefix) es)
+updates-gone : (es : List Export) → AreUpdates (map (λ (export : Export). Withdrawal export.vrf export.prefix) es)
 updates-gone [] = tt
 updates-gone (e ∷ es) = (tt, updates-gone es)
 
 reply-none : (n : ℕ) (x : Telling) (es : List Export) → reply (state_heard (suc (suc n))) x es ≡ []
 reply-none n Open es = refl
-reply-none n Alive es = refl
-reply-none n (Announce e) es = refl
-reply-none n (Unreach v p) es = refl
+reply-none n BgpKeepAlive es = refl
+reply-none n (Announcement e) es = refl
+reply-none n (Withdrawal v p) es = refl
 
 peer-heard : (k : ℕ) (xs : List Telling) (x : Telling) (es : List Export) (ms : List Telling) → IsPeerTalk k xs → IsPeerNth k x →
     (k ≡ 0 → ms ≡ []) → AreUpdates ms → IsPeerTalk (suc k) (xs ++ (reply (state_heard k) x es ++ ms))
 peer-heard zero xs x es ms t e q m = rw (t, e, q refl) refl
 peer-heard (suc zero) xs x es ms t e q m =
-    (map (λ export. Announce export) es ++ ms, rw (t, e) refl, all_append IsUpdate (map (λ export. Announce export) es) ms (updates-announce es) m)
+    (map (λ export. Announcement export) es ++ ms, rw (t, e) refl, all_append IsUpdate (map (λ export. Announcement export) es) ms (updates-announce es) m)
 peer-heard (suc (suc n)) xs x es ms t e q m = (
   t.0 ++ ms,
   ap (λ ys. ys ++ (reply (state_heard (suc (suc n))) x es ++ ms)) t.1
-      ∙ ap (λ r. Open ∷ Alive ∷ (t.0 ++ (r ++ ms))) (reply-none n x es),
+      ∙ ap (λ r. Open ∷ BgpKeepAlive ∷ (t.0 ++ (r ++ ms))) (reply-none n x es),
   all_append IsUpdate t.0 ms t.2 m,
 )
 

@@ -11,10 +11,11 @@ use Rattle.mn_topo.specs.declared.steps.Step.TheVariants as step
 use Rattle.mn_topo.specs.Network.{Network}
 use Rattle.mn_ledger.specs.Tables.{put_pair}
 use Rattle.mn_ledger.specs.Places.{edge_of, vrfs_at, edges}
-use Rattle.mn_ledger.specs.World.{SiteRoute, Config, Export, Telling, Open, Alive, Announce, Unreach, Peerings, World}
-use Rattle.mn_ledger.specs.Vpn.{Told, comes_before, placed, in_order, is_present, export_of, present_with, exports_with, exports_of, is_from_to}
-use Rattle.mn_ledger.specs.Vpn.{tellings_of, told_to, reply, bgp_replies, is_for, same_export, withdrawn, announced, changed, steady_peers, route_news, told_in}
-use Rattle.mn_ledger.specs.Vpn.{bgp_counted, peerings_after}
+use Rattle.mn_ledger.specs.World.{SiteRoute, Config, Export, Telling, Open, BgpKeepAlive, Announcement, Withdrawal, Peerings, World}
+use Rattle.mn_ledger.specs.Exports.{comes_before, placed, in_order, is_present, export_of, present_with, exports_with, exports_of}
+use Rattle.mn_ledger.specs.Bgp.{Told, is_from_to}
+use Rattle.mn_ledger.specs.Bgp.{tellings_of, told_to, reply, bgp_replies, is_for, same_export, withdrawn, announced, changed, steady_peers, route_news, told_in}
+use Rattle.mn_ledger.specs.Bgp.{bgp_counted, peerings_after}
 use Rattle.mn_ledger.specs.Ledger.{config_after, after}
 use Rattle.mn_ledger.proofs.GoingBy.{pair_here, pair_off}
 use Rattle.mn_ledger.proofs.Members.{In, in_append, in_map, in_filter, in_flat_map, in_range}
@@ -74,7 +75,7 @@ good_export t c edge h e i =
 -- 2. What is told
 
 abbrev pub IsGood : Network → Telling → Type 0
-IsGood t (Announce e) = IsGoodExport t e
+IsGood t (Announcement e) = IsGoodExport t e
 IsGood t _ = ⊤
 
 abbrev AreGood : Network → List Telling → Type 0
@@ -83,15 +84,15 @@ AreGood t ms = (m : Telling) → In ms m → IsGood t m
 abbrev AllTold : Network → List Told → Type 0
 AllTold t xs = (x : Told) → In xs x → IsGood t x.telling
 
-pub good_announced : (t : Network) (es : List Export) → ((e : Export) → In es e → IsGoodExport t e) → AreGood t (map (λ export. Announce export) es)
-good_announced t es h m i = let f = in_map (λ export. Announce export) es m i in subst (IsGood t) f.2 (h f.0 f.1)
+pub good_announced : (t : Network) (es : List Export) → ((e : Export) → In es e → IsGoodExport t e) → AreGood t (map (λ export. Announcement export) es)
+good_announced t es h m i = let f = in_map (λ export. Announcement export) es m i in subst (IsGood t) f.2 (h f.0 f.1)
 
 pub one_good : (t : Network) (m : Telling) → IsGood t m → AreGood t (m ∷ [])
 one_good t m g x i = elim i [ inl e ↦ subst (IsGood t) e g | inr j ↦ absurd j ]
 
 pub good_reply : (t : Network) (state : BgpState) (m : Telling) (es : List Export) → ((e : Export) → In es e → IsGoodExport t e) → AreGood t (reply state m es)
-good_reply t OpenSent Open es h = one_good t Alive tt
-good_reply t OpenConfirm Alive es h = good_announced t es h
+good_reply t OpenSent Open es h = one_good t BgpKeepAlive tt
+good_reply t OpenConfirm BgpKeepAlive es h = good_announced t es h
 good_reply t _ _ es h = λ x i. absurd i
 
 pub good_told_to : (t : Network) (a b : ℕ) (ms : List Telling) → AreGood t ms → AllTold t (told_to a b ms)
@@ -112,7 +113,7 @@ good_replies t c k _ h = λ x i. absurd i
 good_changed : (t : Network) (before now : List Export) → ((e : Export) → In now e → IsGoodExport t e) → AreGood t (changed before now)
 good_changed t before now h m i = elim (in_append (withdrawn before now) (announced before now) m i) [
   | inl j ↦ let f =
-      in_map (λ (export : Export). Unreach export.vrf export.prefix) (filter (λ export. not (list_any (is_for export.vrf export.prefix) now)) before) m j in
+      in_map (λ (export : Export). Withdrawal export.vrf export.prefix) (filter (λ export. not (list_any (is_for export.vrf export.prefix) now)) before) m j in
       subst (IsGood t) f.2 tt
   | inr j ↦ good_announced t (filter (λ export. not (list_any (same_export export) before)) now)
       (λ e k. h e (in_filter (λ export. not (list_any (same_export export) before)) now e k).0) m j

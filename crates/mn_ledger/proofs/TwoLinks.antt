@@ -24,7 +24,8 @@ use Rattle.mn_topo.specs.declared.steps.JournalEntry.{JournalEntry}
 use Rattle.mn_ledger.specs.declared.verdict.Verdict.TheVariants.{Delivered, Dropped}
 use Rattle.mn_ledger.specs.declared.refused.Refused.TheVariants.{Unchanged, Empty}
 use Rattle.mn_ledger.specs.Transport.{knowledge_of, news, sessions_after}
-use Rattle.mn_ledger.specs.Vpn.{peerings_after, held}
+use Rattle.mn_ledger.specs.Bgp.{peerings_after}
+use Rattle.mn_ledger.specs.Held.{held}
 use Rattle.mn_ledger.specs.Packets.{packets_after}
 use Rattle.mn_ledger.specs.Ledger.{world_of, packets_of}
 use Rattle.mn_ledger.specs.Refusal.{refusal, in_flight, bytes_flying}
@@ -33,7 +34,7 @@ use Rattle.mn_ledger.specs.World.{World}
 use Rattle.mn_ledger.specs.Settled.{IsSettled}
 use Rattle.mn_base.specs.Wiring.{is_end, across}
 use Rattle.mn_topo.specs.VrfTable.{is_edge}
-use Rattle.mn_ledger.specs.Vpn.{peers_live}
+use Rattle.mn_ledger.specs.Bgp.{peers_live}
 use Rattle.mn_ledger.specs.Items.{Item, flight_of}
 
 abbrev pub node_no : ℕ → NodeNo

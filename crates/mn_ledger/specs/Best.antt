@@ -2,7 +2,7 @@
 use Rattle.std.specs.Prelude.{◌≡◌, ℕ, true, false, List, Some, None}
 use Rattle.std.specs.List.{Contains}
 use Rattle.mn_prefix.specs.Prefix.{contains}
-use Rattle.mn_ledger.specs.Vpn.{HeldRoute, is_better, best}
+use Rattle.mn_ledger.specs.Held.{HeldRoute, is_better, best}
 
 -- a held route whose prefix contains the address, and than which none of those is better
 pub record IsBest (routes : List HeldRoute) (address : ℕ) (route : HeldRoute) : Type 0 where

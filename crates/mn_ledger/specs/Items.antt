@@ -12,8 +12,8 @@ use Rattle.mn_ledger.specs.declared.verdict.Verdict.{Verdict}
 use Rattle.mn_ledger.specs.declared.verdict.Verdict.TheVariants.{Flying}
 use Rattle.mn_ledger.specs.World.{World, Message, Telling}
 use Rattle.mn_ledger.specs.Transport.{Said, is_transport, said_in, ldp_counted}
-use Rattle.mn_ledger.specs.Vpn as vpn
-use Rattle.mn_ledger.specs.Vpn.{Told, is_routing, told_in}
+use Rattle.mn_ledger.specs.Bgp as ledger_bgp
+use Rattle.mn_ledger.specs.Bgp.{Told, is_routing, told_in}
 use Rattle.mn_ledger.specs.Packets.{Token, Packets, channel, flying_on, packets_after}
 use Rattle.mn_ledger.specs.Verdicts.{verdict_on}
 use Rattle.mn_ledger.specs.Ledger.{after, start, no_packets, next_of, left_by}
@@ -79,7 +79,7 @@ route_of told = (Routes told.teller told.peer, Tells told.telling)
 
 abbrev pub routes_in : Network → World → World → Step → List (Channel × Load)
 routes_in topology world later step =
-    if is_routing step then map route_of (told_in topology world.config world.peerings later.config (vpn.bgp_counted world.peerings step) step) else []
+    if is_routing step then map route_of (told_in topology world.config world.peerings later.config (ledger_bgp.bgp_counted world.peerings step) step) else []
 
 abbrev pub last_of : List Token → List Token
 last_of [] = []

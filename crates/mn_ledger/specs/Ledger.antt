@@ -12,7 +12,7 @@ use Rattle.mn_ledger.specs.Tables.{everywhere, put, put_pair}
 use Rattle.mn_ledger.specs.Places.{vrf_at}
 use Rattle.mn_ledger.specs.World.{SiteRoute, Config, World}
 use Rattle.mn_ledger.specs.Transport.{views_after, sessions_after}
-use Rattle.mn_ledger.specs.Vpn.{peerings_after}
+use Rattle.mn_ledger.specs.Bgp.{peerings_after}
 use Rattle.mn_ledger.specs.Packets.{Packets, packets_after}
 
 -- 1. The start: every link down, LDP switched on, no BGP session, every site attached by its first attachment

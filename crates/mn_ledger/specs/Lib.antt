@@ -3,7 +3,9 @@ pub mod Tables
 pub mod World
 pub mod Places
 pub mod Transport
-pub mod Vpn
+pub mod Exports
+pub mod Bgp
+pub mod Held
 pub mod Packets
 pub mod Ledger
 pub mod Refusal

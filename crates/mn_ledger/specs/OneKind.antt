@@ -2,7 +2,8 @@
 use Rattle.std.specs.Prelude.{◌≡◌, ◌⊎◌, ℕ, []}
 use Rattle.mn_topo.specs.Network.{Network}
 use Rattle.mn_ledger.specs.World.{Config}
-use Rattle.mn_ledger.specs.Vpn.{exports_of, withdrawn, announced}
+use Rattle.mn_ledger.specs.Exports.{exports_of}
+use Rattle.mn_ledger.specs.Bgp.{withdrawn, announced}
 
 -- none of the edge's exports went, or none is new or another: so what is told stands in the order of VRF and prefix
 abbrev pub TellsOneKind : Network → Config → Config → ℕ → Type 0

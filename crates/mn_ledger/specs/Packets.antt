@@ -20,7 +20,7 @@ use Rattle.mn_ledger.specs.Tables.{put}
 use Rattle.mn_ledger.specs.Places.{vrf_of, home_of}
 use Rattle.mn_ledger.specs.World.{World}
 use Rattle.mn_ledger.specs.Transport.{usable}
-use Rattle.mn_ledger.specs.Vpn.{HeldRoute, held, best}
+use Rattle.mn_ledger.specs.Held.{HeldRoute, held, best}
 
 -- a packet on its way
 pub record Token : Type 0 where
@@ -76,15 +76,15 @@ deliver packets packet site ttl bytes = record (judged packets packet (Delivered
 -- to the next hop over the link, or dropped where the node can't send towards the token's edge
 abbrev pub hop_over : Network → Packets → Token → ℕ → Rule → Option (ℕ × ℕ) → Packets
 hop_over topology packets token node cause None = drop_at packets token.packet cause node
-hop_over topology packets token node cause (Some hop) =
-    let dir = away_from topology hop.1 node in
-    record (judged packets token.packet (Flying (record { 0 = hop.1 }) dir)) {
+hop_over topology packets token node cause (Some hop_on) =
+    let dir = away_from topology hop_on.1 node in
+    record (judged packets token.packet (Flying (record { 0 = hop_on.1 }) dir)) {
       flying =
-          put packets.flying (channel hop.1 dir) (flying_on packets hop.1 dir ++ token ∷ []);
+          put packets.flying (channel hop_on.1 dir) (flying_on packets hop_on.1 dir ++ token ∷ []);
     }
 
-abbrev pub hop : Network → World → Packets → Token → ℕ → Rule → Packets
-hop topology world packets token node cause =
+abbrev pub hop_on : Network → World → Packets → Token → ℕ → Rule → Packets
+hop_on topology world packets token node cause =
     hop_over topology packets token node cause (usable topology world.config world.views world.sessions node token.edge)
 
 -- 3. Entry
@@ -120,7 +120,7 @@ route_by topology world packets packet bytes edge None = drop_at packets packet 
 route_by topology world packets packet bytes edge (Some route) =
     elim (route.edge == edge) [
       | true ↦ deliver packets packet route.site (ttl_of bytes - 1) bytes
-      | false ↦ hop topology world packets (bound packet route bytes) edge rule.NoLsp
+      | false ↦ hop_on topology world packets (bound packet route bytes) edge rule.NoLsp
     ]
 
 abbrev pub enter_by : Network → World → Packets → ℕ → List ℕ → ℕ → ℕ → Option Rule → Packets
@@ -167,7 +167,7 @@ arrive topology world packets token node =
       | false ↦
           elim (node == token.edge) [
             | true ↦ leave world packets token node
-            | false ↦ hop topology world packets (record token { ttl = token.ttl - 1 }) node rule.NoEntry
+            | false ↦ hop_on topology world packets (record token { ttl = token.ttl - 1 }) node rule.NoEntry
           ]
     ]
 

@@ -10,7 +10,9 @@ use Rattle.mn_prefix.specs.Prefix.{AddressBlock}
 use Rattle.mn_ledger.specs.World.{World}
 use Rattle.mn_ledger.specs.Packets.{Packets, packets_after, before_step}
 use Rattle.mn_ledger.specs.Transport.{is_transport, known, usable}
-use Rattle.mn_ledger.specs.Vpn.{is_routing, has_target, exports_of, held}
+use Rattle.mn_ledger.specs.Exports.{has_target, exports_of}
+use Rattle.mn_ledger.specs.Bgp.{is_routing}
+use Rattle.mn_ledger.specs.Held.{held}
 use Rattle.mn_ledger.specs.Ledger.{after, world_of, first_config, is_static}
 
 -- the steps that configure

@@ -2,6 +2,7 @@
 use Rattle.std.specs.Prelude.{ℕ, ◌+◌, ◌-◌, ◌==◌, ◌&&◌, ◌||◌, Bool, true, false, cond, not, nat_lt, nat_le, List, [], ◌∷◌, ◌++◌, map, length, sum, Option}
 use Rattle.std.specs.Prelude.{Some, None, is_some, is_none}
 use Rattle.std.specs.List.{flat_map, list_any}
+use Rattle.mn_base.specs.Limits.{most_flying_bytes, most_in_flight, most_labels, most_static_routes, most_steps, most_targets}
 pub use Rattle.mn_base.specs.Rules.{when as where_holds, first_broken as first_cause}
 use Rattle.mn_base.specs.Wiring.{nodes_of, links_of, link, sender, receiver}
 use Rattle.mn_base.specs.declared.links.Dir.TheVariants.{Forth, Back}
@@ -18,7 +19,8 @@ use Rattle.mn_ledger.specs.declared.refused.Refused.TheVariants.{TooManySteps}
 use Rattle.mn_ledger.specs.Places.{vrf_of, home_of, sites_at, edges}
 use Rattle.mn_ledger.specs.World.{SiteRoute, Config, Views, Sessions, Peerings, World}
 use Rattle.mn_ledger.specs.Transport.{lives}
-use Rattle.mn_ledger.specs.Vpn.{peers_live, has_target}
+use Rattle.mn_ledger.specs.Exports.{has_target}
+use Rattle.mn_ledger.specs.Bgp.{peers_live}
 use Rattle.mn_ledger.specs.Packets.{Packets, flying_on}
 use Rattle.mn_ledger.specs.Ledger.{world_of, packets_of, is_static}
 
@@ -59,7 +61,7 @@ taken_by topology v prefix (static ∷ statics) =
 
 abbrev pub prefix_refusal : Option ℕ → ℕ → Option Refused
 prefix_refusal (Some s) count = Some (PrefixTaken (record { 0 = s }))
-prefix_refusal None count = cond (nat_le 65536 count) (Some RoutesFull) None
+prefix_refusal None count = cond (nat_le most_static_routes count) (Some RoutesFull) None
 
 abbrev pub static_refusal : Network → Config → Step → Option Refused
 static_refusal topology config (AddRoute s prefix) = prefix_refusal (taken_by topology (vrf_of topology s.0) prefix config.statics) (length config.statics)
@@ -68,8 +70,8 @@ static_refusal topology config _ = None
 
 -- one more target than a set may have
 abbrev pub is_targets_full : Config → Step → Bool
-is_targets_full config (Import v target true) = nat_le 16 (length (config.imports v.0))
-is_targets_full config (Export v target true) = nat_le 16 (length (config.exports v.0))
+is_targets_full config (Import v target true) = nat_le most_targets (length (config.imports v.0))
+is_targets_full config (Export v target true) = nat_le most_targets (length (config.exports v.0))
 is_targets_full config _ = false
 
 -- how many labels a node has given: one for each other node's FEC, and one for each attachment of its sites
@@ -77,7 +79,7 @@ abbrev pub labels_given : Network → Config → ℕ → ℕ
 labels_given topology config node = (length topology.loopbacks - 1) + (length (sites_at topology node) + sum (map config.attaches (sites_at topology node)))
 
 abbrev pub is_spent : Network → Config → Step → Bool
-is_spent topology config (Attach s) = nat_le 1048560 (labels_given topology config (home_of topology s.0))
+is_spent topology config (Attach s) = nat_le most_labels (labels_given topology config (home_of topology s.0))
 is_spent topology config _ = false
 
 -- what is in flight: the notices that aren't learned, and the messages that aren't heard
@@ -114,11 +116,12 @@ takes_out (Lose l dir place) = true
 takes_out _ = false
 
 abbrev pub has_no_room : Network → Packets → Step → List ℕ → Bool
-has_no_room topology packets (Inject s number) bytes = nat_lt 268435456 (bytes_flying topology packets + length bytes)
+has_no_room topology packets (Inject s number) bytes = nat_lt most_flying_bytes (bytes_flying topology packets + length bytes)
 has_no_room topology packets _ bytes = false
 
 abbrev pub is_full : Network → World → Packets → Step → List ℕ → Bool
-is_full topology world packets step bytes = (not (takes_out step) && nat_le 2000000 (in_flight topology world)) || has_no_room topology packets step bytes
+is_full topology world packets step bytes =
+    (not (takes_out step) && nat_le most_in_flight (in_flight topology world)) || has_no_room topology packets step bytes
 
 -- the causes after the first two, in the order in which they are tried, with so many steps done
 abbrev pub limits : Network → World → Packets → ℕ → Step → List ℕ → List (Option Refused)
@@ -127,7 +130,7 @@ limits topology world packets count step bytes =
     ∷ where_holds (is_targets_full world.config step) TargetsFull
     ∷ where_holds (is_spent topology world.config step) LabelsSpent
     ∷ where_holds (is_full topology world packets step bytes) NetFull
-    ∷ where_holds (nat_le 4000000 count) TooManySteps
+    ∷ where_holds (nat_le most_steps count) TooManySteps
     ∷ []
 
 abbrev pub refusal_at : Network → World → Packets → ℕ → Step → List ℕ → Option Refused

@@ -4,7 +4,8 @@ use Rattle.std.specs.List.{AllPairs}
 use Rattle.mn_topo.specs.Network.{Network}
 use Rattle.mn_ledger.specs.Places.{vrf_of}
 use Rattle.mn_ledger.specs.World.{SiteRoute, Export, World}
-use Rattle.mn_ledger.specs.Vpn.{HeldRoute, comes_before, exports_of, held}
+use Rattle.mn_ledger.specs.Exports.{comes_before, exports_of}
+use Rattle.mn_ledger.specs.Held.{HeldRoute, held}
 
 -- by VRF, and of one VRF by prefix
 abbrev pub ComesBefore : Export → Export → Type 0

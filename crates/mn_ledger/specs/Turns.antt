@@ -10,10 +10,10 @@ use Rattle.mn_base.specs.declared.states.BgpState.TheVariants as bgp
 use Rattle.mn_topo.specs.Network.{Network, wiring_of}
 pub use Rattle.mn_node.specs.Ldp.{has_ldp_row}
 use Rattle.mn_ledger.specs.World.{Config, Sessions, Peerings, World, Message, Initialization, KeepAlive, Address, Mapping, Withdraw, Release, Telling, Open}
-use Rattle.mn_ledger.specs.World.{Alive, Announce, Unreach}
+use Rattle.mn_ledger.specs.World.{BgpKeepAlive, Announcement, Withdrawal}
 use Rattle.mn_ledger.specs.Transport.{lives, is_active, ldp_state_of}
-use Rattle.mn_ledger.specs.Vpn.{peers_live}
-use Rattle.mn_ledger.specs.Vpn as vpn
+use Rattle.mn_ledger.specs.Bgp.{peers_live}
+use Rattle.mn_ledger.specs.Bgp as ledger_bgp
 
 -- 1. The rows of the two tables. That of LDP is mn_node's `has_ldp_row`: RFC 5036, section 2.5.4, up to OPERATIONAL; there every
 -- message but Initialization is taken, an Address (section 3.5.5) and those on labels (sections 3.5.7 to 3.5.11). That of BGP is RFC
@@ -21,7 +21,7 @@ use Rattle.mn_ledger.specs.Vpn as vpn
 
 abbrev pub has_bgp_row : BgpState → Telling → Bool
 has_bgp_row bgp.OpenSent Open = true
-has_bgp_row bgp.OpenConfirm Alive = true
+has_bgp_row bgp.OpenConfirm BgpKeepAlive = true
 has_bgp_row bgp.Established Open = false
 has_bgp_row bgp.Established telling = true
 has_bgp_row _ _ = false
@@ -48,17 +48,17 @@ IsTalk active (suc (suc more)) said = (rest : List Message) × (said ≡ Initial
 
 abbrev pub IsUpdate : Telling → Type 0
 IsUpdate Open = ⊥
-IsUpdate Alive = ⊥
-IsUpdate (Announce export) = ⊤
-IsUpdate (Unreach v prefix) = ⊤
+IsUpdate BgpKeepAlive = ⊥
+IsUpdate (Announcement export) = ⊤
+IsUpdate (Withdrawal v prefix) = ⊤
 
 abbrev pub AreUpdates : List Telling → Type 0
 AreUpdates tellings = AllByRecursion IsUpdate tellings
 
 abbrev pub IsPeerTalk : ℕ → List Telling → Type 0
 IsPeerTalk zero told = told ≡ Open ∷ []
-IsPeerTalk (suc zero) told = told ≡ Open ∷ Alive ∷ []
-IsPeerTalk (suc (suc more)) told = (rest : List Telling) × (told ≡ Open ∷ Alive ∷ rest) × AreUpdates rest
+IsPeerTalk (suc zero) told = told ≡ Open ∷ BgpKeepAlive ∷ []
+IsPeerTalk (suc (suc more)) told = (rest : List Telling) × (told ≡ Open ∷ BgpKeepAlive ∷ rest) × AreUpdates rest
 
 -- 3. What holds after every lawful journal
 
@@ -95,5 +95,5 @@ pub record HasRows (topology : Network) (world : World) : Type 0 where
       → has_ldp_row (ldp_state_of topology world.sessions l node)
       (slice_index_or (world.sessions.said l (across (wiring_of topology) l node)) (world.sessions.heard l node) Address) ≡ true
   pub bgp : (edge peer : ℕ) → edge ≢ peer → peers_live world.config edge peer ≡ true → world.peerings.heard edge peer < length (world.peerings.told peer edge)
-      → has_bgp_row (vpn.bgp_state_of world.config world.peerings edge peer)
+      → has_bgp_row (ledger_bgp.bgp_state_of world.config world.peerings edge peer)
       (slice_index_or (world.peerings.told peer edge) (world.peerings.heard edge peer) Open) ≡ true

@@ -23,7 +23,7 @@ ghost use Rattle.mn_ledger.specs.Nearer.{IsNearer};
 ghost use Rattle.mn_ledger.specs.Items.{made_by, flight_of};
 ghost use Rattle.mn_ledger.specs.InFlight.{IsInFlight};
 ghost use Rattle.mn_ledger.specs.Best.{NamesTheBest};
-ghost use Rattle.mn_ledger.specs.Vpn.{held};
+ghost use Rattle.mn_ledger.specs.Held.{held};
 ghost use Rattle.mn_ledger.specs.World.{Config};
 ghost use Rattle.mn_ledger.specs.Ledger.{config_after};
 ghost use Rattle.mn_ledger.specs.OneKind.{TellsOneKind};

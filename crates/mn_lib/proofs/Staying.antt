@@ -12,9 +12,9 @@ use Rattle.mn_base.proofs.Bools.{none_below}
 use Rattle.mn_lib.specs.declared.event.LibEvent.{LibEvent}
 use Rattle.mn_lib.specs.declared.event.LibEvent.TheVariants.{Opened, Closed, Map, Withdraw, Next}
 use Rattle.mn_lib.specs.declared.news.SoFar.{SoFar}
-use Rattle.mn_lib.specs.Bindings.{Bindings, nodes, row_of, label_in, labelled, usable, usable_by, offers, with_label, after_event, after_events, EventFits}
+use Rattle.mn_lib.specs.Bindings.{Bindings, nodes, row_of, label_learned, labelled, usable, usable_by, offers, with_label, after_event, after_events, EventFits}
 use Rattle.mn_lib.specs.Bindings.{EventsFit}
-use Rattle.mn_lib.specs.Tells.{opens, told_of, offered}
+use Rattle.mn_lib.specs.Tells.{opens, tells_of, offered}
 use Rattle.mn_lib.specs.News.{fec_of, fecs_in, IsFrom, one_past, InOrder, so_far, so_far_in, told_since, AreBelow, Apart, AreAllNews}
 use Rattle.mn_lib.proofs.Events.{nodes-after_event, nodes-after_events, told_of-same}
 
@@ -24,19 +24,20 @@ abbrev IsApart : ℕ → Option ℕ → Type 0
 IsApart fec None = ⊥
 IsApart fec (Some other) = fec ≢ other
 
-label-other : (r : Option (List (Option ℕ))) (q p : ℕ) (l : Option ℕ) → p ≢ q → label_in (with_label r q l) p ≡ label_in r p
+label-other : (r : Option (List (Option ℕ))) (q p : ℕ) (l : Option ℕ) → p ≢ q → label_learned (with_label r q l) p ≡ label_learned r p
 label-other None q p l d = refl
 label-other (Some row) q p l d = get_or-set_other row q p l None d
 
 row-other : (rows : List (Option (List (Option ℕ)))) (k h q p : ℕ) (l : Option ℕ) → p ≢ q →
-    label_in (slice_index_or (slice_set rows k (with_label (slice_index_or rows k None) q l)) h None) p ≡ label_in (slice_index_or rows h None) p
+    label_learned (slice_index_or (slice_set rows k (with_label (slice_index_or rows k None) q l)) h None) p ≡ label_learned (slice_index_or rows h None) p
 row-other [] k h q p l d = refl
 row-other (r ∷ rows) zero zero q p l d = label-other r q p l d
 row-other (r ∷ rows) zero (suc h) q p l d = refl
 row-other (r ∷ rows) (suc k) zero q p l d = refl
 row-other (r ∷ rows) (suc k) (suc h) q p l d = row-other rows k h q p l d
 
-usable-heard : (b : Bindings) (rows : List (Option (List (Option ℕ)))) (p : ℕ) → ((h : ℕ) → label_in (slice_index_or rows h None) p ≡ label_in (row_of b h) p)
+usable-heard : (b : Bindings) (rows : List (Option (List (Option ℕ)))) (p : ℕ) →
+    ((h : ℕ) → label_learned (slice_index_or rows h None) p ≡ label_learned (row_of b h) p)
     → usable (record b { heard = rows }) p ≡ usable b p
 usable-heard b rows p f = by (slice_index_or b.hops p None)
   where
@@ -195,16 +196,16 @@ below-range (suc n) least end h = (omega (arith, h), below-range n (least + 1) e
 -- 3. What is told
 
 -- what is told of a FEC by what was offered, and by what it is to be
-was : (b a : Bindings) (es : List LibEvent) (q : ℕ) → q < nodes b → told_of (slice_index_or (offered b) q false) a es q ≡ told_since a es (so_far b q)
-was b a es q h = ap (λ o. told_of o a es q) (get_or-map-range_with_len (offers b) 0 (nodes b) q q false h (omega arith))
+was : (b a : Bindings) (es : List LibEvent) (q : ℕ) → q < nodes b → tells_of (slice_index_or (offered b) q false) a es q ≡ told_since a es (so_far b q)
+was b a es q h = ap (λ o. tells_of o a es q) (get_or-map-range_with_len (offers b) 0 (nodes b) q q false h (omega arith))
 
 pub every_is_news : (b : Bindings) (es : List LibEvent) → AreAllNews b es (map (so_far b) (range_with_len 0 (nodes b)))
 every_is_news b es = record {
   below = below-all (nodes b) b (range_with_len 0 (nodes b)) (below-range (nodes b) 0 (nodes b) (omega arith));
   news =
       let a : Bindings = after_events b es in
-      ap (λ n. flat_map (λ q. told_of (slice_index_or (offered b) q false) a es q) (range_with_len 0 n)) (nodes-after_events b es)
-      ∙ flat_all (λ q. told_of (slice_index_or (offered b) q false) a es q) (λ q. told_since a es (so_far b q)) (nodes b) 0
+      ap (λ n. flat_map (λ q. tells_of (slice_index_or (offered b) q false) a es q) (range_with_len 0 n)) (nodes-after_events b es)
+      ∙ flat_all (λ q. tells_of (slice_index_or (offered b) q false) a es q) (λ q. told_since a es (so_far b q)) (nodes b) 0
       (λ q h. was b a es q (omega (arith, h)))
       ∙ sym (flat_since (told_since a es) (so_far b) (range_with_len 0 (nodes b)));
 }
@@ -217,8 +218,8 @@ by_fecs b es f i = record {
   below = below-all (nodes b) b (fecs_in es) (below b es f);
   news =
       let a : Bindings = after_events b es in
-      ap (λ n. flat_map (λ q. told_of (slice_index_or (offered b) q false) a es q) (range_with_len 0 n)) (nodes-after_events b es)
-      ∙ flat_some (λ q. told_of (slice_index_or (offered b) q false) a es q) (λ q. told_since a es (so_far b q)) (nodes b) 0 (fecs_in es) (ascends 0 es i)
+      ap (λ n. flat_map (λ q. tells_of (slice_index_or (offered b) q false) a es q) (range_with_len 0 n)) (nodes-after_events b es)
+      ∙ flat_some (λ q. tells_of (slice_index_or (offered b) q false) a es q) (λ q. told_since a es (so_far b q)) (nodes b) 0 (fecs_in es) (ascends 0 es i)
       (subst (λ n. AreBelow n (fecs_in es)) (from_none (nodes b)) (below b es f))
       (λ q h. was b a es q (omega (arith, h)))
       (λ q low h d. was b a es q (omega (arith, h)) ∙ told_of-same (offers b q) a es q (opens-none 0 es i) (offers_stays b es i q d))

@@ -5,14 +5,14 @@ use Rattle.std.proofs.lemmas.List.{set-set, set-get_or, get_or-set_same}
 use Rattle.mn_lib.specs.declared.event.LibEvent.{LibEvent}
 use Rattle.mn_lib.specs.declared.event.LibEvent.TheVariants.{Opened, Closed, Map, Withdraw, Next}
 use Rattle.mn_lib.specs.declared.undo.Undo.{Undo}
-use Rattle.mn_lib.specs.Bindings.{Bindings, nodes, row_of, with_label, label_in, after_event, EventFits}
+use Rattle.mn_lib.specs.Bindings.{Bindings, nodes, row_of, with_label, label_learned, after_event, EventFits}
 use Rattle.mn_lib.specs.Undoing.{undone, undo_of, all_undone}
 
 -- a place written twice, at last with what it had
 again : {A : Type 0} (xs : List A) (i : ℕ) (a b d : A) → b ≡ slice_index_or xs i d → slice_set (slice_set xs i a) i b ≡ xs
 again xs i a b d e = set-set xs i a b ∙ ap (slice_set xs i) e ∙ set-get_or xs i d
 
-label-again : (r : Option (List (Option ℕ))) (p : ℕ) (l : Option ℕ) → with_label (with_label r p l) p (label_in r p) ≡ r
+label-again : (r : Option (List (Option ℕ))) (p : ℕ) (l : Option ℕ) → with_label (with_label r p l) p (label_learned r p) ≡ r
 label-again None p l = refl
 label-again (Some row) p l = ap (λ x. let o : Option (List (Option ℕ)) = Some x in o) (again row p l (slice_index_or row p None) None refl)
 
@@ -24,11 +24,11 @@ closed-none (Some x) h = cc
 relabel : (xs : List (Option (List (Option ℕ)))) (h p : ℕ) (l : Option ℕ) → h < length xs →
     let r : Option (List (Option ℕ)) = slice_index_or xs h None in
     let ys : List (Option (List (Option ℕ))) = slice_set xs h (with_label r p l) in
-    slice_set ys h (with_label (slice_index_or ys h None) p (label_in r p)) ≡ xs
+    slice_set ys h (with_label (slice_index_or ys h None) p (label_learned r p)) ≡ xs
 relabel xs h p l k =
     let r : Option (List (Option ℕ)) = slice_index_or xs h None in
     again xs h (with_label r p l) _ None
-    (ap (λ z. with_label z p (label_in r p)) (get_or-set_same xs h (with_label r p l) None k) ∙ label-again r p l)
+    (ap (λ z. with_label z p (label_learned r p)) (get_or-set_same xs h (with_label r p l) None k) ∙ label-again r p l)
 
 with_heard : Bindings → List (Option (List (Option ℕ))) → Bindings
 with_heard b xs = record b { heard = xs }

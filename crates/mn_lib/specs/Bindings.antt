@@ -28,9 +28,9 @@ abbrev pub is_open : Bindings → ℕ → Bool
 is_open bindings neighbour = is_some (row_of bindings neighbour)
 
 -- the label of a FEC, where the last thing that was said of it is a Mapping
-abbrev pub label_in : Option (List (Option ℕ)) → ℕ → Option ℕ
-label_in None fec = None
-label_in (Some row) fec = slice_index_or row fec None
+abbrev pub label_learned : Option (List (Option ℕ)) → ℕ → Option ℕ
+label_learned None fec = None
+label_learned (Some row) fec = slice_index_or row fec None
 
 abbrev pub labelled : NodeNo → Option ℕ → Option (NodeNo × ℕ)
 labelled hop None = None
@@ -38,7 +38,7 @@ labelled hop (Some label) = Some (hop, label)
 
 abbrev pub usable_by : Bindings → ℕ → Option NodeNo → Option (NodeNo × ℕ)
 usable_by bindings fec None = None
-usable_by bindings fec (Some hop) = labelled hop (label_in (row_of bindings hop.0) fec)
+usable_by bindings fec (Some hop) = labelled hop (label_learned (row_of bindings hop.0) fec)
 
 -- the next hop and its label, where it is open and mapped the FEC
 abbrev pub usable : Bindings → ℕ → Option (NodeNo × ℕ)

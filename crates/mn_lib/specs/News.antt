@@ -7,7 +7,7 @@ use Rattle.mn_lib.specs.declared.event.LibEvent.TheVariants as event
 use Rattle.mn_lib.specs.declared.event.Tell.{Tell}
 use Rattle.mn_lib.specs.declared.news.SoFar.{SoFar}
 use Rattle.mn_lib.specs.Bindings.{Bindings, nodes, offers, after_events}
-use Rattle.mn_lib.specs.Tells.{told_of, changes, offered}
+use Rattle.mn_lib.specs.Tells.{tells_of, changes, offered}
 
 -- the FEC that an event is of, by its node; none where a neighbour opens or closes
 abbrev pub fec_of : LibEvent → Option ℕ
@@ -52,7 +52,7 @@ so_far_in bindings event = map (so_far bindings) (option_to_list (fec_of event))
 
 -- what is told of a FEC since then
 abbrev pub told_since : Bindings → List LibEvent → SoFar → List Tell
-told_since after events before = told_of before.offered after events before.fec.0
+told_since after events before = tells_of before.offered after events before.fec.0
 
 -- these FECs are of the node's, and of no other one anything must be told
 pub record AreAllNews (bindings : Bindings) (events : List LibEvent) (all : List SoFar) : Type 0 where

@@ -41,12 +41,12 @@ abbrev pub told : Bool → Bindings → List LibEvent → ℕ → ℕ → List T
 told before after events fec to = cond (is_open after to) (map (λ kind. tell to kind fec) (mention (before && not (opens events to)) (offers after fec))) []
 
 -- what all neighbours are told of a FEC, in node order
-abbrev pub told_of : Bool → Bindings → List LibEvent → ℕ → List Tell
-told_of before after events fec = flat_map (told before after events fec) (range_with_len 0 (nodes after))
+abbrev pub tells_of : Bool → Bindings → List LibEvent → ℕ → List Tell
+tells_of before after events fec = flat_map (told before after events fec) (range_with_len 0 (nodes after))
 
 -- by FEC in node order, where these were offered before
 abbrev pub changes : List Bool → Bindings → List LibEvent → List Tell
-changes before after events = flat_map (λ fec. told_of (slice_index_or before fec false) after events fec) (range_with_len 0 (nodes after))
+changes before after events = flat_map (λ fec. tells_of (slice_index_or before fec false) after events fec) (range_with_len 0 (nodes after))
 
 -- which FECs are offered, in node order
 abbrev pub offered : Bindings → List Bool

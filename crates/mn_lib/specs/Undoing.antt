@@ -4,7 +4,7 @@ use Rattle.mn_lib.specs.declared.event.LibEvent.{LibEvent}
 use Rattle.mn_lib.specs.declared.event.LibEvent.TheVariants.{Opened, Closed, Map, Withdraw, Next}
 use Rattle.mn_lib.specs.declared.undo.Undo.{Undo}
 use Rattle.mn_lib.specs.declared.undo.Undo.TheVariants.{Row, Label, Hop}
-use Rattle.mn_lib.specs.Bindings.{Bindings, row_of, with_label, label_in}
+use Rattle.mn_lib.specs.Bindings.{Bindings, row_of, with_label, label_learned}
 
 abbrev pub heard_label : Bindings → ℕ → ℕ → Option ℕ → Bindings
 heard_label bindings from fec label = record bindings { heard = slice_set bindings.heard from (with_label (row_of bindings from) fec label) }
@@ -18,8 +18,8 @@ undone bindings (Hop fec hop) = record bindings { hops = slice_set bindings.hops
 abbrev pub undo_of : Bindings → LibEvent → Undo
 undo_of bindings (Opened from) = Row from None
 undo_of bindings (Closed from) = Row from (row_of bindings from.0)
-undo_of bindings (Map from fec label) = Label from fec (label_in (row_of bindings from.0) fec.0)
-undo_of bindings (Withdraw from fec) = Label from fec (label_in (row_of bindings from.0) fec.0)
+undo_of bindings (Map from fec label) = Label from fec (label_learned (row_of bindings from.0) fec.0)
+undo_of bindings (Withdraw from fec) = Label from fec (label_learned (row_of bindings from.0) fec.0)
 undo_of bindings (Next fec hop) = Hop fec (slice_index_or bindings.hops fec.0 None)
 
 -- the last one is put back first

@@ -1,9 +1,9 @@
 ghost use Rattle.std.specs.Prelude.{ℕ, ◌≡◌, ◌≤◌, ◌<◌, ◌++◌, ◌==◌, ◌||◌, List, length, slice_index_or, slice_set, replicate, map, IfOk, OnOk, OnErr, is_some, true, false, Bool};
 ghost use Rattle.std.specs.List.{All, flat_map, range_with_len};
-ghost use Rattle.mn_lib.specs.Bindings.{nothing_heard, nodes, is_open, usable, offers, after_event, after_events, EventFits, EventsFit, row_of, with_label, label_in};
+ghost use Rattle.mn_lib.specs.Bindings.{nothing_heard, nodes, is_open, usable, offers, after_event, after_events, EventFits, EventsFit, row_of, with_label, label_learned};
 ghost use Rattle.mn_lib.specs.declared.undo.Undo.TheVariants.{Label};
 ghost use Rattle.mn_lib.specs.Undoing.{heard_label, undone, all_undone, undo_of};
-ghost use Rattle.mn_lib.specs.Tells.{tells, told, told_of, releases, closes, opens};
+ghost use Rattle.mn_lib.specs.Tells.{tells, told, tells_of, releases, closes, opens};
 ghost use Rattle.mn_lib.specs.News.{fecs_in, InOrder, AreBelow, so_far, so_far_in, told_since, AreAllNews};
 
 use crate::event::{LibEvent, Tell, TellKind, closes, opens, opens_any};
@@ -91,7 +91,7 @@ impl Lib {
 
     /// The label that a neighbour said last, where it is open and its last word of the FEC was a Mapping.
     fn label(&self, from: NodeNo, fec: NodeNo) -> Option<u32>
-        ensures { result ≡ label_in (row_of self.now from.0) fec.0 }
+        ensures { result ≡ label_learned (row_of self.now from.0) fec.0 }
     {
         let at = from.0 as usize;
         if at < self.heard.len() {
@@ -202,7 +202,7 @@ impl Lib {
     fn hear(&mut self, from: NodeNo, fec: NodeNo, label: Option<u32>) -> Undo
         requires { from.0 < nodes self.old }
         ensures after { self.new ≡ heard_label self.old from.0 fec.0 label }
-        ensures undo { result ≡ Label from fec (label_in (row_of self.old from.0) fec.0) }
+        ensures undo { result ≡ Label from fec (label_learned (row_of self.old from.0) fec.0) }
         ensures rows { length self.old.heard ≡ nodes self.old }
     {
         let old = self.label(from, fec);
@@ -297,7 +297,7 @@ impl Lib {
         tells: &mut Vec<Tell>,
     ) -> Result<(), AllocError>
         requires fec { fec.0 < nodes self.now }
-        ensures { OnOk result (tells.new.items ≡ tells.old.items ++ told_of before self.now events.now fec.0) }
+        ensures { OnOk result (tells.new.items ≡ tells.old.items ++ tells_of before self.now events.now fec.0) }
     {
         for to in 0..self.hops.len() {
             self.tell_one(events, fec, before, NodeNo(to as u16), tells)?;

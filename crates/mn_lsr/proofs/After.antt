@@ -26,7 +26,7 @@ use Rattle.mn_lib.specs.declared.event.Tell.{Tell}
 use Rattle.mn_lib.specs.Bindings.{Bindings, nodes, is_open, EventsFit, after_event, after_events}
 use Rattle.mn_lib.specs.Bindings as lib
 use Rattle.mn_lib.specs.Tells as lib_tells
-use Rattle.mn_lib.specs.Tells.{tell, told, told_of, changes, releases, tells, opens}
+use Rattle.mn_lib.specs.Tells.{tell, told, tells_of, changes, releases, tells, opens}
 use Rattle.mn_lib.proofs.Events.{nodes-after_events, told_of-same}
 use Rattle.mn_lib.proofs.Ranges.{flat_none}
 use Rattle.mn_node.specs.Ldp.{Message, Said, said_on, is_operational, offers, offered, news}
@@ -39,7 +39,7 @@ use Rattle.mn_node.proofs.Opening.{hearing-in}
 use Rattle.mn_ldp_session.specs.Spelling.{pdus}
 use Rattle.mn_lsr.specs.declared.parts.Open.{Open}
 use Rattle.mn_lsr.specs.declared.parts.Parts.{Parts}
-use Rattle.mn_lsr.specs.Standing.{AreGiven, IsUseOf, IsSiteUse, session_in, label_in, way_to, state_in}
+use Rattle.mn_lsr.specs.Standing.{AreGiven, IsUseOf, IsSiteUse, session_in, session_label, way_to, state_in}
 use Rattle.mn_lsr.specs.Ties.{AreTied}
 use Rattle.mn_lsr.specs.Telling.{said_by_tell, message_of, MayTell}
 use Rattle.mn_lsr.specs.Parts.{FitsLabel, AreOwn, machines_of, wiring_in, node_in, Stands, MayFollow, bumped, pdus_by, ends_after}
@@ -73,7 +73,7 @@ hearing-counted : (c : ℕ) (s : Option Session) → hearing_in (option_map (wit
 hearing-counted c None = refl
 hearing-counted c (Some s) = refl
 
-label-counted : (c fec : ℕ) (s : Option Session) → label_in (option_map (with_count c) s) fec ≡ label_in s fec
+label-counted : (c fec : ℕ) (s : Option Session) → session_label (option_map (with_count c) s) fec ≡ session_label s fec
 label-counted c fec None = refl
 label-counted c fec (Some s) = refl
 
@@ -89,7 +89,7 @@ tied-said w n b xs tied = record {
       ∙ sym (hearing-in (having_said n xs) l ∙ ap hearing_in (counted-at n.sessions 0 l n.me xs)
       ∙ hearing-counted (length (messages_of (0 + l) n.me xs)) (session_at n l)));
   labels = λ h l fec below j on. tied.labels h l fec below j on
-      ∙ sym (ap (λ s. label_in s fec) (counted-at n.sessions 0 l n.me xs) ∙ label-counted (length (messages_of (0 + l) n.me xs)) fec (session_at n l));
+      ∙ sym (ap (λ s. session_label s fec) (counted-at n.sessions 0 l n.me xs) ∙ label-counted (length (messages_of (0 + l) n.me xs)) fec (session_at n l));
 }
 
 by-links : (me : ℕ) (m : Message) (ls : List ℕ) → EachBy me (flat_map (λ l. said_on l me (m ∷ [])) ls)
@@ -137,7 +137,7 @@ may-told n withdrawn fec to true true false h = (h, tt, tt)
 
 may-changes : (withdrawn : ℕ) (before : List Bool) (a : Bindings) (es : List LibEvent) → MayTell (nodes a) withdrawn (changes before a es)
 may-changes withdrawn before a es =
-    may-flat (nodes a) withdrawn (λ fec. told_of (slice_index_or before fec false) a es fec) (nodes a) 0
+    may-flat (nodes a) withdrawn (λ fec. tells_of (slice_index_or before fec false) a es fec) (nodes a) 0
     (λ fec h. may-flat (nodes a) withdrawn (told (slice_index_or before fec false) a es fec) (nodes a) 0
     (λ to g. may-told (nodes a) withdrawn fec to (is_open a to) (slice_index_or before fec false && not (opens es to)) (lib.offers a fec) (omega (arith, h))))
 
@@ -150,7 +150,7 @@ may-tells n withdrawn b es e h =
 -- without events nothing is told
 pub no_tells : (b : Bindings) → tells b [] ≡ []
 no_tells b =
-    flat_map_below (λ fec. told_of (slice_index_or (lib_tells.offered b) fec false) b [] fec) (λ fec. []) (nodes b) 0
+    flat_map_below (λ fec. tells_of (slice_index_or (lib_tells.offered b) fec false) b [] fec) (λ fec. []) (nodes b) 0
     (λ fec low h. told_of-same (slice_index_or (lib_tells.offered b) fec false) b [] fec (λ to. refl)
     (get_or-map-range_with_len (lib.offers b) 0 (nodes b) fec fec false (omega (arith, h)) (omega arith)))
     ∙ flat_none (λ fec. []) (λ fec. refl) (range_with_len 0 (nodes b))
@@ -167,7 +167,7 @@ heard-after b [] = refl
 heard-after b (e ∷ es) = heard-after (after_event b e) es ∙ heard-one b e
 
 -- next labels have 20 bits
-pub next_fits : (b : Bindings) → ((h fec : ℕ) → FitsLabel (lib.label_in (lib.row_of b h) fec)) → (fec : ℕ) → IsNextHop (lib.usable b fec)
+pub next_fits : (b : Bindings) → ((h fec : ℕ) → FitsLabel (lib.label_learned (lib.row_of b h) fec)) → (fec : ℕ) → IsNextHop (lib.usable b fec)
 next_fits b fit fec = by (slice_index_or b.hops fec None)
   where
     over : (hop : NodeNo) (label : Option ℕ) → FitsLabel label → IsNextHop (lib.labelled hop label)
@@ -176,7 +176,7 @@ next_fits b fit fec = by (slice_index_or b.hops fec None)
 
     by : (hop : Option NodeNo) → IsNextHop (lib.usable_by b fec hop)
     by None = tt
-    by (Some hop) = over hop (lib.label_in (lib.row_of b hop.0) fec) (fit hop.0 fec)
+    by (Some hop) = over hop (lib.label_learned (lib.row_of b hop.0) fec) (fit hop.0 fec)
 
 -- 3. The table
 
@@ -220,7 +220,7 @@ pub record Happens (p : Parts) (e : Event) (counts : List ℕ) (es : List LibEve
       → is_operational (knowledge_in (node_in p)) k ≡ not (opens es h)
   pub answered : answers (wiring_in p) (node_in p) e ≡ said_on l p.me.0 pre ++ flat_map (said_by_tell (wiring_in p) p.me.0) (releases es)
   pub own : AreOwn (wiring_in p) p.me.0 (machines_of ends)
-  pub fit : (h fec : ℕ) → FitsLabel (lib.label_in (lib.row_of (after_events p.lib es) h) fec)
+  pub fit : (h fec : ℕ) → FitsLabel (lib.label_learned (lib.row_of (after_events p.lib es) h) fec)
   pub fits : EventsFit p.lib es
 
 module _ (p : Parts) (st : Stands p) (e : Event) (counts : List ℕ) (es : List LibEvent) (ends : List (Option Open)) (l : ℕ) (pre : List Message)

@@ -10,7 +10,7 @@ use Rattle.mn_node.specs.Ldp.{is_operational}
 use Rattle.mn_node.specs.Node.{Session, Node, session_at, hearing_in, knowledge_in}
 use Rattle.mn_node.specs.Machine.{Opens, with_session, changed}
 use Rattle.mn_node.proofs.Opening.{hearing-in, opens_alike, other_link, not_before}
-use Rattle.mn_lsr.specs.Standing.{label_in}
+use Rattle.mn_lsr.specs.Standing.{session_label}
 use Rattle.mn_lsr.specs.Ties.{AreTied}
 
 -- the end of this session is OPERATIONAL
@@ -44,7 +44,7 @@ leads w me h l e = is_it (across w l me) h (first_passes (λ k. across w k me ==
 -- one neighbour's session and its row change together
 pub tied-one : (w : Wiring) (n : Node) (b : Bindings) (h l : ℕ) (session : Option Session) (row : Option (List (Option ℕ))) → AreTied w n b →
     joining w n.me h ≡ l ∷ [] → h < length w.loopbacks → length b.heard ≡ length w.loopbacks → l < length n.sessions
-    → is_some row ≡ is_up session → ((fec : ℕ) → is_some row ≡ true → lib.label_in row fec ≡ label_in session fec) →
+    → is_some row ≡ is_up session → ((fec : ℕ) → is_some row ≡ true → lib.label_learned row fec ≡ session_label session fec) →
     AreTied w (with_session n l session) (record b { heard = slice_set b.heard h row })
 tied-one w n b h l session row tied joins below rows there up labels = record {
   one_each = tied.one_each;
@@ -56,11 +56,11 @@ tied-one w n b h l session row tied joins below rows there up labels = record {
         ∙ sym (operational-is (with_session n l session) m ∙ ap is_up (session_off k m p.1 j))
   ];
   labels = λ k m fec k_below j on. elim (eqb_tells k h) [
-    | inl p ↦ ap (λ r. lib.label_in r fec) (row_here k p.1) ∙ labels fec (sym (ap is_some (row_here k p.1)) ∙ on)
-        ∙ sym (ap (λ s. label_in s fec) (session_here k m p.1 j))
-    | inr p ↦ ap (λ r. lib.label_in r fec) (get_or-set_other b.heard h k row None p.1)
+    | inl p ↦ ap (λ r. lib.label_learned r fec) (row_here k p.1) ∙ labels fec (sym (ap is_some (row_here k p.1)) ∙ on)
+        ∙ sym (ap (λ s. session_label s fec) (session_here k m p.1 j))
+    | inr p ↦ ap (λ r. lib.label_learned r fec) (get_or-set_other b.heard h k row None p.1)
         ∙ tied.labels k m fec k_below j (sym (ap is_some (get_or-set_other b.heard h k row None p.1)) ∙ on)
-        ∙ sym (ap (λ s. label_in s fec) (session_off k m p.1 j))
+        ∙ sym (ap (λ s. session_label s fec) (session_off k m p.1 j))
   ];
 }
   where
@@ -88,7 +88,7 @@ tied-opens w n b l none tied = record {
   me = tied.me;
   hops = tied.hops;
   open_is = λ k m below j. tied.open_is k m below j ∙ (opens_alike w n l none).operational m;
-  labels = λ k m fec below j on. tied.labels k m fec below j on ∙ sym (ap (λ s. label_in s fec) (other_link w n l none m (off k m below j on)));
+  labels = λ k m fec below j on. tied.labels k m fec below j on ∙ sym (ap (λ s. session_label s fec) (other_link w n l none m (off k m below j on)));
 }
   where
     off : (k m : ℕ) → k < length w.loopbacks → joining w n.me k ≡ m ∷ [] → is_open b k ≡ true → m ≢ l

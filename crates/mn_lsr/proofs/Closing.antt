@@ -18,7 +18,7 @@ use Rattle.mn_node.specs.Node.{Session, Node, session_at, knowledge_in, count_by
 use Rattle.mn_node.specs.Machine.{Event, Closes, with_session, changed, answers}
 use Rattle.mn_lsr.specs.declared.parts.Open.{Open}
 use Rattle.mn_lsr.specs.declared.parts.Parts.{Parts}
-use Rattle.mn_lsr.specs.Standing.{labels_in, session_in, label_in}
+use Rattle.mn_lsr.specs.Standing.{labels_in, session_in, session_label}
 use Rattle.mn_lsr.specs.Telling.{said_by_tell, MayTell}
 use Rattle.mn_lsr.specs.Replies.{closing_by, closing_events}
 use Rattle.mn_lsr.specs.Ties.{AreTied}
@@ -65,7 +65,7 @@ module _ (p : Parts) (st : Stands p) (l : ℕ) (there : l < length p.view.ends) 
   session_with row x = option_map (session_in w p.me.0 (with_row row) l) x
 
   labels-are : (row : Option (List (Option ℕ))) (x : Option Open) → is_some row ≡ is_up (session_with row x) →
-      (fec : ℕ) → is_some row ≡ true → lib.label_in row fec ≡ label_in (session_with row x) fec
+      (fec : ℕ) → is_some row ≡ true → lib.label_learned row fec ≡ session_label (session_with row x) fec
   labels-are None x up fec on = absurd (clash on)
     where
       clash : false ≡ true → ⊥
@@ -76,11 +76,11 @@ module _ (p : Parts) (st : Stands p) (l : ℕ) (there : l < length p.view.ends) 
       clash g = cc
   labels-are (Some row) (Some end) up fec on = ap (λ r. slice_index_or (labels_in (length w.loopbacks) r) fec None) (sym (row-at (Some row)))
 
-  fit-row : (row : Option (List (Option ℕ))) → ((fec : ℕ) → FitsLabel (lib.label_in row fec)) →
-      (h fec : ℕ) → FitsLabel (lib.label_in (row_of (with_row row) h) fec)
+  fit-row : (row : Option (List (Option ℕ))) → ((fec : ℕ) → FitsLabel (lib.label_learned row fec)) →
+      (h fec : ℕ) → FitsLabel (lib.label_learned (row_of (with_row row) h) fec)
   fit-row row fit h fec = elim (eqb_tells h far) [
-    | inl q ↦ subst (λ r. FitsLabel (lib.label_in r fec)) (sym (ap (row_of (with_row row)) q.1 ∙ row-at row)) (fit fec)
-    | inr q ↦ subst (λ r. FitsLabel (lib.label_in r fec)) (sym (get_or-set_other p.lib.heard far h row None q.1)) (st.fit h fec)
+    | inl q ↦ subst (λ r. FitsLabel (lib.label_learned r fec)) (sym (ap (row_of (with_row row)) q.1 ∙ row-at row)) (fit fec)
+    | inr q ↦ subst (λ r. FitsLabel (lib.label_learned r fec)) (sym (get_or-set_other p.lib.heard far h row None q.1)) (st.fit h fec)
   ]
 
   -- what happens is that this session and this row change
@@ -88,7 +88,7 @@ module _ (p : Parts) (st : Stands p) (l : ℕ) (there : l < length p.view.ends) 
       → after_events p.lib es ≡ with_row row → changed w n e ≡ with_session n l (session_with row x) → is_some row ≡ is_up (session_with row x)
       → (is_up (session_with row x) ≡ true → is_up (session_at n l) ≡ not (opens es far)) → ((h : ℕ) → h ≢ far → opens es h ≡ false)
       → answers w n e ≡ said_on l p.me.0 pre ++ flat_map (said_by_tell w p.me.0) (releases es) → IsOwnAt w p.me.0 l x →
-      ((fec : ℕ) → FitsLabel (lib.label_in row fec)) → EventsFit p.lib es
+      ((fec : ℕ) → FitsLabel (lib.label_learned row fec)) → EventsFit p.lib es
       → Happens p e p.view.counts es (slice_set p.sessions.items l x) l pre
   one e es x row pre lib_is changed_is up was off answered own fit fits = record {
     is = ap (λ b. with_ends w p.me.0 b p.view.counts (slice_set p.sessions.items l x)) lib_is
@@ -109,7 +109,7 @@ module _ (p : Parts) (st : Stands p) (l : ℕ) (there : l < length p.view.ends) 
     ];
     answered = answered;
     own = own-set w p.me.0 p.sessions.items l x st.ends own;
-    fit = λ h fec. subst (λ b. FitsLabel (lib.label_in (row_of b h) fec)) (sym lib_is) (fit-row row fit h fec);
+    fit = λ h fec. subst (λ b. FitsLabel (lib.label_learned (row_of b h) fec)) (sym lib_is) (fit-row row fit h fec);
     fits = fits;
   }
     where
@@ -157,7 +157,7 @@ module _ (p : Parts) (st : Stands p) (l : ℕ) (there : l < length p.view.ends) 
       let row_none : row_of p.lib (across (wiring_in p) l p.me.0) ≡ None = closed (row_of p.lib (across (wiring_in p) l p.me.0)) (state_there ∙ off) in
       one p st l there at_end_of (Closes l) [] None (row_of p.lib (across (wiring_in p) l p.me.0)) [] (same_row p st l there at_end_of) refl
       (ap is_some row_none) (λ on. absurd (clash (sym on))) (λ h d. refl) refl none_own
-      (λ fec. subst (λ r. FitsLabel (lib.label_in r fec)) (sym row_none) tt) tt
+      (λ fec. subst (λ r. FitsLabel (lib.label_learned r fec)) (sym row_none) tt) tt
     where
       closed : (o : Option (List (Option ℕ))) → is_some o ≡ false → o ≡ None
       closed None f = refl

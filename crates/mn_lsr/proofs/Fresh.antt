@@ -87,8 +87,8 @@ fresh_tied w me joins below = record {
 none_usable : (me : NodeNo) (nodes fec : ℕ) → usable (nothing_heard me nodes) fec ≡ None
 none_usable me nodes fec = ap (lib.usable_by (nothing_heard me nodes) fec) (none_there nodes fec)
 
-none_heard : (me : NodeNo) (nodes neighbour fec : ℕ) → lib.label_in (lib.row_of (nothing_heard me nodes) neighbour) fec ≡ None
-none_heard me nodes neighbour fec = ap (λ r. lib.label_in r fec) (none_there nodes neighbour)
+none_heard : (me : NodeNo) (nodes neighbour fec : ℕ) → lib.label_learned (lib.row_of (nothing_heard me nodes) neighbour) fec ≡ None
+none_heard me nodes neighbour fec = ap (λ r. lib.label_learned r fec) (none_there nodes neighbour)
 
 no_sessions : (w : Wiring) (me : ℕ) (b : Bindings) (q n : ℕ) → sessions_from w me b q (replicate n None) ≡ replicate n None
 no_sessions w me b q zero = refl

@@ -29,7 +29,7 @@ use Rattle.mn_ldp_session.specs.declared.kind.LdpKind.{LdpKind}
 use Rattle.mn_ldp_session.specs.declared.kind.LdpKind.TheVariants as kind
 use Rattle.mn_ldp_session.specs.declared.session.Session.{Session as Machine}
 use Rattle.mn_ldp_session.specs.declared.session.Reply.{Reply}
-use Rattle.mn_ldp_session.specs.Table.{kind_of, row, state_by, says_both, says_keep, begins, says_nothing}
+use Rattle.mn_ldp_session.specs.Table.{kind_of, row, state_after_row, says_both, says_keep, begins, says_nothing}
 use Rattle.mn_ldp_session.specs.Spelling.{node_of, message_in, SpeaksOfNode}
 use Rattle.mn_lsr.specs.declared.parts.Open.{Open}
 use Rattle.mn_lsr.specs.declared.parts.Parts.{Parts}
@@ -145,8 +145,8 @@ fit-set labels fec x h fit k = elim (eqb_tells k fec) [
   | inr p ↦ subst FitsLabel (sym (get_or-set_other labels fec k x None p.1)) (fit k)
 ]
 
-fit-with : (r : Option (List (Option ℕ))) (fec : ℕ) (x : Option ℕ) → FitsLabel x → ((k : ℕ) → FitsLabel (lib.label_in r k)) →
-    (k : ℕ) → FitsLabel (lib.label_in (with_label r fec x) k)
+fit-with : (r : Option (List (Option ℕ))) (fec : ℕ) (x : Option ℕ) → FitsLabel x → ((k : ℕ) → FitsLabel (lib.label_learned r k)) →
+    (k : ℕ) → FitsLabel (lib.label_learned (with_label r fec x) k)
 fit-with None fec x h fit k = tt
 fit-with (Some labels) fec x h fit k = fit-set labels fec x h fit k
 
@@ -217,7 +217,7 @@ module _ (p : Parts) (st : Stands p) (l : ℕ) (there : l < length p.view.ends) 
       (nat_le 2 (count_by next) ≡ true → nat_le 2 (count_by end.session.state) ≡ not (opens es (across (wiring_in p) l p.me.0)))
       → ((h : ℕ) → h ≢ across (wiring_in p) l p.me.0 → opens es h ≡ false)
       → said_on l p.me.0 (answer end.session.state m) ≡ said_on l p.me.0 (replied reply) ++ flat_map (said_by_tell (wiring_in p) p.me.0) (releases es)
-      → ((fec : ℕ) → FitsLabel (lib.label_in new_row fec)) → EventsFit p.lib es
+      → ((fec : ℕ) → FitsLabel (lib.label_learned new_row fec)) → EventsFit p.lib es
       → Happens p (Hears l m label) p.view.counts es (slice_set p.sessions.items l (Some (heard_end next))) l (replied reply)
   heard m label next es new_row reply next_is lib_is labels_are up was off answered fit fits =
       one p st l there at_end (Hears l m label) es (Some (heard_end next)) new_row (replied reply) lib_is
@@ -383,7 +383,7 @@ module _ (p : Parts) (st : Stands p) (l : ℕ) (there : l < length p.view.ends) 
       ∙ ap (λ ms. slice_index_or ms l None) (machines-set p.sessions.items l (Some (record { session = machine; said = end.said })))
       ∙ get_or-set_same (machines_of p.sessions.items) l (Some machine) None (omega (arith, there, st.ends.one_each))
       ∙ ap (λ m. let o : Option Machine = Some m in
-      o) (e ∙ ap (λ s. let o : Machine = record end.session { state = s } in o) (sym (ap (state_by end.session.state) f)))
+      o) (e ∙ ap (λ s. let o : Machine = record end.session { state = s } in o) (sym (ap (state_after_row end.session.state) f)))
       ∙ sym (ap (λ o. machine_then o body) is)
 
 -- the state machine of a session is that of the node's end

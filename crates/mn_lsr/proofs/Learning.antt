@@ -49,7 +49,7 @@ learning p st l tree tree_is =
       was = λ h k below j on. on ∙ sym (ap not (opens-none (stays p.me.0 p.tree tree) tree h (length p.loopbacks.items) 0));
       answered = sym (ap (flat_map (said_by_tell w p.me.0)) (releases-none (stays p.me.0 p.tree tree) tree (length p.loopbacks.items) 0));
       own = st.ends;
-      fit = λ h fec. subst (λ b. FitsLabel (lib.label_in (lib.row_of b h) fec)) (sym follow) (st.fit h fec);
+      fit = λ h fec. subst (λ b. FitsLabel (lib.label_learned (lib.row_of b h) fec)) (sym follow) (st.fit h fec);
       fits = may_follow w n p.lib l p.tree tree st.wired.joins st.wired.differ st.wired.once st.me st.tied st.tree tree_is;
     }
 

@@ -62,7 +62,7 @@ module _ (p : Parts) (st : Stands p) (l : ℕ) (there : l < length p.view.ends) 
       (sym (row-at p st l there at_end (row_of p.lib (across (wiring_in p) l p.me.0)) ∙ row_none)))
       (ap is_some row_none ∙ sym (not_up active)) (λ on. absurd (clash (sym (not_up active) ∙ on))) (λ h d. refl) (first_said l p.me.0 active)
       (λ x e. record { at_end = at_end; me_is = sym (ap (λ (m : Machine). m.me) (same e)); peer_is = sym (ap (λ (m : Machine). m.peer) (same e)) })
-      (λ fec. subst (λ r. FitsLabel (lib.label_in r fec)) (sym row_none) tt) tt
+      (λ fec. subst (λ r. FitsLabel (lib.label_learned r fec)) (sym row_none) tt) tt
     where
       same : {x y : Open} → Some x ≡ Some y → x.session ≡ y.session
       same e = cc

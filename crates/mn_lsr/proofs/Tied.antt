@@ -16,7 +16,7 @@ use Rattle.mn_node.specs.Ldp.{hearing, is_operational, is_mapped, usable_over, u
 use Rattle.mn_node.specs.Node.{Session, Node, session_at, view_in, hearing_in, knowledge_in}
 use Rattle.mn_node.proofs.Mapped.{mapped-is}
 use Rattle.mn_node.proofs.Opening.{hearing-in}
-use Rattle.mn_lsr.specs.Standing.{label_in, labelled, way_to}
+use Rattle.mn_lsr.specs.Standing.{session_label, labelled, way_to}
 use Rattle.mn_lsr.specs.Ties.{AreTied}
 
 -- 1. The link of a next hop is the one link to that neighbour
@@ -114,21 +114,21 @@ hop_is w view me to hop joins once below d e =
 
 -- where the node is OPERATIONAL, what is mapped has a label
 mapped_has_label : (n : Node) (l fec : ℕ) → is_operational (knowledge_in n) l ≡ true →
-    is_mapped false fec (hearing (knowledge_in n) l).messages ≡ is_some (label_in (session_at n l) fec)
+    is_mapped false fec (hearing (knowledge_in n) l).messages ≡ is_some (session_label (session_at n l) fec)
 mapped_has_label n l fec on = by (session_at n l) refl
   where
-    by : (o : Option Session) → session_at n l ≡ o → is_mapped false fec (hearing (knowledge_in n) l).messages ≡ is_some (label_in (session_at n l) fec)
-    by None e = ap (λ h. is_mapped false fec h.messages) (hearing-in n l ∙ ap hearing_in e) ∙ sym (ap (λ o. is_some (label_in o fec)) e)
+    by : (o : Option Session) → session_at n l ≡ o → is_mapped false fec (hearing (knowledge_in n) l).messages ≡ is_some (session_label (session_at n l) fec)
+    by None e = ap (λ h. is_mapped false fec h.messages) (hearing-in n l ∙ ap hearing_in e) ∙ sym (ap (λ o. is_some (session_label o fec)) e)
     by (Some s) e =
         ap (λ h. is_mapped false fec h.messages) (hearing-in n l ∙ ap hearing_in e) ∙ mapped-is 0 fec fec s.labels (omega arith)
-        ∙ sym (ap (λ o. is_some (label_in o fec)) e)
+        ∙ sym (ap (λ o. is_some (session_label o fec)) e)
 
 module _ (w : Wiring) (n : Node) (b : Bindings) (joins : JoinsNodes w) (once : JoinsOnce w) (below : n.me < length w.loopbacks) (tied : AreTied w n b) where
   -- the label is there where what is heard says so
   over_hop : (fec : ℕ) (hop : ℕ × ℕ) → IsHop w n.me hop → (on : Bool) → is_operational (knowledge_in n) hop.1 ≡ on
-      → lib.labelled (record { 0 = hop.0 }) (lib.label_in (row_of b hop.0) fec) ≡ labelled n fec (usable_over (knowledge_in n) fec (Some hop))
+      → lib.labelled (record { 0 = hop.0 }) (lib.label_learned (row_of b hop.0) fec) ≡ labelled n fec (usable_over (knowledge_in n) fec (Some hop))
   over_hop fec hop h false e =
-      ap (λ o. lib.labelled (record { 0 = hop.0 }) (lib.label_in o fec)) (closed (row_of b hop.0) (tied.open_is hop.0 hop.1 h.node h.joins ∙ e))
+      ap (λ o. lib.labelled (record { 0 = hop.0 }) (lib.label_learned o fec)) (closed (row_of b hop.0) (tied.open_is hop.0 hop.1 h.node h.joins ∙ e))
       ∙ sym (ap (λ x. labelled n fec (elim x as (λ _. Option (ℕ × ℕ)) [ true ↦ Some hop | false ↦ None ]))
       (ap (λ x. x && is_mapped false fec (hearing (knowledge_in n) hop.1).messages) e))
     where
@@ -137,14 +137,14 @@ module _ (w : Wiring) (n : Node) (b : Bindings) (joins : JoinsNodes w) (once : J
       closed (Some row) f = cc
   over_hop fec hop h true e =
       ap (lib.labelled (record { 0 = hop.0 })) (tied.labels hop.0 hop.1 fec h.node h.joins (tied.open_is hop.0 hop.1 h.node h.joins ∙ e))
-      ∙ either (label_in (session_at n hop.1) fec) refl
+      ∙ either (session_label (session_at n hop.1) fec) refl
     where
-      scrutinee : (x : Bool) → is_some (label_in (session_at n hop.1) fec) ≡ x →
+      scrutinee : (x : Bool) → is_some (session_label (session_at n hop.1) fec) ≡ x →
           (is_operational (knowledge_in n) hop.1 && is_mapped false fec (hearing (knowledge_in n) hop.1).messages) ≡ x
       scrutinee x f = ap (λ o. o && is_mapped false fec (hearing (knowledge_in n) hop.1).messages) e ∙ mapped_has_label n hop.1 fec e ∙ f
 
-      either : (o : Option ℕ) → label_in (session_at n hop.1) fec ≡ o →
-          lib.labelled (record { 0 = hop.0 }) (label_in (session_at n hop.1) fec) ≡ labelled n fec (usable_over (knowledge_in n) fec (Some hop))
+      either : (o : Option ℕ) → session_label (session_at n hop.1) fec ≡ o →
+          lib.labelled (record { 0 = hop.0 }) (session_label (session_at n hop.1) fec) ≡ labelled n fec (usable_over (knowledge_in n) fec (Some hop))
       either None f =
           ap (lib.labelled (record { 0 = hop.0 })) f
           ∙ sym (ap (λ x. labelled n fec (elim x as (λ _. Option (ℕ × ℕ)) [ true ↦ Some hop | false ↦ None ])) (scrutinee false (ap is_some f)))
@@ -176,11 +176,11 @@ module _ (w : Wiring) (n : Node) (b : Bindings) (joins : JoinsNodes w) (once : J
   way_some fec (Some hop) = by (is_operational (knowledge_in n) hop.1) refl
     where
       shown : (x : Bool) → (is_operational (knowledge_in n) hop.1 && is_mapped false fec (hearing (knowledge_in n) hop.1).messages) ≡ x →
-          (x ≡ true → is_some (label_in (session_at n hop.1) fec) ≡ true)
+          (x ≡ true → is_some (session_label (session_at n hop.1) fec) ≡ true)
           → is_some (labelled n fec (elim x as (λ _. Option (ℕ × ℕ)) [ true ↦ Some hop | false ↦ None ])) ≡ is_some
           (elim x as (λ _. Option (ℕ × ℕ)) [ true ↦ Some hop | false ↦ None ])
       shown false e f = refl
-      shown true e f = has (label_in (session_at n hop.1) fec) (f refl)
+      shown true e f = has (session_label (session_at n hop.1) fec) (f refl)
         where
           has : (o : Option ℕ) → is_some o ≡ true → is_some (option_map (λ (label : ℕ). let y : NodeNo × ℕ = (record { 0 = hop.0 }, label) in y) o) ≡ true
           has (Some label) g = refl

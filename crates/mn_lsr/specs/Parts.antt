@@ -2,6 +2,7 @@
 use Rattle.std.specs.Prelude.{◌≡◌, ◌≢◌, ◌<◌, ◌≤◌, ◌^◌, ℕ, ◌+◌, ◌==◌, ◌||◌, Bool, true, false, if◌then◌else◌, List, [], ◌∷◌, length, map, slice_index_or}
 use Rattle.std.specs.Prelude.{slice_set, Option, Some, None, option_map, ⊤}
 use Rattle.std.specs.List.{flat_map, range_with_len}
+use Rattle.mn_base.specs.Limits.{most_labels}
 use Rattle.mn_base.specs.declared.numbers.NodeNo.{NodeNo}
 use Rattle.mn_base.specs.Wiring.{Wiring, is_end, across, JoinsNodes}
 use Rattle.mn_linkdb.specs.Learned.{links_up, IsView}
@@ -58,9 +59,9 @@ pub record Stands (p : Parts) : Type 0 where
   pub ends : AreOwn (wiring_in p) p.me.0 (machines_of p.sessions.items)
   pub rows : length p.lib.heard ≡ length p.loopbacks.items
   pub tied : AreTied (wiring_in p) (node_in p) p.lib
-  pub fit : (neighbour fec : ℕ) → FitsLabel (lib.label_in (lib.row_of p.lib neighbour) fec)
+  pub fit : (neighbour fec : ℕ) → FitsLabel (lib.label_learned (lib.row_of p.lib neighbour) fec)
   pub given : AreGiven (length p.loopbacks.items) p.me.0 p.labels.given
-  pub few : length p.labels.given ≤ 1048560
+  pub few : length p.labels.given ≤ most_labels
   pub attached : (site : ℕ) → slice_index_or p.attached.items site 0 ≡ attachments site p.labels.given
   pub table : (label : ℕ) → IsUseOf (lib.usable p.lib) (meaning_of p.labels.given label) (use_of p.lfib label)
 

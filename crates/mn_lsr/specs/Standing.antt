@@ -41,14 +41,14 @@ sessions_from wiring me lib l [] = []
 sessions_from wiring me lib l (end ∷ ends) = option_map (session_in wiring me lib l) end ∷ sessions_from wiring me lib (l + 1) ends
 
 -- the label that was heard last in a session
-abbrev pub label_in : Option Session → ℕ → Option ℕ
-label_in None fec = None
-label_in (Some session) fec = slice_index_or session.labels fec None
+abbrev pub session_label : Option Session → ℕ → Option ℕ
+session_label None fec = None
+session_label (Some session) fec = slice_index_or session.labels fec None
 
 -- the next hop with the label that it gave the FEC
 abbrev pub labelled : Node → ℕ → Option (ℕ × ℕ) → Option (NodeNo × ℕ)
 labelled node fec None = None
-labelled node fec (Some hop) = option_map (λ label. (record { 0 = hop.0 }, label)) (label_in (session_at node hop.1) fec)
+labelled node fec (Some hop) = option_map (λ label. (record { 0 = hop.0 }, label)) (session_label (session_at node hop.1) fec)
 
 -- the next hop towards an edge, and the label to be sent there
 abbrev pub way_to : Wiring → Node → ℕ → Option (NodeNo × ℕ)

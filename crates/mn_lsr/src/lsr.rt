@@ -1,4 +1,5 @@
 ghost use Rattle.std.specs.Prelude.{◌≡◌, ◌≢◌, ◌≤◌, ◌<◌, ◌+◌, ◌++◌, ◌∷◌, [], ◌↔◌, ℕ, true, false, None, Some, Ok, Err, length, map, slice_index, IfOk, IfErr, OnOk, OnErr, IsErr, IsErrOf, MatchResult, option_map};
+ghost use Rattle.mn_base.specs.Limits.{most_labels};
 ghost use Rattle.mn_base.specs.Wiring.{Wiring, is_end};
 ghost use Rattle.mn_node.specs.Node.{Session, session_at, view_in};
 ghost use Rattle.mn_labels.specs.declared.meaning.Bind.TheVariants as bind;
@@ -210,7 +211,7 @@ impl Lsr {
         ensures others { IfOk result (λ label. (other : ℕ) → other ≢ label → use_of self.new.uses other ≡ use_of self.old.uses other) }
         ensures table { OnOk result (TableStands self.new) }
         ensures kept { self.new ≡ record self.old { given = self.new.given; uses = self.new.uses } }
-        ensures spent { self.old.failed ≡ false → IsErrOf result LabelBad.Spent ↔ (length self.old.given.given ≡ 1048560) }
+        ensures spent { self.old.failed ≡ false → IsErrOf result LabelBad.Spent ↔ (length self.old.given.given ≡ most_labels) }
         ensures unchanged { OnErr result ((self.new.given.given ≡ self.old.given.given) × (self.new.uses ≡ self.old.uses)) }
         ensures for_good { self.old.failed ≡ true → result ≡ Err LabelBad.NoMemory }
     {

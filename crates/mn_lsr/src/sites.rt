@@ -1,4 +1,5 @@
 ghost use Rattle.std.specs.Prelude.{◌≡◌, ◌≢◌, ◌≤◌, ◌<◌, ◌+◌, ◌++◌, ◌∷◌, ◌↔◌, [], ℕ, Some, OnOk, OnErr, IfOk, IsErrOf, length, slice_index_or};
+ghost use Rattle.mn_base.specs.Limits.{most_labels};
 ghost use Rattle.mn_labels.specs.declared.meaning.Bind.TheVariants as bind;
 ghost use Rattle.mn_labels.specs.Labels.{meaning_of};
 ghost use Rattle.mn_lfib.specs.declared.answer.Use.TheVariants as use_kind;
@@ -20,7 +21,7 @@ const LABELS: u32 = 1 << 20;
 /// The label that is given next, or 2 ^ 20 where none is left.
 fn next_label(labels: &Labels) -> u32
     ensures next { result ≡ 16 + length labels.now.given }
-    ensures few { length labels.now.given ≤ 1048560 }
+    ensures few { length labels.now.given ≤ most_labels }
 {
     FIRST + labels.table().len() as u32
 }
@@ -47,7 +48,7 @@ impl Parts {
         ensures given { OnOk result (self.new.labels.given ≡ self.old.labels.given ++ bind.Site site (attachments site.0 self.old.labels.given + 1) ∷ []) }
         ensures used { IfOk result (λ label. use_of self.new.lfib label ≡ Some (use_kind.Site site)) }
         ensures others { IfOk result (λ label. (other : ℕ) → other ≢ label → use_of self.new.lfib other ≡ use_of self.old.lfib other) }
-        ensures spent { IsErrOf result LabelBad.Spent ↔ (length self.old.labels.given ≡ 1048560) }
+        ensures spent { IsErrOf result LabelBad.Spent ↔ (length self.old.labels.given ≡ most_labels) }
         ensures unchanged { OnErr result ((self.new.labels.given ≡ self.old.labels.given) × (self.new.lfib ≡ self.old.lfib)) }
         ensures kept { self.new ≡ record self.old { labels = self.new.labels; lfib = self.new.lfib; attached = self.new.attached } }
     {

@@ -17,8 +17,9 @@ use Rattle.mn_topo.specs.declared.vrfs.VrfDef.{VrfDef}
 use Rattle.mn_ledger.specs.World.{Config, Peerings}
 use Rattle.mn_ledger.specs.Ledger.{world_of}
 use Rattle.mn_ledger.specs.Places.{edge_of}
-use Rattle.mn_ledger.specs.Vpn.{peers_live, state_heard, bgp_state_of, HeldRoute, is_better, unbeaten, first_of, held, best}
-use Rattle.mn_ledger.specs.Vpn as vpn
+use Rattle.mn_ledger.specs.Bgp.{peers_live, state_heard, bgp_state_of}
+use Rattle.mn_ledger.specs.Held.{HeldRoute, is_better, unbeaten, first_of, held}
+use Rattle.mn_ledger.specs.Held as ledger_held
 use Rattle.mn_ledger.proofs.Held.{one_held}
 use Rattle.mn_laws.proofs.There.{edge_there}
 use Rattle.mn_laws.proofs.Holding.{length_range}
@@ -34,9 +35,8 @@ use Rattle.mn_pe.specs.Held.{held_by, far_over}
 use Rattle.mn_pe.specs.Pe.{PeNow, found_in}
 use Rattle.mn_bgp_spelling.specs.Spelling.{Labels, session_in}
 use Rattle.mn_bgp_session.specs.declared.session.BgpSession.{BgpSession}
-use Rattle.mn_routing_model.specs.Laws.{AllFindTheBest}
 use Rattle.mn_routing_model.specs.Routed.{working}
-use Rattle.mn_routing_model.specs.Sending.{state_by}
+use Rattle.mn_routing_model.specs.Sending.{bgp_state_by}
 use Rattle.mn_routing_model.specs.Sources.{as_held, source_from}
 use Rattle.mn_routing_model.specs.Standing.{vrf_in, edge_in}
 use Rattle.mn_routing_model.specs.Whole.{routes_in, edge_or_none, session_or_none}
@@ -52,21 +52,21 @@ use Rattle.mn_net.proofs.Prefixes.{place_told}
 -- 1. Sessions
 
 by_life : (c : Config) (p : Peerings) (a b : ℕ) (session : BgpSession) → session.state ≡ bgp_state_of c p a b → (live : Bool) → peers_live c a b ≡ live →
-    state_by (if live then Some session else None) ≡ bgp_state_of c p a b
+    bgp_state_by (if live then Some session else None) ≡ bgp_state_of c p a b
 by_life c p a b session e true h = e
 by_life c p a b session e false h = sym (ap (λ l. if l then state_heard (p.heard a b) else Idle) h)
 
 pub session_told : (net : NetNow) → IsNet net → (a b : ℕ) → a < length net.topology.loopbacks → b < length net.topology.loopbacks →
-    state_by (slice_index_or (slice_index_or net.routes.sessions a []) b None)
+    bgp_state_by (slice_index_or (slice_index_or net.routes.sessions a []) b None)
     ≡ bgp_state_of (world_of net.topology net.journal).config (world_of net.topology net.journal).peerings a b
 session_told net is a b below other =
     let t : Network = net.topology in
     let c : Config = (world_of t net.journal).config in
     let p : Peerings = (world_of t net.journal).peerings in
-    ap (λ rows. state_by (slice_index_or (slice_index_or rows a []) b None)) is.stands.routes.sessions
-    ∙ ap (λ row. state_by (slice_index_or row b None))
+    ap (λ rows. bgp_state_by (slice_index_or (slice_index_or rows a []) b None)) is.stands.routes.sessions
+    ∙ ap (λ row. bgp_state_by (slice_index_or row b None))
     (map_numbers_at (λ node. map (session_or_none t c p node) (nodes_of (wiring_of t))) (length t.loopbacks) a [] below)
-    ∙ ap state_by (map_numbers_at (session_or_none t c p a) (length t.loopbacks) b None other)
+    ∙ ap bgp_state_by (map_numbers_at (session_or_none t c p a) (length t.loopbacks) b None other)
     ∙ by_life c p a b (session_in t c p a b) refl (peers_live c a b) refl
 
 pub rows_length : (net : NetNow) → IsNet net → length net.routes.sessions ≡ length net.topology.loopbacks
@@ -130,20 +130,6 @@ module _ (net : NetNow) (lawful : IsLawful net.topology) (is : IsNet net) (v : �
   abbrev question : ℕ → VrfState → Option (AddressBlock × Source)
   question address vrf = longest_match address (held_by its vrf)
 
-  found : (address : ℕ) → found_in v (question address) its.vrfs ≡ question address (vrf_in t c v)
-  found address = sym (ap (asked (λ (edge : Edge). found_in v (question address) edge.vrfs)) its_edge) ∙ vrf_is t l c p lawful v (question address) h
-
-  pub lookup_told : AllFindTheBest →
-      (address : ℕ) (pe : PeNow) (result : Option (AddressBlock × Source)) → Some pe ≡ slice_index_or net.routes.edges (edge_of t v) None →
-      (pe.failed ≡ false → result ≡ found_in v (λ (vrf : VrfState). longest_match address (held_by pe.edge vrf)) pe.edge.vrfs) →
-      result ≡ option_map (as_held l) (best (held t c p (edge_of t v) v) address)
-  lookup_told finds address pe result at tells =
-      let same : pe ≡ working its = same_Some pe (working its) (at ∙ edge_told) in
-      let told =
-      subst (λ (x : PeNow). x.failed ≡ false →
-      result ≡ found_in v (λ (vrf : VrfState). longest_match address (held_by x.edge vrf)) x.edge.vrfs) same tells in
-      told refl ∙ found address ∙ finds t l net.journal is.inputs (edge_of t v) v address lawful is.stands.stands.lawful refl
-
   pub held_told : (k : ℕ) (pe : PeNow) (result : Option (AddressBlock × Source)) → Some pe ≡ slice_index_or net.routes.edges (edge_of t v) None →
       (pe.failed ≡ false → result ≡ found_in v (λ (vrf : VrfState). slice_get (heads (held_by pe.edge vrf)) k) pe.edge.vrfs) →
       result ≡ option_map (as_held l) (held_at (held t c p (edge_of t v) v) k)
@@ -176,11 +162,11 @@ module _ (net : NetNow) (lawful : IsLawful net.topology) (is : IsNet net) (v : �
   given_as : (route : HeldRoute) → In routes route → as_held l route ≡ entry.as_held (given t net.journal) route
   given_as route i = ap (λ (s : Source). let pair : AddressBlock × Source = (route.prefix, s) in pair) (by route.source)
     where
-      by : (source : vpn.Source) →
+      by : (source : ledger_held.Source) →
           source_from l route.edge route.site route.attachment source ≡ entry.source_of (given t net.journal) route source
-      by vpn.Own = refl
-      by (vpn.Near v) = refl
-      by (vpn.Far address rd) = ap (far_over address rd route.edge) (label_is route i)
+      by ledger_held.Own = refl
+      by (ledger_held.Near v) = refl
+      by (ledger_held.Far address rd) = ap (far_over address rd route.edge) (label_is route i)
 
   first_in : (xs : List HeldRoute) (x : HeldRoute) → first_of xs ≡ Some x → In xs x
   first_in [] x e = absurd (let none : None ≡ Some x → ⊥ = (λ e. cc) in none e)

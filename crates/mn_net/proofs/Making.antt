@@ -26,7 +26,7 @@ use Rattle.mn_laws.proofs.Channels.{channels_are}
 use Rattle.mn_laws.proofs.Ordered.{numbers_ascend}
 use Rattle.mn_course.specs.Coming.{kind_of, place_of}
 use Rattle.mn_timetable.proofs.Keys.{numbered-append}
-use Rattle.mn_net.specs.Told.{Told, channel_of, bytes_on, told_of, told_at, bytes_made, count_made, told_made, MadeIsTold}
+use Rattle.mn_net.specs.Told.{Told, channel_of, bytes_on, item_told, told_at, bytes_made, count_made, told_made, MadeIsTold}
 use Rattle.mn_net.proofs.Found.{one_found, its_place}
 use Rattle.mn_net.proofs.Pieces.{told_as}
 
@@ -205,7 +205,7 @@ module _ (t : Network) (lawful : IsLawful t) (es : List JournalEntry) (ps : List
 
     told : told_at t now inputs (made + length front) ≡ slice_get (told_made t now e.tick new) (length front)
     told =
-        ap (option_map (told_of t now items)) found
+        ap (option_map (item_told t now items)) found
         ∙ told_as (kind_of x.0) (kind_of x.0) (channel_of t x.0) (channel_of t x.0) (e.tick + delay_on t x.0) (e.tick + delay_on t x.0)
         (bytes_on t now (place_of items it) x.0 x.1) (bytes_made t now (count_made x.0 (x ∷ rest)) x.0 x.1) refl refl refl
         (ap (λ n. bytes_on t now n x.0 x.1) place ∙ bytes_are)
@@ -216,7 +216,7 @@ module _ (t : Network) (lawful : IsLawful t) (es : List JournalEntry) (ps : List
     | inl s ↦ subst (λ n. told_at t now inputs (made + n) ≡ slice_get (told_made t now e.tick new) n) s.at (told s.front s.rest s.it s.whole)
     | inr h ↦
         let most : (flight_of t now inputs).made ≡ made + length new = ap (λ (f : Flight). f.made) goes in
-        ap (option_map (told_of t now items))
+        ap (option_map (item_told t now items))
         (none_above 0 (flight_of t now inputs).made (made + k) items (numbers_ascend t now inputs) (omega (arith, most, h)))
         ∙ sym (none_past (told_made t now e.tick new) k (omega (arith, told_length t now e.tick new, h)))
   ]

@@ -25,7 +25,7 @@ use Rattle.mn_net_refusal.specs.Coming.{dir_of, pending_seen}
 use Rattle.mn_net_look.specs.Parts.{OnChannels, packed_of}
 use Rattle.mn_net_now.specs.Now.{NetNow, StandsFor}
 use Rattle.mn_net.specs.declared.flight.Channel.{Channel as Place}
-use Rattle.mn_net.specs.Told.{Told, channel_of, bytes_on, told_of, told_at}
+use Rattle.mn_net.specs.Told.{Told, channel_of, bytes_on, item_told, told_at}
 use Rattle.mn_net.specs.Tables.{count_of}
 use Rattle.mn_net.proofs.Found.{IsFound, found, elsewhere, one_found, its_place, its_bytes}
 use Rattle.mn_net.proofs.Bytes.{ldp_at, bgp_at, frame_at, notice_at, AreTold, pdu_at, message_at, frame_at_its, notice_place}
@@ -74,8 +74,8 @@ module _ (net : NetNow) (lawful : IsLawful net.topology) (ps : List (List ℕ)) 
     ascend : AreAscending 0 (flight_of t j ps).made (is.before ++ is.item ∷ is.after)
     ascend = subst (AreAscending 0 (flight_of t j ps).made) is.ledger (numbers_ascend t j ps)
 
-    told_it : told_at t j ps n ≡ Some (told_of t j items is.item)
-    told_it = ap (option_map (told_of t j items))
+    told_it : told_at t j ps n ≡ Some (item_told t j items is.item)
+    told_it = ap (option_map (item_told t j items))
         (ap (find (λ (item : Item). item.number == n)) is.ledger
         ∙ subst (λ m. find (λ item. item.number == m) (is.before ++ is.item ∷ is.after) ≡ Some is.item) is.its
         (one_found 0 (flight_of t j ps).made is.before is.after is.item ascend))
@@ -178,7 +178,7 @@ module _ (net : NetNow) (lawful : IsLawful net.topology) (ps : List (List ℕ)) 
       nowhere (Frames l m) a b c d = let no : of_frames (Frames l m) ≡ None → ⊥ = (λ q. cc) in no d
 
       by : (o : Option Item) → find (λ item. item.number == n) items ≡ o → None ≡ told_at t j ps n
-      by None q = ap (option_map (told_of t j items)) (sym q)
+      by None q = ap (option_map (item_told t j items)) (sym q)
       by (Some i) q =
           absurd (nowhere i.on
           (elsewhere (of_notices (length t.loopbacks)) n items net.transport.notices i h.stands.notices e q)

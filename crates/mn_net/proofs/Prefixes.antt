@@ -11,7 +11,8 @@ use Rattle.mn_base.proofs.Orders.{by_number, by_number_then, first_tells, first_
 use Rattle.mn_base.proofs.Places.{fold_ascends}
 use Rattle.mn_base.proofs.Kept.{fold_in, in_fold, ascending_unique}
 use Rattle.mn_prefix.specs.Prefix.{AddressBlock, same_prefix, prefix_before}
-use Rattle.mn_ledger.specs.Vpn.{HeldRoute, is_better, is_preferred, comes_before, unbeaten, first_of}
+use Rattle.mn_ledger.specs.Exports.{comes_before}
+use Rattle.mn_ledger.specs.Held.{HeldRoute, is_better, is_preferred, unbeaten, first_of}
 use Rattle.mn_ledger.proofs.Choice.{pref_neither}
 use Rattle.mn_vrf.specs.Routes.{source_before, route_before}
 use Rattle.mn_vrf.specs.Vrf.{is_again, heads_after, heads}

@@ -10,7 +10,7 @@ use Rattle.mn_topo.specs.Lawful.{IsLawful}
 use Rattle.mn_topo.specs.declared.steps.JournalEntry.{JournalEntry}
 use Rattle.mn_ledger.specs.World.{World}
 use Rattle.mn_ledger.specs.Places.{edge_of, edges}
-use Rattle.mn_ledger.specs.Vpn.{held, best}
+use Rattle.mn_ledger.specs.Held.{held, best}
 use Rattle.mn_ledger.specs.Transport.{view_of}
 use Rattle.mn_ledger.specs.Ledger.{world_of}
 use Rattle.mn_ledger.specs.Lawful.{IsLawfulJournal}

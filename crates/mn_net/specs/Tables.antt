@@ -2,7 +2,8 @@
 use Rattle.std.specs.Prelude.{ℕ, List, [], filter, fold, length, slice_get, Option, Some, None}
 use Rattle.mn_base.specs.Ordered.{with_one}
 use Rattle.mn_prefix.specs.Prefix.{AddressBlock, same_prefix}
-use Rattle.mn_ledger.specs.Vpn.{HeldRoute, comes_before, unbeaten, first_of}
+use Rattle.mn_ledger.specs.Exports.{comes_before}
+use Rattle.mn_ledger.specs.Held.{HeldRoute, unbeaten, first_of}
 use Rattle.mn_ledger.specs.Items.{Item}
 use Rattle.mn_course.specs.declared.coming.Kind.{Kind}
 use Rattle.mn_course.specs.Coming.{is_kind, kind_of}

@@ -48,8 +48,8 @@ bytes_on topology journal before (on.Frames l dir) (Carries token) =
 bytes_on topology journal before _ _ = []
 
 -- what is told of one of these items
-abbrev pub told_of : Network → List JournalEntry → List Item → Item → Told
-told_of topology journal items item = record {
+abbrev pub item_told : Network → List JournalEntry → List Item → Item → Told
+item_told topology journal items item = record {
   kind = kind_of item.on;
   channel = channel_of topology item.on;
   due = item.due;
@@ -59,7 +59,7 @@ told_of topology journal items item = record {
 -- of the item of a number, if it is in flight
 abbrev pub told_at : Network → List JournalEntry → List (List ℕ) → ℕ → Option Told
 told_at topology journal inputs number =
-    option_map (told_of topology journal (flight_of topology journal inputs).items)
+    option_map (item_told topology journal (flight_of topology journal inputs).items)
     (find (λ item. item.number == number) (flight_of topology journal inputs).items)
 
 -- What a step has made, as it is told once it is done, with this journal; so many of it are on the channel from here on. A message

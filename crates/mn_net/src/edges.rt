@@ -2,7 +2,8 @@
 ghost use Rattle.std.specs.Prelude.{◌≡◌, ◌<◌, false, length, option_map};
 ghost use Rattle.mn_ledger.specs.Ledger.{world_of};
 ghost use Rattle.mn_ledger.specs.Places.{edge_of};
-ghost use Rattle.mn_ledger.specs.Vpn.{bgp_state_of, held, best};
+ghost use Rattle.mn_ledger.specs.Bgp.{bgp_state_of};
+ghost use Rattle.mn_ledger.specs.Held.{held, best};
 ghost use Rattle.mn_frames.specs.Given.{given};
 ghost use Rattle.mn_frames.specs.Numbers.{labels_of};
 ghost use Rattle.mn_pe.specs.Entries.{as_held as given_held};
@@ -15,7 +16,6 @@ use crate::ends::edge_at;
 use crate::net::Net;
 use mn_base::{BgpState, NodeNo, VrfNo};
 use mn_prefix::Prefix;
-use mn_routing_model::an_edge_stands_for_the_ledger;
 use mn_vrf::Source;
 
 impl Net {
@@ -41,12 +41,7 @@ impl Net {
             (best (routes_of self.now.topology (world_of self.now.topology self.now.journal).config (edge_of self.now.topology vrf.0) vrf.0) address) }
     {
         self.topology.laws();
-        an_edge_stands_for_the_ledger();
-        let node = edge_at(&self.topology, vrf);
-        match self.routes.edge(node) {
-            Some(edge) => edge.lookup(vrf, address),
-            None => None,
-        }
+        self.routes.lookup(&self.topology, vrf, address)
     }
 
     /// The prefix at a place, from 0, among those that a VRF holds, with the best of its routes; prefixes go by address and

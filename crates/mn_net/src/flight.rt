@@ -1,5 +1,5 @@
 //! What is told of items in flight.
-ghost use Rattle.std.specs.Prelude.{◌≡◌, ◌<◌, ◌≤◌, ◌*◌, ◌/◌, ◌%◌, ◌^◌, ℕ, List, [], false, option_map};
+ghost use Rattle.std.specs.Prelude.{◌≡◌, ◌<◌, ◌≤◌, ◌*◌, ◌/◌, ◌%◌, ◌^◌, ℕ, List, [], false, true, None, option_map};
 ghost use Rattle.mn_stack.specs.Labelled.{frame_bytes};
 ghost use Rattle.mn_ledger.specs.Items.{flight_of};
 ghost use Rattle.mn_course.specs.declared.coming.Kind.TheVariants as kind;
@@ -126,6 +126,7 @@ impl Net {
         ensures told { (inputs : List (List ℕ)) → StandsFor self.now inputs →
             option_map (λ flying. record { kind = flying.kind; channel = flying.channel; due = flying.due; bytes = flying.bytes.now }) result
             ≡ told_at self.now.topology self.now.journal inputs number }
+        ensures nothing { self.now.failed ≡ true → result ≡ None }
     {
         if self.failed {
             return None;

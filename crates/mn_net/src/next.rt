@@ -1,5 +1,5 @@
 //! What comes next.
-ghost use Rattle.std.specs.Prelude.{◌≡◌, ◌≤◌, ◌+◌, ℕ, List, true, false, IfSome};
+ghost use Rattle.std.specs.Prelude.{◌≡◌, ◌≤◌, ◌+◌, ℕ, List, true, false, None, IfSome};
 ghost use Rattle.mn_topo.specs.Steps.{fits};
 ghost use Rattle.mn_ledger.specs.Ledger.{injects};
 ghost use Rattle.mn_laws.specs.Flight.{IsOpen};
@@ -18,6 +18,7 @@ impl Net {
         ensures within { IfSome result (λ item. item.due ≤ limit) }
         ensures soon { IfSome result (λ item. item.due ≤ self.now.tick + 1000) }
         ensures fits { IfSome result (λ item. (fits self.now.topology (delivery item) ≡ true) × (injects (delivery item) ≡ false)) }
+        ensures nothing { self.now.failed ≡ true → result ≡ None }
         ensures opens { (inputs : List (List ℕ)) → StandsFor self.now inputs → IfSome result (λ item. IsOpen self.now.topology self.now.journal inputs (delivery item)) }
     {
         if self.failed {

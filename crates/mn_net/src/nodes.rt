@@ -1,5 +1,6 @@
 //! What is told of links, and of the transport of nodes.
 ghost use Rattle.std.specs.Prelude.{◌≡◌, ◌≢◌, ◌<◌, ◌≤◌, false, not, length, map, option_map};
+ghost use Rattle.mn_base.specs.Limits.{most_steps};
 ghost use Rattle.mn_base.specs.Wiring.{links_of, sender};
 ghost use Rattle.mn_linkdb.specs.Trees.{IsTree};
 ghost use Rattle.mn_topo.specs.Network.{wiring_of};
@@ -40,8 +41,8 @@ impl Net {
     /// What holds of every network that works: at most 4,000,000 steps were done, and so no more packets were injected, and the
     /// clock isn't behind the last step.
     pub fn laws(&self)
-        ensures steps { self.now.failed ≡ false → length self.now.journal ≤ 4000000 }
-        ensures packets { self.now.failed ≡ false → length self.now.moving.verdicts ≤ 4000000 }
+        ensures steps { self.now.failed ≡ false → length self.now.journal ≤ most_steps }
+        ensures packets { self.now.failed ≡ false → length self.now.moving.verdicts ≤ most_steps }
         ensures late { self.now.failed ≡ false → tick_from 0 self.now.journal ≤ self.now.tick }
     {
         self.topology.laws();
@@ -93,13 +94,13 @@ impl Net {
         self.transport.node(node).tree()
     }
 
-    /// The next hop from a node towards another where it can send there: in a settled network exactly where a walk over links
-    /// that are up leads there, by one of least cost.
+    /// The next hop from a node towards another where it can send there, and none to itself: in a settled network exactly where
+    /// a walk over links that are up leads there, by one of least cost.
     pub fn hop(&self, node: NodeNo, edge: NodeNo) -> Option<NodeNo>
         requires works { self.now.failed ≡ false }
         requires node { node.0 < length self.now.topology.loopbacks }
         requires edge { edge.0 < length self.now.topology.loopbacks }
-        ensures told { node.0 ≢ edge.0 → result ≡ hop_to self.now.topology (world_of self.now.topology self.now.journal) node.0 edge.0 }
+        ensures told { result ≡ hop_to self.now.topology (world_of self.now.topology self.now.journal) node.0 edge.0 }
         // In a settled network it is what the present links give, whatever happened before.
         ensures settled { node.0 ≢ edge.0 → IsSettled self.now.topology (world_of self.now.topology self.now.journal) →
             IsByLinks self.now.topology (world_of self.now.topology self.now.journal) node.0 edge.0 result }

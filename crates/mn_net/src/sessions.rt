@@ -1,7 +1,7 @@
 //! The steps of BGP, and of routes and targets.
 ghost use Rattle.std.specs.Prelude.{◌≡◌, ◌<◌, ◌≤◌, ◌^◌, [], true, false, IfOk, OnOk, OnErr};
 ghost use Rattle.std.specs.List.{All};
-ghost use Rattle.mn_ledger.specs.Vpn.{is_routing};
+ghost use Rattle.mn_ledger.specs.Bgp.{is_routing};
 ghost use Rattle.mn_transport_model.specs.Steps.{touches};
 ghost use Rattle.mn_routing_model.specs.Steps.{MayDo, Did};
 ghost use Rattle.mn_net_now.specs.Done.{MayBeDone, IsDone, HasFailed};

@@ -1,9 +1,10 @@
 //! What became of packets.
-ghost use Rattle.std.specs.Prelude.{◌≡◌, ◌<◌, ◌^◌, List, ℕ, [], length, map, option_map, slice_index_or};
+ghost use Rattle.std.specs.Prelude.{◌≡◌, ◌<◌, ◌^◌, List, ℕ, [], length, map, option_map, slice_get, slice_index_or, Some};
 ghost use Rattle.mn_ledger.specs.Ledger.{packets_of};
 ghost use Rattle.mn_ledger.specs.Packets.{flying_on};
 ghost use Rattle.mn_ledger.specs.Items.{Frames, items_on, flight_of};
 ghost use Rattle.mn_ledger.specs.Verdicts.{verdict_on};
+ghost use Rattle.mn_transit.specs.Visits.{path_of};
 ghost use Rattle.mn_net_now.specs.Now.{StandsFor};
 
 use crate::net::Net;
@@ -20,18 +21,20 @@ impl Net {
         self.transit.packets()
     }
 
-    /// What became of a packet.
+    /// What became of a packet. After want of memory it is what it was before.
     pub fn verdict(&self, packet: u32) -> Verdict
         requires { packet < length self.now.moving.verdicts }
         ensures told { (inputs : List (List ℕ)) → StandsFor self.now inputs → result ≡ verdict_on (packets_of self.now.topology self.now.journal inputs) packet }
+        ensures kept { slice_get self.now.moving.verdicts packet ≡ Some result }
     {
         self.transit.verdict(packet)
     }
 
-    /// The nodes at which a packet was, from the entry on.
+    /// The nodes at which a packet was, from the entry on. After want of memory they are what they were before.
     pub fn path(&self, packet: u32) -> &[NodeNo]
         requires { packet < length self.now.moving.verdicts }
         ensures told { (inputs : List (List ℕ)) → StandsFor self.now inputs → map (λ node. node.0) result.now ≡ slice_index_or (packets_of self.now.topology self.now.journal inputs).paths packet [] }
+        ensures kept { (path_of self.now.moving.paths packet).nodes ≡ result.now }
     {
         self.transit.path(packet)
     }

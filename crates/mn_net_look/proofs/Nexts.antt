@@ -34,7 +34,7 @@ use Rattle.mn_net_tally.specs.Rising.{AreRising}
 use Rattle.mn_net_tally.specs.Tallies.{Tally}
 use Rattle.mn_net_tally.proofs.Counting.{tells}
 use Rattle.mn_net_tally.proofs.Rising.{lost_rise}
-use Rattle.mn_course.specs.Coming.{comes_before, earlier, coming}
+use Rattle.mn_course.specs.Coming.{is_due_before, earlier, coming}
 use Rattle.mn_timetable.specs.Keys.{Key, Numbering, key_of, keys_in, keys_on, with_key, of_notices, of_messages, of_routes, of_frames, channel_from}
 use Rattle.mn_timetable.proofs.OtherKeys.{edge-below}
 use Rattle.mn_net_refusal.specs.Coming.{first_key, as_coming, news_coming, coming_seen}
@@ -85,10 +85,10 @@ other_alone x y e = ap (λ z. earlier z y) e
 pub one_alone : (x y : Option Coming) (c : Coming) → Some c ≡ x → None ≡ y → Some c ≡ earlier x y
 one_alone x y c e f = ap (λ z. earlier z None) e ∙ ap (earlier x) f
 
-pub other_first : (x y : Option Coming) (c d : Coming) → Some c ≡ x → Some d ≡ y → comes_before d.due d.number c.due c.number ≡ true → Some d ≡ earlier x y
+pub other_first : (x y : Option Coming) (c d : Coming) → Some c ≡ x → Some d ≡ y → is_due_before d.due d.number c.due c.number ≡ true → Some d ≡ earlier x y
 other_first x y c d e f h = sym (ap (λ b. if b then Some d else Some c) h) ∙ ap (λ z. earlier z (Some d)) e ∙ ap (earlier x) f
 
-pub one_first : (x y : Option Coming) (c d : Coming) → Some c ≡ x → Some d ≡ y → comes_before d.due d.number c.due c.number ≡ false → Some c ≡ earlier x y
+pub one_first : (x y : Option Coming) (c d : Coming) → Some c ≡ x → Some d ≡ y → is_due_before d.due d.number c.due c.number ≡ false → Some c ≡ earlier x y
 one_first x y c d e f h = sym (ap (λ b. if b then Some d else Some c) h) ∙ ap (λ z. earlier z (Some d)) e ∙ ap (earlier x) f
 
 -- 2. Numbers of two parts

@@ -1,6 +1,7 @@
 -- The parts of a network, and when they stand for the ledger.
 use Rattle.std.specs.Prelude.{◌≡◌, ◌<◌, ◌*◌, ℕ, nat_le, List, [], ◌∷◌, length, map, slice_index_or, Option, option_map}
 use Rattle.std.specs.List.{All}
+use Rattle.mn_base.specs.Limits.{most_steps}
 use Rattle.mn_flight.specs.declared.Item.{Item}
 use Rattle.mn_topo.specs.Network.{Network}
 use Rattle.mn_topo.specs.declared.steps.Step.{Step}
@@ -71,5 +72,5 @@ limit_seen topology seen step bytes = first_cause (
     where_holds (has_all_targets topology seen.routes step) TargetsFull
     ∷ where_holds (has_given_all topology seen.given step) LabelsSpent
     ∷ where_holds (has_too_much seen.packed step bytes) NetFull
-    ∷ where_holds (nat_le 4000000 seen.steps) TooManySteps
+    ∷ where_holds (nat_le most_steps seen.steps) TooManySteps
     ∷ [])

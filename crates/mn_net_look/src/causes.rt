@@ -1,5 +1,6 @@
 //! The causes for which a step is refused, one by one.
 ghost use Rattle.std.specs.Prelude.{◌≡◌, ◌<◌, ◌≤◌, ◌+◌, ◌*◌, ℕ, true, length, map, nat_le, unwrap_or, Some};
+ghost use Rattle.mn_base.specs.Limits.{most_targets};
 ghost use Rattle.mn_topo.specs.Steps.{fits};
 ghost use Rattle.mn_transit.specs.Moving.{Moving};
 ghost use Rattle.mn_ledger.specs.Packets.{channel};
@@ -165,7 +166,7 @@ pub(crate) fn of_static(
 fn imports_all(topology: &Topology, routes: &Routes, vrf: VrfNo) -> bool
     requires edges { length routes.now.edges ≡ length topology.now.loopbacks }
     requires there { vrf.0 < length topology.now.vrfs }
-    ensures { result ≡ nat_le 16 (unwrap_or (of_vrf topology.now (shown routes.now) vrf.0 (λ (state : VrfState). Some (length state.imports))) 0) }
+    ensures { result ≡ nat_le most_targets (unwrap_or (of_vrf topology.now (shown routes.now) vrf.0 (λ (state : VrfState). Some (length state.imports))) 0) }
 {
     match vrf_at(topology, routes, vrf) {
         Some(held) => held.imports().as_slice().len() >= TARGETS,
@@ -177,7 +178,7 @@ fn imports_all(topology: &Topology, routes: &Routes, vrf: VrfNo) -> bool
 fn exports_all(topology: &Topology, routes: &Routes, vrf: VrfNo) -> bool
     requires edges { length routes.now.edges ≡ length topology.now.loopbacks }
     requires there { vrf.0 < length topology.now.vrfs }
-    ensures { result ≡ nat_le 16 (unwrap_or (of_vrf topology.now (shown routes.now) vrf.0 (λ (state : VrfState). Some (length state.exports))) 0) }
+    ensures { result ≡ nat_le most_targets (unwrap_or (of_vrf topology.now (shown routes.now) vrf.0 (λ (state : VrfState). Some (length state.exports))) 0) }
 {
     match vrf_at(topology, routes, vrf) {
         Some(held) => held.exports().as_slice().len() >= TARGETS,

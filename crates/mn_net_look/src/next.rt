@@ -2,7 +2,7 @@
 ghost use Rattle.std.specs.Prelude.{◌≡◌, ◌<◌, ◌≤◌, ◌*◌, ◌+◌, ◌^◌, ℕ, Bool, false, List, length, option_map};
 ghost use Rattle.std.specs.List.{All};
 ghost use Rattle.mn_topo.specs.declared.steps.JournalEntry.{JournalEntry};
-ghost use Rattle.mn_course.specs.Coming.{coming as ledgers, comes_before, earlier};
+ghost use Rattle.mn_course.specs.Coming.{coming as ledgers, is_due_before, earlier};
 ghost use Rattle.mn_course.specs.Next.{IsNext};
 ghost use Rattle.mn_timetable.specs.Keys.{key_of, keys_in};
 ghost use Rattle.mn_net_tally.specs.Rising.{AreRising};
@@ -31,8 +31,8 @@ fn direction(channel: u32) -> Dir
 }
 
 /// An item is due before another, or was made before it where both are due at one tick.
-fn comes_before(due: u64, number: u64, other_due: u64, other: u64) -> bool
-    ensures { result ≡ comes_before due number other_due other }
+fn is_due_before(due: u64, number: u64, other_due: u64, other: u64) -> bool
+    ensures { result ≡ is_due_before due number other_due other }
 {
     if due == other_due {
         return number < other;
@@ -108,7 +108,7 @@ fn news_coming(
     let Some(message) = routes.messages().earliest(limit) else {
         return Some(pdu_coming(pdu));
     };
-    if comes_before(message.due, message.number, pdu.due, pdu.number) {
+    if is_due_before(message.due, message.number, pdu.due, pdu.number) {
         return Some(message_coming(nodes, message));
     }
     Some(pdu_coming(pdu))

@@ -12,7 +12,7 @@ use Rattle.mn_node.specs.Node.{Session, Node, session_at, label_of}
 use Rattle.mn_slice.specs.Slice.{node_at, session_of, label_heard}
 use Rattle.mn_frames.specs.Given.{given, label_for}
 use Rattle.mn_frames.proofs.Numbers.{by_number}
-use Rattle.mn_lsr.specs.Standing.{Standing, label_in}
+use Rattle.mn_lsr.specs.Standing.{Standing, session_label}
 use Rattle.mn_routing_model.proofs.Tables.{map_numbers_at}
 use Rattle.mn_net_now.specs.Now.{NetNow, StandsFor}
 use Rattle.mn_net_now.specs.Labels.{NodeMeans, LabelsMean}
@@ -22,12 +22,12 @@ of_some true x label e = cc
 of_some false x label e = absurd (let none : None ≡ Some label → ⊥ = (λ q. cc) in none e)
 
 in_session : (b : Bool) (s : Session) (fec label : ℕ) (x : Option ℕ) → slice_index_or s.labels fec None ≡ x →
-    label_in (if b then Some s else None) fec ≡ Some label → x ≡ Some label
+    session_label (if b then Some s else None) fec ≡ Some label → x ≡ Some label
 in_session true s fec label x e h = sym e ∙ h
 in_session false s fec label x e h = absurd (let none : None ≡ Some label → ⊥ = (λ q. cc) in none h)
 
 kept_so : (t : Network) (es : List JournalEntry) (w : World) (node l fec label : ℕ) → l < length t.links → fec < length t.loopbacks →
-    label_in (session_at (node_at t w node) l) fec ≡ Some label → label ≡ label_for (given t es) (across (wiring_of t) l node) fec
+    session_label (session_at (node_at t w node) l) fec ≡ Some label → label ≡ label_for (given t es) (across (wiring_of t) l node) fec
 kept_so t es w node l fec label there below e =
     let far : ℕ = across (wiring_of t) l node in
     let heard : List Message = heard_by (wiring_of t) w.sessions l node in
@@ -35,7 +35,7 @@ kept_so t es w node l fec label there below e =
     (in_session (lives w.config l && is_end (wiring_of t) l node)
     (record { state = ldp_state_of t w.sessions l node; said = length (w.sessions.said l node); labels = map (label_heard far heard) (nodes_of (wiring_of t)) })
     fec label (label_heard far heard fec) (map_numbers_at (label_heard far heard) (length t.loopbacks) fec None below)
-    (ap (λ s. label_in s fec) (sym (map_numbers_at (session_of t w.config w.sessions node) (length t.links) l None there)) ∙ e))
+    (ap (λ s. session_label s fec) (sym (map_numbers_at (session_of t w.config w.sessions node) (length t.links) l None there)) ∙ e))
     ∙ sym (by_number t es far fec below)
 
 pub node_means : (net : NetNow) (inputs : List (List ℕ)) → StandsFor net inputs → (node : ℕ) (standing : Standing) → node < length net.topology.loopbacks →
@@ -45,7 +45,7 @@ node_means net inputs h node standing below there =
     record {
       labels = is.labels;
       kept = λ l fec label on under e. kept_so net.topology net.journal (world_of net.topology net.journal) node l fec label on under
-          (ap (λ (n : Node). label_in (session_at n l) fec) (sym is.node_is) ∙ e);
+          (ap (λ (n : Node). session_label (session_at n l) fec) (sym is.node_is) ∙ e);
       entries = is.table;
     }
 

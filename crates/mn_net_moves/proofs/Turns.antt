@@ -18,7 +18,7 @@ use Rattle.mn_ledger.specs.Refusal.{is_empty}
 use Rattle.mn_ledger.specs.Items.{notices_in, numbered}
 use Rattle.mn_ledger.specs.Transport.{is_transport}
 use Rattle.mn_ledger.specs.Parts.{is_moving}
-use Rattle.mn_ledger.specs.Vpn.{is_routing}
+use Rattle.mn_ledger.specs.Bgp.{is_routing}
 use Rattle.mn_ledger.proofs.InTurn.{in_turn}
 use Rattle.mn_laws.proofs.Holding.{names_what_exists}
 use Rattle.mn_frames.specs.Given.{Labelling, given}

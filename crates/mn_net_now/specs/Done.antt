@@ -1,5 +1,6 @@
 -- A step of a network.
 use Rattle.std.specs.Prelude.{◌≡◌, ◌≤◌, ◌<◌, ℕ, true, false, List, length, Option, Some, None, Result, Ok, Err, ⊤}
+use Rattle.mn_base.specs.Limits.{most_steps}
 use Rattle.mn_topo.specs.Steps.{fits}
 use Rattle.mn_topo.specs.declared.steps.Step.{Step}
 use Rattle.mn_ledger.specs.declared.refused.Refused.{Refused}
@@ -25,7 +26,7 @@ pub record IsLonger (old new : NetNow) (step : Step) : Type 0 where
   pub topology : new.topology ≡ old.topology
   pub journal : new.journal ≡ pushed old.journal old.tick step
   pub tick : new.tick ≡ old.tick
-  pub room : length old.journal < 4000000
+  pub room : length old.journal < most_steps
   pub made : old.made ≤ new.made
 
 -- after want of memory: the journal, verdicts and paths as before it

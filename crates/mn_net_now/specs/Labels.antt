@@ -9,7 +9,7 @@ use Rattle.mn_ledger.specs.Ledger.{world_of, packets_of}
 use Rattle.mn_ledger.specs.Packets.{channel, flying_on}
 use Rattle.mn_frames.specs.Given.{given, label_for}
 use Rattle.mn_frames.specs.Tables.{TableStands}
-use Rattle.mn_lsr.specs.Standing.{Standing, label_in}
+use Rattle.mn_lsr.specs.Standing.{Standing, session_label}
 use Rattle.mn_transit.specs.Stands.{AreFlown}
 use Rattle.mn_transport_model.specs.Sending.{spelled}
 use Rattle.mn_routing_model.specs.Routed.{IsRoutes}
@@ -20,7 +20,8 @@ pub record NodeMeans (net : NetNow) (node : ℕ) (standing : Standing) : Type 0 
   -- its labels are those that were given in the journal
   pub labels : standing.given.given ≡ given net.topology net.journal node
   -- a label that it keeps for a FEC over a link is the neighbour's label for the FEC, also where it isn't in use
-  pub kept : (l fec label : ℕ) → l < length net.topology.links → fec < length net.topology.loopbacks → label_in (session_at standing.node l) fec ≡ Some label →
+  pub kept : (l fec label : ℕ) → l < length net.topology.links → fec < length net.topology.loopbacks →
+      session_label (session_at standing.node l) fec ≡ Some label →
       label ≡ label_for (given net.topology net.journal) (across (wiring_of net.topology) l node) fec
   -- a FEC's label leads there exactly where the node can send there, to the next hop and its label; a site's label leads to it
   -- exactly while its attachment is the present one

@@ -1,5 +1,6 @@
 -- What contracts see of a network, what holds of it, and when it stands for the ledger.
 use Rattle.std.specs.Prelude.{◌≡◌, ◌≤◌, ◌*◌, ◌^◌, ℕ, Bool, false, List, length}
+use Rattle.mn_base.specs.Limits.{most_flying_bytes}
 use Rattle.mn_topo.specs.Network.{Network}
 use Rattle.mn_topo.specs.declared.steps.JournalEntry.{JournalEntry}
 use Rattle.mn_ledger.specs.OneMore.{tick_from}
@@ -48,7 +49,7 @@ pub record IsNet (net : NetNow) : Type 0 where
   pub channels : net.moving.channels ≡ 2 * length net.topology.links
   pub late : tick_from 0 net.journal ≤ net.tick
   pub within : net.tick ≤ 2 ^ 62
-  pub bytes : bytes_in net.moving.flying ≤ 268435456
+  pub bytes : bytes_in net.moving.flying ≤ most_flying_bytes
   pub copies : net.moving.copies ≤ length net.journal
   pub verdicts : length net.moving.verdicts ≤ length net.journal
 

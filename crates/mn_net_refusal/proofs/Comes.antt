@@ -23,7 +23,7 @@ use Rattle.mn_laws.proofs.Counted.{flies_as_counted}
 use Rattle.mn_course.specs.declared.coming.Kind.{Kind}
 use Rattle.mn_course.specs.declared.coming.Kind.TheVariants.{Notice, Message, Frame}
 use Rattle.mn_course.specs.declared.coming.Coming.{Coming}
-use Rattle.mn_course.specs.Coming.{kind_of, is_kind, is_due, comes_before, is_lost, coming, earlier}
+use Rattle.mn_course.specs.Coming.{kind_of, is_kind, is_due, is_due_before, is_lost, coming, earlier}
 use Rattle.mn_course.specs.Next.{IsNext}
 use Rattle.mn_course.proofs.Nexts.{what_is_next}
 use Rattle.mn_timetable.specs.Keys.{Key, Numbering, keys_in, keys_on, with_key, of_notices, of_messages, of_routes, of_frames, channel_from, IsThere, AreThere}
@@ -127,16 +127,16 @@ carries_channel l Back =
 
 -- 2. What comes, of the items that are due by some test
 
-goes_none : (d n e m : ℕ) → (nat_lt d e || ((d == e) && nat_le n m)) ≡ true → comes_before e m d n ≡ false
+goes_none : (d n e m : ℕ) → (nat_lt d e || ((d == e) && nat_le n m)) ≡ true → is_due_before e m d n ≡ false
 goes_none d n e m h = grind (arith, nat_tests, h)
 
-either_first : (d n e m a b : ℕ) → comes_before e m d n ≡ false → comes_before a b e m ≡ false → comes_before a b d n ≡ false
+either_first : (d n e m a b : ℕ) → is_due_before e m d n ≡ false → is_due_before a b e m ≡ false → is_due_before a b d n ≡ false
 either_first d n e m a b h g = grind (arith, nat_tests, h, g)
 
-turned_first : (d n e m a b : ℕ) → comes_before e m d n ≡ true → comes_before a b d n ≡ false → comes_before a b e m ≡ false
+turned_first : (d n e m a b : ℕ) → is_due_before e m d n ≡ true → is_due_before a b d n ≡ false → is_due_before a b e m ≡ false
 turned_first d n e m a b h g = grind (arith, nat_tests, h, g)
 
-neither_first : (d n e m : ℕ) → comes_before d n e m ≡ false → comes_before e m d n ≡ false → n ≡ m
+neither_first : (d n e m : ℕ) → is_due_before d n e m ≡ false → is_due_before e m d n ≡ false → n ≡ m
 neither_first d n e m h g = grind (arith, nat_tests, h, g)
 
 module _ (t : Network) (lawful : IsLawful t) (es : List JournalEntry) (ps : List (List ℕ)) (packed : Packed) (h : StandsFor t es packed ps) where
@@ -153,7 +153,7 @@ module _ (t : Network) (lawful : IsLawful t) (es : List JournalEntry) (ps : List
   abbrev Comes : (Item → Bool) → Option Coming → Type 0
   Comes test None = (x : Item) → In items x → test x ≡ true → ⊥
   Comes test (Some c) =
-      (x : Item) × In items x × (test x ≡ true) × IsOf c x × ((y : Item) → In items y → test y ≡ true → comes_before y.due y.number x.due x.number ≡ false)
+      (x : Item) × In items x × (test x ≡ true) × IsOf c x × ((y : Item) → In items y → test y ≡ true → is_due_before y.due y.number x.due x.number ≡ false)
 
   one_comes : (test : Item → Bool) (a b : Option Coming) → Comes test a → Comes test b → a ≡ b
   one_comes test None None p q = refl
@@ -192,14 +192,14 @@ module _ (t : Network) (lawful : IsLawful t) (es : List JournalEntry) (ps : List
   both_come one other all None None f g split p q = λ x i e. elim (split x e) [ inl r ↦ p x i r | inr r ↦ q x i r ]
   both_come one other all None (Some d) f g split p q = (q.0, q.1, g q.0 q.2, q.3, λ y i e. elim (split y e) [ inl r ↦ absurd (p y i r) | inr r ↦ q.4 y i r ])
   both_come one other all (Some c) None f g split p q = (p.0, p.1, f p.0 p.2, p.3, λ y i e. elim (split y e) [ inl r ↦ p.4 y i r | inr r ↦ absurd (q y i r) ])
-  both_come one other all (Some c) (Some d) f g split p q = by (comes_before d.due d.number c.due c.number) refl
+  both_come one other all (Some c) (Some d) f g split p q = by (is_due_before d.due d.number c.due c.number) refl
     where
-      in_items : (b : Bool) → comes_before d.due d.number c.due c.number ≡ b → comes_before q.0.due q.0.number p.0.due p.0.number ≡ b
+      in_items : (b : Bool) → is_due_before d.due d.number c.due c.number ≡ b → is_due_before q.0.due q.0.number p.0.due p.0.number ≡ b
       in_items b e =
-          ap (λ n. comes_before n q.0.number p.0.due p.0.number) (sym q.3.due) ∙ ap (λ n. comes_before d.due n p.0.due p.0.number) (sym q.3.number)
-          ∙ ap (λ n. comes_before d.due d.number n p.0.number) (sym p.3.due) ∙ ap (λ n. comes_before d.due d.number c.due n) (sym p.3.number) ∙ e
+          ap (λ n. is_due_before n q.0.number p.0.due p.0.number) (sym q.3.due) ∙ ap (λ n. is_due_before d.due n p.0.due p.0.number) (sym q.3.number)
+          ∙ ap (λ n. is_due_before d.due d.number n p.0.number) (sym p.3.due) ∙ ap (λ n. is_due_before d.due d.number c.due n) (sym p.3.number) ∙ e
 
-      by : (b : Bool) → comes_before d.due d.number c.due c.number ≡ b → Comes all (if b then Some d else Some c)
+      by : (b : Bool) → is_due_before d.due d.number c.due c.number ≡ b → Comes all (if b then Some d else Some c)
       by true e = (
         q.0,
         q.1,

@@ -10,7 +10,7 @@ use Rattle.mn_flight.specs.declared.Item.{Item as ItemOf}
 use Rattle.mn_flight.specs.Earliest.{earliest, due_by, goes_before, is_first}
 use Rattle.mn_flight.proofs.Members.{IsIn, in_filter, from_filter, all_from, all_at, find_in, find_some}
 use Rattle.mn_ledger.specs.Items.{Notices, Notice, Item}
-use Rattle.mn_course.specs.Coming.{comes_before, least}
+use Rattle.mn_course.specs.Coming.{is_due_before, least}
 use Rattle.mn_course.proofs.Leasts.{NoneBefore, IsLeastOf, least_is}
 use Rattle.mn_timetable.specs.Keys.{Key, key_of, keys_in}
 use Rattle.mn_net_refusal.specs.Coming.{goes_first, keys_due, first_key}
@@ -57,7 +57,7 @@ IsFirst limit keys (Some key) = IsIn key keys × (key.due ≤ limit) × ((other 
 abbrev as_item : Key → Item
 as_item key = record { number = key.number; due = key.due; on = Notices 0 0; load = Notice }
 
-none_before_goes : (d n e m : ℕ) → comes_before d n e m ≡ false → (nat_lt e d || ((e == d) && nat_le m n)) ≡ true
+none_before_goes : (d n e m : ℕ) → is_due_before d n e m ≡ false → (nat_lt e d || ((e == d) && nat_le m n)) ≡ true
 none_before_goes d n e m h = grind (arith, nat_tests, h)
 
 some_first : (keys : List Key) (key : Key) → IsIn key keys → (first : Key) × IsIn first keys × ((other : Key) → IsIn other keys → goes_first first other ≡ true)
@@ -79,7 +79,8 @@ some_first keys key i = by (least (map as_item keys)) (least_is (map as_item key
           m.0,
           back m.0 keys m.1,
           λ other j. none_before_goes other.due other.number m.0.due m.0.number
-              (ap (λ (z : Item). comes_before other.due other.number z.due z.number) m.2 ∙ h.1 (as_item other) (map_in as_item keys other (turn other keys j))),
+              (ap (λ (z : Item). is_due_before other.due other.number z.due z.number) m.2
+              ∙ h.1 (as_item other) (map_in as_item keys other (turn other keys j))),
         )
 
 pub first_is : (limit : ℕ) (keys : List Key) → IsFirst limit keys (first_key limit keys)

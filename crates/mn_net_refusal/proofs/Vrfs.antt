@@ -14,8 +14,8 @@ use Rattle.mn_topo.specs.VrfTable.{is_edge}
 use Rattle.mn_topo.specs.declared.vrfs.VrfDef.{VrfDef}
 use Rattle.mn_ledger.specs.Places.{vrf_at, vrf_of, edge_of, home_of, vrfs_at}
 use Rattle.mn_ledger.specs.World.{Config, Peerings}
-use Rattle.mn_ledger.specs.Vpn.{peers_live}
-use Rattle.mn_ledger.specs.Vpn as vpn
+use Rattle.mn_ledger.specs.Bgp.{peers_live}
+use Rattle.mn_ledger.specs.Exports as ledger_exports
 use Rattle.mn_laws.proofs.There.{vrf_there, edge_there}
 use Rattle.mn_targets.specs.Targets.{has_target}
 use Rattle.mn_vrf.specs.Vrf.{VrfState}
@@ -24,7 +24,7 @@ use Rattle.mn_pe.specs.Held.{site_label as label_of}
 use Rattle.mn_pe.specs.Pe.{found_in}
 use Rattle.mn_bgp_spelling.specs.Spelling.{Labels, as_targets, session_in}
 use Rattle.mn_bgp_session.specs.declared.session.BgpSession.{BgpSession}
-use Rattle.mn_routing_model.specs.Standing.{vrf_in, label_in, edge_in}
+use Rattle.mn_routing_model.specs.Standing.{vrf_in, site_label_now, edge_in}
 use Rattle.mn_routing_model.specs.Whole.{RoutesNow, routes_in, edge_or_none, session_or_none}
 use Rattle.mn_routing_model.proofs.Tables.{map_numbers_at}
 use Rattle.mn_net_refusal.specs.Refusal.{session_at, asked, of_edge, of_vrf, imports_it, exports_it, site_label}
@@ -104,14 +104,14 @@ module _ (t : Network) (l : Labels) (c : Config) (p : Peerings) (lawful : IsLawf
 
   -- 3. Targets
 
-  same_target : (target : Rt) (xs : List ℕ) → has_target target (as_targets xs) ≡ vpn.has_target xs target.0
+  same_target : (target : Rt) (xs : List ℕ) → has_target target (as_targets xs) ≡ ledger_exports.has_target xs target.0
   same_target target [] = refl
   same_target target (x ∷ xs) = ap (λ b. (x == target.0) || b) (same_target target xs)
 
-  pub imports_is : (v : ℕ) (target : Rt) → v < length t.vrfs → imports_it t (routes_in t l c p) v target ≡ vpn.has_target (c.imports v) target.0
+  pub imports_is : (v : ℕ) (target : Rt) → v < length t.vrfs → imports_it t (routes_in t l c p) v target ≡ ledger_exports.has_target (c.imports v) target.0
   imports_is v target h = ap (λ o. unwrap_or o false) (vrf_is v (λ vrf. Some (has_target target vrf.imports)) h) ∙ same_target target (c.imports v)
 
-  pub exports_is : (v : ℕ) (target : Rt) → v < length t.vrfs → exports_it t (routes_in t l c p) v target ≡ vpn.has_target (c.exports v) target.0
+  pub exports_is : (v : ℕ) (target : Rt) → v < length t.vrfs → exports_it t (routes_in t l c p) v target ≡ ledger_exports.has_target (c.exports v) target.0
   exports_is v target h = ap (λ o. unwrap_or o false) (vrf_is v (λ vrf. Some (has_target target vrf.exports)) h) ∙ same_target target (c.exports v)
 
   pub imports_count : (v : ℕ) → v < length t.vrfs → unwrap_or (of_vrf t (routes_in t l c p) v (λ vrf. Some (length vrf.imports))) 0 ≡ length (c.imports v)
@@ -129,6 +129,6 @@ module _ (t : Network) (l : Labels) (c : Config) (p : Peerings) (lawful : IsLawf
   pub attached_is : (s : ℕ) → s < length t.sites → is_some (site_label t (routes_in t l c p) s) ≡ is_some (c.attached s)
   attached_is s h =
       ap (λ o. is_some (asked (λ edge. label_of edge s) o)) (its_edge (vrf_of t s) (vrf_there t s lawful h))
-      ∙ ap is_some (map_numbers_at (label_in t l c (home_of t s)) (length t.sites) s None h)
+      ∙ ap is_some (map_numbers_at (site_label_now t l c (home_of t s)) (length t.sites) s None h)
       ∙ ap (λ b. is_some (if b then option_map (l s) (c.attached s) else None)) (same_test (home_of t s))
       ∙ mapped_some (l s) (c.attached s)

@@ -1,6 +1,7 @@
 -- Why a network refuses a step, by what its parts show: the first cause that holds, in the order of the ledger's.
 use Rattle.std.specs.Prelude.{ℕ, ◌+◌, ◌*◌, ◌==◌, ◌&&◌, ◌||◌, Bool, true, false, cond, not, nat_lt, nat_le, List, [], ◌∷◌, length, slice_index}
 use Rattle.std.specs.Prelude.{slice_index_or, Option, Some, None, is_some, is_none, option_map, unwrap_or}
+use Rattle.mn_base.specs.Limits.{most_flying_bytes, most_in_flight, most_labels, most_steps, most_targets}
 use Rattle.mn_base.specs.declared.numbers.Rt.{Rt}
 use Rattle.mn_linkdb.specs.Changes.{is_link_up}
 use Rattle.mn_prefix.specs.Prefix.{AddressBlock}
@@ -98,23 +99,23 @@ of_static topology seen _ = None
 
 -- the set has 16 targets
 abbrev pub has_all_targets : Network → RoutesNow → Step → Bool
-has_all_targets topology routes (Import v target true) = nat_le 16 (unwrap_or (of_vrf topology routes v.0 (λ vrf. Some (length vrf.imports))) 0)
-has_all_targets topology routes (Export v target true) = nat_le 16 (unwrap_or (of_vrf topology routes v.0 (λ vrf. Some (length vrf.exports))) 0)
+has_all_targets topology routes (Import v target true) = nat_le most_targets (unwrap_or (of_vrf topology routes v.0 (λ vrf. Some (length vrf.imports))) 0)
+has_all_targets topology routes (Export v target true) = nat_le most_targets (unwrap_or (of_vrf topology routes v.0 (λ vrf. Some (length vrf.exports))) 0)
 has_all_targets topology routes _ = false
 
 -- the site's node has given all its labels
 abbrev pub has_given_all : Network → List ℕ → Step → Bool
-has_given_all topology given (Attach s) = nat_le 1048560 (slice_index given (home_of topology s.0))
+has_given_all topology given (Attach s) = nat_le most_labels (slice_index given (home_of topology s.0))
 has_given_all topology given _ = false
 
 -- too much news is in flight, or too many bytes with this packet
 abbrev pub has_no_room : Packed → Step → List ℕ → Bool
-has_no_room packed (Inject s number) bytes = nat_lt 268435456 (bytes_in packed.moving.flying + length bytes)
+has_no_room packed (Inject s number) bytes = nat_lt most_flying_bytes (bytes_in packed.moving.flying + length bytes)
 has_no_room packed _ bytes = false
 
 abbrev pub has_too_much : Packed → Step → List ℕ → Bool
 has_too_much packed step bytes =
-    (not (takes_out step) && nat_le 2000000 (length packed.notices + length packed.messages + length packed.routes)) || has_no_room packed step bytes
+    (not (takes_out step) && nat_le most_in_flight (length packed.notices + length packed.messages + length packed.routes)) || has_no_room packed step bytes
 
 -- 3. The first that holds
 
@@ -126,5 +127,5 @@ refusal_seen topology seen step bytes = first_cause (
     ∷ where_holds (has_all_targets topology seen.routes step) TargetsFull
     ∷ where_holds (has_given_all topology seen.given step) LabelsSpent
     ∷ where_holds (has_too_much seen.packed step bytes) NetFull
-    ∷ where_holds (nat_le 4000000 seen.steps) TooManySteps
+    ∷ where_holds (nat_le most_steps seen.steps) TooManySteps
     ∷ [])

@@ -1,6 +1,7 @@
 -- How a network goes on to count what the ledger has.
 use Rattle.std.specs.Prelude.{◌≡◌, ◌<◌, ◌≤◌, ◌+◌, ◌-◌, ◌*◌, ℕ, Bool, true, false, List, [], length, slice_index}
 use Rattle.std.specs.List.{Contains}
+use Rattle.mn_base.specs.Limits.{most_static_routes}
 use Rattle.mn_base.specs.declared.links.Dir.{Dir}
 use Rattle.mn_base.specs.declared.numbers.SiteNo.{SiteNo}
 use Rattle.mn_prefix.specs.Prefix.{AddressBlock}
@@ -46,7 +47,7 @@ CountsStatics =
     (tally : Tally) →
     IsLawful topology → length inputs ≡ injections journal → Tallies topology journal inputs tally →
     (MayStep topology journal tick (AddRoute site prefix) bytes inputs → IsLawfulJournal topology journal inputs →
-    (tally.statics < 65536) × Tallies topology (pushed journal tick (AddRoute site prefix)) inputs (record tally { statics = tally.statics + 1 }))
+    (tally.statics < most_static_routes) × Tallies topology (pushed journal tick (AddRoute site prefix)) inputs (record tally { statics = tally.statics + 1 }))
     × (MayStep topology journal tick (DelRoute site prefix) bytes inputs → IsLawfulJournal topology journal inputs →
     (0 < tally.statics) × Tallies topology (pushed journal tick (DelRoute site prefix)) inputs (record tally { statics = tally.statics - 1 }))
 

@@ -2,6 +2,7 @@
 use Rattle.std.specs.Prelude.{◌≡◌, ◌<◌, ◌+◌, ◌-◌, ◌*◌, ◌/◌, ◌==◌, ℕ, Bool, List, [], ◌∷◌, ◌++◌, length, map, filter, find, slice_index, slice_set}
 use Rattle.std.specs.Prelude.{if◌then◌else◌, Option, Some, None, option_map, ⊤}
 use Rattle.std.specs.List.{list_any}
+use Rattle.mn_base.specs.Limits.{most_static_routes}
 use Rattle.mn_base.specs.declared.links.Dir.{Dir}
 use Rattle.mn_base.specs.Wiring.{link}
 use Rattle.mn_flight.specs.declared.Item.{Item}
@@ -60,6 +61,6 @@ after_static _ tally = tally
 
 -- there is room for it, or one to take
 abbrev pub HasStatic : Step → Tally → Type 0
-HasStatic (AddRoute site prefix) tally = tally.statics < 65536
+HasStatic (AddRoute site prefix) tally = tally.statics < most_static_routes
 HasStatic (DelRoute site prefix) tally = 0 < tally.statics
 HasStatic _ tally = ⊤

@@ -1,5 +1,6 @@
 //! The counts, and what changes them.
 ghost use Rattle.std.specs.Prelude.{◌≡◌, ◌<◌, ◌≤◌, ◌+◌, ◌-◌, ◌*◌, ◌^◌, [], length, slice_index, true, IfOk, OnOk};
+ghost use Rattle.mn_base.specs.Limits.{most_static_routes, most_steps};
 ghost use Rattle.mn_net_tally.specs.Rising.{AreRising, IsSplit};
 ghost use Rattle.mn_net_tally.specs.Tallies.{Tallies, is_one, with_frame};
 ghost use Rattle.mn_course.specs.Coming.{is_each};
@@ -81,7 +82,7 @@ impl Tally {
 
     /// A static route came.
     pub fn add_static(&mut self)
-        requires { self.old.statics < 65536 }
+        requires { self.old.statics < most_static_routes }
         ensures { self.new ≡ record self.old { statics = self.old.statics + 1 } }
     {
         self.statics += 1;
@@ -107,7 +108,7 @@ impl Tally {
     pub fn send(&mut self, loss: u32, channel: u32, number: u64)
         requires room { 0 < self.old.spare }
         requires there { channel < length self.old.sent }
-        requires few { slice_index self.old.sent channel < 4000000 }
+        requires few { slice_index self.old.sent channel < most_steps }
         ensures { self.new ≡ record (with_frame loss channel number self.old) { spare = self.new.spare } }
     {
         let count = self.sent[channel as usize] + 1;

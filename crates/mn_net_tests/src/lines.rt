@@ -456,7 +456,13 @@ fn of_two_least_ways_the_lesser_neighbour_is_next(rt: HostRuntime) -> Result<(),
 
 #[test]
 fn drain_without_a_number_leaves_no_news(rt: HostRuntime) -> Result<(), Fail> {
-    let script = "link up pe1 p\nlink up p pe2\nbgp up pe1 pe2\ndrain\ndrain\n";
+    let script = "\
+link up pe1 p
+link up p pe2
+bgp up pe1 pe2
+drain
+drain
+";
     let run = played(rt.alloc(), ROW, script, PACKET, 0)?;
     assert_eq!(rt; came_to(&run, 3), all(39, 0));
     assert_eq!(rt; came_to(&run, 4), all(39, 0));
@@ -465,8 +471,15 @@ fn drain_without_a_number_leaves_no_news(rt: HostRuntime) -> Result<(), Fail> {
 
 #[test]
 fn drain_does_at_most_its_number_of_steps(rt: HostRuntime) -> Result<(), Fail> {
-    let script =
-        "link up pe1 p\nlink up p pe2\nbgp up pe1 pe2\ndrain 0\ndrain 5\ndrain 31\ndrain 1\n";
+    let script = "\
+link up pe1 p
+link up p pe2
+bgp up pe1 pe2
+drain 0
+drain 5
+drain 31
+drain 1
+";
     let run = played(rt.alloc(), ROW, script, PACKET, 0)?;
     assert_eq!(rt; came_to(&run, 3), all(3, 0));
     assert_eq!(rt; came_to(&run, 4), all(8, 0));

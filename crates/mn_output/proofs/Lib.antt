@@ -1,2 +1,7 @@
 pub mod Adding
 pub mod Runs
+pub mod Sendings
+pub mod Deliveries
+pub mod Lives
+pub mod Frames
+pub mod Tellings

@@ -1,7 +1,7 @@
 -- Files, tables and a report over the network of two links, computed from the definitions:
 --
 --     site a --- pe1 --- p --- pe2 --- site b
-use Rattle.std.specs.Prelude.{◌≡◌, refl, ℕ, ◌+◌, List, [], ◌∷◌, ◌++◌, drop, take, codes, Some, None}
+use Rattle.std.specs.Prelude.{◌≡◌, refl, ℕ, ◌+◌, List, [], ◌∷◌, ◌++◌, drop, take, codes, None}
 use Rattle.std.specs.Fmt.{digits}
 use Rattle.mn_base.specs.declared.links.Dir.TheVariants.{Forth, Back}
 use Rattle.mn_base.specs.Paths.{next}
@@ -18,7 +18,8 @@ use Rattle.mn_script.specs.declared.command.Command.TheVariants.{Do, Drain, Flus
 use Rattle.mn_script.specs.declared.command.Show.TheVariants.{Links, Tree, Ldp, Bgp, Vrf, Flight}
 use Rattle.mn_script.specs.declared.command.Line.{Line}
 use Rattle.mn_ledger.specs.Transport.{knowledge_of, news, sessions_after}
-use Rattle.mn_ledger.specs.Vpn.{peerings_after, held}
+use Rattle.mn_ledger.specs.Bgp.{peerings_after}
+use Rattle.mn_ledger.specs.Held.{held}
 use Rattle.mn_ledger.specs.Packets.{packets_after}
 use Rattle.mn_ledger.specs.Refusal.{in_flight, bytes_flying}
 use Rattle.mn_ledger.proofs.TwoLinks.{node_no, link_no, site_no, vrf_no, two_links, packet, settling}

@@ -3,7 +3,6 @@ use Rattle.std.specs.Prelude.{ℕ, ◌+◌, ◌-◌, ◌==◌, ◌&&◌, List, [
 use Rattle.std.specs.List.{flat_map}
 use Rattle.std.specs.Fmt.{decimal}
 use Rattle.mn_base.specs.Wiring.{nodes_of, sender, receiver}
-use Rattle.mn_base.specs.declared.links.Dir.{Dir}
 use Rattle.mn_text.specs.Addresses.{prefix_text}
 use Rattle.mn_pcap.specs.Format.{header, record_of}
 use Rattle.mn_stack.specs.Grammar.{stack_bytes}

@@ -3,3 +3,5 @@ pub mod Files
 pub mod Contents
 pub mod Tables
 pub mod Report
+pub mod Sendings
+pub mod Lists

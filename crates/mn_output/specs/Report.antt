@@ -8,7 +8,7 @@ use Rattle.mn_ledger.specs.declared.verdict.Verdict.TheVariants.{Delivered, Drop
 use Rattle.mn_ledger.specs.Packets.{Packets}
 use Rattle.mn_ledger.specs.Ledger.{packets_of}
 use Rattle.mn_course.specs.Course.{inputs_of}
-use Rattle.mn_course.specs.Expansion.{Note, Refusal, Missing, Table, Sending, Expansion, expanded}
+use Rattle.mn_course.specs.Expansion.{Note, Refusal, Missing, Table, SentLine, Expansion, expanded}
 use Rattle.mn_lines.specs.declared.lines.Sent.{Sent}
 use Rattle.mn_lines.specs.declared.lines.Totals.{Totals}
 use Rattle.mn_lines.specs.Names.{names_of}
@@ -26,11 +26,11 @@ note_text topology capture (Table table past) = table_text topology past.entries
 
 -- 2. Packets
 
-abbrev pub sent_by : Sending → Sent
+abbrev pub sent_by : SentLine → Sent
 sent_by sending = record { line = sending.line; site = sending.site; «record» = sending.number }
 
 -- a line for each injection, numbered on from here
-abbrev pub packet_lines : Network → ℕ → List Sending → List Verdict → List (List ℕ) → List ℕ
+abbrev pub packet_lines : Network → ℕ → List SentLine → List Verdict → List (List ℕ) → List ℕ
 packet_lines topology number (sending ∷ sendings) (verdict ∷ verdicts) (path ∷ paths) =
     packet_line (names_of topology) number (sent_by sending) verdict (map (λ node. record { 0 = node }) path)
     ++ packet_lines topology (number + 1) sendings verdicts paths

@@ -22,8 +22,9 @@ use Rattle.mn_ledger.specs.Places.{edge_of, edges}
 use Rattle.mn_ledger.specs.World.{World}
 use Rattle.mn_ledger.specs.Transport.{view_of, lives}
 use Rattle.mn_ledger.specs.Transport as transport
-use Rattle.mn_ledger.specs.Vpn.{HeldRoute, Source, Own, Near, Far, comes_before, unbeaten, first_of, held}
-use Rattle.mn_ledger.specs.Vpn as vpn
+use Rattle.mn_ledger.specs.Exports.{comes_before}
+use Rattle.mn_ledger.specs.Held.{HeldRoute, Source, Own, Near, Far, unbeaten, first_of, held}
+use Rattle.mn_ledger.specs.Bgp as ledger_bgp
 use Rattle.mn_ledger.specs.Items.{Item, Frames, items_on, flight_of}
 use Rattle.mn_ledger.specs.Ledger.{world_of}
 use Rattle.mn_frames.specs.Given.{Labelling, given, label_at}
@@ -101,7 +102,7 @@ bgp_name bgp.OpenConfirm = codes "openconfirm"
 bgp_name bgp.Established = codes "established"
 
 abbrev pub bgp_text : World → ℕ → ℕ → List ℕ
-bgp_text world edge peer = bgp_name (vpn.bgp_state_of world.config world.peerings edge peer)
+bgp_text world edge peer = bgp_name (ledger_bgp.bgp_state_of world.config world.peerings edge peer)
 
 abbrev pub bgp_line : Network → World → ℕ → ℕ → List ℕ
 bgp_line topology world a b =

@@ -10,8 +10,9 @@ use Rattle.mn_topo.specs.Network.{Network}
 use Rattle.mn_ledger.specs.Entry.{when, first_rule, is_unicast}
 use Rattle.mn_ledger.specs.Places.{home_of, vrf_of, edges}
 use Rattle.mn_ledger.specs.World.{World, Config, Export, Peerings}
-use Rattle.mn_ledger.specs.Vpn.{HeldRoute, held, best, own_routes, near_routes, far_routes, held_by, imported, believed, present_with, exports_of}
-use Rattle.mn_ledger.specs.Vpn as vpn
+use Rattle.mn_ledger.specs.Exports.{present_with, exports_of}
+use Rattle.mn_ledger.specs.Held.{HeldRoute, held, best, own_routes, near_routes, far_routes, held_by, imported, believed}
+use Rattle.mn_ledger.specs.Held as ledger_held
 use Rattle.mn_ledger.specs.Packets.{entry_rules}
 use Rattle.mn_laws.proofs.Entering.{best_is}
 use Rattle.mn_frames.specs.Given.{Labelling}
@@ -22,22 +23,22 @@ use Rattle.mn_pe.specs.Held.{site_label}
 use Rattle.mn_pe.specs.Entries.{alone, entered_at, entered_by, entered_over, route_for, as_held, source_of, StandsAtEntry, IsItsFate}
 
 -- a route from the edge itself leads to a site of it, and one of a peer to another edge
-abbrev IsPlaced : ℕ → ℕ → vpn.Source → Type 0
-IsPlaced edge at vpn.Own = at ≡ edge
-IsPlaced edge at (vpn.Near v) = at ≡ edge
-IsPlaced edge at (vpn.Far address rd) = (at == edge) ≡ false
+abbrev IsPlaced : ℕ → ℕ → ledger_held.Source → Type 0
+IsPlaced edge at ledger_held.Own = at ≡ edge
+IsPlaced edge at (ledger_held.Near v) = at ≡ edge
+IsPlaced edge at (ledger_held.Far address rd) = (at == edge) ≡ false
 
 placed : (t : Network) (c : Config) (p : Peerings) (edge v : ℕ) (r : HeldRoute) → In (held t c p edge v) r → IsPlaced edge r.edge r.source
 unfolding held
 placed t c p edge v r i = elim (in_append (own_routes t c edge v) _ r i) [
-  | inl j ↦ let m = in_map (held_by edge vpn.Own) (present_with t c v []) r j in subst (λ (x : HeldRoute). IsPlaced edge x.edge x.source) m.2 refl
+  | inl j ↦ let m = in_map (held_by edge ledger_held.Own) (present_with t c v []) r j in subst (λ (x : HeldRoute). IsPlaced edge x.edge x.source) m.2 refl
   | inr j ↦ elim (in_append (near_routes t c edge v) _ r j) [
-    | inl k ↦ let m = in_map (λ (x : Export). held_by edge (vpn.Near x.vrf) x)
+    | inl k ↦ let m = in_map (λ (x : Export). held_by edge (ledger_held.Near x.vrf) x)
         (imported c v (filter (λ (x : Export). not (x.vrf == v)) (exports_of t c edge))) r k in
         subst (λ (x : HeldRoute). IsPlaced edge x.edge x.source) m.2 refl
     | inr k ↦
         let f = in_flat_map (far_routes t c p edge v) (filter (λ peer. not (peer == edge)) (edges t)) r k in
-        let m = in_map (λ (x : Export). held_by f.0 (vpn.Far _ _) x) (imported c v (believed c p edge f.0)) r f.2 in
+        let m = in_map (λ (x : Export). held_by f.0 (ledger_held.Far _ _) x) (imported c v (believed c p edge f.0)) r f.2 in
         let apart = in_filter (λ peer. not (peer == edge)) (edges t) f.0 f.1 in
         subst (λ (x : HeldRoute). IsPlaced edge x.edge x.source) m.2 (not_true (f.0 == edge) apart.1)
   ]
@@ -76,11 +77,11 @@ module _ (t : Network) (g : Labelling) (w : World) (edge : Edge) (s : ℕ) (byte
       let fit : IsFit bytes = fits_or_falls t w s bytes small (λ fall. subst IsFall e fall) in
       record { packet = refl; ttl = fit.ttl; alive = omega (arith, fit.alive) }
 
-  over : (r : HeldRoute) → cause ≡ None → found ≡ Some r → (source : vpn.Source) → IsPlaced home r.edge source →
+  over : (r : HeldRoute) → cause ≡ None → found ≡ Some r → (source : ledger_held.Source) → IsPlaced home r.edge source →
       IsItsFate t g w s bytes (entered_over bytes (source_of g r source))
-  over r e f vpn.Own p = let is = stays r e f p in (is, older r.site is)
-  over r e f (vpn.Near v) p = let is = stays r e f p in (is, older r.site is)
-  over r e f (vpn.Far address rd) p = let is = leaves r e f p in (r, is, refl, record { stack = refl; packet = refl; sound = stands.sound r is })
+  over r e f ledger_held.Own p = let is = stays r e f p in (is, older r.site is)
+  over r e f (ledger_held.Near v) p = let is = stays r e f p in (is, older r.site is)
+  over r e f (ledger_held.Far address rd) p = let is = leaves r e f p in (r, is, refl, record { stack = refl; packet = refl; sound = stands.sound r is })
 
   by_cause : (o : Option Rule) → cause ≡ o → (r : Option HeldRoute) → found ≡ r → IsItsFate t g w s bytes (entered_by bytes o (option_map (as_held g) r))
   by_cause (Some c) e r f = ap (fate_of home found) e

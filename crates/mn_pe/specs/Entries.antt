@@ -12,8 +12,8 @@ use Rattle.mn_topo.specs.Network.{Network}
 use Rattle.mn_ledger.specs.Entry.{first_rule}
 use Rattle.mn_ledger.specs.Places.{home_of, vrf_of}
 use Rattle.mn_ledger.specs.World.{World}
-use Rattle.mn_ledger.specs.Vpn.{HeldRoute, held, best}
-use Rattle.mn_ledger.specs.Vpn as vpn
+use Rattle.mn_ledger.specs.Held.{HeldRoute, held, best}
+use Rattle.mn_ledger.specs.Held as ledger_held
 use Rattle.mn_ledger.specs.Packets.{entry_rules, bound}
 use Rattle.mn_frames.specs.Given.{Labelling, label_at}
 use Rattle.mn_frames.specs.Frames.{entry, IsSound}
@@ -75,10 +75,10 @@ HasLabel source = ⊤
 -- 2. By the ledger
 
 -- a held route of the ledger, as an edge holds it
-abbrev pub source_of : Labelling → HeldRoute → vpn.Source → Source
-source_of given route vpn.Own = own_over route.site
-source_of given route (vpn.Near v) = near_over v route.site
-source_of given route (vpn.Far address rd) = far_over address rd route.edge (label_at given route.edge route.site route.attachment)
+abbrev pub source_of : Labelling → HeldRoute → ledger_held.Source → Source
+source_of given route ledger_held.Own = own_over route.site
+source_of given route (ledger_held.Near v) = near_over v route.site
+source_of given route (ledger_held.Far address rd) = far_over address rd route.edge (label_at given route.edge route.site route.attachment)
 
 abbrev pub as_held : Labelling → HeldRoute → AddressBlock × Source
 as_held given route = (route.prefix, source_of given route route.source)

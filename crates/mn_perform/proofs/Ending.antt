@@ -35,7 +35,7 @@ use Rattle.mn_perform.specs.Fails.{fault_of}
 use Rattle.mn_edge.specs.declared.device.DeviceBad.{DeviceBad}
 use Rattle.mn_edge.specs.declared.device.DeviceBad.TheVariants as bad
 use Rattle.mn_perform.specs.Running.{Stands, notes_text, Keeps, Breaks, Went, is_stopped}
-use Rattle.mn_perform.specs.Whole.{last_text, whole_files, AllBegun, BegunAtRead, RunEnds, RunFiles, RunText, IsLate}
+use Rattle.mn_perform.specs.Whole.{last_text, running_files, whole_files, AllBegun, BegunAtRead, UntoldAtRead, RunEnds, RunFiles, RunText, IsLate}
 
 -- 1. Parts
 
@@ -219,13 +219,19 @@ all_begun names contents m after framed begins =
 pub broken_begun : (t : Network) (all : List (List ℕ)) (begun : Option (List ℕ)) (lines : List Line) (found names : List (List ℕ)) (base : Files)
     (files : Option Files)
     (written : Option (List ℕ)) (why : Fault) → found ≡ names → Breaks t all begun (expanded t all lines) found files written → Framed names (Some base) files
-    → BegunAtRead {T = Ended} (whole_files t all lines names) base files (Err why)
+    → BegunAtRead {T = Ended} (running_files t all lines names) base files (Err why)
 broken_begun t all begun lines found names base files written fault.Read same breaks framed =
-    all_begun names (whole_at t all (expanded t all lines).past.entries) base files framed
-    (begins_whole t all (expanded t all lines).past.entries names files
-    (subst (λ n. BeginsOn n (contents_at t all (expanded t all lines).past.entries) files) same breaks.begins))
+    all_begun names (contents_at t all (expanded t all lines).past.entries) base files framed
+    (subst (λ n. BeginsOn n (contents_at t all (expanded t all lines).past.entries) files) same breaks.begins)
 broken_begun t all begun lines found names base files written fault.Write same breaks framed = tt
 broken_begun t all begun lines found names base files written fault.NoMemory same breaks framed = tt
+
+-- and had put no more than its notes
+pub broken_untold : (text before : List ℕ) (written : Option (List ℕ)) (why : Fault) → PartPut text before written →
+    UntoldAtRead {T = Ended} text before written (Err why)
+broken_untold text before written fault.Read put = put
+broken_untold text before written fault.Write put = tt
+broken_untold text before written fault.NoMemory put = tt
 
 -- no read failed
 pub no_read : {T : Type 0} (files : List (List ℕ × List ℕ)) (m : Files) (after : Option Files) (result : Result T Fault) →
@@ -234,6 +240,13 @@ no_read files m after (Ok x) h = tt
 no_read files m after (Err fault.Read) h = absurd (h refl)
 no_read files m after (Err fault.Write) h = tt
 no_read files m after (Err fault.NoMemory) h = tt
+
+pub untold_unread : {T : Type 0} (text before : List ℕ) (written : Option (List ℕ)) (result : Result T Fault) →
+    (result ≡ Err fault.Read → ⊥) → UntoldAtRead text before written result
+untold_unread text before written (Ok x) h = tt
+untold_unread text before written (Err fault.Read) h = absurd (h refl)
+untold_unread text before written (Err fault.Write) h = tt
+untold_unread text before written (Err fault.NoMemory) h = tt
 
 same_fault : (a b : Fault) → ◌≡◌ {A = Result Ended Fault} (Err a) (Err b) → a ≡ b
 same_fault a b e = cc

@@ -18,6 +18,7 @@ use Rattle.mn_output.specs.Contents.{contents, whole, tail_of, output}
 use Rattle.mn_record.specs.Recorded.{contents_at, whole_at, packets_there, told_packets}
 use Rattle.mn_sched.specs.Playing.{IsFirstPart}
 use Rattle.mn_perform.specs.Inside.{is_inside}
+use Rattle.mn_perform.specs.Whole.{running}
 use Rattle.mn_perform.proofs.Growing.{contents_first}
 
 named_each : {A : Type 0} (f g : A → List ℕ) (xs : List A) (d : A) → named (map f xs) (λ k. g (slice_index_or xs k d)) ≡ map (λ x. (f x, g x)) xs
@@ -27,6 +28,10 @@ named_each f g (x ∷ xs) d = ap (λ l. (f x, g x) ∷ l) (named_each f g xs d)
 pub named_output : (folder : List ℕ) (t : Network) (all : List (List ℕ)) (entries : List JournalEntry) →
     named (map (file_name folder t) (files_of t)) (whole_at t all entries) ≡ output folder t all entries
 named_output folder t all entries = named_each (file_name folder t) (whole t all entries) (files_of t) Journal
+
+pub named_running : (folder : List ℕ) (t : Network) (all : List (List ℕ)) (entries : List JournalEntry) →
+    named (map (file_name folder t) (files_of t)) (contents_at t all entries) ≡ running folder t all entries
+named_running folder t all entries = named_each (file_name folder t) (contents t all entries) (files_of t) Journal
 
 -- files that begin as a first part of the journal makes them
 pub cut_off : (folder : List ℕ) (t : Network) (all : List (List ℕ)) (front entries : List JournalEntry) (names : List (List ℕ)) (m : Files)

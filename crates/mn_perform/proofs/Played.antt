@@ -15,7 +15,7 @@ use Rattle.mn_script.specs.declared.command.Show as show
 use Rattle.mn_course.specs.declared.coming.Ending.{Ending}
 use Rattle.mn_course.specs.declared.coming.Ending.TheVariants as ending
 use Rattle.mn_course.specs.Course.{Past, Course, inputs_of, played}
-use Rattle.mn_course.specs.Expansion.{Note, Refusal, Missing, Table, Sending, Expansion, sending_by, table_by, after_line, with_line}
+use Rattle.mn_course.specs.Expansion.{Note, Refusal, Missing, Table, SentLine, Expansion, sending_by, table_by, after_line, with_line}
 use Rattle.mn_lines.specs.Putting.{PutOn, PartPut, Puts, PutsPart}
 use Rattle.mn_output.specs.Report.{note_text, count, is_refusal}
 use Rattle.mn_output.specs.Tables.{table_text}
@@ -56,7 +56,7 @@ count_more notes more = ap length (filter-append is_refusal notes more) ∙ leng
 
 -- 2. The run after a line
 
-abbrev pub then_run : Expansion → Past → List Note → List Sending → Expansion
+abbrev pub then_run : Expansion → Past → List Note → List SentLine → Expansion
 then_run run past notes sendings = record run { past = past; notes = run.notes ++ notes; sendings = run.sendings ++ sendings }
 
 no_table : (past : Past) (command : Command) → is_show command ≡ false → table_by past command ≡ []
@@ -112,7 +112,7 @@ played_is t all run line old new NoRecord shows past takes =
     after_played run line (past_of new) NoRecord ending.NoRecord shows course (sym takes_now.1) takes_now.0 refl
 
 -- what the notes of a run say, and some more
-text_more : (t : Network) (all : List (List ℕ)) (run : Expansion) (past : Past) (notes : List Note) (sendings : List Sending) →
+text_more : (t : Network) (all : List (List ℕ)) (run : Expansion) (past : Past) (notes : List Note) (sendings : List SentLine) →
     notes_text t all (then_run run past notes sendings) ≡ notes_text t all run ++ flat_map (note_text t all) notes
 text_more t all run past notes sendings = flat_map-append (note_text t all) run.notes notes
 

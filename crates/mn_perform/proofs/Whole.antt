@@ -25,8 +25,9 @@ use Rattle.mn_edge.specs.declared.device.DeviceBad.TheVariants as bad
 use Rattle.mn_perform.specs.Fails.{fault_of}
 use Rattle.mn_perform.specs.Inside.{is_inside}
 use Rattle.mn_perform.specs.Running.{Keeps, notes_text}
-use Rattle.mn_perform.specs.Whole.{whole_files, BegunAtRead, RunEnds, RunFiles, RunText, IsLate, FilesOf, TextOf, EndsAs, TellsLate}
-use Rattle.mn_perform.proofs.Laying.{named_output, cut_off, outside, told_is}
+use Rattle.mn_perform.specs.Whole.{running, running_files, whole_files, BegunAtRead, UntoldAtRead, RunEnds, RunFiles, RunText, IsLate}
+use Rattle.mn_perform.specs.Whole.{FilesOf, TextOf, EndsAs, TellsLate}
+use Rattle.mn_perform.proofs.Laying.{named_output, named_running, cut_off, outside, told_is}
 
 -- nothing was put
 pub put_nothing : (text before : List ℕ) (written : Option (List ℕ)) → written ≡ Some before → PartPut text before written
@@ -70,9 +71,10 @@ module _ (folder : List ℕ) (t : Network) (lines : List Line) (capture : Captur
   played_files after (Ok how) h = h ∙ ap (λ f. Some (laid f m)) files_are
   played_files after (Err fault) h = subst (λ f. PartWritten f m after) files_are h
 
-  pub played_begun : (after : Option Files) (result : Result Ended Fault) → BegunAtRead (whole_files t all lines names) m after result
-      → BegunAtRead (run_answer folder t lines all).files m after result
-  played_begun after result h = subst (λ f. BegunAtRead f m after result) files_are h
+  pub played_begun : (after : Option Files) (result : Result Ended Fault) → BegunAtRead (running_files t all lines names) m after result
+      → BegunAtRead (running folder t all (expanded t all lines).past.entries) m after result
+  played_begun after result h =
+      subst (λ f. BegunAtRead f m after result) (ap (running_files t all lines) are ∙ named_running folder t all (expanded t all lines).past.entries) h
 
   pub played_text : (before : List ℕ) (after : Option (List ℕ)) (result : Result Ended Fault) → RunText t all lines before after result
       → TextOf (run_answer folder t lines all) before after result
@@ -93,6 +95,10 @@ pub written_failed : (files : List (List ℕ × List ℕ)) (m : Files) (after : 
     BegunAtRead {T = Ended} files m after (Err (fault_of why))
 written_failed files m after bad.Failed = tt
 written_failed files m after bad.NoMemory = tt
+
+pub written_untold : (text before : List ℕ) (written : Option (List ℕ)) (why : DeviceBad) → UntoldAtRead {T = Ended} text before written (Err (fault_of why))
+written_untold text before written bad.Failed = tt
+written_untold text before written bad.NoMemory = tt
 
 -- 4. The start of a run
 

@@ -6,7 +6,7 @@ use Rattle.mn_edge.specs.Kept.{HoldsOn, BeginsOn}
 use Rattle.mn_topo.specs.Network.{Network}
 use Rattle.mn_script.specs.declared.command.Line.{Line}
 use Rattle.mn_course.specs.Course.{inputs_of}
-use Rattle.mn_course.specs.Expansion.{Sending, Expansion, sending_by, expanded_from, expanded}
+use Rattle.mn_course.specs.Expansion.{SentLine, Expansion, sending_by, expanded_from, expanded}
 use Rattle.mn_lines.specs.Lines.{cause_text, refused_line}
 use Rattle.mn_lines.specs.Putting.{PutOn, PartPut, Puts}
 use Rattle.mn_output.specs.Report.{note_text, count, is_refusal}
@@ -32,7 +32,7 @@ abbrev pub refusals_by : Played → ℕ
 refusals_by All = 0
 refusals_by other = 1
 
-abbrev pub sendings_by : Line → Played → List Sending
+abbrev pub sendings_by : Line → Played → List SentLine
 sendings_by line All = sending_by line.number line.command
 sendings_by line other = []
 

@@ -4,6 +4,7 @@ use Rattle.std.specs.Option.{ForSome}
 use Rattle.mn_edge.specs.Files.{Files, file}
 use Rattle.mn_edge.specs.Written.{laid, IsPart, PartWritten}
 use Rattle.mn_topo.specs.Network.{Network}
+use Rattle.mn_topo.specs.declared.steps.JournalEntry.{JournalEntry}
 use Rattle.mn_script.specs.declared.command.Line.{Line}
 use Rattle.mn_ledger.specs.Packets.{Packets}
 use Rattle.mn_course.specs.Expansion.{expanded}
@@ -11,8 +12,10 @@ use Rattle.mn_capture.specs.Packets.{CaptureView, packets_in}
 use Rattle.mn_lines.specs.Lines.{total_line}
 use Rattle.mn_lines.specs.Putting.{PartPut}
 use Rattle.mn_edge.specs.Laid.{named}
+use Rattle.mn_output.specs.Files.{files_of, file_name}
+use Rattle.mn_output.specs.Contents.{contents}
 use Rattle.mn_output.specs.Report.{packet_lines, RunAnswer, run_answer, report}
-use Rattle.mn_record.specs.Recorded.{whole_at}
+use Rattle.mn_record.specs.Recorded.{contents_at, whole_at}
 use Rattle.mn_net_now.specs.Now.{NetNow}
 use Rattle.mn_report.specs.Shown.{sending_of, totals_by}
 use Rattle.mn_perform.specs.Running.{is_stopped, notes_text}
@@ -38,6 +41,10 @@ abbrev pub FilesOf : RunAnswer → Files → Option Files → Result Ended Fault
 FilesOf answer m after (Ok how) = after ≡ Some (laid answer.files m)
 FilesOf answer m after (Err fault) = PartWritten answer.files m after
 
+-- the same where only its packets and the shelf are asked for
+abbrev pub ForPackets : (List (List ℕ) → Files → Type 0) → CaptureView → Option Files → Type 0
+ForPackets P capture files = ForSome files (λ m. ForSome (file m capture.name) (λ bytes. P (packets_in capture bytes) m))
+
 -- each of the files was begun: it has a first part of its bytes, and no other file has changed
 pub record AllBegun (files : List (List ℕ × List ℕ)) (m : Files) (after : Option Files) : Type 0 where
   pub stands : List (List ℕ × List ℕ)
@@ -45,10 +52,19 @@ pub record AllBegun (files : List (List ℕ × List ℕ)) (m : Files) (after : O
   pub is_part : IsPart stands files
   pub after_is : after ≡ Some (laid stands m)
 
+-- the files of a run while its lines are played, in order: no label is written yet
+abbrev pub running : List ℕ → Network → List (List ℕ) → List JournalEntry → List (List ℕ × List ℕ)
+running folder topology capture entries = map (λ out. (file_name folder topology out, contents topology capture entries out)) (files_of topology)
+
 -- a read fails only once every file was begun
 abbrev pub BegunAtRead : {T : Type 0} → List (List ℕ × List ℕ) → Files → Option Files → Result T Fault → Type 0
 BegunAtRead files m after (Err Read) = AllBegun files m after
 BegunAtRead files m after result = ⊤
+
+-- where a read failed no more than this text was put
+abbrev pub UntoldAtRead : {T : Type 0} → List ℕ → List ℕ → Option (List ℕ) → Result T Fault → Type 0
+UntoldAtRead text before written (Err Read) = PartPut text before written
+UntoldAtRead text before written result = ⊤
 
 -- what was put is the run's report; after a fault a first part of it
 abbrev pub TextOf : RunAnswer → List ℕ → Option (List ℕ) → Result Ended Fault → Type 0
@@ -74,6 +90,9 @@ RunEnds topology all lines (Err fault) = ⊤
 
 abbrev pub whole_files : Network → List (List ℕ) → List Line → List (List ℕ) → List (List ℕ × List ℕ)
 whole_files topology all lines names = named names (whole_at topology all (expanded topology all lines).past.entries)
+
+abbrev pub running_files : Network → List (List ℕ) → List Line → List (List ℕ) → List (List ℕ × List ℕ)
+running_files topology all lines names = named names (contents_at topology all (expanded topology all lines).past.entries)
 
 abbrev pub RunFiles : Network → List (List ℕ) → List Line → List (List ℕ) → Files → Option Files → Result Ended Fault → Type 0
 RunFiles topology all lines names base after (Ok how) = after ≡ Some (laid (whole_files topology all lines names) base)

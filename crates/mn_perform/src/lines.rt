@@ -1,6 +1,7 @@
 //! The lines of a script, one after another.
 ghost use Rattle.std.specs.Prelude.{◌≡◌, ◌-◌, ◌+◌, ◌<◌, ◌≤◌, ◌^◌, true, false, [], List, ℕ, length, Option, IfOk, OnOk};
 ghost use Rattle.std.specs.Option.{ForSome};
+ghost use Rattle.mn_base.specs.Limits.{most_script_lines};
 ghost use Rattle.mn_edge.specs.Kept.{Framed};
 ghost use Rattle.mn_script.specs.Lines.{command_fits};
 ghost use Rattle.mn_script.specs.Script.{AllFit};
@@ -108,7 +109,7 @@ pub(crate) fn play_lines<S: Shelf, O: Sink>(
     desk: &mut Desk,
 ) -> Result<Ended, Fault>
     requires fit { AllFit net.old.topology lines.now }
-    requires few { length lines.now ≤ 3000000 }
+    requires few { length lines.now ≤ most_script_lines }
     requires tick { net.old.tick ≡ 0 }
     requires refused { desk.old.refused ≡ 0 }
     requires files { IsFor books.old net.old.topology }

@@ -2,12 +2,13 @@
 ghost use Rattle.std.specs.Prelude.{◌≡◌, ◌≢◌, ◌≤◌, length, Some, Ok, Err, IfOk, IfErr, ⊤};
 ghost use Rattle.mn_pcap.specs.Reading.{packets_of, end_of};
 ghost use Rattle.mn_pcap.specs.declared.refusal.PcapBad.TheVariants.{NoMemory};
-ghost use Rattle.mn_sched.specs.Watching.{Found, is_record};
+ghost use Rattle.mn_sched.specs.Watching.{Found};
 ghost use Rattle.mn_perform.specs.Memory.{packets_at};
 ghost use Rattle.mn_perform.specs.MemoryLaws.{has_each};
 
 use mn_net::{Done, Net};
 use mn_pcap::{LinkKind, PcapBad, Place, packet_of, read_header, records};
+use mn_record::is_record;
 use mn_sched::{Watch, WatchBad};
 use std::alloc::Global;
 use std::marker::Model;
@@ -63,13 +64,6 @@ impl MemoryCapture {
         let at = place.at as usize;
         Some(packet_of(self.link, &self.bytes[at..at + place.length as usize]))
     }
-}
-
-/// Records are numbered from 1.
-fn is_record(records: usize, nth: u32) -> bool
-    ensures { result ≡ is_record records nth }
-{
-    1 <= nth && nth as usize <= records
 }
 
 /// Hands out the packets of a capture in memory.

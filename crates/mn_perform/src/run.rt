@@ -1,6 +1,7 @@
 //! A whole run.
 ghost use Rattle.std.specs.Prelude.{◌≡◌, ◌≢◌, ◌⊎◌, ◌≤◌, ◌++◌, [], false, List, ℕ, length, Some, Ok, Err, OnOk, OnErr};
 ghost use Rattle.std.specs.Option.{ForSome};
+ghost use Rattle.mn_base.specs.Limits.{most_script_lines};
 ghost use Rattle.mn_edge.specs.Files.{Files};
 ghost use Rattle.mn_edge.specs.Kept.{Framed};
 ghost use Rattle.mn_edge.specs.Laid.{named};
@@ -13,9 +14,10 @@ ghost use Rattle.mn_record.specs.Recorded.{whole_at};
 ghost use Rattle.mn_perform.specs.Faults.{Blamed};
 ghost use Rattle.mn_perform.specs.Inside.{is_inside};
 ghost use Rattle.mn_record.specs.Recorded.{IsFor, told_packets};
-ghost use Rattle.mn_course.specs.Expansion.{start_of};
-ghost use Rattle.mn_perform.specs.Running.{Keeps, Stands};
-ghost use Rattle.mn_perform.specs.Whole.{last_text, whole_files, BegunAtRead, RunEnds, RunFiles, RunText, IsLate, ForRun, FilesOf, TextOf, EndsAs, TellsLate};
+ghost use Rattle.mn_course.specs.Expansion.{start_of, expanded};
+ghost use Rattle.mn_perform.specs.Running.{notes_text, Keeps, Stands};
+ghost use Rattle.mn_perform.specs.Whole.{last_text, running, running_files, BegunAtRead, UntoldAtRead, RunEnds, RunFiles, RunText, IsLate};
+ghost use Rattle.mn_perform.specs.Whole.{ForRun, ForPackets, FilesOf, TextOf, EndsAs, TellsLate};
 
 use crate::desk::Desk;
 use crate::ended::{Ended, Fault};
@@ -75,7 +77,7 @@ fn run<S: Shelf, O: Sink>(
     desk: &mut Desk,
 ) -> Result<Ended, Fault>
     requires fit { AllFit net.old.topology lines.now }
-    requires few { length lines.now ≤ 3000000 }
+    requires few { length lines.now ≤ most_script_lines }
     requires tick { net.old.tick ≡ 0 }
     requires refused { desk.old.refused ≡ 0 }
     requires files { IsFor books.old net.old.topology }
@@ -89,7 +91,9 @@ fn run<S: Shelf, O: Sink>(
     ensures late { ForSome (told_packets (S.files shelf.old) books.old.names capture.now) (λ all. (base : Files) → Framed books.old.names (Some base) (S.files shelf.old) →
         ForSome (O.written out.old) (λ before. IsLate net.old.topology all lines.now books.old.names base (S.files shelf.new) before (O.written out.new))) }
     ensures begun { ForSome (told_packets (S.files shelf.old) books.old.names capture.now) (λ all. (base : Files) → Framed books.old.names (Some base) (S.files shelf.old) →
-        BegunAtRead (whole_files net.old.topology all lines.now books.old.names) base (S.files shelf.new) result) }
+        BegunAtRead (running_files net.old.topology all lines.now books.old.names) base (S.files shelf.new) result) }
+    ensures untold { ForSome (told_packets (S.files shelf.old) books.old.names capture.now) (λ all. ForSome (O.written out.old) (λ before.
+        UntoldAtRead (notes_text net.old.topology all (expanded net.old.topology all lines.now)) before (O.written out.new) result)) }
     ensures cause { Blamed (S.read_faults shelf.old, S.write_faults shelf.old, O.faults out.old)
         (S.read_faults shelf.new, S.write_faults shelf.new, O.faults out.new) result }
 {
@@ -114,7 +118,7 @@ pub fn perform<S: Shelf, O: Sink>(
     folder: &str,
 ) -> Result<Ended, Fault>
     requires fit { AllFit topology lines.now }
-    requires few { length lines.now ≤ 3000000 }
+    requires few { length lines.now ≤ most_script_lines }
     requires apart { is_inside capture.now.name folder.now ≡ false }
     ensures ended { ForRun (λ answer m. EndsAs answer result) folder.now topology lines.now capture.now (S.files shelf.old) }
     ensures files { ForRun (λ answer m. FilesOf answer m (S.files shelf.new) result) folder.now topology lines.now capture.now (S.files shelf.old) }
@@ -123,8 +127,11 @@ pub fn perform<S: Shelf, O: Sink>(
     // Nothing of packets and total is put but where every file is whole.
     ensures late { ForRun (λ answer m. ForSome (O.written out.old) (λ before. TellsLate folder.now topology lines.now capture.now answer m (S.files shelf.new) before (O.written out.new)))
         folder.now topology lines.now capture.now (S.files shelf.old) }
-    // A read fails only once every file was begun.
-    ensures begun { ForRun (λ answer m. BegunAtRead answer.files m (S.files shelf.new) result) folder.now topology lines.now capture.now (S.files shelf.old) }
+    // A read fails only among the lines: every file was begun, no label is written, and nothing of packets and total is put.
+    ensures begun { ForPackets (λ packets m. BegunAtRead (running folder.now topology packets (expanded topology packets lines.now).past.entries) m (S.files shelf.new) result)
+        capture.now (S.files shelf.old) }
+    ensures untold { ForPackets (λ packets m. ForSome (O.written out.old) (λ before.
+        UntoldAtRead (notes_text topology packets (expanded topology packets lines.now)) before (O.written out.new) result)) capture.now (S.files shelf.old) }
     ensures cause { Blamed (S.read_faults shelf.old, S.write_faults shelf.old, O.faults out.old)
         (S.read_faults shelf.new, S.write_faults shelf.new, O.faults out.new) result }
 {

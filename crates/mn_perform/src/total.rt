@@ -1,6 +1,7 @@
 //! A run that writes no file, and of whose report only the total is put.
 ghost use Rattle.std.specs.Prelude.{◌≡◌, ◌-◌, ◌+◌, ◌<◌, ◌≤◌, ◌^◌, true, false, [], List, ℕ, length, IfOk, OnOk, OnErr};
 ghost use Rattle.std.specs.Option.{ForSome};
+ghost use Rattle.mn_base.specs.Limits.{most_script_lines};
 ghost use Rattle.mn_script.specs.Lines.{command_fits};
 ghost use Rattle.mn_script.specs.Script.{AllFit};
 ghost use Rattle.mn_course.specs.Course.{inputs_of};
@@ -94,7 +95,7 @@ fn play_lines(
     refused: &mut u32,
 ) -> Result<Ended, AllocError>
     requires fit { AllFit net.old.topology lines.now }
-    requires few { length lines.now ≤ 3000000 }
+    requires few { length lines.now ≤ most_script_lines }
     requires journal { net.old.journal ≡ [] }
     requires tick { net.old.tick ≡ 0 }
     requires stands { StandsFor net.old [] }
@@ -172,7 +173,7 @@ pub fn tally<O: Sink>(
     heading: &[u8],
 ) -> Result<Ended, Fault>
     requires fit { AllFit topology lines.now }
-    requires few { length lines.now ≤ 3000000 }
+    requires few { length lines.now ≤ most_script_lines }
     ensures ended { IfOk result (λ how. (expanded topology (packets_at capture.now) lines.now).is_stopped ≡ is_stopped how) }
     ensures text { ForSome (O.written out.old) (λ before. PutsWhole
         (total_text heading.now topology (packets_at capture.now) (expanded topology (packets_at capture.now) lines.now)) before (O.written out.new) result) }

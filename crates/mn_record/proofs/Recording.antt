@@ -5,6 +5,7 @@ use Rattle.std.specs.Option.{ForSome}
 use Rattle.mn_base.proofs.Bools.{and_left, and_right, at_most_tells}
 use Rattle.mn_edge.specs.Files.{Files, file}
 use Rattle.mn_edge.specs.Kept.{BeginsOn, Framed}
+use Rattle.mn_base.proofs.Rules.{some_is}
 use Rattle.mn_course.specs.Course.{record_of, inputs_of}
 use Rattle.mn_capture.specs.Packets.{CaptureView, packets_in}
 use Rattle.mn_net_now.specs.Now.{NetNow, StandsFor}
@@ -17,9 +18,6 @@ use Rattle.mn_record.specs.Watched.{Holding, Beginning}
 use Rattle.mn_record.specs.Laws.{packets_are_there, same_packets}
 use Rattle.mn_record.specs.Parts.{RecordsLast, MayRecordLast}
 use Rattle.mn_record.proofs.Adding.{still_for}
-
-same_some : {A : Type 0} (a b : A) → Some a ≡ Some b → a ≡ b
-same_some a b e = cc
 
 -- a record's number is one of 1 to as many as there are
 pub record_within : (records nth : ℕ) → is_record records nth ≡ true → (1 ≤ nth) × (nth ≤ records)
@@ -47,7 +45,7 @@ together_is net books capture files is both = λ all told. (
   (both all told).0,
   (
     is,
-    λ other said. subst (λ packets. Records net.topology net.journal packets books files) (same_some all other (sym told ∙ said))
+    λ other said. subst (λ packets. Records net.topology net.journal packets books files) (some_is all other (sym told ∙ said))
         (both all told).1,
   ),
 )
@@ -72,7 +70,7 @@ pub step_holds : (net : NetNow) (all : List (List ℕ)) (old new : BooksNow) (ca
 step_holds net all old new capture before after told names places framed holding records = (
   still_for old new net.topology names places holding.0,
   λ other said.
-      let same : all ≡ other = same_some all other (sym told ∙ sym (same_packets old.names capture before after framed)
+      let same : all ≡ other = some_is all other (sym told ∙ sym (same_packets old.names capture before after framed)
       ∙ ap (λ n. told_packets after n capture) (sym names) ∙ said) in
       subst (λ packets. Records net.topology net.journal packets new after) same (records holding.0 (holding.1 all told)),
 )
@@ -82,6 +80,6 @@ pub step_begins : (net : NetNow) (all : List (List ℕ)) (old new : BooksNow) (c
     Holding old capture before net.topology (but_last net.journal) → (IsFor old net.topology → MayRecordLast net all old new before after) →
     Beginning new capture after net.topology net.journal
 step_begins net all old new capture before after told names framed holding records = λ other said.
-    let same : all ≡ other = same_some all other (sym told ∙ sym (same_packets old.names capture before after framed)
+    let same : all ≡ other = some_is all other (sym told ∙ sym (same_packets old.names capture before after framed)
     ∙ ap (λ n. told_packets after n capture) (sym names) ∙ said) in
     subst (λ packets. BeginsOn new.names (contents_at net.topology packets net.journal) after) same (records holding.0 (holding.1 all told))

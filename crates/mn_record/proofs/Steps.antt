@@ -33,7 +33,7 @@ use Rattle.mn_frames.specs.Numbers.{labels_of}
 use Rattle.mn_bgp_spelling.specs.Spelling.{bytes_in}
 use Rattle.mn_course.specs.Course.{inputs_of, input_before}
 use Rattle.mn_course.proofs.Going.{a_packet_each, inputs_more, packet_at}
-use Rattle.mn_net.specs.Told.{told_at, told_of, channel_of}
+use Rattle.mn_net.specs.Told.{told_at, item_told, channel_of}
 use Rattle.mn_output.specs.Moments.{Moment, journal_then, made, injected, world_then, packets_then}
 use Rattle.mn_output.specs.Files.{OutputFile, Journal, Labels, Deliveries, Frames, Said}
 use Rattle.mn_output.specs.Files as file
@@ -154,9 +154,9 @@ told_then t all now front rest load out known split =
     let xs : List Item = in_front t all now front in
     let zs : List Item = behind t all now front rest in
     let rises = ascending t all now front rest load known split in
-    ap (λ items. item_part now.entry.tick (option_map (told_of t journal items) (find (λ item. item.number == y.number) items)) out)
+    ap (λ items. item_part now.entry.tick (option_map (item_told t journal items) (find (λ item. item.number == y.number) items)) out)
     (items_are t all now front rest load split)
-    ∙ ap (λ o. item_part now.entry.tick (option_map (told_of t journal (xs ++ y ∷ zs)) o) out) (found 0 high xs zs y rises)
+    ∙ ap (λ o. item_part now.entry.tick (option_map (item_told t journal (xs ++ y ∷ zs)) o) out) (found 0 high xs zs y rises)
     ∙ ap (λ place. load_part t journal now.entry.tick place load out) (place_is 0 high xs zs y rises)
 
 -- 3. One after another

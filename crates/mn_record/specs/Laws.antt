@@ -4,6 +4,7 @@ use Rattle.std.proofs.lemmas.List.{length-map}
 use Rattle.mn_edge.specs.Files.{Files, file}
 use Rattle.mn_edge.specs.Written.{is_known}
 use Rattle.mn_edge.specs.Kept.{Framed}
+use Rattle.mn_base.proofs.Rules.{some_is}
 use Rattle.mn_edge.specs.KeptLaws.{begins_on, framed_same, framed_both}
 use Rattle.mn_topo.specs.Network.{Network}
 use Rattle.mn_topo.specs.declared.steps.JournalEntry.{JournalEntry}
@@ -11,9 +12,6 @@ use Rattle.mn_pcap.specs.Reading.{bytes_at, packet_of}
 use Rattle.mn_capture.specs.Packets.{CaptureView, packets_in}
 use Rattle.mn_record.specs.Recorded.{BooksNow, told_packets, packets_there}
 use Rattle.mn_record.specs.Watched.{Holding, Beginning, GoesOn}
-
-same_some : {A : Type 0} (a b : A) → Some a ≡ Some b → a ≡ b
-same_some a b e = cc
 
 -- a packet for each record
 pub has_each : (files : Option Files) (names : List (List ℕ)) (capture : CaptureView) (all : List (List ℕ)) → told_packets files names capture ≡ Some all →
@@ -25,7 +23,7 @@ has_each (Some files) names capture all is = by (is_known names capture.name) (f
     by true bytes e = absurd (let f : None ≡ Some all = e in cc)
     by false None e = absurd (let f : None ≡ Some all = e in cc)
     by false (Some bytes) e =
-        ap length (sym (same_some (packets_in capture bytes) all e)) ∙ length-map capture.places (λ place. packet_of capture.link (bytes_at bytes place))
+        ap length (sym (some_is (packets_in capture bytes) all e)) ∙ length-map capture.places (λ place. packet_of capture.link (bytes_at bytes place))
 
 -- the capture's packets stay, since its file isn't one of those that are written
 pub same_packets : (names : List (List ℕ)) (capture : CaptureView) (before after : Option Files) → Framed names before after →
@@ -60,7 +58,7 @@ packets_are_there (Some files) names capture all is = by (is_known names capture
     by true bytes there e = absurd (let f : None ≡ Some all = e in cc)
     by false None there e = absurd (let f : None ≡ Some all = e in cc)
     by false (Some bytes) there e =
-        record { now = files; told = refl; bytes = bytes; there = there; packets = same_some (packets_in capture bytes) all e }
+        record { now = files; told = refl; bytes = bytes; there = there; packets = some_is (packets_in capture bytes) all e }
 
 -- where files stay, so do packets, what is recorded, and all else
 pub packets_stay : (names : List (List ℕ)) (capture : CaptureView) (before after : Option Files) → after ≡ before →

@@ -28,4 +28,4 @@ mod step;
 mod tests;
 
 pub use books::Books;
-pub use recorder::record_line;
+pub use recorder::{is_record, record_line};

@@ -34,8 +34,8 @@ pub(crate) struct Recorder<'a, S: Shelf> {
     fetched: &'a mut Vec<u8>,
 }
 
-/// Records are numbered from 1.
-fn is_record(records: usize, nth: u32) -> bool
+/// Whether a capture of so many records has this one: they are numbered from 1.
+pub fn is_record(records: usize, nth: u32) -> bool
     ensures { result ≡ is_record records nth }
 {
     1 <= nth && nth as usize <= records

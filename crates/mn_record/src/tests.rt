@@ -80,8 +80,14 @@ vrf = "red2"
 prefixes = ["10.2.0.0/16"]
 "#;
 
-const SCRIPT: &str =
-    "link up pe1 p\nlink up p pe2\nbgp up pe1 pe2\ndrain 1000\ninject a 1\nflush\n";
+const SCRIPT: &str = "\
+link up pe1 p
+link up p pe2
+bgp up pe1 pe2
+drain 1000
+inject a 1
+flush
+";
 
 /// From 10.1.0.1 to 10.2.0.1, with TTL 64.
 const PACKET: [u8; 28] = [

@@ -8,7 +8,8 @@ use Rattle.mn_base.proofs.Members.{In, in_map, in_filter, filter_in}
 use Rattle.mn_base.proofs.Kept.{fold_in}
 use Rattle.mn_prefix.specs.Prefix.{AddressBlock, same_prefix, contains, first_bits}
 use Rattle.mn_prefix.proofs.Tables.{same_exact}
-use Rattle.mn_ledger.specs.Vpn.{HeldRoute, comes_before, matching, unbeaten, first_of}
+use Rattle.mn_ledger.specs.Exports.{comes_before}
+use Rattle.mn_ledger.specs.Held.{HeldRoute, matching, unbeaten, first_of}
 use Rattle.mn_ledger.proofs.Choice.{none_matches}
 use Rattle.mn_net.specs.Tables.{prefixes_of, best_for, best_at}
 

@@ -12,7 +12,7 @@ use Rattle.mn_ledger.specs.declared.verdict.Verdict.{Verdict}
 use Rattle.mn_ledger.specs.declared.verdict.Verdict.TheVariants.{Delivered, Dropped, Flying}
 use Rattle.mn_ledger.specs.Packets.{Packets}
 use Rattle.mn_ledger.specs.Verdicts.{verdict_on}
-use Rattle.mn_course.specs.Expansion.{Sending}
+use Rattle.mn_course.specs.Expansion.{SentLine}
 use Rattle.mn_lines.specs.declared.lines.Sent.{Sent}
 use Rattle.mn_lines.specs.Names.{names_of}
 use Rattle.mn_lines.specs.Lines.{packet_line}
@@ -96,7 +96,7 @@ one_cut topology packets sendings i d s t u e r from below there each x this =
     (packet_lines topology 1 (map sending_of sendings) packets.verdicts packets.paths) s t u e r from x.told this
     (ap (λ words. x.done ++ words) (sym (row_left topology packets sendings i d below there each)) ∙ x.left)
 
-no_more : (topology : Network) (number : ℕ) (sendings : List Sending) (verdicts : List Verdict) (paths : List (List ℕ))
+no_more : (topology : Network) (number : ℕ) (sendings : List SentLine) (verdicts : List Verdict) (paths : List (List ℕ))
     → (sendings ≡ []) ⊎ (verdicts ≡ []) → packet_lines topology number sendings verdicts paths ≡ []
 no_more topology number [] verdicts paths none = refl
 no_more topology number (sending ∷ sendings) [] paths none = refl

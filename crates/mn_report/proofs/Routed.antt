@@ -4,8 +4,8 @@ use Rattle.std.specs.Prelude.{slice_get, option_map}
 use Rattle.mn_prefix.specs.Prefix.{AddressBlock}
 use Rattle.mn_vrf.specs.declared.source.Source.{Source}
 use Rattle.mn_vrf.specs.declared.source.Source.TheVariants as from
-use Rattle.mn_ledger.specs.Vpn.{HeldRoute}
-use Rattle.mn_ledger.specs.Vpn as vpn
+use Rattle.mn_ledger.specs.Held.{HeldRoute}
+use Rattle.mn_ledger.specs.Held as ledger_held
 use Rattle.mn_frames.specs.Given.{Labelling, label_at}
 use Rattle.mn_base.specs.declared.numbers.SiteNo.{SiteNo}
 use Rattle.mn_base.specs.declared.numbers.VrfNo.{VrfNo}
@@ -19,17 +19,17 @@ use Rattle.mn_output.specs.Tables.{route_line}
 -- 1. A source tells the ledger's
 
 pub record IsOwn (route : HeldRoute) (site : SiteNo) : Type 0 where
-  pub source_is : route.source ≡ vpn.Own
+  pub source_is : route.source ≡ ledger_held.Own
   pub site_is : site.0 ≡ route.site
 
 pub record IsNear (route : HeldRoute) (other : VrfNo) (site : SiteNo) : Type 0 where
-  pub source_is : route.source ≡ vpn.Near other.0
+  pub source_is : route.source ≡ ledger_held.Near other.0
   pub site_is : site.0 ≡ route.site
 
 pub record IsFar (given : Labelling) (route : HeldRoute) (edge : NodeNo) (label : ℕ) : Type 0 where
   pub address : ℕ
   pub rd : ℕ
-  pub source_is : route.source ≡ vpn.Far address rd
+  pub source_is : route.source ≡ ledger_held.Far address rd
   pub edge_is : edge.0 ≡ route.edge
   pub label_is : label ≡ label_at given route.edge route.site route.attachment
 
@@ -50,31 +50,33 @@ abbrev label_in : Source → ℕ
 label_in (from.Far loopback rd edge label) = label
 label_in _ = 0
 
-own_by : (given : Labelling) (route : HeldRoute) (source : vpn.Source) (site : SiteNo) → from.Own site ≡ source_of given route source →
-    (source ≡ vpn.Own) × (site.0 ≡ route.site)
-own_by given route vpn.Own site is = (refl, ap site_in is)
-own_by given route (vpn.Near v) site is = cc
-own_by given route (vpn.Far address rd) site is = cc
+own_by : (given : Labelling) (route : HeldRoute) (source : ledger_held.Source) (site : SiteNo) → from.Own site ≡ source_of given route source →
+    (source ≡ ledger_held.Own) × (site.0 ≡ route.site)
+own_by given route ledger_held.Own site is = (refl, ap site_in is)
+own_by given route (ledger_held.Near v) site is = cc
+own_by given route (ledger_held.Far address rd) site is = cc
 
 pub is_own : (given : Labelling) (route : HeldRoute) (site : SiteNo) → from.Own site ≡ source_of given route route.source → IsOwn route site
 is_own given route site is = let both = own_by given route route.source site is in record { source_is = both.0; site_is = both.1 }
 
-near_by : (given : Labelling) (route : HeldRoute) (source : vpn.Source) (other : VrfNo) (site : SiteNo) → from.Near other site ≡ source_of given route source
-    → (source ≡ vpn.Near other.0) × (site.0 ≡ route.site)
-near_by given route vpn.Own other site is = cc
-near_by given route (vpn.Near v) other site is = (ap vpn.Near (sym (ap vrf_in is)), ap site_in is)
-near_by given route (vpn.Far address rd) other site is = cc
+near_by : (given : Labelling) (route : HeldRoute) (source : ledger_held.Source) (other : VrfNo) (site : SiteNo) →
+    from.Near other site ≡ source_of given route source
+    → (source ≡ ledger_held.Near other.0) × (site.0 ≡ route.site)
+near_by given route ledger_held.Own other site is = cc
+near_by given route (ledger_held.Near v) other site is = (ap ledger_held.Near (sym (ap vrf_in is)), ap site_in is)
+near_by given route (ledger_held.Far address rd) other site is = cc
 
 pub is_near : (given : Labelling) (route : HeldRoute) (other : VrfNo) (site : SiteNo) → from.Near other site ≡ source_of given route route.source →
     IsNear route other site
 is_near given route other site is = let both = near_by given route route.source other site is in record { source_is = both.0; site_is = both.1 }
 
-far_by : (given : Labelling) (route : HeldRoute) (source : vpn.Source) (loopback : ℕ) (rd : Rd) (edge : NodeNo) (label : ℕ) →
+far_by : (given : Labelling) (route : HeldRoute) (source : ledger_held.Source) (loopback : ℕ) (rd : Rd) (edge : NodeNo) (label : ℕ) →
     from.Far loopback rd edge label ≡ source_of given route source
-    → (address : ℕ) × (number : ℕ) × (source ≡ vpn.Far address number) × (edge.0 ≡ route.edge) × (label ≡ label_at given route.edge route.site route.attachment)
-far_by given route vpn.Own loopback rd edge label is = cc
-far_by given route (vpn.Near v) loopback rd edge label is = cc
-far_by given route (vpn.Far address number) loopback rd edge label is = (address, number, refl, ap edge_in is, ap label_in is)
+    → (address : ℕ) × (number : ℕ) × (source ≡ ledger_held.Far address number) × (edge.0 ≡ route.edge)
+    × (label ≡ label_at given route.edge route.site route.attachment)
+far_by given route ledger_held.Own loopback rd edge label is = cc
+far_by given route (ledger_held.Near v) loopback rd edge label is = cc
+far_by given route (ledger_held.Far address number) loopback rd edge label is = (address, number, refl, ap edge_in is, ap label_in is)
 
 pub is_far : (given : Labelling) (route : HeldRoute) (loopback : ℕ) (rd : Rd) (edge : NodeNo) (label : ℕ) →
     from.Far loopback rd edge label ≡ source_of given route route.source

@@ -2,7 +2,7 @@
 use Rattle.std.specs.Prelude.{ℕ, List, length, codes}
 use Rattle.mn_topo.specs.Network.{Network}
 use Rattle.mn_ledger.specs.declared.verdict.Verdict.{Verdict}
-use Rattle.mn_course.specs.Expansion.{Sending}
+use Rattle.mn_course.specs.Expansion.{SentLine}
 use Rattle.mn_lines.specs.declared.lines.Sent.{Sent}
 use Rattle.mn_lines.specs.declared.lines.Totals.{Totals}
 use Rattle.mn_lines.specs.Lines.{refused_line, cause_text}
@@ -12,7 +12,7 @@ use Rattle.mn_report.specs.declared.refused.Shown.{Shown}
 use Rattle.mn_report.specs.declared.refused.Shown.TheVariants.{Step, NoRecord}
 
 -- an injection by its line, site and record
-abbrev pub sending_of : Sent → Sending
+abbrev pub sending_of : Sent → SentLine
 sending_of sent = record { line = sent.line; site = sent.site; number = sent.«record» }
 
 -- the line of a script's line that was refused

@@ -1,5 +1,6 @@
 //! What became of each packet.
 ghost use Rattle.std.specs.Prelude.{◌≡◌, ◌≤◌, ◌<◌, ◌++◌, false, length, map, min, List, ℕ, OnOk, OnErr};
+ghost use Rattle.mn_base.specs.Limits.{most_steps};
 ghost use Rattle.mn_edge.specs.Faults.{Counted};
 ghost use Rattle.mn_ledger.specs.Ledger.{packets_of};
 ghost use Rattle.mn_lines.specs.Putting.{Puts, PutsPart};
@@ -24,7 +25,7 @@ fn put_packet<O: Sink>(
     sent: Sent,
 ) -> Result<(), DeviceBad>
     requires there { packet < length net.now.moving.verdicts }
-    requires few { length net.now.moving.verdicts ≤ 4000000 }
+    requires few { length net.now.moving.verdicts ≤ most_steps }
     ensures told { (inputs : List (List ℕ)) → StandsFor net.now inputs →
         Tells (packet_row net.now.topology (packets_of net.now.topology net.now.journal inputs) packet sent)
         (standing page.old (O.written out.old) (O.faults out.old)) (standing page.new (O.written out.new) (O.faults out.new)) result }
@@ -57,7 +58,7 @@ fn put_each<O: Sink>(
     net: &Net,
     sendings: &[Sent],
 ) -> Result<(), DeviceBad>
-    requires { length net.now.moving.verdicts ≤ 4000000 }
+    requires { length net.now.moving.verdicts ≤ most_steps }
     ensures told { (inputs : List (List ℕ)) → StandsFor net.now inputs →
         Tells (packet_lines net.now.topology 1 (map sending_of sendings.now)
         (packets_of net.now.topology net.now.journal inputs).verdicts (packets_of net.now.topology net.now.journal inputs).paths)

@@ -1,7 +1,7 @@
 //! The table of the routes that a VRF holds.
 ghost use Rattle.std.specs.Prelude.{◌≡◌, ◌<◌, false, length, ℕ, Some};
 ghost use Rattle.mn_text.specs.Addresses.{prefix_text};
-ghost use Rattle.mn_ledger.specs.Vpn.{HeldRoute};
+ghost use Rattle.mn_ledger.specs.Held.{HeldRoute};
 ghost use Rattle.mn_ledger.specs.Ledger.{world_of};
 ghost use Rattle.mn_frames.specs.Given.{Labelling, given};
 ghost use Rattle.mn_pe.specs.Entries.{as_held, source_of};

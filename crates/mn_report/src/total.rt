@@ -1,5 +1,6 @@
 //! What all packets come to.
 ghost use Rattle.std.specs.Prelude.{◌≡◌, ◌≤◌, ◌<◌, ◌++◌, false, length, take, List, ℕ, IfOk, OnOk, OnErr};
+ghost use Rattle.mn_base.specs.Limits.{most_steps};
 ghost use Rattle.mn_edge.specs.Faults.{Counted};
 ghost use Rattle.mn_ledger.specs.Ledger.{packets_of};
 ghost use Rattle.mn_lines.specs.Lines.{total_line};
@@ -24,9 +25,9 @@ struct Counts {
 
 /// One verdict more.
 fn with_verdict(counts: Counts, verdict: Verdict) -> Counts
-    requires delivered { counts.delivered ≤ 4000000 }
-    requires dropped { counts.dropped ≤ 4000000 }
-    requires flying { counts.flying ≤ 4000000 }
+    requires delivered { counts.delivered ≤ most_steps }
+    requires dropped { counts.dropped ≤ most_steps }
+    requires flying { counts.flying ≤ most_steps }
     ensures { result ≡ with_verdict counts verdict }
 {
     let Counts {

@@ -4,7 +4,7 @@ ghost use Rattle.mn_topo.specs.Network.{Network};
 ghost use Rattle.mn_ledger.specs.World.{World};
 ghost use Rattle.mn_topo.specs.declared.steps.JournalEntry.{JournalEntry};
 ghost use Rattle.mn_ledger.specs.Places.{edge_of};
-ghost use Rattle.mn_ledger.specs.Vpn.{held, best};
+ghost use Rattle.mn_ledger.specs.Held.{held, best};
 ghost use Rattle.mn_ledger.specs.Ledger.{world_of};
 ghost use Rattle.mn_ledger.specs.Lawful.{IsLawfulJournal};
 ghost use Rattle.mn_frames.specs.Given.{Labelling, given};
@@ -13,7 +13,7 @@ ghost use Rattle.mn_pe.specs.Edge.{Edge};
 ghost use Rattle.mn_pe.specs.Entries.{IsItsFate, StandsAtEntry, entered_at};
 ghost use Rattle.mn_routing_model.specs.Sources.{as_held};
 ghost use Rattle.mn_routing_model.specs.Routed.{IsRoutes};
-ghost use Rattle.mn_routing_model.specs.Sending.{state_by};
+ghost use Rattle.mn_routing_model.specs.Sending.{bgp_state_by};
 
 use crate::changes::{edge_of, home_of};
 use crate::flying::Messages;
@@ -98,7 +98,7 @@ impl Routes {
     pub fn bgp_state(&self, edge: NodeNo, peer: NodeNo) -> BgpState
         requires edge { edge.0 < length self.now.sessions }
         requires peer { peer.0 < length (slice_index_or self.now.sessions edge.0 []) }
-        ensures { result ≡ state_by (slice_index_or (slice_index_or self.now.sessions edge.0 []) peer.0 None) }
+        ensures { result ≡ bgp_state_by (slice_index_or (slice_index_or self.now.sessions edge.0 []) peer.0 None) }
     {
         match &self.sessions[usize::from(edge.0)][usize::from(peer.0)] {
             None => BgpState::Idle,

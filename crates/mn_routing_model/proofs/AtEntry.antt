@@ -14,8 +14,8 @@ use Rattle.mn_topo.specs.Lawful.{IsLawful}
 use Rattle.mn_topo.specs.declared.steps.JournalEntry.{JournalEntry}
 use Rattle.mn_ledger.specs.Places.{home_of, edge_of, vrf_of}
 use Rattle.mn_ledger.specs.World.{World}
-use Rattle.mn_ledger.specs.Vpn.{HeldRoute, held, best, first_of, unbeaten, matching, is_better}
-use Rattle.mn_ledger.specs.Vpn as vpn
+use Rattle.mn_ledger.specs.Held.{HeldRoute, held, best, first_of, unbeaten, matching, is_better}
+use Rattle.mn_ledger.specs.Held as ledger_held
 use Rattle.mn_ledger.specs.Ledger.{world_of}
 use Rattle.mn_ledger.specs.Lawful.{IsLawfulJournal}
 use Rattle.mn_laws.proofs.There.{vrf_there}
@@ -32,7 +32,7 @@ use Rattle.mn_pe.specs.Entries as entry
 use Rattle.mn_pe.specs.Entries.{StandsAtEntry, route_for}
 use Rattle.mn_pe.specs.Pe.{found_in}
 use Rattle.mn_routing_model.specs.Sources.{as_held, source_from}
-use Rattle.mn_routing_model.specs.Standing.{vrf_in, label_in, edge_in}
+use Rattle.mn_routing_model.specs.Standing.{vrf_in, site_label_now, edge_in}
 use Rattle.mn_routing_model.proofs.Tables.{map_numbers_at}
 use Rattle.mn_routing_model.proofs.Lawful.{finds_best}
 use Rattle.mn_routing_model.proofs.News.{vrf_of_site_is}
@@ -54,7 +54,8 @@ best_in xs address x h =
     (in_filter (λ (route : HeldRoute). contains route.prefix address) xs x f.0).0
 
 -- its label is the one that its edge gave
-label_same : (g : ℕ) (l : ℕ) (route : HeldRoute) → (source : vpn.Source) → l ≡ g → (let a : Source = far_over 0 0 route.edge l in a) ≡ far_over 0 0 route.edge g
+label_same : (g : ℕ) (l : ℕ) (route : HeldRoute) → (source : ledger_held.Source) → l ≡ g →
+    (let a : Source = far_over 0 0 route.edge l in a) ≡ far_over 0 0 route.edge g
 label_same g l route source e = ap (far_over 0 0 route.edge) e
 
 module _ (t : Network) (lawful : IsLawful t) (es : List JournalEntry) (ps : List (List ℕ)) (journal : IsLawfulJournal t es ps) where
@@ -68,10 +69,10 @@ module _ (t : Network) (lawful : IsLawful t) (es : List JournalEntry) (ps : List
       as_held l route ≡ entry.as_held (given t es) route
   held_as route e = ap (λ (s : Source). let pair : AddressBlock × Source = (route.prefix, s) in pair) (by route.source)
     where
-      by : (source : vpn.Source) → source_from l route.edge route.site route.attachment source ≡ entry.source_of (given t es) route source
-      by vpn.Own = refl
-      by (vpn.Near v) = refl
-      by (vpn.Far address rd) = ap (far_over address rd route.edge) e
+      by : (source : ledger_held.Source) → source_from l route.edge route.site route.attachment source ≡ entry.source_of (given t es) route source
+      by ledger_held.Own = refl
+      by (ledger_held.Near v) = refl
+      by (ledger_held.Far address rd) = ap (far_over address rd route.edge) e
 
   label_is : (v : ℕ) (route : HeldRoute) → v < length t.vrfs → In (held t w.config w.peerings (edge_of t v) v) route →
       l route.site route.attachment ≡ label_at (given t es) route.edge route.site route.attachment
@@ -94,7 +95,7 @@ module _ (t : Network) (lawful : IsLawful t) (es : List JournalEntry) (ps : List
       let v : ℕ = vrf_of t site in
       let below = vrf_there t site lawful there in
       record {
-        attached = ap is_none (map_numbers_at (label_in t l w.config (home_of t site)) (length t.sites) site None there
+        attached = ap is_none (map_numbers_at (site_label_now t l w.config (home_of t site)) (length t.sites) site None there
             ∙ ap (λ b. if b then option_map (l site) (w.config.attached site) else None) (same_test (home_of t site)))
             ∙ no_none (l site) (w.config.attached site);
         route = ap

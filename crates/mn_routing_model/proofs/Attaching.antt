@@ -11,8 +11,9 @@ use Rattle.mn_topo.specs.declared.steps.Step.TheVariants as step
 use Rattle.mn_ledger.specs.Tables.{put}
 use Rattle.mn_ledger.specs.Places.{loopback, vrf_at, vrfs_at, home_of}
 use Rattle.mn_bgp_wire.specs.Written.{says_announced}
-use Rattle.mn_ledger.specs.World.{Config, Telling, Open, Alive, Announce, Unreach, Peerings}
-use Rattle.mn_ledger.specs.Vpn.{peers_live, heard_of, tellings_of, told_in, with_told, peerings_after}
+use Rattle.mn_ledger.specs.World.{Config, Telling, Open, BgpKeepAlive, Announcement, Withdrawal, Peerings}
+use Rattle.mn_ledger.specs.Bgp.{peers_live, tellings_of, told_in, with_told, peerings_after}
+use Rattle.mn_ledger.specs.Held.{heard_of}
 use Rattle.mn_ledger.specs.Ledger.{config_after}
 use Rattle.mn_ledger.specs.Refusal.{labels_given}
 use Rattle.mn_ledger.proofs.GoingBy.{put_here, put_off, pair_here, pair_off}
@@ -22,30 +23,30 @@ use Rattle.mn_rib_in.specs.Heard.{Heard}
 use Rattle.mn_pe.specs.Edge.{Edge, after_attach, after_detach}
 use Rattle.mn_frames.specs.Numbers.{labels_after}
 use Rattle.mn_bgp_spelling.specs.Spelling.{Labels, as_targets}
-use Rattle.mn_routing_model.specs.Standing.{vrf_in, label_in, says_of, heard_if, heard_in, edge_in}
+use Rattle.mn_routing_model.specs.Standing.{vrf_in, site_label_now, says_of, heard_if, heard_in, edge_in}
 use Rattle.mn_routing_model.proofs.Tables.{map_same, map_numbers_set}
 use Rattle.mn_routing_model.proofs.Hearing.{IsInTurn, heard_same}
 
 -- 1. What was told names attachments of the past
 
 abbrev pub IsKnown : Config → Telling → Type 0
-IsKnown c (Announce export) = export.attachment ≤ c.attaches export.site + 1
+IsKnown c (Announcement export) = export.attachment ≤ c.attaches export.site + 1
 IsKnown c _ = ⊤
 
 abbrev pub AllKnown : Config → Peerings → Type 0
 AllKnown c p = (teller peer : ℕ) (m : Telling) → In (p.told teller peer) m → IsKnown c m
 
 unfoldable pub AgreeOn : Labels → Labels → Telling → Type 0
-AgreeOn l m (Announce export) = l export.site export.attachment ≡ m export.site export.attachment
+AgreeOn l m (Announcement export) = l export.site export.attachment ≡ m export.site export.attachment
 AgreeOn l m _ = ⊤
 
 same_says : (t : Network) (l m : Labels) (q : ℕ) (x : Telling) → AgreeOn l m x → says_of t l q x ≡ says_of t m q x
 unfolding AgreeOn
-same_says t l m q (Announce e) h = ap (λ label. Some (says_announced (loopback t q) (record { rd = (vrf_at t e.vrf).rd; prefix = e.prefix; label = label })
+same_says t l m q (Announcement e) h = ap (λ label. Some (says_announced (loopback t q) (record { rd = (vrf_at t e.vrf).rd; prefix = e.prefix; label = label })
     (as_targets e.targets))) h
-same_says t l m q (Unreach v p) h = refl
+same_says t l m q (Withdrawal v p) h = refl
 same_says t l m q Open h = refl
-same_says t l m q Alive h = refl
+same_says t l m q BgpKeepAlive h = refl
 
 same_fold : (t : Network) (l m : Labels) (q : ℕ) (heard : List Heard) (xs : List Telling) → ((x : Telling) → In xs x → AgreeOn l m x)
     → fold (λ heard telling. heard_if heard (says_of t l q telling)) heard xs ≡ fold (λ heard telling. heard_if heard (says_of t m q telling)) heard xs
@@ -61,16 +62,16 @@ same_heard t l m c p edge q h = ap (λ xs. if q == edge then [] else if peers_li
 
 pub agrees : (t : Network) (c : Config) (l : Labels) (s : SiteNo) (x : Telling) → IsKnown c x → AgreeOn (labels_after t c l (step.Attach s)) l x
 unfolding AgreeOn
-agrees t c l s (Announce e) h = elim (eqb_tells e.site s.0) [
+agrees t c l s (Announcement e) h = elim (eqb_tells e.site s.0) [
   | inr d ↦ pair_off l s.0 (c.attaches s.0 + 2) (16 + labels_given t c (home_of t s.0)) e.site e.attachment (inl d.1)
   | inl q ↦ pair_off l s.0 (c.attaches s.0 + 2) (16 + labels_given t c (home_of t s.0)) e.site e.attachment (inr (past q.1))
 ]
   where
     past : e.site ≡ s.0 → e.attachment ≢ c.attaches s.0 + 2
     past q f = omega (arith, h, f, ap c.attaches q)
-agrees t c l s (Unreach v p) h = tt
+agrees t c l s (Withdrawal v p) h = tt
 agrees t c l s Open h = tt
-agrees t c l s Alive h = tt
+agrees t c l s BgpKeepAlive h = tt
 
 -- 2. The labels of the edge
 
@@ -92,8 +93,8 @@ module _ (t : Network) (l : Labels) (c : Config) (p : Peerings) (s : SiteNo) (tu
   new_label : ℕ
   new_label = 16 + labels_given t c (home_of t s.0)
 
-  label_elsewhere : (edge site : ℕ) → site ≢ s.0 → label_in t (labels_after t c l (step.Attach s))
-      (config_after c (step.Attach s)) edge site ≡ label_in t l c edge site
+  label_elsewhere : (edge site : ℕ) → site ≢ s.0 → site_label_now t (labels_after t c l (step.Attach s))
+      (config_after c (step.Attach s)) edge site ≡ site_label_now t l c edge site
   label_elsewhere edge site d =
       ap (λ o. if home_of t site == edge then option_map (labels_after t c l (step.Attach s) site) o else None)
       (put_off c.attached s.0 (Some (c.attaches s.0 + 2)) site d)
@@ -101,7 +102,7 @@ module _ (t : Network) (l : Labels) (c : Config) (p : Peerings) (s : SiteNo) (tu
       (some_other (labels_after t c l (step.Attach s) site) (l site) (c.attached site)
       (λ k. pair_off l s.0 (c.attaches s.0 + 2) (16 + labels_given t c (home_of t s.0)) site k (inl d)))
 
-  label_there : label_in t (labels_after t c l (step.Attach s)) (config_after c (step.Attach s)) (home_of t s.0) s.0 ≡ Some new_label
+  label_there : site_label_now t (labels_after t c l (step.Attach s)) (config_after c (step.Attach s)) (home_of t s.0) s.0 ≡ Some new_label
   unfolding new_label
   label_there =
       ap (λ b. if b then option_map (labels_after t c l (step.Attach s) s.0) (put c.attached s.0 (Some (c.attaches s.0 + 2)) s.0) else None)
@@ -127,10 +128,11 @@ module _ (t : Network) (l : Labels) (c : Config) (p : Peerings) (s : SiteNo) (tu
       ≡ after_attach (edge_in t l c p (home_of t s.0)) s.0 (16 + labels_given t c (home_of t s.0))
   unfolding made new_label
   attach_here known below =
-      ap (λ hs. made t c (home_of t s.0) (map (label_in t (labels_after t c l (step.Attach s)) (config_after c (step.Attach s)) (home_of t s.0))
+      ap (λ hs. made t c (home_of t s.0) (map (site_label_now t (labels_after t c l (step.Attach s)) (config_after c (step.Attach s)) (home_of t s.0))
       (range_with_len 0 (length t.sites))) hs) (heard_kept known (home_of t s.0))
       ∙ ap (λ ls. made t c (home_of t s.0) ls (map (heard_in t l c p (home_of t s.0)) (nodes_of (wiring_of t))))
-      (map_numbers_set (label_in t l c (home_of t s.0)) (label_in t (labels_after t c l (step.Attach s)) (config_after c (step.Attach s)) (home_of t s.0))
+      (map_numbers_set (site_label_now t l c (home_of t s.0))
+      (site_label_now t (labels_after t c l (step.Attach s)) (config_after c (step.Attach s)) (home_of t s.0))
       (length t.sites) s.0 (Some new_label) below label_there (λ x d. label_elsewhere (home_of t s.0) x d))
 
   pub attach_off : AllKnown c p → (edge : ℕ) → edge ≢ home_of t s.0
@@ -138,10 +140,10 @@ module _ (t : Network) (l : Labels) (c : Config) (p : Peerings) (s : SiteNo) (tu
       (peerings_after t c (config_after c (step.Attach s)) p (step.Attach s)) edge ≡ edge_in t l c p edge
   unfolding made
   attach_off known edge d =
-      ap (λ hs. made t c edge (map (label_in t (labels_after t c l (step.Attach s)) (config_after c (step.Attach s)) edge)
+      ap (λ hs. made t c edge (map (site_label_now t (labels_after t c l (step.Attach s)) (config_after c (step.Attach s)) edge)
       (range_with_len 0 (length t.sites))) hs) (heard_kept known edge)
       ∙ ap (λ ls. made t c edge ls (map (heard_in t l c p edge) (nodes_of (wiring_of t))))
-      (map_same (label_in t (labels_after t c l (step.Attach s)) (config_after c (step.Attach s)) edge) (label_in t l c edge)
+      (map_same (site_label_now t (labels_after t c l (step.Attach s)) (config_after c (step.Attach s)) edge) (site_label_now t l c edge)
       (range_with_len 0 (length t.sites)) (λ x i. elim (eqb_tells x s.0) [
         | inr e ↦ label_elsewhere edge x e.1
         | inl e ↦ none_here x e.1 (labels_after t c l (step.Attach s) x) (put c.attached s.0 (Some (c.attaches s.0 + 2)) x) (l x) (c.attached x)
@@ -155,10 +157,10 @@ module _ (t : Network) (l : Labels) (c : Config) (p : Peerings) (s : SiteNo) (tu
       ]
 
   -- a site that is detached has no label
-  gone_elsewhere : (edge site : ℕ) → site ≢ s.0 → label_in t l (config_after c (step.Detach s)) edge site ≡ label_in t l c edge site
+  gone_elsewhere : (edge site : ℕ) → site ≢ s.0 → site_label_now t l (config_after c (step.Detach s)) edge site ≡ site_label_now t l c edge site
   gone_elsewhere edge site d = ap (λ o. if home_of t site == edge then option_map (l site) o else None) (put_off c.attached s.0 None site d)
 
-  gone_there : (edge : ℕ) → label_in t l (config_after c (step.Detach s)) edge s.0 ≡ None
+  gone_there : (edge : ℕ) → site_label_now t l (config_after c (step.Detach s)) edge s.0 ≡ None
   gone_there edge = ap (λ o. if home_of t s.0 == edge then option_map (l s.0) o else None) (put_here c.attached s.0 None) ∙ either (home_of t s.0 == edge)
     where
       either : (b : Bool) → (let o : Option ℕ = if b then None else None in o) ≡ None
@@ -179,22 +181,24 @@ module _ (t : Network) (l : Labels) (c : Config) (p : Peerings) (s : SiteNo) (tu
       (edge_in t l c p (home_of t s.0)) s.0
   unfolding made
   detach_here below =
-      ap (λ hs. made t c (home_of t s.0) (map (label_in t l (config_after c (step.Detach s)) (home_of t s.0)) (range_with_len 0 (length t.sites))) hs)
+      ap (λ hs. made t c (home_of t s.0) (map (site_label_now t l (config_after c (step.Detach s)) (home_of t s.0)) (range_with_len 0 (length t.sites))) hs)
       (detach_heard (home_of t s.0))
       ∙ ap (λ ls. made t c (home_of t s.0) ls (map (heard_in t l c p (home_of t s.0)) (nodes_of (wiring_of t))))
-      (map_numbers_set (label_in t l c (home_of t s.0)) (label_in t l (config_after c (step.Detach s)) (home_of t s.0)) (length t.sites) s.0 None below
+      (map_numbers_set (site_label_now t l c (home_of t s.0)) (site_label_now t l (config_after c (step.Detach s)) (home_of t s.0))
+      (length t.sites) s.0 None below
       (gone_there (home_of t s.0)) (λ x d. gone_elsewhere (home_of t s.0) x d))
 
   pub detach_off : (edge : ℕ) → edge ≢ home_of t s.0
       → edge_in t l (config_after c (step.Detach s)) (peerings_after t c (config_after c (step.Detach s)) p (step.Detach s)) edge ≡ edge_in t l c p edge
   unfolding made
   detach_off edge d =
-      ap (λ hs. made t c edge (map (label_in t l (config_after c (step.Detach s)) edge) (range_with_len 0 (length t.sites))) hs) (detach_heard edge)
+      ap (λ hs. made t c edge (map (site_label_now t l (config_after c (step.Detach s)) edge) (range_with_len 0 (length t.sites))) hs) (detach_heard edge)
       ∙ ap (λ ls. made t c edge ls (map (heard_in t l c p edge) (nodes_of (wiring_of t))))
-      (map_same (label_in t l (config_after c (step.Detach s)) edge) (label_in t l c edge) (range_with_len 0 (length t.sites)) (λ x i. elim (eqb_tells x s.0) [
+      (map_same (site_label_now t l (config_after c (step.Detach s)) edge) (site_label_now t l c edge) (range_with_len 0 (length t.sites))
+      (λ x i. elim (eqb_tells x s.0) [
         | inr e ↦ gone_elsewhere edge x e.1
-        | inl e ↦ ap (label_in t l (config_after c (step.Detach s)) edge) e.1 ∙ gone_there edge
-            ∙ sym (ap (label_in t l c edge) e.1 ∙ not_here (option_map (l s.0) (c.attached s.0)))
+        | inl e ↦ ap (site_label_now t l (config_after c (step.Detach s)) edge) e.1 ∙ gone_there edge
+            ∙ sym (ap (site_label_now t l c edge) e.1 ∙ not_here (option_map (l s.0) (c.attached s.0)))
       ]))
     where
       not_here : (o : Option ℕ) → (if home_of t s.0 == edge then o else None) ≡ None

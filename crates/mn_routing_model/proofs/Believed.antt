@@ -5,8 +5,9 @@ use Rattle.mn_prefix.specs.Prefix.{AddressBlock, same_prefix, prefix_before}
 use Rattle.mn_topo.specs.Network.{Network}
 use Rattle.mn_topo.specs.Lawful.{IsLawful}
 use Rattle.mn_ledger.specs.Places.{vrf_at}
-use Rattle.mn_ledger.specs.World.{Export, Telling, Open, Alive, Announce, Unreach}
-use Rattle.mn_ledger.specs.Vpn.{is_for, believed_after, believed_from}
+use Rattle.mn_ledger.specs.World.{Export, Telling, Open, BgpKeepAlive, Announcement, Withdrawal}
+use Rattle.mn_ledger.specs.Bgp.{is_for}
+use Rattle.mn_ledger.specs.Held.{believed_after, believed_from}
 use Rattle.mn_ledger.proofs.Members.{In, in_append, in_front, in_rest, in_filter, filter_in}
 use Rattle.mn_ledger.proofs.Peers.{same_numbers, same_test, and_left, and_right}
 use Rattle.mn_ledger.proofs.Held.{one_vrf}
@@ -24,8 +25,8 @@ heard_route t l x = record { rd = (vrf_at t x.vrf).rd; prefix = x.prefix; label 
 
 -- the VRFs that are named are there
 abbrev pub NamesVrf : Network → Telling → Type 0
-NamesVrf t (Announce x) = x.vrf < length t.vrfs
-NamesVrf t (Unreach v p) = v < length t.vrfs
+NamesVrf t (Announcement x) = x.vrf < length t.vrfs
+NamesVrf t (Withdrawal v p) = v < length t.vrfs
 NamesVrf t _ = ⊤
 
 pub record KeepsBelieved (t : Network) (l : Labels) (es : List Export) (hs : List Heard) : Type 0 where
@@ -75,7 +76,7 @@ module _ (t : Network) (l : Labels) (lawful : IsLawful t) where
   not_for v p y b e h = sym e ∙ h
 
   announced : (es : List Export) (hs : List Heard) (x : Export) → x.vrf < length t.vrfs → KeepsBelieved t l es hs →
-      KeepsBelieved t l (believed_after es (Announce x)) (heard_if hs (says_of t l 0 (Announce x)))
+      KeepsBelieved t l (believed_after es (Announcement x)) (heard_if hs (says_of t l 0 (Announcement x)))
   announced es hs x below k = record {
     named = λ y i. elim (in_append (filter (λ other. not (is_for x.vrf x.prefix other)) es) (x ∷ []) y i) [
       | inl j ↦ k.named y (in_filter (λ other. not (is_for x.vrf x.prefix other)) es y j).0
@@ -86,7 +87,7 @@ module _ (t : Network) (l : Labels) (lawful : IsLawful t) where
           let m = in_filter (λ other. not (is_for x.vrf x.prefix other)) es y j in
           in_with heard_before (heard_route t l x) hs (heard_route t l y) (k.there y m.0) (place_is x.vrf x.prefix y below (k.named y m.0) ∙ m.1)
       | inr j ↦ elim j [
-        | inl e ↦ subst (λ (z : Export). In (heard_if hs (says_of t l 0 (Announce x))) (heard_route t l z)) e
+        | inl e ↦ subst (λ (z : Export). In (heard_if hs (says_of t l 0 (Announcement x))) (heard_route t l z)) e
             (in_with_new heard_before (heard_route t l x) hs)
         | inr n ↦ absurd n
       ]
@@ -107,7 +108,7 @@ module _ (t : Network) (l : Labels) (lawful : IsLawful t) where
   }
 
   withdrawn : (es : List Export) (hs : List Heard) (v : ℕ) (p : AddressBlock) → v < length t.vrfs → KeepsBelieved t l es hs →
-      KeepsBelieved t l (believed_after es (Unreach v p)) (heard_if hs (says_of t l 0 (Unreach v p)))
+      KeepsBelieved t l (believed_after es (Withdrawal v p)) (heard_if hs (says_of t l 0 (Withdrawal v p)))
   withdrawn es hs v p below k = record {
     named = λ y i. k.named y (in_filter (λ other. not (is_for v p other)) es y i).0;
     there = λ y i.
@@ -125,9 +126,9 @@ module _ (t : Network) (l : Labels) (lawful : IsLawful t) where
   pub keeps_from : (q : ℕ) (es : List Export) (hs : List Heard) (ms : List Telling) → ((m : Telling) → In ms m → NamesVrf t m) → KeepsBelieved t l es hs
       → KeepsBelieved t l (believed_from es ms) (fold (λ heard telling. heard_if heard (says_of t l q telling)) hs ms)
   keeps_from q es hs [] named k = k
-  keeps_from q es hs (Announce x ∷ ms) named k = keeps_from q (believed_after es (Announce x)) (heard_if hs (says_of t l q (Announce x))) ms
-      (λ m i. named m (inr i)) (announced es hs x (named (Announce x) (inl refl)) k)
-  keeps_from q es hs (Unreach v p ∷ ms) named k = keeps_from q (believed_after es (Unreach v p)) (heard_if hs (says_of t l q (Unreach v p))) ms
-      (λ m i. named m (inr i)) (withdrawn es hs v p (named (Unreach v p) (inl refl)) k)
+  keeps_from q es hs (Announcement x ∷ ms) named k = keeps_from q (believed_after es (Announcement x)) (heard_if hs (says_of t l q (Announcement x))) ms
+      (λ m i. named m (inr i)) (announced es hs x (named (Announcement x) (inl refl)) k)
+  keeps_from q es hs (Withdrawal v p ∷ ms) named k = keeps_from q (believed_after es (Withdrawal v p)) (heard_if hs (says_of t l q (Withdrawal v p))) ms
+      (λ m i. named m (inr i)) (withdrawn es hs v p (named (Withdrawal v p) (inl refl)) k)
   keeps_from q es hs (Open ∷ ms) named k = keeps_from q es hs ms (λ m i. named m (inr i)) k
-  keeps_from q es hs (Alive ∷ ms) named k = keeps_from q es hs ms (λ m i. named m (inr i)) k
+  keeps_from q es hs (BgpKeepAlive ∷ ms) named k = keeps_from q es hs ms (λ m i. named m (inr i)) k

@@ -18,7 +18,8 @@ use Rattle.mn_topo.specs.declared.steps.JournalEntry.{JournalEntry}
 use Rattle.mn_targets.specs.Targets.{target_set}
 use Rattle.mn_ledger.specs.Places.{vrf_of, home_of, edge_of}
 use Rattle.mn_ledger.specs.World.{SiteRoute, Config, World, Peerings}
-use Rattle.mn_ledger.specs.Vpn.{peerings_after, has_target}
+use Rattle.mn_ledger.specs.Exports.{has_target}
+use Rattle.mn_ledger.specs.Bgp.{peerings_after}
 use Rattle.mn_ledger.specs.Ledger.{config_after, world_of, packets_of, is_static}
 use Rattle.mn_ledger.specs.Refusal.{agree, is_targets_full}
 use Rattle.mn_ledger.specs.declared.refused.Refused.TheVariants.{NoRouteThere}

@@ -17,8 +17,7 @@ use Rattle.mn_topo.specs.declared.steps.Step.TheVariants as step
 use Rattle.mn_topo.specs.declared.steps.JournalEntry.{JournalEntry}
 use Rattle.mn_ledger.specs.Places.{vrf_of, home_of, edge_of}
 use Rattle.mn_ledger.specs.World.{SiteRoute, Config, World, Peerings}
-use Rattle.mn_ledger.specs.Vpn.{peerings_after}
-use Rattle.mn_ledger.specs.Vpn as vpn
+use Rattle.mn_ledger.specs.Bgp.{peerings_after}
 use Rattle.mn_ledger.specs.Ledger.{config_after, after, world_of, packets_of, is_static, with_target}
 use Rattle.mn_ledger.specs.declared.refused.Refused.TheVariants.{NoRouteThere}
 use Rattle.mn_ledger.proofs.Statics.{HasStatics, statics_go}

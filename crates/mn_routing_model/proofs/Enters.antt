@@ -9,7 +9,7 @@ use Rattle.mn_topo.specs.Network.{Network}
 use Rattle.mn_topo.specs.Lawful.{IsLawful}
 use Rattle.mn_topo.specs.declared.steps.JournalEntry.{JournalEntry}
 use Rattle.mn_ledger.specs.Places.{home_of, edge_of, vrf_of}
-use Rattle.mn_ledger.specs.Vpn.{held, best}
+use Rattle.mn_ledger.specs.Held.{held, best}
 use Rattle.mn_ledger.specs.Ledger.{world_of}
 use Rattle.mn_ledger.specs.Lawful.{IsLawfulJournal}
 use Rattle.mn_laws.proofs.There.{vrf_there, edge_there}

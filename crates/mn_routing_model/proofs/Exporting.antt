@@ -15,7 +15,7 @@ use Rattle.mn_topo.specs.declared.steps.JournalEntry.{JournalEntry}
 use Rattle.mn_targets.specs.Targets.{target_set}
 use Rattle.mn_ledger.specs.Places.{edge_of, vrfs_at}
 use Rattle.mn_ledger.specs.World.{Config, World, Peerings, Telling}
-use Rattle.mn_ledger.specs.Vpn.{peerings_after}
+use Rattle.mn_ledger.specs.Bgp.{peerings_after}
 use Rattle.mn_ledger.specs.Ledger.{config_after, world_of, with_target}
 use Rattle.mn_laws.proofs.There.{edge_there}
 use Rattle.mn_frames.specs.Numbers.{labels_of}

@@ -6,8 +6,8 @@ use Rattle.std.specs.List.{flat_map, range_with_len, AllByRecursion}
 use Rattle.mn_topo.specs.Network.{Network}
 use Rattle.mn_ledger.specs.Places.{vrf_of, edge_of, vrfs_at}
 use Rattle.mn_ledger.specs.World.{SiteRoute, Config, Export, Peerings}
-use Rattle.mn_ledger.specs.Vpn.{comes_before, placed, is_present, export_of}
-use Rattle.mn_ledger.specs.Vpn as vpn
+use Rattle.mn_ledger.specs.Exports.{comes_before, placed, is_present, export_of}
+use Rattle.mn_ledger.specs.Exports as ledger_exports
 use Rattle.mn_ledger.proofs.Members.{In, in_filter, in_map, AreApart, apart_filter}
 use Rattle.mn_ledger.proofs.Peers.{same_numbers, and_left}
 use Rattle.mn_ledger.proofs.Statics.{SameStatic, HasStatics}
@@ -61,18 +61,19 @@ placed_ascends x (y ∷ ys) up apart = split (comes_before x.prefix y.prefix) re
     split true e more = ((e, all_turned (λ z. told_before y z ≡ true) (λ z. told_before x z ≡ true) (λ z h. told_order.onward x y z e h) ys up.0), up)
     split false e more = (all_placed (λ z. told_before y z ≡ true) x ys (or_other (told_before x y) (told_before y x) e apart.0) up.0, more)
 
-all_ordered : (P : Export → Type 0) (xs : List Export) → AllByRecursion P xs → AllByRecursion P (vpn.in_order xs)
+all_ordered : (P : Export → Type 0) (xs : List Export) → AllByRecursion P xs → AllByRecursion P (ledger_exports.in_order xs)
 all_ordered P [] h = tt
-all_ordered P (x ∷ xs) h = all_placed P x (vpn.in_order xs) h.0 (all_ordered P xs h.1)
+all_ordered P (x ∷ xs) h = all_placed P x (ledger_exports.in_order xs) h.0 (all_ordered P xs h.1)
 
 -- no two have one prefix
 abbrev OtherPrefixes : List Export → Type 0
 OtherPrefixes [] = Unit {0}
 OtherPrefixes (x ∷ xs) = AllByRecursion (λ y. (told_before x y || told_before y x) ≡ true) xs × OtherPrefixes xs
 
-ordered_ascends : (xs : List Export) → OtherPrefixes xs → Ascends told_before (vpn.in_order xs)
+ordered_ascends : (xs : List Export) → OtherPrefixes xs → Ascends told_before (ledger_exports.in_order xs)
 ordered_ascends [] h = tt
-ordered_ascends (x ∷ xs) h = placed_ascends x (vpn.in_order xs) (ordered_ascends xs h.1) (all_ordered (λ y. (told_before x y || told_before y x) ≡ true) xs h.0)
+ordered_ascends (x ∷ xs) h =
+    placed_ascends x (ledger_exports.in_order xs) (ordered_ascends xs h.1) (all_ordered (λ y. (told_before x y || told_before y x) ≡ true) xs h.0)
 
 all_of : {A B : Type 0} (P : B → Type 0) (f : A → B) (xs : List A) → ((x : A) → In xs x → P (f x)) → AllByRecursion P (map f xs)
 all_of P f [] h = tt
@@ -118,30 +119,31 @@ map_flat_map f g h (x ∷ xs) e = map-append f (g x) (flat_map g xs) ∙ ap (λ 
 
 module _ (t : Network) (l : Labels) (c : Config) (p : Peerings) (e : ℕ) (has : HasStatics t c.statics)
     (sited : (x : SiteRoute) → In c.statics x → x.site < length t.sites) where
-  present_same : (u : ℕ) (ts : List ℕ) → edge_of t u ≡ e → map (exported t l) (vpn.present_with t c u ts) ≡ held.present_with (edge_in t l c p e)
+  present_same : (u : ℕ) (ts : List ℕ) → edge_of t u ≡ e → map (exported t l) (ledger_exports.present_with t c u ts) ≡ held.present_with (edge_in t l c p e)
       (vrf_in t c u) (as_targets ts)
   present_same u ts at =
-      ascending_unique export_before export_order (map (exported t l) (vpn.present_with t c u ts))
+      ascending_unique export_before export_order (map (exported t l) (ledger_exports.present_with t c u ts))
       (held.present_with (edge_in t l c p e) (vrf_in t c u) (as_targets ts))
-      (map_ascends (exported t l) (vpn.present_with t c u ts) (λ x y. refl)
+      (map_ascends (exported t l) (ledger_exports.present_with t c u ts) (λ x y. refl)
       (ordered_ascends (map (export_of c u ts) (filter (is_present t c u) c.statics))
       (other_prefixes t c u ts (filter (is_present t c u) c.statics) (apart_filter (SameStatic t) (is_present t c u) c.statics has.apart)
       (λ x i. same_numbers (vrf_of t x.site) u (and_left _ _ (in_filter (is_present t c u) c.statics x i).1)))))
       (present_ascends (edge_in t l c p e) (vrf_in t c u) (as_targets ts) (statics_in t c u)
       (fold_ascends static_before [] (map static_of (filter (λ static. vrf_of t static.site == u) c.statics)) static_order tt))
-      (λ z i. let m = in_map (exported t l) (vpn.present_with t c u ts) z i in
+      (λ z i. let m = in_map (exported t l) (ledger_exports.present_with t c u ts) z i in
       subst (In (held.present_with (edge_in t l c p e) (vrf_in t c u) (as_targets ts))) m.2 (present_there t l c p e has sited u ts m.0 at m.1))
       (λ z i. let o = present_only t l c p e has sited u ts z at i in
-      subst (In (map (exported t l) (vpn.present_with t c u ts))) o.2 (mapped (exported t l) (vpn.present_with t c u ts) o.0 o.1))
+      subst (In (map (exported t l) (ledger_exports.present_with t c u ts))) o.2 (mapped (exported t l) (ledger_exports.present_with t c u ts) o.0 o.1))
 
-  vrf_same : (u : ℕ) (ts : List ℕ) → edge_of t u ≡ e → map (exported t l) (vpn.exports_with t c u ts) ≡ held.exports_with (edge_in t l c p e) (vrf_in t c u)
+  vrf_same : (u : ℕ) (ts : List ℕ) → edge_of t u ≡ e →
+      map (exported t l) (ledger_exports.exports_with t c u ts) ≡ held.exports_with (edge_in t l c p e) (vrf_in t c u)
       (as_targets ts)
   vrf_same u [] at = refl
   vrf_same u (target ∷ ts) at = present_same u (target ∷ ts) at
 
-  pub exports_same : map (exported t l) (vpn.exports_of t c e) ≡ held.exports_of (edge_in t l c p e)
+  pub exports_same : map (exported t l) (ledger_exports.exports_of t c e) ≡ held.exports_of (edge_in t l c p e)
   exports_same =
-      map_flat_map (exported t l) (λ v. vpn.exports_with t c v (c.exports v))
+      map_flat_map (exported t l) (λ v. ledger_exports.exports_with t c v (c.exports v))
       (λ v. held.exports_with (edge_in t l c p e) (vrf_in t c v) (as_targets (c.exports v))) (vrfs_at t e)
       (λ u i. vrf_same u (c.exports u) (same_numbers (edge_of t u) e (in_filter (λ v. edge_of t v == e) (range_with_len 0 (length t.vrfs)) u i).1))
       ∙ sym (flat_map_map (vrf_in t c) (λ vrf. held.exports_with (edge_in t l c p e) vrf vrf.exports) (vrfs_at t e))

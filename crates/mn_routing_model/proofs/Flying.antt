@@ -10,7 +10,7 @@ use Rattle.mn_flight.specs.declared.Item.{Item}
 use Rattle.mn_flight.specs.Flying.{on_channel}
 use Rattle.mn_topo.specs.Network.{Network}
 use Rattle.mn_ledger.specs.World.{Telling, Peerings}
-use Rattle.mn_ledger.specs.Vpn.{Told, is_from_to, tellings_of, with_told}
+use Rattle.mn_ledger.specs.Bgp.{Told, is_from_to, tellings_of, with_told}
 use Rattle.mn_ledger.specs.Items.{numbered, route_of}
 use Rattle.mn_timetable.specs.Keys.{Key, keys_in, keys_on, of_routes}
 use Rattle.mn_timetable.proofs.OtherKeys.{both_tests}

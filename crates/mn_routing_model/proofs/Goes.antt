@@ -14,8 +14,9 @@ use Rattle.mn_topo.specs.declared.steps.Step.TheVariants as step
 use Rattle.mn_topo.specs.declared.steps.JournalEntry.{JournalEntry}
 use Rattle.mn_bgp_wire.specs.Written.{update_bytes, announced}
 use Rattle.mn_ledger.specs.Places.{edges, loopback, vrf_at, edge_of}
-use Rattle.mn_ledger.specs.World.{Config, Peerings, World, Telling, Open, Alive, Announce, Unreach}
-use Rattle.mn_ledger.specs.Vpn.{Told, exports_of, changed, is_established, steady_peers, route_news, told_in, bgp_counted, with_told}
+use Rattle.mn_ledger.specs.World.{Config, Peerings, World, Telling, Open, BgpKeepAlive, Announcement, Withdrawal}
+use Rattle.mn_ledger.specs.Exports.{exports_of}
+use Rattle.mn_ledger.specs.Bgp.{Told, changed, is_established, steady_peers, route_news, told_in, bgp_counted, with_told}
 use Rattle.mn_ledger.specs.Turns.{IsInTurn, PeersAreInTurn}
 use Rattle.mn_ledger.specs.Ledger.{config_after, after, world_of, packets_of}
 use Rattle.mn_ledger.specs.Items.{numbered, route_of}
@@ -80,12 +81,12 @@ routes_go t l es s lawful turn =
 pub same_bytes : (t : Network) (c : Config) (l : Labels) (s : Step) (a : ℕ) (m : Telling) → IsKnown c m →
     bytes_in t l a m ≡ bytes_in t (labels_after t c l s) a m
 unfolding AgreeOn
-same_bytes t c l (step.Attach s) a (Announce e) h =
+same_bytes t c l (step.Attach s) a (Announcement e) h =
     ap (λ label. update_bytes (announced (loopback t a) (record { rd = (vrf_at t e.vrf).rd; prefix = e.prefix; label = label }) (as_targets e.targets)))
-    (sym (agrees t c l s (Announce e) h))
+    (sym (agrees t c l s (Announcement e) h))
 same_bytes t c l (step.Attach s) a Open h = refl
-same_bytes t c l (step.Attach s) a Alive h = refl
-same_bytes t c l (step.Attach s) a (Unreach v p) h = refl
+same_bytes t c l (step.Attach s) a BgpKeepAlive h = refl
+same_bytes t c l (step.Attach s) a (Withdrawal v p) h = refl
 same_bytes t c l _ a m h = refl
 
 pub flies_now : (t : Network) (l : Labels) (w : World) (s : Step) (messages : List (Item (List ℕ))) → Rests t w → FliesAs t l w.peerings messages →

@@ -14,7 +14,7 @@ use Rattle.mn_topo.specs.declared.steps.Step.{Step}
 use Rattle.mn_topo.specs.declared.steps.Step.TheVariants as step
 use Rattle.mn_base.specs.Numbers.{has_rt_form}
 use Rattle.mn_ledger.specs.World.{SiteRoute, Config, World}
-use Rattle.mn_ledger.specs.Vpn.{peers_live, peerings_after}
+use Rattle.mn_ledger.specs.Bgp.{peers_live, peerings_after}
 use Rattle.mn_ledger.specs.Ledger.{is_static, config_after, start, world_of, packets_of}
 use Rattle.mn_ledger.specs.Packets.{Packets}
 use Rattle.mn_ledger.specs.declared.refused.Refused.{Refused}

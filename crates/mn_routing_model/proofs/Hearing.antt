@@ -6,7 +6,8 @@ use Rattle.std.proofs.lemmas.List.{take-append-le}
 use Rattle.std.proofs.lemmas.List.Sums.{fold-append}
 use Rattle.mn_topo.specs.Network.{Network}
 use Rattle.mn_ledger.specs.World.{Config, Telling, Open, Peerings}
-use Rattle.mn_ledger.specs.Vpn.{peers_live, heard_of}
+use Rattle.mn_ledger.specs.Bgp.{peers_live}
+use Rattle.mn_ledger.specs.Held.{heard_of}
 use Rattle.mn_bgp_spelling.specs.Spelling.{Labels}
 use Rattle.mn_routing_model.specs.Standing.{says_of, heard_if, heard_from, heard_live, heard_in}
 

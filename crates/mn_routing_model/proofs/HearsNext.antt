@@ -28,9 +28,9 @@ use Rattle.mn_bgp_session.specs.declared.table.BgpReply.{BgpReply}
 use Rattle.mn_bgp_session.specs.Table as table
 use Rattle.mn_ledger.specs.Tables.{put_pair}
 use Rattle.mn_ledger.specs.Places.{edges, loopback}
-use Rattle.mn_ledger.specs.World.{Config, Peerings, World, Telling, Open, Alive, Announce, Unreach, Export}
-use Rattle.mn_ledger.specs.Vpn.{Told, told_to, told_in, bgp_counted, with_told, peerings_after, peers_live, bgp_state_of, reply}
-use Rattle.mn_ledger.specs.Vpn as vpn
+use Rattle.mn_ledger.specs.World.{Config, Peerings, World, Telling, Open, BgpKeepAlive, Announcement, Withdrawal, Export}
+use Rattle.mn_ledger.specs.Bgp.{Told, told_to, told_in, bgp_counted, with_told, peerings_after, peers_live, bgp_state_of, reply}
+use Rattle.mn_ledger.specs.Exports as ledger_exports
 use Rattle.mn_ledger.specs.Ledger.{config_after, after, world_of}
 use Rattle.mn_ledger.specs.Items.{numbered, route_of}
 use Rattle.mn_ledger.proofs.GoingBy.{pair_here, pair_off}
@@ -87,29 +87,30 @@ map_twice f g (x ∷ xs) = ap (λ ys. g (f x) ∷ ys) (map_twice f g xs)
 -- the exports, to one peer
 all_to : (t : Network) (l : Labels) (e peer : ℕ) (xs : List Export) (ys : List Exported) → map (exported t l) xs ≡ ys
     → map (λ m. let x : Parcel =
-    (channel_from t e peer, bytes_in t l e m) in x) (map (λ export. Announce export) xs) ≡ news_to t e (record { 0 = peer } ∷ []) true ys
+    (channel_from t e peer, bytes_in t l e m) in x) (map (λ export. Announcement export) xs) ≡ news_to t e (record { 0 = peer } ∷ []) true ys
 all_to t l e peer xs ys h =
-    sym (map_twice (bytes_in t l e) (λ bytes. let x : Parcel = (channel_from t e peer, bytes) in x) (map (λ export. Announce export) xs))
+    sym (map_twice (bytes_in t l e) (λ bytes. let x : Parcel = (channel_from t e peer, bytes) in x) (map (λ export. Announcement export) xs))
     ∙ ap (map (λ bytes. let x : Parcel = (channel_from t e peer, bytes) in x)) (announced_told t l e xs ∙ ap (map (spelled_in t e true)) h)
     ∙ sym (one_peer (e * length t.loopbacks) peer (map (spelled_in t e true) ys))
 
 answer_parcels : (t : Network) (l : Labels) (e peer : ℕ) (answer : BgpReply) (xs : List Export) (ys : List Exported) → map (exported t l) xs ≡ ys
-    → map (parcel_of t l) (told_to e peer (cond answer.say_keep (Alive ∷ []) [] ++ cond answer.became_established (map (λ export. Announce export) xs) []))
+    → map (parcel_of t l)
+    (told_to e peer (cond answer.say_keep (BgpKeepAlive ∷ []) [] ++ cond answer.became_established (map (λ export. Announcement export) xs) []))
     ≡ answers_in t e peer answer ys
 answer_parcels t l e peer answer xs ys h =
-    each_to t l e peer (cond answer.say_keep (Alive ∷ []) [] ++ cond answer.became_established (map (λ export. Announce export) xs) [])
+    each_to t l e peer (cond answer.say_keep (BgpKeepAlive ∷ []) [] ++ cond answer.became_established (map (λ export. Announcement export) xs) [])
     ∙ map-append (λ m. let x : Parcel =
     (channel_from t e peer, bytes_in t l e m) in
-    x) (cond answer.say_keep (Alive ∷ []) []) (cond answer.became_established (map (λ export. Announce export) xs) [])
+    x) (cond answer.say_keep (BgpKeepAlive ∷ []) []) (cond answer.became_established (map (λ export. Announcement export) xs) [])
     ∙ by answer.say_keep answer.became_established
   where
     spell : Telling → Parcel
     spell m = (channel_from t e peer, bytes_in t l e m)
 
-    by : (a b : Bool) → map (λ m. let x : Parcel = (channel_from t e peer, bytes_in t l e m) in x) (cond a (Alive ∷ []) []) ++ map (λ m. let x : Parcel =
-        (channel_from t e peer, bytes_in t l e m) in x) (cond b (map (λ export. Announce export) xs) [])
+    by : (a b : Bool) → map (λ m. let x : Parcel = (channel_from t e peer, bytes_in t l e m) in x) (cond a (BgpKeepAlive ∷ []) []) ++ map (λ m. let x : Parcel =
+        (channel_from t e peer, bytes_in t l e m) in x) (cond b (map (λ export. Announcement export) xs) [])
         ≡ answers_in t e peer (record { say_keep = a; became_established = b }) ys
-    by true true = ap (λ zs. (let x : Parcel = (channel_from t e peer, bytes_in t l e Alive) in x) ∷ zs) (all_to t l e peer xs ys h)
+    by true true = ap (λ zs. (let x : Parcel = (channel_from t e peer, bytes_in t l e BgpKeepAlive) in x) ∷ zs) (all_to t l e peer xs ys h)
     by true false = refl
     by false true = all_to t l e peer xs ys h
     by false false = refl
@@ -204,16 +205,16 @@ module _ (t : Network) (lawful : IsLawful t) (peer edge : NodeNo) (old : Routed)
       ∙ ap (map (bytes_in t (labels_of t es) a)) (first_of ((world_of t es).peerings.told a b) ((world_of t es).peerings.heard b a) Open c.is.there)
 
   exports_are : (es : List JournalEntry) → IsTurn t es hearing →
-      map (exported t (labels_of t es)) (vpn.exports_of t (world_of t es).config b) ≡ exports_of
+      map (exported t (labels_of t es)) (ledger_exports.exports_of t (world_of t es).config b) ≡ exports_of
       (edge_in t (labels_of t es) (world_of t es).config (world_of t es).peerings b)
   exports_are es turn = let q = brings t es hearing lawful turn in
       exports_same t (labels_of t es) (world_of t es).config (world_of t es).peerings b q.rest.statics q.rest.sited
 
   labelled_in : (l : Labels) → AreLabels l → (m : Telling) → AreLabelledIn (update_of (message_in t l a m))
   labelled_in l h Open = tt
-  labelled_in l h Alive = tt
-  labelled_in l h (Announce export) = (h export.site export.attachment, tt)
-  labelled_in l h (Unreach v p) = tt
+  labelled_in l h BgpKeepAlive = tt
+  labelled_in l h (Announcement export) = (h export.site export.attachment, tt)
+  labelled_in l h (Withdrawal v p) = tt
 
   pub may_hear : (es : List JournalEntry) → IsRoutes t es old → IsTurn t es hearing → MayHear t old a b (heard_now es) (answer_now es)
   may_hear es stands turn =
@@ -284,15 +285,15 @@ module _ (t : Network) (lawful : IsLawful t) (tick number next : ℕ) (old new :
 
   told_is : (es : List JournalEntry) → IsTurn t es step_now → tolds t (world_of t es) step_now
       ≡ told_to at from
-      (cond (answer_now t lawful peer edge old es).say_keep (Alive ∷ []) [] ++ cond (answer_now t lawful peer edge old es).became_established
-      (map (λ export. Announce export) (vpn.exports_of t (world_of t es).config at)) [])
+      (cond (answer_now t lawful peer edge old es).say_keep (BgpKeepAlive ∷ []) [] ++ cond (answer_now t lawful peer edge old es).became_established
+      (map (λ export. Announcement export) (ledger_exports.exports_of t (world_of t es).config at)) [])
   told_is es turn =
       let w : World = world_of t es in
       let c = comes t lawful peer edge old es turn in
       let q = brings t es step_now lawful turn in
-      ap (λ xs. told_to at from (reply (bgp_state_of w.config w.peerings at from) (next_of w at from) (vpn.exports_of t w.config at)) ++ xs)
-      (no_news t w.config w.config w.peerings (bgp_counted w.peerings step_now) (λ e. nothing_changed (vpn.exports_of t w.config e)))
-      ∙ append-nil (told_to at from (reply (bgp_state_of w.config w.peerings at from) (next_of w at from) (vpn.exports_of t w.config at)))
+      ap (λ xs. told_to at from (reply (bgp_state_of w.config w.peerings at from) (next_of w at from) (ledger_exports.exports_of t w.config at)) ++ xs)
+      (no_news t w.config w.config w.peerings (bgp_counted w.peerings step_now) (λ e. nothing_changed (ledger_exports.exports_of t w.config e)))
+      ∙ append-nil (told_to at from (reply (bgp_state_of w.config w.peerings at from) (next_of w at from) (ledger_exports.exports_of t w.config at)))
       ∙ ap (told_to at from) (coming.replies t w at from lawful q.turn c.is)
 
   hears_peerings : (es : List JournalEntry) →
@@ -307,7 +308,7 @@ module _ (t : Network) (lawful : IsLawful t) (tick number next : ℕ) (old new :
       let w : World = world_of t es in
       let c = comes t lawful peer edge old es turn in
       ap (map (parcel_of t (labels_of t es))) (told_is es turn)
-      ∙ answer_parcels t (labels_of t es) at from (answer_now t lawful peer edge old es) (vpn.exports_of t w.config at) _
+      ∙ answer_parcels t (labels_of t es) at from (answer_now t lawful peer edge old es) (ledger_exports.exports_of t w.config at) _
       (exports_are t lawful peer edge old es turn ∙ ap exports_of (sym (edge_is t (labels_of t es) w old stands at c.second c.known))
       ∙ sym (same_exports (edge_at old at) from (update_of (heard_now t lawful peer edge old es))))
 

@@ -11,8 +11,10 @@ use Rattle.mn_topo.specs.Network.{Network}
 use Rattle.mn_topo.specs.Lawful.{IsLawful}
 use Rattle.mn_ledger.specs.Places.{loopback, vrf_at, edge_of, edges}
 use Rattle.mn_ledger.specs.World.{SiteRoute, Config, Export, Telling, Peerings}
-use Rattle.mn_ledger.specs.Vpn.{peers_live, heard_of, HeldRoute, own_routes, near_routes, far_routes, imported, believed, believed_from, best}
-use Rattle.mn_ledger.specs.Vpn as vpn
+use Rattle.mn_ledger.specs.Bgp.{peers_live}
+use Rattle.mn_ledger.specs.Held.{heard_of, HeldRoute, own_routes, near_routes, far_routes, imported, believed, believed_from, best}
+use Rattle.mn_ledger.specs.Exports as ledger_exports
+use Rattle.mn_ledger.specs.Held as ledger_held
 use Rattle.mn_ledger.proofs.Members.{In, in_append, in_front, in_rest, in_map, in_filter, filter_in, in_flat_map, in_take, in_range}
 use Rattle.mn_ledger.proofs.Peers.{and_left, and_right}
 use Rattle.mn_ledger.proofs.Statics.{HasForms, HasStatics}
@@ -80,7 +82,7 @@ module _ (t : Network) (l : Labels) (c : Config) (p : Peerings) (e v : ℕ) (s :
   own_there : (y : HeldRoute) → In (own_routes t c e v) y → In (held_own edge vrf) (as_held l y)
   unfolding edge vrf
   own_there y i =
-      let m = in_map (vpn.held_by e vpn.Own) (vpn.present_with t c v []) y i in
+      let m = in_map (ledger_held.held_by e ledger_held.Own) (ledger_exports.present_with t c v []) y i in
       subst (λ z. In (held_own (edge_in t l c p e) (vrf_in t c v)) (as_held l z)) m.2
       (map_in (λ (x : Exported). (x.prefix, own_over x.site)) (held.present_with (edge_in t l c p e) (vrf_in t c v) []) (exported t l m.0)
       (present_there t l c p e s.statics s.sited v [] m.0 s.at m.1))
@@ -90,8 +92,8 @@ module _ (t : Network) (l : Labels) (c : Config) (p : Peerings) (e v : ℕ) (s :
   own_only h i =
       let m = in_map (λ (x : Exported). (x.prefix, own_over x.site)) (held.present_with (edge_in t l c p e) (vrf_in t c v) []) h i in
       let o = present_only t l c p e s.statics s.sited v [] m.0 s.at m.1 in (
-        vpn.held_by e vpn.Own o.0,
-        map_in (vpn.held_by e vpn.Own) (vpn.present_with t c v []) o.0 o.1,
+        ledger_held.held_by e ledger_held.Own o.0,
+        map_in (ledger_held.held_by e ledger_held.Own) (ledger_exports.present_with t c v []) o.0 o.1,
         ap (λ (x : Exported). (x.prefix, own_over x.site)) o.2
             ∙ m.2,
       )
@@ -99,10 +101,10 @@ module _ (t : Network) (l : Labels) (c : Config) (p : Peerings) (e v : ℕ) (s :
   near_there : (y : HeldRoute) → In (near_routes t c e v) y → In (held_near edge vrf) (as_held l y)
   unfolding edge vrf
   near_there y i =
-      let others : List Export = filter (λ export. not (export.vrf == v)) (vpn.exports_of t c e) in
-      let m = in_map (λ (export : Export). vpn.held_by e (vpn.Near export.vrf) export) (imported c v others) y i in
-      let f = in_filter (λ (export : Export). vpn.meet export.targets (c.imports v)) others m.0 m.1 in
-      let g = in_filter (λ (export : Export). not (export.vrf == v)) (vpn.exports_of t c e) m.0 f.0 in
+      let others : List Export = filter (λ export. not (export.vrf == v)) (ledger_exports.exports_of t c e) in
+      let m = in_map (λ (export : Export). ledger_held.held_by e (ledger_held.Near export.vrf) export) (imported c v others) y i in
+      let f = in_filter (λ (export : Export). ledger_exports.meet export.targets (c.imports v)) others m.0 m.1 in
+      let g = in_filter (λ (export : Export). not (export.vrf == v)) (ledger_exports.exports_of t c e) m.0 f.0 in
       subst (λ z. In (held_near (edge_in t l c p e) (vrf_in t c v)) (as_held l z)) m.2
       (map_in (λ (x : Exported). (x.prefix, near_over x.vrf x.site))
       (filter (λ (x : Exported). not (x.vrf == v) && meet x.targets (as_targets (c.imports v))) (held.exports_of (edge_in t l c p e))) (exported t l m.0)
@@ -119,11 +121,12 @@ module _ (t : Network) (l : Labels) (c : Config) (p : Peerings) (e v : ℕ) (s :
       let o = all_only t l c p e s.statics s.sited m.0 f.0 in
       let test : (not (o.0.vrf == v) && meet (as_targets o.0.targets) (as_targets (c.imports v))) ≡ true =
       ap (λ (x : Exported). not (x.vrf == v) && meet x.targets (as_targets (c.imports v))) o.2 ∙ f.1 in (
-        vpn.held_by e (vpn.Near o.0.vrf) o.0,
-        map_in (λ (export : Export). vpn.held_by e (vpn.Near export.vrf) export)
-            (imported c v (filter (λ export. not (export.vrf == v)) (vpn.exports_of t c e))) o.0
-            (filter_in (λ (export : Export). vpn.meet export.targets (c.imports v)) (filter (λ export. not (export.vrf == v)) (vpn.exports_of t c e)) o.0
-            (filter_in (λ (export : Export). not (export.vrf == v)) (vpn.exports_of t c e) o.0 o.1 (and_left _ _ test))
+        ledger_held.held_by e (ledger_held.Near o.0.vrf) o.0,
+        map_in (λ (export : Export). ledger_held.held_by e (ledger_held.Near export.vrf) export)
+            (imported c v (filter (λ export. not (export.vrf == v)) (ledger_exports.exports_of t c e))) o.0
+            (filter_in (λ (export : Export). ledger_exports.meet export.targets (c.imports v))
+            (filter (λ export. not (export.vrf == v)) (ledger_exports.exports_of t c e)) o.0
+            (filter_in (λ (export : Export). not (export.vrf == v)) (ledger_exports.exports_of t c e) o.0 o.1 (and_left _ _ test))
             (sym (meets_same o.0.targets (c.imports v)) ∙ and_right (not (o.0.vrf == v)) _ test)),
         ap (λ (x : Exported). (x.prefix, near_over x.vrf x.site)) o.2 ∙ m.2,
       )
@@ -140,13 +143,13 @@ module _ (t : Network) (l : Labels) (c : Config) (p : Peerings) (e v : ℕ) (s :
   far_of q route = (route.prefix, far_over (slice_index_or t.loopbacks q 0) route.rd.0 q route.label)
 
   far_route : ℕ → Export → HeldRoute
-  far_route q export = vpn.held_by q (vpn.Far (loopback t q) (vrf_at t export.vrf).rd.0) export
+  far_route q export = ledger_held.held_by q (ledger_held.Far (loopback t q) (vrf_at t export.vrf).rd.0) export
 
   peer_there : (q : ℕ) (y : HeldRoute) → q < length t.loopbacks → not (q == e) ≡ true → In (far_routes t c p e v q) y → In (held_far edge vrf q) (as_held l y)
   unfolding edge vrf far_of far_route
   peer_there q y below other i =
       let m = in_map (far_route q) (imported c v (believed c p e q)) y i in
-      let f = in_filter (λ (export : Export). vpn.meet export.targets (c.imports v)) (believed c p e q) m.0 m.1 in
+      let f = in_filter (λ (export : Export). ledger_exports.meet export.targets (c.imports v)) (believed c p e q) m.0 m.1 in
       subst (λ z. In (held_far (edge_in t l c p e) (vrf_in t c v) q) (as_held l z)) m.2
       (map_in (far_of q) (filter (λ (route : Heard). meet route.targets (as_targets (c.imports v))) (heard_of_peer (edge_in t l c p e) q)) (heard_route t l m.0)
       (filter_in (λ (route : Heard). meet route.targets (as_targets (c.imports v))) (heard_of_peer (edge_in t l c p e) q) (heard_route t l m.0)
@@ -179,7 +182,7 @@ module _ (t : Network) (l : Labels) (c : Config) (p : Peerings) (e v : ℕ) (s :
             (
               far_route q o.0,
               map_in (far_route q) (imported c v (believed c p e q)) o.0
-                  (filter_in (λ (export : Export). vpn.meet export.targets (c.imports v)) (believed c p e q) o.0
+                  (filter_in (λ (export : Export). ledger_exports.meet export.targets (c.imports v)) (believed c p e q) o.0
                   (subst (λ d. In (if d then believed_from [] (heard_of p e q) else []) o.0) (sym live) o.1)
                   (sym (meets_same o.0.targets (c.imports v)) ∙ ap (λ (z : Heard). meet z.targets (as_targets (c.imports v))) o.2 ∙ meets)),
               ap (far_of q) o.2 ∙ is,
@@ -193,8 +196,8 @@ module _ (t : Network) (l : Labels) (c : Config) (p : Peerings) (e v : ℕ) (s :
   unfolding edge
   peers_heard = length-map-range_with_len (heard_in t l c p e) 0 (length t.loopbacks)
 
-  raw_there : (y : HeldRoute) → In (vpn.held t c p e v) y → In raw (as_held l y)
-  unfolding vpn.held raw
+  raw_there : (y : HeldRoute) → In (ledger_held.held t c p e v) y → In raw (as_held l y)
+  unfolding ledger_held.held raw
   raw_there y i = elim (in_append (own_routes t c e v) (near_routes t c e v ++ flat_map (far_routes t c p e v)
       (filter (λ peer. not (peer == e)) (edges t))) y i) [
         | inl j ↦ in_front (held_own edge vrf) _ (as_held l y) (own_there y j)
@@ -211,8 +214,8 @@ module _ (t : Network) (l : Labels) (c : Config) (p : Peerings) (e v : ℕ) (s :
             ])
       ]
 
-  raw_only : (h : AddressBlock × Source) → In raw h → (y : HeldRoute) × In (vpn.held t c p e v) y × (as_held l y ≡ h)
-  unfolding vpn.held raw
+  raw_only : (h : AddressBlock × Source) → In raw h → (y : HeldRoute) × In (ledger_held.held t c p e v) y × (as_held l y ≡ h)
+  unfolding ledger_held.held raw
   raw_only h i = elim (in_append (held_own edge vrf) (held_near edge vrf ++ flat_map (held_far edge vrf) (range_with_len 0 (length edge.heard))) h i) [
     | inl j ↦ let o = own_only h j in (o.0, in_front (own_routes t c e v) _ o.0 o.1, o.2)
     | inr j ↦ elim (in_append (held_near edge vrf) (flat_map (held_far edge vrf) (range_with_len 0 (length edge.heard))) h j) [
@@ -259,7 +262,7 @@ module _ (t : Network) (l : Labels) (c : Config) (p : Peerings) (e v : ℕ) (s :
           ∙ ap (λ n. let r : AddressBlock = record { address = y.address; length = n } in r) g
 
   -- the VRF holds what the ledger says
-  pub holds : SameRoutes l (vpn.held t c p e v) (held_by (edge_in t l c p e) (vrf_in t c v))
+  pub holds : SameRoutes l (ledger_held.held t c p e v) (held_by (edge_in t l c p e) (vrf_in t c v))
   unfolding edge vrf raw
   holds = record {
     up = fold_ascends route_before [] raw route_order tt;
@@ -268,6 +271,8 @@ module _ (t : Network) (l : Labels) (c : Config) (p : Peerings) (e v : ℕ) (s :
   }
 
   -- and finds the best of it
-  pub finds : (address : ℕ) → longest_match address (held_by (edge_in t l c p e) (vrf_in t c v)) ≡ option_map (as_held l) (best (vpn.held t c p e v) address)
-  finds address = lookup_is_best l (vpn.held t c p e v) (held_by (edge_in t l c p e) (vrf_in t c v)) address (λ y z h g. route_order.one_way y z h g) holds
+  pub finds : (address : ℕ) →
+      longest_match address (held_by (edge_in t l c p e) (vrf_in t c v)) ≡ option_map (as_held l) (best (ledger_held.held t c p e v) address)
+  finds address =
+      lookup_is_best l (ledger_held.held t c p e v) (held_by (edge_in t l c p e) (vrf_in t c v)) address (λ y z h g. route_order.one_way y z h g) holds
       (λ a i. held_formed t c p e v a s.forms s.good i) (λ a b i j source prefix. one_held t c p e v a b s.lawful s.apart s.statics s.good i j source prefix)

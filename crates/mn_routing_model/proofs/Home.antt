@@ -11,8 +11,9 @@ use Rattle.mn_topo.specs.declared.vrfs.VrfDef.{VrfDef}
 use Rattle.mn_topo.specs.declared.steps.Step.{Step}
 use Rattle.mn_topo.specs.declared.steps.Step.TheVariants as step
 use Rattle.mn_ledger.specs.Places.{vrf_of, edge_of, home_of, edges}
-use Rattle.mn_ledger.specs.World.{Config, Export, Telling, Announce, Unreach, Peerings}
-use Rattle.mn_ledger.specs.Vpn.{exports_of, changed, route_news, steady_peers}
+use Rattle.mn_ledger.specs.World.{Config, Export, Telling, Announcement, Withdrawal, Peerings}
+use Rattle.mn_ledger.specs.Exports.{exports_of}
+use Rattle.mn_ledger.specs.Bgp.{changed, route_news, steady_peers}
 use Rattle.mn_ledger.specs.Ledger.{config_after, with_target}
 use Rattle.mn_ledger.proofs.OneKind.{IsBehind, from_exports, none_left}
 use Rattle.mn_routing_model.specs.Touched.{touches, comes, goes, by_set, told_of}
@@ -51,10 +52,10 @@ none_touched t c s edge d =
     none_left (touches t s) (exports_of t c edge) (λ x i. never (touches t s x) (λ h. d (touched_at t c s edge x (from_exports t c edge x i) h)))
 
 none_comes : (t : Network) (c : Config) (s : Step) (edge : ℕ) → edge ≢ home_in t s → comes t c s edge ≡ []
-none_comes t c s edge d = ap (map (λ export. Announce export)) (none_touched t (config_after c s) s edge d)
+none_comes t c s edge d = ap (map (λ export. Announcement export)) (none_touched t (config_after c s) s edge d)
 
 none_goes : (t : Network) (c : Config) (s : Step) (edge : ℕ) → edge ≢ home_in t s → goes t c s edge ≡ []
-none_goes t c s edge d = ap (map (λ (export : Export). Unreach export.vrf export.prefix)) (none_touched t c s edge d)
+none_goes t c s edge d = ap (map (λ (export : Export). Withdrawal export.vrf export.prefix)) (none_touched t c s edge d)
 
 either_none : (ts : List ℕ) (xs ys : List Telling) → xs ≡ [] → ys ≡ [] → by_set ts xs ys ≡ []
 either_none [] xs ys h g = g

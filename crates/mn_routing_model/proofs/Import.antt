@@ -13,7 +13,7 @@ use Rattle.mn_topo.specs.declared.steps.Step.TheVariants as step
 use Rattle.mn_topo.specs.declared.steps.JournalEntry.{JournalEntry}
 use Rattle.mn_ledger.specs.Places.{edge_of}
 use Rattle.mn_ledger.specs.World.{World, Peerings}
-use Rattle.mn_ledger.specs.Vpn.{Told, peerings_after, with_told, tellings_of}
+use Rattle.mn_ledger.specs.Bgp.{Told, peerings_after, with_told, tellings_of}
 use Rattle.mn_ledger.specs.Ledger.{config_after, after, world_of}
 use Rattle.mn_ledger.specs.Items.{numbered, route_of}
 use Rattle.mn_laws.proofs.There.{edge_there}

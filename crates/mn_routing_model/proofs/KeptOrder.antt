@@ -11,7 +11,8 @@ use Rattle.mn_vpn_nlri.specs.declared.message.VpnRoute.{VpnRoute}
 use Rattle.mn_bgp_wire.specs.Says.{Says}
 use Rattle.mn_ledger.specs.Places.{vrf_of, edge_of, vrfs_at}
 use Rattle.mn_ledger.specs.World.{Config, Telling, Peerings}
-use Rattle.mn_ledger.specs.Vpn.{peers_live, heard_of}
+use Rattle.mn_ledger.specs.Bgp.{peers_live}
+use Rattle.mn_ledger.specs.Held.{heard_of}
 use Rattle.mn_ledger.proofs.Members.{in_map}
 use Rattle.mn_ledger.proofs.Turning.{Apart}
 use Rattle.mn_base.specs.Ordered.{Ascends}

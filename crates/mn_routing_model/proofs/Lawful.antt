@@ -15,9 +15,10 @@ use Rattle.mn_topo.specs.declared.steps.Step.{Step}
 use Rattle.mn_topo.specs.declared.steps.Step.TheVariants as step
 use Rattle.mn_ledger.specs.Tables.{put, put_pair}
 use Rattle.mn_ledger.specs.Places.{edges}
-use Rattle.mn_ledger.specs.World.{SiteRoute, Config, Export, Telling, Open, Alive, Announce, Unreach, Peerings, World}
-use Rattle.mn_ledger.specs.Vpn.{peers_live, is_for, exports_of, same_export, withdrawn, announced, changed, Told, is_from_to, tellings_of}
-use Rattle.mn_ledger.specs.Vpn.{told_to, reply, bgp_replies, steady_peers, route_news, told_in, bgp_counted, peerings_after}
+use Rattle.mn_ledger.specs.World.{SiteRoute, Config, Export, Telling, Open, BgpKeepAlive, Announcement, Withdrawal, Peerings, World}
+use Rattle.mn_ledger.specs.Exports.{exports_of}
+use Rattle.mn_ledger.specs.Bgp.{peers_live, is_for, same_export, withdrawn, announced, changed, Told, is_from_to, tellings_of}
+use Rattle.mn_ledger.specs.Bgp.{told_to, reply, bgp_replies, steady_peers, route_news, told_in, bgp_counted, peerings_after}
 use Rattle.mn_ledger.specs.Ledger.{is_static, config_after, after, start, statics_from, no_packets, next_of, left_by, world_from, world_of}
 use Rattle.mn_ledger.proofs.GoingBy.{put_here, put_off, pair_here, pair_off}
 use Rattle.mn_ledger.proofs.Members.{In, in_append, in_map, in_filter, filter_in, in_flat_map}
@@ -27,8 +28,8 @@ use Rattle.mn_ledger.proofs.Turning.{loopbacks_apart}
 use Rattle.mn_ledger.proofs.Peers.{same_numbers}
 use Rattle.mn_base.proofs.Bools.{and_left, no}
 use Rattle.mn_topo.specs.SiteTable.{is_lawful_prefix}
-use Rattle.mn_ledger.specs.Vpn.{best}
-use Rattle.mn_ledger.specs.Vpn as vpn
+use Rattle.mn_ledger.specs.Held.{best}
+use Rattle.mn_ledger.specs.Held as ledger_held
 use Rattle.mn_ledger.specs.Packets.{Packets, packets_after}
 use Rattle.mn_ledger.specs.Lawful.{IsLawfulFrom, IsLawfulJournal}
 use Rattle.mn_ledger.specs.Places.{edge_of}
@@ -94,12 +95,12 @@ abbrev pub IsSound : Network → Config → Telling → Type 0
 IsSound t c m = NamesVrf t m × IsKnown c m
 
 sound_more : (t : Network) (c : Config) (s : Step) (m : Telling) → IsSound t c m → IsSound t (config_after c s) m
-sound_more t c s (Announce e) h = (h.0, omega (arith, h.1, more_attached c s e.site))
-sound_more t c s (Unreach v p) h = (h.0, tt)
+sound_more t c s (Announcement e) h = (h.0, omega (arith, h.1, more_attached c s e.site))
+sound_more t c s (Withdrawal v p) h = (h.0, tt)
 sound_more t c s Open h = (tt, tt)
-sound_more t c s Alive h = (tt, tt)
+sound_more t c s BgpKeepAlive h = (tt, tt)
 
-sound_announce : (t : Network) (c : Config) (edge : ℕ) (e : Export) → AreNumbered c → In (exports_of t c edge) e → IsSound t c (Announce e)
+sound_announce : (t : Network) (c : Config) (edge : ℕ) (e : Export) → AreNumbered c → In (exports_of t c edge) e → IsSound t c (Announcement e)
 unfolding Behind
 sound_announce t c edge e h i =
     let b = exported_by t c edge e i in
@@ -109,16 +110,17 @@ Sound : Network → Config → List Telling → Type 0
 Sound t c ms = (m : Telling) → In ms m → IsSound t c m
 
 sound_announced : (t : Network) (c : Config) (edge : ℕ) (es : List Export) → AreNumbered c → ((e : Export) → In es e → In (exports_of t c edge) e) →
-    Sound t c (map (λ export. Announce export) es)
+    Sound t c (map (λ export. Announcement export) es)
 unfolding Sound
-sound_announced t c edge es h g m i = let f = in_map (λ export. Announce export) es m i in subst (IsSound t c) f.2 (sound_announce t c edge f.0 h (g f.0 f.1))
+sound_announced t c edge es h g m i = let f = in_map (λ export. Announcement export) es m i in
+    subst (IsSound t c) f.2 (sound_announce t c edge f.0 h (g f.0 f.1))
 
 sound_changed : (t : Network) (c new : Config) (edge : ℕ) → AreNumbered new → Sound t new (changed (exports_of t c edge) (exports_of t new edge))
 unfolding Sound
 sound_changed t c new edge h m i = elim (in_append (withdrawn (exports_of t c edge) (exports_of t new edge))
     (announced (exports_of t c edge) (exports_of t new edge)) m i) [
       | inl j ↦
-          let f = in_map (λ (export : Export). Unreach export.vrf export.prefix)
+          let f = in_map (λ (export : Export). Withdrawal export.vrf export.prefix)
           (filter (λ export. not (list_any (is_for export.vrf export.prefix) (exports_of t new edge))) (exports_of t c edge)) m j in
           let g = in_filter (λ (export : Export). not (list_any (is_for export.vrf export.prefix) (exports_of t new edge))) (exports_of t c edge) f.0 f.1 in
           subst (IsSound t new) f.2 ((exported_by t c edge f.0 g.0).0, tt)
@@ -132,8 +134,8 @@ one_sound t c m h x i = elim i [ inl e ↦ subst (IsSound t c) e h | inr n ↦ a
 
 sound_reply : (t : Network) (c : Config) (edge : ℕ) (state : BgpState) (m : Telling) → AreNumbered c → Sound t c (reply state m (exports_of t c edge))
 unfolding Sound
-sound_reply t c edge OpenSent Open h = one_sound t c Alive (tt, tt)
-sound_reply t c edge OpenConfirm Alive h = sound_announced t c edge (exports_of t c edge) h (λ e i. i)
+sound_reply t c edge OpenSent Open h = one_sound t c BgpKeepAlive (tt, tt)
+sound_reply t c edge OpenConfirm BgpKeepAlive h = sound_announced t c edge (exports_of t c edge) h (λ e i. i)
 sound_reply t c edge _ _ h = λ x i. absurd i
 
 AllSound : Network → Config → List Told → Type 0
@@ -344,7 +346,7 @@ stands t w e v topology h at = record {
 pub finds_best : (t : Network) (l : Labels) (es : List JournalEntry) (ps : List (List ℕ)) (e v address : ℕ) → IsLawful t → IsLawfulJournal t es ps →
     edge_of t v ≡ e
     → longest_match address (held_by (edge_in t l (world_of t es).config (world_of t es).peerings e) (vrf_in t (world_of t es).config v)) ≡ option_map
-    (as_held l) (best (vpn.held t (world_of t es).config (world_of t es).peerings e v) address)
+    (as_held l) (best (ledger_held.held t (world_of t es).config (world_of t es).peerings e v) address)
 finds_best t l es ps e v address topology journal at =
     finds t l (world_of t es).config (world_of t es).peerings e v (stands t (world_of t es) e v topology (rests t es ps topology journal) at) address
 

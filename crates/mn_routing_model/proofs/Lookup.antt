@@ -7,8 +7,8 @@ use Rattle.mn_prefix.specs.Prefix.{AddressBlock, IsPrefix, contains}
 use Rattle.mn_prefix.specs.Longest.{is_longest}
 use Rattle.mn_prefix.specs.Longest as longest
 use Rattle.mn_prefix.specs.Table.{first_of, longest_match}
-use Rattle.mn_ledger.specs.Vpn.{HeldRoute, is_better, is_preferred, best}
-use Rattle.mn_ledger.specs.Vpn as vpn
+use Rattle.mn_ledger.specs.Held.{HeldRoute, is_better, is_preferred, best}
+use Rattle.mn_ledger.specs.Held as ledger_held
 use Rattle.mn_ledger.specs.Best.{IsBest}
 use Rattle.mn_ledger.proofs.Members.{In, in_filter, filter_in, contained_in, in_contained}
 use Rattle.mn_ledger.proofs.Choice.{names_one, neither_better, one_prefix}
@@ -56,16 +56,17 @@ each_of p (y ∷ ys) x h i = elim i [ inl e ↦ ap p (sym e) ∙ left (p y) (lis
 pub preferred_same : (l : Labels) (x y : HeldRoute) → source_before (as_held l x).1 (as_held l y).1 ≡ is_preferred x.source y.source
 preferred_same l x y = by_sources x.source y.source
   where
-    by_sources : (s r : vpn.Source) → source_before (source_from l x.edge x.site x.attachment s) (source_from l y.edge y.site y.attachment r) ≡ is_preferred s r
-    by_sources vpn.Own vpn.Own = refl
-    by_sources vpn.Own (vpn.Near v) = refl
-    by_sources vpn.Own (vpn.Far a d) = refl
-    by_sources (vpn.Near v) vpn.Own = refl
-    by_sources (vpn.Near v) (vpn.Near w) = refl
-    by_sources (vpn.Near v) (vpn.Far a d) = refl
-    by_sources (vpn.Far a d) vpn.Own = refl
-    by_sources (vpn.Far a d) (vpn.Near v) = refl
-    by_sources (vpn.Far a d) (vpn.Far b r) = refl
+    by_sources : (s r : ledger_held.Source) →
+        source_before (source_from l x.edge x.site x.attachment s) (source_from l y.edge y.site y.attachment r) ≡ is_preferred s r
+    by_sources ledger_held.Own ledger_held.Own = refl
+    by_sources ledger_held.Own (ledger_held.Near v) = refl
+    by_sources ledger_held.Own (ledger_held.Far a d) = refl
+    by_sources (ledger_held.Near v) ledger_held.Own = refl
+    by_sources (ledger_held.Near v) (ledger_held.Near w) = refl
+    by_sources (ledger_held.Near v) (ledger_held.Far a d) = refl
+    by_sources (ledger_held.Far a d) ledger_held.Own = refl
+    by_sources (ledger_held.Far a d) (ledger_held.Near v) = refl
+    by_sources (ledger_held.Far a d) (ledger_held.Far b r) = refl
 
 -- 3. The lookup
 

@@ -13,8 +13,8 @@ use Rattle.mn_topo.specs.declared.sites.SiteDef.{SiteDef}
 use Rattle.mn_topo.specs.Network.{Network}
 use Rattle.mn_topo.specs.declared.steps.Step.{Step}
 use Rattle.mn_ledger.specs.Places.{vrf_of, vrfs_at}
-use Rattle.mn_ledger.specs.World.{SiteRoute, Config, Export, Announce, Unreach, Peerings}
-use Rattle.mn_ledger.specs.Vpn as vpn
+use Rattle.mn_ledger.specs.World.{SiteRoute, Config, Export, Announcement, Withdrawal, Peerings}
+use Rattle.mn_ledger.specs.Exports as ledger_exports
 use Rattle.mn_ledger.specs.Ledger.{config_after}
 use Rattle.mn_ledger.proofs.Statics.{HasStatics}
 use Rattle.mn_ledger.proofs.Turning.{loopbacks_apart}
@@ -70,17 +70,17 @@ vrfs_apart t l c p e lawful = apart_of (edge_in t l c p e).vrfs (kept_in t l c p
 -- 2. What is told, in bytes
 
 announced_all : (t : Network) (l : Labels) (e : ℕ) (xs : List Export) →
-    map (bytes_in t l e) (map (λ export. Announce export) xs) ≡ map (spelled_in t e true) (map (exported t l) xs)
+    map (bytes_in t l e) (map (λ export. Announcement export) xs) ≡ map (spelled_in t e true) (map (exported t l) xs)
 announced_all t l e [] = refl
-announced_all t l e (x ∷ xs) = ap (λ ys. bytes_in t l e (Announce x) ∷ ys) (announced_all t l e xs)
+announced_all t l e (x ∷ xs) = ap (λ ys. bytes_in t l e (Announcement x) ∷ ys) (announced_all t l e xs)
 
 withdrawn_all : (t : Network) (l : Labels) (e : ℕ) (xs : List Export) →
-    map (bytes_in t l e) (map (λ (export : Export). Unreach export.vrf export.prefix) xs) ≡ map (spelled_in t e false) (map (exported t l) xs)
+    map (bytes_in t l e) (map (λ (export : Export). Withdrawal export.vrf export.prefix) xs) ≡ map (spelled_in t e false) (map (exported t l) xs)
 withdrawn_all t l e [] = refl
-withdrawn_all t l e (x ∷ xs) = ap (λ ys. bytes_in t l e (Unreach x.vrf x.prefix) ∷ ys) (withdrawn_all t l e xs)
+withdrawn_all t l e (x ∷ xs) = ap (λ ys. bytes_in t l e (Withdrawal x.vrf x.prefix) ∷ ys) (withdrawn_all t l e xs)
 
 pub announced_told : (t : Network) (l : Labels) (e : ℕ) (xs : List Export) →
-    map (bytes_in t l e) (map (λ export. Announce export) xs) ≡ map (spelled_in t e true) (map (exported t l) xs)
+    map (bytes_in t l e) (map (λ export. Announcement export) xs) ≡ map (spelled_in t e true) (map (exported t l) xs)
 announced_told t l e xs = announced_all t l e xs
 
 -- 3. The exports that a step touches, as the edge has them
@@ -88,12 +88,12 @@ announced_told t l e xs = announced_all t l e xs
 module _ (t : Network) (l : Labels) (c : Config) (p : Peerings) (e : ℕ) (lawful : IsLawful t) (has : HasStatics t c.statics)
     (sited : (x : SiteRoute) → In c.statics x → x.site < length t.sites) where
   touched_by : (q : Exported → Bool) (s : Step) → ((x : Export) → touches t s x ≡ q (exported t l x))
-      → map (exported t l) (filter (touches t s) (vpn.exports_of t c e)) ≡ filter q (exports_of (edge_in t l c p e))
-  touched_by q s h = filter_map (exported t l) q (touches t s) (vpn.exports_of t c e) h ∙ ap (filter q) (exports_same t l c p e has sited)
+      → map (exported t l) (filter (touches t s) (ledger_exports.exports_of t c e)) ≡ filter q (exports_of (edge_in t l c p e))
+  touched_by q s h = filter_map (exported t l) q (touches t s) (ledger_exports.exports_of t c e) h ∙ ap (filter q) (exports_same t l c p e has sited)
 
   pub of_prefix : (s : Step) (site : SiteNo) (prefix : AddressBlock) →
       ((x : Export) → touches t s x ≡ ((vrf_of t site.0 == x.vrf) && same_prefix prefix x.prefix))
-      → map (exported t l) (filter (touches t s) (vpn.exports_of t c e)) ≡ those_of (export_of (edge_in t l c p e) site.0 prefix)
+      → map (exported t l) (filter (touches t s) (ledger_exports.exports_of t c e)) ≡ those_of (export_of (edge_in t l c p e) site.0 prefix)
   of_prefix s site prefix h =
       touched_by (λ (x : Exported). (vrf_of t site.0 == x.vrf) && same_prefix prefix x.prefix) s h
       ∙ ap (λ v. filter (λ (x : Exported). (v == x.vrf) && same_prefix prefix x.prefix) (exports_of (edge_in t l c p e)))
@@ -101,21 +101,21 @@ module _ (t : Network) (l : Labels) (c : Config) (p : Peerings) (e : ℕ) (lawfu
       ∙ export_of_is (edge_in t l c p e) site.0 prefix (vrfs_apart t l c p e lawful) (kept_in t l c p e (loopbacks_apart t lawful)).statics
 
   pub over_site : (s : Step) (site : SiteNo) → ((x : Export) → touches t s x ≡ (x.site == site.0))
-      → map (exported t l) (filter (touches t s) (vpn.exports_of t c e)) ≡ exports_over (edge_in t l c p e) site.0
+      → map (exported t l) (filter (touches t s) (ledger_exports.exports_of t c e)) ≡ exports_over (edge_in t l c p e) site.0
   over_site s site h = touched_by (λ (x : Exported). x.site == site.0) s h ∙ exports_over_are (edge_in t l c p e) site.0 (at_home t l c p e site.0)
 
   pub of_vrf : (s : Step) (v : VrfNo) → ((x : Export) → touches t s x ≡ (x.vrf == v.0))
-      → map (exported t l) (filter (touches t s) (vpn.exports_of t c e)) ≡ exports_at (edge_in t l c p e) v.0
+      → map (exported t l) (filter (touches t s) (ledger_exports.exports_of t c e)) ≡ exports_at (edge_in t l c p e) v.0
   of_vrf s v h = touched_by (λ (x : Exported). x.vrf == v.0) s h ∙ exports_at_are (edge_in t l c p e) v.0
 
 -- 4. Told, in bytes
 
 pub comes_as : (t : Network) (l : Labels) (c : Config) (s : Step) (e : ℕ) (xs : List Exported) →
-    map (exported t l) (filter (touches t s) (vpn.exports_of t (config_after c s) e)) ≡ xs
+    map (exported t l) (filter (touches t s) (ledger_exports.exports_of t (config_after c s) e)) ≡ xs
     → map (bytes_in t l e) (comes t c s e) ≡ map (spelled_in t e true) xs
-comes_as t l c s e xs h = announced_all t l e (filter (touches t s) (vpn.exports_of t (config_after c s) e)) ∙ ap (map (spelled_in t e true)) h
+comes_as t l c s e xs h = announced_all t l e (filter (touches t s) (ledger_exports.exports_of t (config_after c s) e)) ∙ ap (map (spelled_in t e true)) h
 
 pub goes_as : (t : Network) (l : Labels) (c : Config) (s : Step) (e : ℕ) (xs : List Exported) →
-    map (exported t l) (filter (touches t s) (vpn.exports_of t c e)) ≡ xs
+    map (exported t l) (filter (touches t s) (ledger_exports.exports_of t c e)) ≡ xs
     → map (bytes_in t l e) (goes t c s e) ≡ map (spelled_in t e false) xs
-goes_as t l c s e xs h = withdrawn_all t l e (filter (touches t s) (vpn.exports_of t c e)) ∙ ap (map (spelled_in t e false)) h
+goes_as t l c s e xs h = withdrawn_all t l e (filter (touches t s) (ledger_exports.exports_of t c e)) ∙ ap (map (spelled_in t e false)) h

@@ -9,8 +9,8 @@ use Rattle.mn_topo.specs.Network.{Network}
 use Rattle.mn_topo.specs.declared.steps.Step.{Step}
 use Rattle.mn_topo.specs.declared.steps.Step.TheVariants as step
 use Rattle.mn_ledger.specs.Places.{vrf_of, edge_of, home_of}
-use Rattle.mn_ledger.specs.World.{Config, Export, Announce, Unreach}
-use Rattle.mn_ledger.specs.Vpn.{exports_with, exports_of}
+use Rattle.mn_ledger.specs.World.{Config, Export, Announcement, Withdrawal}
+use Rattle.mn_ledger.specs.Exports.{exports_with, exports_of}
 use Rattle.mn_ledger.specs.Ledger.{config_after, with_target}
 use Rattle.mn_ledger.proofs.Members.{In, in_filter}
 use Rattle.mn_ledger.proofs.Peers.{same_numbers, same_test, and_left}
@@ -115,11 +115,11 @@ untouched t c (step.Detach s) edge d e i = never (touches t (step.Detach s) e)
 untouched t c _ edge d e i = refl
 
 none_comes_off : (t : Network) (c : Config) (s : Step) (edge : ℕ) → edge ≢ edge_of_step t s → comes t c s edge ≡ []
-none_comes_off t c s edge d = ap (map (λ export. Announce export))
+none_comes_off t c s edge d = ap (map (λ export. Announcement export))
     (none_left (touches t s) (exports_of t (config_after c s) edge) (untouched t (config_after c s) s edge d))
 
 none_goes_off : (t : Network) (c : Config) (s : Step) (edge : ℕ) → edge ≢ edge_of_step t s → goes t c s edge ≡ []
-none_goes_off t c s edge d = ap (map (λ (export : Export). Unreach export.vrf export.prefix))
+none_goes_off t c s edge d = ap (map (λ (export : Export). Withdrawal export.vrf export.prefix))
     (none_left (touches t s) (exports_of t c edge) (untouched t c s edge d))
 
 -- the other edges tell nothing

@@ -5,7 +5,7 @@ use Rattle.mn_topo.specs.declared.steps.Step.{Step}
 use Rattle.mn_topo.specs.declared.steps.Step.TheVariants as step
 use Rattle.mn_topo.specs.declared.steps.JournalEntry.{JournalEntry}
 use Rattle.mn_ledger.specs.World.{World}
-use Rattle.mn_ledger.specs.Vpn.{peerings_after}
+use Rattle.mn_ledger.specs.Bgp.{peerings_after}
 use Rattle.mn_ledger.specs.Ledger.{after, start, world_of}
 use Rattle.mn_ledger.proofs.More.{world_from-push}
 use Rattle.mn_frames.specs.Numbers.{labels_of, labels_after}

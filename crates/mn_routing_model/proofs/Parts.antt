@@ -16,7 +16,7 @@ use Rattle.mn_topo.specs.declared.steps.Step.TheVariants as step
 use Rattle.mn_ledger.specs.Tables.{put_pair}
 use Rattle.mn_ledger.specs.Places.{loopback, edge_of, home_of, vrf_of}
 use Rattle.mn_ledger.specs.World.{Config, Peerings}
-use Rattle.mn_ledger.specs.Vpn.{peers_live, state_heard, bgp_restarted, told_in, with_told, peerings_after}
+use Rattle.mn_ledger.specs.Bgp.{peers_live, state_heard, bgp_restarted, told_in, with_told, peerings_after}
 use Rattle.mn_ledger.specs.Ledger.{config_after}
 use Rattle.mn_ledger.specs.Refusal.{labels_given}
 use Rattle.mn_ledger.proofs.Members.{In}

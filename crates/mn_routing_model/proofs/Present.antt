@@ -6,8 +6,8 @@ use Rattle.mn_base.specs.declared.numbers.Rt.{Rt}
 use Rattle.mn_topo.specs.Network.{Network}
 use Rattle.mn_ledger.specs.Places.{vrf_at, vrf_of, edge_of, vrfs_at}
 use Rattle.mn_ledger.specs.World.{SiteRoute, Config, Export, Peerings}
-use Rattle.mn_ledger.specs.Vpn.{is_present, export_of}
-use Rattle.mn_ledger.specs.Vpn as vpn
+use Rattle.mn_ledger.specs.Exports.{is_present, export_of}
+use Rattle.mn_ledger.specs.Exports as ledger_exports
 use Rattle.mn_ledger.proofs.Members.{In, in_map, in_filter, filter_in, in_flat_map, one_alike}
 use Rattle.mn_ledger.proofs.Peers.{same_numbers, same_test, and_left, and_right}
 use Rattle.mn_ledger.proofs.Statics.{SameStatic, HasStatics}
@@ -18,7 +18,7 @@ use Rattle.mn_targets.specs.Targets.{meet}
 use Rattle.mn_pe.specs.Held.{Exported, site_label, export_at}
 use Rattle.mn_pe.specs.Held as held
 use Rattle.mn_bgp_spelling.specs.Spelling.{Labels, as_targets}
-use Rattle.mn_routing_model.specs.Standing.{static_of, statics_in, vrf_in, label_in, edge_in}
+use Rattle.mn_routing_model.specs.Standing.{static_of, statics_in, vrf_in, site_label_now, edge_in}
 use Rattle.mn_routing_model.proofs.Tables.{map_numbers_at}
 use Rattle.mn_base.proofs.Kept.{fold_in, in_fold}
 use Rattle.mn_routing_model.proofs.Removing.{two_prefixes}
@@ -46,7 +46,7 @@ module _ (t : Network) (l : Labels) (c : Config) (p : Peerings) (e : ℕ) (has :
   label_is : (u : ℕ) (s : SiteRoute) → edge_of t u ≡ e → In c.statics s → (vrf_of t s.site == u) ≡ true →
       site_label (edge_in t l c p e) s.site ≡ option_map (l s.site) (c.attached s.site)
   label_is u s at i h =
-      map_numbers_at (label_in t l c e) (length t.sites) s.site None (sited s i)
+      map_numbers_at (site_label_now t l c e) (length t.sites) s.site None (sited s i)
       ∙ ap (λ b. if b then option_map (l s.site) (c.attached s.site) else None)
       (ap (λ n. n == e) (ap (edge_of t) (same_numbers (vrf_of t s.site) u h) ∙ at) ∙ same_test e)
 
@@ -63,7 +63,7 @@ module _ (t : Network) (l : Labels) (c : Config) (p : Peerings) (e : ℕ) (has :
         | inr q ↦ inl (ap (λ z. static_before (static_of s) z || static_before z (static_of s)) (sym m.2) ∙ q.1)
       ])
 
-  pub present_there : (u : ℕ) (ts : List ℕ) (x : Export) → edge_of t u ≡ e → In (vpn.present_with t c u ts) x →
+  pub present_there : (u : ℕ) (ts : List ℕ) (x : Export) → edge_of t u ≡ e → In (ledger_exports.present_with t c u ts) x →
       In (held.present_with (edge_in t l c p e) (vrf_in t c u) (as_targets ts)) (exported t l x)
   unfolding Behind
   present_there u ts x at i =
@@ -76,7 +76,7 @@ module _ (t : Network) (l : Labels) (c : Config) (p : Peerings) (e : ℕ) (has :
       (inl (ap (exported t l) b.3)))
 
   pub present_only : (u : ℕ) (ts : List ℕ) (z : Exported) → edge_of t u ≡ e → In (held.present_with (edge_in t l c p e) (vrf_in t c u) (as_targets ts)) z →
-      (x : Export) × In (vpn.present_with t c u ts) x × (exported t l x ≡ z)
+      (x : Export) × In (ledger_exports.present_with t c u ts) x × (exported t l x ≡ z)
   present_only u ts z at i =
       let f = in_flat_map (λ static. export_at (vrf_in t c u) (as_targets ts) static (site_label (edge_in t l c p e) static.site)) (statics_in t c u) z i in
       let kept = fold_in static_before [] (map static_of (filter (λ static. vrf_of t static.site == u) c.statics)) f.0 f.1 in
@@ -87,7 +87,7 @@ module _ (t : Network) (l : Labels) (c : Config) (p : Peerings) (e : ℕ) (has :
       (subst (λ y. In (export_at (vrf_in t c u) (as_targets ts) y (site_label (edge_in t l c p e) y.site)) z) (sym m.2) f.2))
     where
       by_label : (s : SiteRoute) → In c.statics s → (vrf_of t s.site == u) ≡ true → (o : Option ℕ) → c.attached s.site ≡ o →
-          In (export_at (vrf_in t c u) (as_targets ts) (static_of s) (option_map (l s.site) o)) z → (x : Export) × In (vpn.present_with t c u ts) x ×
+          In (export_at (vrf_in t c u) (as_targets ts) (static_of s) (option_map (l s.site) o)) z → (x : Export) × In (ledger_exports.present_with t c u ts) x ×
           (exported t l x ≡ z)
       by_label s there vrf None q j = absurd j
       by_label s there vrf (Some k) q j = (
@@ -100,13 +100,13 @@ module _ (t : Network) (l : Labels) (c : Config) (p : Peerings) (e : ℕ) (has :
       )
 
   -- what a VRF exports
-  pub exports_there : (u : ℕ) (ts : List ℕ) (x : Export) → edge_of t u ≡ e → In (vpn.exports_with t c u ts) x →
+  pub exports_there : (u : ℕ) (ts : List ℕ) (x : Export) → edge_of t u ≡ e → In (ledger_exports.exports_with t c u ts) x →
       In (held.exports_with (edge_in t l c p e) (vrf_in t c u) (as_targets ts)) (exported t l x)
   exports_there u [] x at i = absurd i
   exports_there u (target ∷ ts) x at i = present_there u (target ∷ ts) x at i
 
   pub exports_only : (u : ℕ) (ts : List ℕ) (z : Exported) → edge_of t u ≡ e → In (held.exports_with (edge_in t l c p e) (vrf_in t c u) (as_targets ts)) z →
-      (x : Export) × In (vpn.exports_with t c u ts) x × (exported t l x ≡ z)
+      (x : Export) × In (ledger_exports.exports_with t c u ts) x × (exported t l x ≡ z)
   exports_only u [] z at i = absurd i
   exports_only u (target ∷ ts) z at i = present_only u (target ∷ ts) z at i
 
@@ -114,23 +114,23 @@ module _ (t : Network) (l : Labels) (c : Config) (p : Peerings) (e : ℕ) (has :
   at_edge u i = same_numbers (edge_of t u) e (in_filter (λ v. edge_of t v == e) (range_with_len 0 (length t.vrfs)) u i).1
 
   -- what the edge exports
-  pub all_there : (x : Export) → In (vpn.exports_of t c e) x → In (held.exports_of (edge_in t l c p e)) (exported t l x)
+  pub all_there : (x : Export) → In (ledger_exports.exports_of t c e) x → In (held.exports_of (edge_in t l c p e)) (exported t l x)
   all_there x i =
-      let m = in_flat_map (λ v. vpn.exports_with t c v (c.exports v)) (vrfs_at t e) x i in
+      let m = in_flat_map (λ v. ledger_exports.exports_with t c v (c.exports v)) (vrfs_at t e) x i in
       flat_map_in (λ vrf. held.exports_with (edge_in t l c p e) vrf vrf.exports) (map (vrf_in t c) (vrfs_at t e)) (vrf_in t c m.0) (exported t l x)
       (map_in (vrf_in t c) (vrfs_at t e) m.0 m.1)
       (exports_there m.0 (c.exports m.0) x (at_edge m.0 m.1) m.2)
 
-  pub all_only : (z : Exported) → In (held.exports_of (edge_in t l c p e)) z → (x : Export) × In (vpn.exports_of t c e) x × (exported t l x ≡ z)
+  pub all_only : (z : Exported) → In (held.exports_of (edge_in t l c p e)) z → (x : Export) × In (ledger_exports.exports_of t c e) x × (exported t l x ≡ z)
   all_only z i =
       let f = in_flat_map (λ vrf. held.exports_with (edge_in t l c p e) vrf vrf.exports) (map (vrf_in t c) (vrfs_at t e)) z i in
       let m = in_map (vrf_in t c) (vrfs_at t e) f.0 f.1 in
       let o = exports_only m.0 (c.exports m.0) z (at_edge m.0 m.1)
       (subst (λ (vrf : VrfState). In (held.exports_with (edge_in t l c p e) vrf vrf.exports) z) (sym m.2) f.2) in
-      (o.0, flat_map_in (λ v. vpn.exports_with t c v (c.exports v)) (vrfs_at t e) m.0 o.0 m.1 o.1, o.2)
+      (o.0, flat_map_in (λ v. ledger_exports.exports_with t c v (c.exports v)) (vrfs_at t e) m.0 o.0 m.1 o.1, o.2)
 
 -- sets that meet
-pub meets_same : (xs ys : List ℕ) → meet (as_targets xs) (as_targets ys) ≡ vpn.meet xs ys
+pub meets_same : (xs ys : List ℕ) → meet (as_targets xs) (as_targets ys) ≡ ledger_exports.meet xs ys
 meets_same [] ys = refl
 meets_same (x ∷ xs) ys = ap (λ b. b || meet (as_targets xs) (as_targets ys)) (one_of ys) ∙ ap (λ b. list_any (λ other. other == x) ys || b) (meets_same xs ys)
   where

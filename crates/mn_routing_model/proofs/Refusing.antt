@@ -14,7 +14,7 @@ use Rattle.mn_topo.specs.Network.{Network}
 use Rattle.mn_targets.specs.Targets.{has_target}
 use Rattle.mn_ledger.specs.Places.{vrf_of, edge_of}
 use Rattle.mn_ledger.specs.World.{SiteRoute, Config, Peerings}
-use Rattle.mn_ledger.specs.Vpn as vpn
+use Rattle.mn_ledger.specs.Exports as ledger_exports
 use Rattle.mn_ledger.specs.Refusal.{agree, taken_by, prefix_refusal}
 use Rattle.mn_ledger.proofs.Statics.{HasStatics, SameStatic}
 use Rattle.mn_bgp_spelling.specs.Spelling.{Labels, as_targets}
@@ -27,7 +27,7 @@ use Rattle.mn_routing_model.proofs.Removing.{two_prefixes}
 
 -- 1. A target
 
-has_same : (target : Rt) (xs : List ℕ) → has_target target (as_targets xs) ≡ vpn.has_target xs target.0
+has_same : (target : Rt) (xs : List ℕ) → has_target target (as_targets xs) ≡ ledger_exports.has_target xs target.0
 has_same target [] = refl
 has_same target (x ∷ xs) = ap (λ b. (x == target.0) || b) (has_same target xs)
 
@@ -36,10 +36,10 @@ as_long [] = refl
 as_long (x ∷ xs) = ap suc (as_long xs)
 
 -- a set that is changed, and isn't full
-pub set_free : (target : Rt) (on : Bool) (xs : List ℕ) → agree on (vpn.has_target xs target.0) ≡ false →
+pub set_free : (target : Rt) (on : Bool) (xs : List ℕ) → agree on (ledger_exports.has_target xs target.0) ≡ false →
     (on ≡ true → nat_le 16 (length xs) ≡ false) → set_refused target on (as_targets xs) ≡ None
 set_free target true xs new full = rw (has_same target xs ∙ new, ap (nat_le 16) (as_long xs) ∙ full refl) refl
-set_free target false xs there full = rw (has_same target xs ∙ is_there (vpn.has_target xs target.0) there) refl
+set_free target false xs there full = rw (has_same target xs ∙ is_there (ledger_exports.has_target xs target.0) there) refl
   where
     is_there : (b : Bool) → not b ≡ false → b ≡ true
     is_there true h = refl

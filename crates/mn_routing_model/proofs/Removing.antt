@@ -11,7 +11,7 @@ use Rattle.mn_topo.specs.Network.{Network, wiring_of}
 use Rattle.mn_topo.specs.declared.steps.Step.TheVariants as step
 use Rattle.mn_ledger.specs.Places.{vrf_of, vrfs_at, home_of}
 use Rattle.mn_ledger.specs.World.{SiteRoute, Config, Peerings}
-use Rattle.mn_ledger.specs.Vpn.{peerings_after}
+use Rattle.mn_ledger.specs.Bgp.{peerings_after}
 use Rattle.mn_ledger.specs.Ledger.{config_after, is_static}
 use Rattle.mn_ledger.proofs.Members.{In, in_filter, one_alike}
 use Rattle.mn_ledger.proofs.Peers.{same_numbers, same_test, and_off}
@@ -23,7 +23,7 @@ use Rattle.mn_prefix.specs.Prefix.{prefix_before}
 use Rattle.mn_vrf.specs.Vrf.{Static, static_before, without_static}
 use Rattle.mn_pe.specs.Edge.{on_vrf, after_vrf}
 use Rattle.mn_bgp_spelling.specs.Spelling.{Labels}
-use Rattle.mn_routing_model.specs.Standing.{static_of, statics_in, vrf_in, label_in, heard_in, edge_in, in_order}
+use Rattle.mn_routing_model.specs.Standing.{static_of, statics_in, vrf_in, site_label_now, heard_in, edge_in, in_order}
 use Rattle.mn_routing_model.proofs.Hearing.{IsInTurn}
 use Rattle.mn_routing_model.proofs.Steps.{made, same_parts, still_heard, on_vrfs, off_vrfs}
 use Rattle.mn_base.proofs.Bools.{no, less_itself as itself}
@@ -145,7 +145,8 @@ module _ (t : Network) (c : Config) (s : SiteNo) (prefix : AddressBlock) where
       let new : Config = config_after c (step.DelRoute s prefix) in
       same_parts (map (λ (def : SiteDef). def.vrf) t.sites) (map (vrf_in t new) (vrfs_at t edge))
       (on_vrf (vrf_of t s.0) (without_static place) (map (vrf_in t c) (vrfs_at t edge)))
-      (map (label_in t l new edge) (range_with_len 0 (length t.sites))) (map (label_in t l c edge) (range_with_len 0 (length t.sites))) t.loopbacks _
+      (map (site_label_now t l new edge) (range_with_len 0 (length t.sites)))
+      (map (site_label_now t l c edge) (range_with_len 0 (length t.sites))) t.loopbacks _
       (map (heard_in t l c p edge) (nodes_of (wiring_of t)))
       (on_vrfs t c new (vrf_of t s.0) (without_static place) (vrfs_at t edge) (del_vrf has there)) refl
       (still_heard t l c new p (step.DelRoute s prefix) edge refl refl turn)
@@ -158,7 +159,8 @@ module _ (t : Network) (c : Config) (s : SiteNo) (prefix : AddressBlock) where
   del_off l p edge d turn has there =
       let new : Config = config_after c (step.DelRoute s prefix) in
       same_parts (map (λ (def : SiteDef). def.vrf) t.sites) (map (vrf_in t new) (vrfs_at t edge)) (map (vrf_in t c) (vrfs_at t edge))
-      (map (label_in t l new edge) (range_with_len 0 (length t.sites))) (map (label_in t l c edge) (range_with_len 0 (length t.sites))) t.loopbacks _
+      (map (site_label_now t l new edge) (range_with_len 0 (length t.sites)))
+      (map (site_label_now t l c edge) (range_with_len 0 (length t.sites))) t.loopbacks _
       (map (heard_in t l c p edge) (nodes_of (wiring_of t)))
       (off_vrfs t c new (vrf_of t s.0) edge (without_static place) d (del_vrf has there)) refl
       (still_heard t l c new p (step.DelRoute s prefix) edge refl refl turn)

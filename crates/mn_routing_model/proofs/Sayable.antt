@@ -36,7 +36,7 @@ use Rattle.mn_bgp_spelling.proofs.Writable.{AreOfForm, AreFewAndFormed, no_longe
 use Rattle.mn_vrf.specs.Vrf.{Static, VrfState}
 use Rattle.mn_pe.specs.Edge.{Edge}
 use Rattle.mn_pe.specs.Held.{Exported, site_label, export_at, present_with, exports_with, exports_of}
-use Rattle.mn_routing_model.specs.Standing.{vrf_in, label_in, edge_in}
+use Rattle.mn_routing_model.specs.Standing.{vrf_in, site_label_now, edge_in}
 use Rattle.mn_routing_model.specs.Doing.{IsSayable, AreSayable}
 use Rattle.mn_routing_model.proofs.Refusing.{as_long as as_many}
 
@@ -131,7 +131,8 @@ all_say (x ∷ xs) h = (h x (inl refl), all_say xs (λ y i. h y (inr i)))
 
 module _ (t : Network) (l : Labels) (c : Config) (p : Peerings) (e : ℕ) (lawful : IsLawful t) (ok : Fits c l) (rise : (v : ℕ) → Rise 0 (c.exports v)) where
   label_fits : (site k : ℕ) → site_label (edge_in t l c p e) site ≡ Some k → k < 2 ^ 20
-  label_fits site k h = let f = index_in (label_in t l c e) (range_with_len 0 (length t.sites)) site k h in by f.0 (home_of t f.0 == e) (c.attached f.0) f.1
+  label_fits site k h = let f = index_in (site_label_now t l c e) (range_with_len 0 (length t.sites)) site k h in
+      by f.0 (home_of t f.0 == e) (c.attached f.0) f.1
     where
       by : (s : ℕ) (b : Bool) (o : Option ℕ) → (if b then option_map (l s) o else None) ≡ Some k → k < 2 ^ 20
       by s true None q = absurd (let none : None ≡ Some k → ⊥ = (λ e. cc) in none q)

@@ -12,14 +12,15 @@ use Rattle.mn_topo.specs.declared.steps.Step.TheVariants as step
 use Rattle.mn_ledger.specs.Tables.{put_pair}
 use Rattle.mn_ledger.specs.Places.{vrfs_at}
 use Rattle.mn_ledger.specs.World.{Config, Peerings}
-use Rattle.mn_ledger.specs.Vpn.{peers_live, heard_of, tellings_of, told_in, with_told, bgp_restarted, peerings_after}
+use Rattle.mn_ledger.specs.Bgp.{peers_live, tellings_of, told_in, with_told, bgp_restarted, peerings_after}
+use Rattle.mn_ledger.specs.Held.{heard_of}
 use Rattle.mn_ledger.specs.Ledger.{config_after}
 use Rattle.mn_ledger.proofs.GoingBy.{pair_here, pair_off}
 use Rattle.mn_ledger.proofs.Peers.{Which, which}
 use Rattle.mn_rib_in.specs.Heard.{Heard}
 use Rattle.mn_pe.specs.Edge.{Edge, after_forget}
 use Rattle.mn_bgp_spelling.specs.Spelling.{Labels}
-use Rattle.mn_routing_model.specs.Standing.{vrf_in, label_in, heard_from, heard_in, edge_in}
+use Rattle.mn_routing_model.specs.Standing.{vrf_in, site_label_now, heard_from, heard_in, edge_in}
 use Rattle.mn_routing_model.proofs.Tables.{map_same, map_numbers_set}
 use Rattle.mn_routing_model.proofs.Hearing.{IsInTurn, heard_same}
 
@@ -64,7 +65,7 @@ module _ (t : Network) (l : Labels) (c : Config) (p : Peerings) (a b : ℕ) (on 
     vrfs = map (vrf_in t c) (vrfs_at t edge);
     sites = map (λ (def : SiteDef). def.vrf) t.sites;
     labels =
-        map (label_in t l c edge) (range_with_len 0 (length t.sites));
+        map (site_label_now t l c edge) (range_with_len 0 (length t.sites));
     loopbacks = t.loopbacks;
     heard = heard;
   }

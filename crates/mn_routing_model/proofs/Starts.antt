@@ -26,7 +26,7 @@ use Rattle.mn_bgp_session.specs.declared.session.BgpSession.{BgpSession}
 use Rattle.mn_ledger.specs.Places.{site_at, vrf_at, vrf_of, vrfs_at, edge_of, home_of}
 use Rattle.mn_ledger.specs.World.{SiteRoute, Config}
 use Rattle.mn_ledger.specs.Ledger.{with_target, ascending, statics_from, first_config, start}
-use Rattle.mn_ledger.specs.Vpn.{peers_live}
+use Rattle.mn_ledger.specs.Bgp.{peers_live}
 use Rattle.mn_bgp_spelling.specs.Spelling.{Labels, as_targets}
 use Rattle.mn_frames.specs.Numbers.{labels_of, first_labels, sites_before}
 use Rattle.mn_rib_in.specs.Heard.{Heard}
@@ -36,7 +36,7 @@ use Rattle.mn_pe.specs.Pe.{PeNow}
 use Rattle.mn_pe.specs.Start as pe
 use Rattle.mn_pe.specs.Start.{after_targets, after_prefixes, after_sites, vrf_at_start, vrf_if, vrfs_from, edge_at_start}
 use Rattle.mn_routing_model.specs.Routed.{Routed, working, bytes_on, IsRoutes}
-use Rattle.mn_routing_model.specs.Standing.{static_of, statics_in, vrf_in, label_in, heard_in, heard_live, edge_in}
+use Rattle.mn_routing_model.specs.Standing.{static_of, statics_in, vrf_in, site_label_now, heard_in, heard_live, edge_in}
 use Rattle.mn_routing_model.specs.Whole.{edge_or_none, session_or_none, routes_in}
 use Rattle.mn_routing_model.proofs.Steps.{set_same}
 
@@ -275,7 +275,7 @@ given_away t node k apart =
     none_more n = omega arith
 
 abbrev pub label_below : Network → ℕ → ℕ → ℕ → Option ℕ
-label_below t node k s = if nat_lt s k then label_in t (labels_of t []) (first_config t) node s else None
+label_below t node k s = if nat_lt s k then site_label_now t (labels_of t []) (first_config t) node s else None
 
 abbrev pub edge_below : Network → ℕ → ℕ → Edge
 edge_below t node k =
@@ -294,15 +294,16 @@ module _ (t : Network) (lawful : IsLawful t) (node : ℕ) where
       ∙ ap (λ (ls : List (Option ℕ)). let e : Edge =
       record (edge_at_start t node) { vrfs = map (vrf_in t (first_config t)) (vrfs_at t node); labels = ls } in e)
       (same_all t.sites (label_below t node 0) None 0
-      (λ s. ap (λ b. if b then label_in t (labels_of t []) (first_config t) node s else None) (not_less s 0 (omega arith))))
+      (λ s. ap (λ b. if b then site_label_now t (labels_of t []) (first_config t) node s else None) (not_less s 0 (omega arith))))
       ∙ ap (λ (hs : List (List Heard)). let e : Edge = record (edge_below t node 0) { heard = hs } in e)
       (same_all t.loopbacks (heard_in t (labels_of t []) (first_config t) (start t).peerings node) [] 0
       (λ peer. nothing_of (peer == node) (peers_live (first_config t) node peer) _ (dead t node peer)))
 
   pub edge_whole : edge_below t node (length t.sites) ≡ edge_in t (labels_of t []) (first_config t) (start t).peerings node
   edge_whole = ap (λ (ls : List (Option ℕ)). let e : Edge = record (edge_in t (labels_of t []) (first_config t) (start t).peerings node) { labels = ls } in e)
-      (map_below (label_below t node (length t.sites)) (label_in t (labels_of t []) (first_config t) node) (length t.sites) 0
-      (λ s low below. ap (λ b. if b then label_in t (labels_of t []) (first_config t) node s else None) (less_is s (length t.sites) (omega (arith, below)))))
+      (map_below (label_below t node (length t.sites)) (site_label_now t (labels_of t []) (first_config t) node) (length t.sites) 0
+      (λ s low below. ap (λ b. if b then site_label_now t (labels_of t []) (first_config t) node s else None)
+      (less_is s (length t.sites) (omega (arith, below)))))
 
   -- what is below a number and what is below the next, but for that number itself
   same_below : (k s : ℕ) → s ≢ k → nat_lt s (k + 1) ≡ nat_lt s k
@@ -324,20 +325,20 @@ module _ (t : Network) (lawful : IsLawful t) (node : ℕ) where
   edge_attached k label below home is =
       ap (λ (ls : List (Option ℕ)). let e : Edge = record (edge_in t (labels_of t []) (first_config t) (start t).peerings node) { labels = ls } in e)
       (map-put (label_below t node k) (label_below t node (k + 1)) (length t.sites) k (Some label) None
-      (ap (λ b. if b then label_in t (labels_of t []) (first_config t) node k else None) (less_is k (k + 1) (omega arith))
+      (ap (λ b. if b then site_label_now t (labels_of t []) (first_config t) node k else None) (less_is k (k + 1) (omega arith))
       ∙ ap (λ b. if b then option_map (labels_of t [] k) ((first_config t).attached k) else None) (ap (λ n. n == node) home ∙ same_test node)
       ∙ ap (λ n. let o : Option ℕ = Some n in o) (label_is k below home ∙ sym is))
-      (λ s under apart. ap (λ b. if b then label_in t (labels_of t []) (first_config t) node s else None) (same_below k s apart)))
+      (λ s under apart. ap (λ b. if b then site_label_now t (labels_of t []) (first_config t) node s else None) (same_below k s apart)))
 
   pub edge_passed : (k : ℕ) → home_of t k ≢ node → edge_below t node k ≡ edge_below t node (k + 1)
   edge_passed k apart =
       ap (λ (ls : List (Option ℕ)). let e : Edge = record (edge_in t (labels_of t []) (first_config t) (start t).peerings node) { labels = ls } in e)
       (map_below (label_below t node k) (label_below t node (k + 1)) (length t.sites) 0 (λ s low under. elim (eqb_tells s k) [
         | inl p ↦ subst (λ n. label_below t node k n ≡ label_below t node (k + 1) n) (sym p.1) here
-        | inr p ↦ ap (λ b. if b then label_in t (labels_of t []) (first_config t) node s else None) (sym (same_below k s p.1))
+        | inr p ↦ ap (λ b. if b then site_label_now t (labels_of t []) (first_config t) node s else None) (sym (same_below k s p.1))
       ]))
     where
-      nothing : label_in t (labels_of t []) (first_config t) node k ≡ None
+      nothing : site_label_now t (labels_of t []) (first_config t) node k ≡ None
       nothing = ap (λ b. if b then option_map (labels_of t [] k) ((first_config t).attached k) else None) (other_test (home_of t k) node apart)
 
       none_if : (b : Bool) (o : Option ℕ) → o ≡ None → (if b then o else None) ≡ None
@@ -345,8 +346,8 @@ module _ (t : Network) (lawful : IsLawful t) (node : ℕ) where
       none_if false o e = refl
 
       here : label_below t node k k ≡ label_below t node (k + 1) k
-      here = none_if (nat_lt k k) (label_in t (labels_of t []) (first_config t) node k) nothing
-          ∙ sym (none_if (nat_lt k (k + 1)) (label_in t (labels_of t []) (first_config t) node k) nothing)
+      here = none_if (nat_lt k k) (site_label_now t (labels_of t []) (first_config t) node k) nothing
+          ∙ sym (none_if (nat_lt k (k + 1)) (site_label_now t (labels_of t []) (first_config t) node k) nothing)
 
 -- 7. Sessions
 

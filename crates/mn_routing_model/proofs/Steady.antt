@@ -14,7 +14,8 @@ use Rattle.mn_topo.specs.Network.{Network, wiring_of}
 use Rattle.mn_bgp_session.specs.declared.session.BgpSession.{BgpSession}
 use Rattle.mn_ledger.specs.Places.{loopback}
 use Rattle.mn_ledger.specs.World.{Config, Telling, Peerings}
-use Rattle.mn_ledger.specs.Vpn.{peers_live, state_heard, is_established, Told, steady_peers, exports_of, changed, route_news}
+use Rattle.mn_ledger.specs.Exports.{exports_of}
+use Rattle.mn_ledger.specs.Bgp.{peers_live, state_heard, is_established, Told, steady_peers, changed, route_news}
 use Rattle.mn_bgp_spelling.specs.Spelling.{Labels, bytes_in}
 use Rattle.mn_routing_model.specs.Whole.{session_or_none}
 use Rattle.mn_routing_model.specs.Sending.{Parcel, to_each, to_all, is_steady, peers_from}

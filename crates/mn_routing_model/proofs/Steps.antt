@@ -20,7 +20,7 @@ use Rattle.mn_topo.specs.declared.steps.Step.TheVariants as step
 use Rattle.mn_ledger.specs.Tables.{put}
 use Rattle.mn_ledger.specs.Places.{vrf_of, edge_of, vrfs_at, home_of}
 use Rattle.mn_ledger.specs.World.{SiteRoute, Config, Open, Peerings}
-use Rattle.mn_ledger.specs.Vpn.{peers_live, tellings_of, told_in, bgp_counted, with_told, peerings_after}
+use Rattle.mn_ledger.specs.Bgp.{peers_live, tellings_of, told_in, bgp_counted, with_told, peerings_after}
 use Rattle.mn_ledger.specs.Ledger.{config_after, with_target}
 use Rattle.mn_ledger.proofs.GoingBy.{put_here, put_off, pair_here, pair_off}
 use Rattle.mn_ledger.proofs.Members.{in_filter}
@@ -32,7 +32,7 @@ use Rattle.mn_targets.specs.Targets.{target_set}
 use Rattle.mn_vrf.specs.Vrf.{Static, VrfState, static_before, with_static, with_imports, with_exports}
 use Rattle.mn_pe.specs.Edge.{Edge, on_vrf, after_message, after_vrf}
 use Rattle.mn_bgp_spelling.specs.Spelling.{Labels, as_targets}
-use Rattle.mn_routing_model.specs.Standing.{static_of, vrf_in, label_in, says_of, heard_if, heard_in, edge_in, in_order}
+use Rattle.mn_routing_model.specs.Standing.{static_of, vrf_in, site_label_now, says_of, heard_if, heard_in, edge_in, in_order}
 use Rattle.mn_routing_model.proofs.Tables.{map_same, map_numbers_set, map_numbers_at}
 use Rattle.mn_routing_model.proofs.Hearing.{IsInTurn, heard_same, heard_next}
 
@@ -51,7 +51,7 @@ heard_edge t l c p k edge peer None here off below =
       vrfs = map (vrf_in t c) (vrfs_at t edge);
       sites = map (λ (def : SiteDef). def.vrf) t.sites;
       labels =
-          map (label_in t l c edge) (range_with_len 0 (length t.sites));
+          map (site_label_now t l c edge) (range_with_len 0 (length t.sites));
       loopbacks = t.loopbacks;
       heard = xs;
     })
@@ -64,7 +64,7 @@ heard_edge t l c p k edge peer (Some says) here off below =
       vrfs = map (vrf_in t c) (vrfs_at t edge);
       sites = map (λ (def : SiteDef). def.vrf) t.sites;
       labels =
-          map (label_in t l c edge) (range_with_len 0 (length t.sites));
+          map (site_label_now t l c edge) (range_with_len 0 (length t.sites));
       loopbacks = t.loopbacks;
       heard = xs;
     })
@@ -98,7 +98,7 @@ hear_off t l c p a b edge d turn =
       vrfs = map (vrf_in t c) (vrfs_at t edge);
       sites = map (λ (def : SiteDef). def.vrf) t.sites;
       labels =
-          map (label_in t l c edge) (range_with_len 0 (length t.sites));
+          map (site_label_now t l c edge) (range_with_len 0 (length t.sites));
       loopbacks = t.loopbacks;
       heard = xs;
     })
@@ -187,7 +187,7 @@ import_here t l c p v target on edge turn =
     let new : Config = config_after c (step.Import v target on) in
     same_parts (map (λ (def : SiteDef). def.vrf) t.sites) (map (vrf_in t new) (vrfs_at t edge))
     (on_vrf v.0 (with_imports (target_set target on)) (map (vrf_in t c) (vrfs_at t edge)))
-    (map (label_in t l new edge) (range_with_len 0 (length t.sites))) (map (label_in t l c edge) (range_with_len 0 (length t.sites))) t.loopbacks _
+    (map (site_label_now t l new edge) (range_with_len 0 (length t.sites))) (map (site_label_now t l c edge) (range_with_len 0 (length t.sites))) t.loopbacks _
     (map (heard_in t l c p edge) (nodes_of (wiring_of t)))
     (on_vrfs t c new v.0 (with_imports (target_set target on)) (vrfs_at t edge) (import_vrf t c v target on)) refl
     (still_heard t l c new p (step.Import v target on) edge refl refl turn)
@@ -200,7 +200,7 @@ unfolding peerings_after made
 import_off t l c p v target on edge d turn =
     let new : Config = config_after c (step.Import v target on) in
     same_parts (map (λ (def : SiteDef). def.vrf) t.sites) (map (vrf_in t new) (vrfs_at t edge)) (map (vrf_in t c) (vrfs_at t edge))
-    (map (label_in t l new edge) (range_with_len 0 (length t.sites))) (map (label_in t l c edge) (range_with_len 0 (length t.sites))) t.loopbacks _
+    (map (site_label_now t l new edge) (range_with_len 0 (length t.sites))) (map (site_label_now t l c edge) (range_with_len 0 (length t.sites))) t.loopbacks _
     (map (heard_in t l c p edge) (nodes_of (wiring_of t)))
     (off_vrfs t c new v.0 edge (with_imports (target_set target on)) d (import_vrf t c v target on)) refl
     (still_heard t l c new p (step.Import v target on) edge refl refl turn)
@@ -228,7 +228,7 @@ export_here t l c p v target on edge turn =
     let new : Config = config_after c (step.Export v target on) in
     same_parts (map (λ (def : SiteDef). def.vrf) t.sites) (map (vrf_in t new) (vrfs_at t edge))
     (on_vrf v.0 (with_exports (target_set target on)) (map (vrf_in t c) (vrfs_at t edge)))
-    (map (label_in t l new edge) (range_with_len 0 (length t.sites))) (map (label_in t l c edge) (range_with_len 0 (length t.sites))) t.loopbacks _
+    (map (site_label_now t l new edge) (range_with_len 0 (length t.sites))) (map (site_label_now t l c edge) (range_with_len 0 (length t.sites))) t.loopbacks _
     (map (heard_in t l c p edge) (nodes_of (wiring_of t)))
     (on_vrfs t c new v.0 (with_exports (target_set target on)) (vrfs_at t edge) (export_vrf t c v target on)) refl
     (still_heard t l c new p (step.Export v target on) edge refl refl turn)
@@ -240,7 +240,7 @@ unfolding peerings_after made
 export_off t l c p v target on edge d turn =
     let new : Config = config_after c (step.Export v target on) in
     same_parts (map (λ (def : SiteDef). def.vrf) t.sites) (map (vrf_in t new) (vrfs_at t edge)) (map (vrf_in t c) (vrfs_at t edge))
-    (map (label_in t l new edge) (range_with_len 0 (length t.sites))) (map (label_in t l c edge) (range_with_len 0 (length t.sites))) t.loopbacks _
+    (map (site_label_now t l new edge) (range_with_len 0 (length t.sites))) (map (site_label_now t l c edge) (range_with_len 0 (length t.sites))) t.loopbacks _
     (map (heard_in t l c p edge) (nodes_of (wiring_of t)))
     (off_vrfs t c new v.0 edge (with_exports (target_set target on)) d (export_vrf t c v target on)) refl
     (still_heard t l c new p (step.Export v target on) edge refl refl turn)
@@ -282,7 +282,7 @@ add_here t l c p s prefix edge turn =
     let new : Config = config_after c (step.AddRoute s prefix) in
     same_parts (map (λ (def : SiteDef). def.vrf) t.sites) (map (vrf_in t new) (vrfs_at t edge))
     (on_vrf (vrf_of t s.0) (with_static (record { prefix = prefix; site = s.0 })) (map (vrf_in t c) (vrfs_at t edge)))
-    (map (label_in t l new edge) (range_with_len 0 (length t.sites))) (map (label_in t l c edge) (range_with_len 0 (length t.sites))) t.loopbacks _
+    (map (site_label_now t l new edge) (range_with_len 0 (length t.sites))) (map (site_label_now t l c edge) (range_with_len 0 (length t.sites))) t.loopbacks _
     (map (heard_in t l c p edge) (nodes_of (wiring_of t)))
     (on_vrfs t c new (vrf_of t s.0) (with_static (record { prefix = prefix; site = s.0 })) (vrfs_at t edge) (add_vrf t c s prefix)) refl
     (still_heard t l c new p (step.AddRoute s prefix) edge refl refl turn)
@@ -294,7 +294,7 @@ unfolding peerings_after made
 add_off t l c p s prefix edge d turn =
     let new : Config = config_after c (step.AddRoute s prefix) in
     same_parts (map (λ (def : SiteDef). def.vrf) t.sites) (map (vrf_in t new) (vrfs_at t edge)) (map (vrf_in t c) (vrfs_at t edge))
-    (map (label_in t l new edge) (range_with_len 0 (length t.sites))) (map (label_in t l c edge) (range_with_len 0 (length t.sites))) t.loopbacks _
+    (map (site_label_now t l new edge) (range_with_len 0 (length t.sites))) (map (site_label_now t l c edge) (range_with_len 0 (length t.sites))) t.loopbacks _
     (map (heard_in t l c p edge) (nodes_of (wiring_of t)))
     (off_vrfs t c new (vrf_of t s.0) edge (with_static (record { prefix = prefix; site = s.0 })) d (add_vrf t c s prefix)) refl
     (still_heard t l c new p (step.AddRoute s prefix) edge refl refl turn)

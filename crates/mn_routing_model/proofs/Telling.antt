@@ -9,7 +9,8 @@ use Rattle.mn_topo.specs.declared.steps.Step.{Step}
 use Rattle.mn_topo.specs.declared.steps.Step.TheVariants as step
 use Rattle.mn_ledger.specs.declared.refused.Refused.TheVariants.{NoRouteThere}
 use Rattle.mn_ledger.specs.World.{World}
-use Rattle.mn_ledger.specs.Vpn.{exports_of, changed, has_target}
+use Rattle.mn_ledger.specs.Exports.{exports_of, has_target}
+use Rattle.mn_ledger.specs.Bgp.{changed}
 use Rattle.mn_ledger.specs.Ledger.{is_static, with_target, config_after, world_of, packets_of}
 use Rattle.mn_ledger.specs.Packets.{Packets}
 use Rattle.mn_ledger.specs.Refusal.{agree, refusal_at}

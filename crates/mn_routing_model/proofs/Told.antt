@@ -12,8 +12,9 @@ use Rattle.mn_topo.specs.declared.steps.Step.{Step}
 use Rattle.mn_topo.specs.declared.steps.Step.TheVariants as step
 use Rattle.mn_ledger.specs.Tables.{put}
 use Rattle.mn_ledger.specs.Places.{vrf_of}
-use Rattle.mn_ledger.specs.World.{SiteRoute, Config, Export, Announce, Unreach}
-use Rattle.mn_ledger.specs.Vpn.{same_targets, export_of, exports_of, is_for, same_export, withdrawn, announced, changed}
+use Rattle.mn_ledger.specs.World.{SiteRoute, Config, Export, Announcement, Withdrawal}
+use Rattle.mn_ledger.specs.Exports.{same_targets, export_of, exports_of}
+use Rattle.mn_ledger.specs.Bgp.{is_for, same_export, withdrawn, announced, changed}
 use Rattle.mn_ledger.specs.Ledger.{with_target, is_static, config_after}
 use Rattle.mn_ledger.proofs.GoingBy.{put_here, put_off}
 use Rattle.mn_ledger.proofs.Peers.{same_test, same_numbers, and_left, and_right}
@@ -38,7 +39,7 @@ announces : (t : Network) (c : Config) (s : Step) (edge : ℕ) → withdrawn (ex
     → changed (exports_of t c edge) (exports_of t (config_after c s) edge) ≡ comes t c s edge
 announces t c s edge none off on =
     ap (λ ms. ms ++ announced (exports_of t c edge) (exports_of t (config_after c s) edge)) none
-    ∙ ap (map (λ export. Announce export)) (filter_same_in (λ e. not (list_any (same_export e) (exports_of t c edge))) (touches t s)
+    ∙ ap (map (λ export. Announcement export)) (filter_same_in (λ e. not (list_any (same_export e) (exports_of t c edge))) (touches t s)
     (exports_of t (config_after c s) edge)
     (λ e i. elim (two_ways (touches t s e)) [
       | inl h ↦ ap not (passes_none (same_export e) (exports_of t c edge) (λ o j. on e o i h j)) ∙ sym h
@@ -52,7 +53,7 @@ withdraws : (t : Network) (c : Config) (s : Step) (edge : ℕ) → announced (ex
 withdraws t c s edge none off on =
     ap (λ ms. withdrawn (exports_of t c edge) (exports_of t (config_after c s) edge) ++ ms) none
     ∙ append-nil (withdrawn (exports_of t c edge) (exports_of t (config_after c s) edge))
-    ∙ ap (map (λ (export : Export). Unreach export.vrf export.prefix))
+    ∙ ap (map (λ (export : Export). Withdrawal export.vrf export.prefix))
     (filter_same_in (λ (e : Export). not (list_any (is_for e.vrf e.prefix) (exports_of t (config_after c s) edge))) (touches t s) (exports_of t c edge)
     (λ e i. elim (two_ways (touches t s e)) [
       | inl h ↦ ap not (passes_none (is_for e.vrf e.prefix) (exports_of t (config_after c s) edge) (λ n j. on e n i h j)) ∙ sym h
@@ -243,10 +244,10 @@ export_tells t c v target on edge differs = go (with_target target.0 on (c.expor
 -- no other step changes what an edge exports
 pub nothing_changed : (es : List Export) → changed es es ≡ []
 nothing_changed es =
-    ap (λ ms. ms ++ announced es es) (ap (map (λ (export : Export). Unreach export.vrf export.prefix))
+    ap (λ ms. ms ++ announced es es) (ap (map (λ (export : Export). Withdrawal export.vrf export.prefix))
     (none_of (λ (e : Export). not (list_any (is_for e.vrf e.prefix) es)) es
     (λ e i. ap not (one_passes (is_for e.vrf e.prefix) es e i (for_itself e.vrf e.prefix)))))
-    ∙ ap (map (λ export. Announce export)) (none_of (λ e. not (list_any (same_export e) es)) es
+    ∙ ap (map (λ export. Announcement export)) (none_of (λ e. not (list_any (same_export e) es)) es
     (λ e i. ap not (one_passes (same_export e) es e i (export_itself e))))
   where
     none_of : (p : Export → Bool) (xs : List Export) → ((x : Export) → In xs x → p x ≡ false) → filter p xs ≡ []

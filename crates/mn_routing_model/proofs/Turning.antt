@@ -18,7 +18,8 @@ use Rattle.mn_topo.specs.declared.steps.Step.TheVariants as step
 use Rattle.mn_topo.specs.declared.steps.JournalEntry.{JournalEntry}
 use Rattle.mn_ledger.specs.Tables.{put_pair}
 use Rattle.mn_ledger.specs.World.{Config, Peerings, World, Telling, Open}
-use Rattle.mn_ledger.specs.Vpn.{Told, told_to, told_in, bgp_counted, bgp_restarted, with_told, route_news, peerings_after, exports_of, changed}
+use Rattle.mn_ledger.specs.Exports.{exports_of}
+use Rattle.mn_ledger.specs.Bgp.{Told, told_to, told_in, bgp_counted, bgp_restarted, with_told, route_news, peerings_after, changed}
 use Rattle.mn_ledger.specs.Ledger.{config_after, after, world_of}
 use Rattle.mn_ledger.specs.Items.{numbered, route_of}
 use Rattle.mn_ledger.specs.Places.{edges}

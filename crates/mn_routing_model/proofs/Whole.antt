@@ -11,8 +11,8 @@ use Rattle.mn_topo.specs.declared.steps.Step.TheVariants as step
 use Rattle.mn_bgp_session.specs.declared.session.BgpSession.{BgpSession}
 use Rattle.mn_bgp_session.specs.Table as table
 use Rattle.mn_ledger.specs.Places.{loopback}
-use Rattle.mn_ledger.specs.World.{Config, Telling, Open, Alive, Announce, Unreach, Peerings}
-use Rattle.mn_ledger.specs.Vpn.{peers_live, state_heard, bgp_state_of, peerings_after}
+use Rattle.mn_ledger.specs.World.{Config, Telling, Open, BgpKeepAlive, Announcement, Withdrawal, Peerings}
+use Rattle.mn_ledger.specs.Bgp.{peers_live, state_heard, bgp_state_of, peerings_after}
 use Rattle.mn_ledger.specs.Turns.{has_bgp_row}
 use Rattle.mn_ledger.proofs.GoingBy.{pair_off}
 use Rattle.mn_pe.specs.Edge.{Edge, after_message}
@@ -28,9 +28,9 @@ use Rattle.mn_bgp_spelling.proofs.Wire.{hears}
 -- the update of what was told
 update_is : (t : Network) (l : Labels) (q : ℕ) (m : Telling) → update_of (message_in t l q m) ≡ says_of t l q m
 update_is t l q Open = refl
-update_is t l q Alive = refl
-update_is t l q (Announce e) = refl
-update_is t l q (Unreach v p) = refl
+update_is t l q BgpKeepAlive = refl
+update_is t l q (Announcement e) = refl
+update_is t l q (Withdrawal v p) = refl
 
 pub mapped_if : {A B : Type 0} (f : A → B) (b : Bool) (x : A) → option_map f (if b then Some x else None) ≡ (if b then Some (f x) else None)
 mapped_if f true x = refl

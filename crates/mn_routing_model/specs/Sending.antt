@@ -42,9 +42,9 @@ is_steady None = false
 is_steady (Some session) = is_established session.state
 
 -- how far a session has come at an end
-abbrev pub state_by : Option BgpSession → BgpState
-state_by None = Idle
-state_by (Some session) = session.state
+abbrev pub bgp_state_by : Option BgpSession → BgpState
+bgp_state_by None = Idle
+bgp_state_by (Some session) = session.state
 
 -- the peers, from this number on, with which the session is Established
 abbrev pub peers_from : ℕ → List (Option BgpSession) → List NodeNo

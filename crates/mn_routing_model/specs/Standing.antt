@@ -8,8 +8,9 @@ use Rattle.mn_topo.specs.declared.sites.SiteDef.{SiteDef}
 use Rattle.mn_bgp_wire.specs.Says.{Says}
 use Rattle.mn_bgp_wire.specs.Written.{says_announced, says_withdrawn}
 use Rattle.mn_ledger.specs.Places.{loopback, vrf_at, vrf_of, vrfs_at, home_of}
-use Rattle.mn_ledger.specs.World.{SiteRoute, Config, Telling, Announce, Unreach, Peerings}
-use Rattle.mn_ledger.specs.Vpn.{peers_live, heard_of}
+use Rattle.mn_ledger.specs.World.{SiteRoute, Config, Telling, Announcement, Withdrawal, Peerings}
+use Rattle.mn_ledger.specs.Bgp.{peers_live}
+use Rattle.mn_ledger.specs.Held.{heard_of}
 use Rattle.mn_bgp_spelling.specs.Spelling.{Labels, as_targets, route_of}
 use Rattle.mn_rib_in.specs.Heard.{Heard}
 use Rattle.mn_vrf.specs.Vrf.{Static, VrfState, static_before}
@@ -34,14 +35,14 @@ vrf_in topology config v = record {
 }
 
 -- the label of the site's present attachment, at its edge
-abbrev pub label_in : Network → Labels → Config → ℕ → ℕ → Option ℕ
-label_in topology labels config edge site = if home_of topology site == edge then option_map (labels site) (config.attached site) else None
+abbrev pub site_label_now : Network → Labels → Config → ℕ → ℕ → Option ℕ
+site_label_now topology labels config edge site = if home_of topology site == edge then option_map (labels site) (config.attached site) else None
 
 -- what the UPDATE of an edge says that tells this
 abbrev pub says_of : Network → Labels → ℕ → Telling → Option Says
-says_of topology labels teller (Announce export) = Some (says_announced (loopback topology teller) (route_of topology labels export)
+says_of topology labels teller (Announcement export) = Some (says_announced (loopback topology teller) (route_of topology labels export)
     (as_targets export.targets))
-says_of topology labels teller (Unreach v prefix) = Some (says_withdrawn (vrf_at topology v).rd prefix)
+says_of topology labels teller (Withdrawal v prefix) = Some (says_withdrawn (vrf_at topology v).rd prefix)
 says_of topology labels teller _ = None
 
 abbrev pub heard_if : List Heard → Option Says → List Heard
@@ -64,7 +65,7 @@ abbrev pub edge_in : Network → Labels → Config → Peerings → ℕ → Edge
 edge_in topology labels config peerings edge = record {
   vrfs = map (vrf_in topology config) (vrfs_at topology edge);
   sites = map (λ (def : SiteDef). def.vrf) topology.sites;
-  labels = map (label_in topology labels config edge) (range_with_len 0 (length topology.sites));
+  labels = map (site_label_now topology labels config edge) (range_with_len 0 (length topology.sites));
   loopbacks = topology.loopbacks;
   heard = map (heard_in topology labels config peerings edge) (nodes_of (wiring_of topology));
 }

@@ -9,7 +9,7 @@ use Rattle.mn_bgp_wire.specs.declared.message.BgpMessage.TheVariants as message
 use Rattle.mn_bgp_session.specs.declared.session.BgpSession.{BgpSession}
 use Rattle.mn_bgp_session.specs.Table as table
 use Rattle.mn_ledger.specs.World.{Config, Peerings}
-use Rattle.mn_ledger.specs.Vpn.{peers_live}
+use Rattle.mn_ledger.specs.Bgp.{peers_live}
 use Rattle.mn_base.specs.declared.states.BgpState.TheVariants.{OpenSent}
 use Rattle.mn_ledger.specs.Places.{loopback}
 use Rattle.mn_pe.specs.Edge.{Edge, after_message, after_forget}

@@ -11,6 +11,7 @@ use Rattle.mn_text.specs.Numbers.{number_up_to}
 use Rattle.mn_ledger.specs.Ledger.{packets_of}
 use Rattle.mn_lines.specs.Lines.{total_line}
 use Rattle.mn_output.specs.Report.{totals_of}
+use Rattle.mn_output.proofs.Sendings.{each_packet_has_its_line}
 use Rattle.mn_perform.specs.Memory.{packets_at}
 use Rattle.mn_base.proofs.Rules.{some_is}
 use Rattle.mn_edge.specs.Files.{Files, file}
@@ -29,7 +30,7 @@ use Rattle.mn_run.specs.declared.outcome.Limit.TheVariants.{TopologyBytes, Steps
 use Rattle.mn_run.specs.declared.outcome.Outcome.{Outcome}
 use Rattle.mn_run.specs.declared.outcome.Outcome.TheVariants.{Done, Usage, BadTopology, BadScript, BadCapture, TooLarge, ReadFault, WriteFault, NoMemory}
 use Rattle.mn_run.specs.Words.{word, is_run, is_check, generator_number}
-use Rattle.mn_run.specs.Answer.{Answer, refusal}
+use Rattle.mn_run.specs.Answer.{Answer, refusal_of}
 use Rattle.mn_run.specs.Answer.{most_topology_bytes, if_lawful, with_topology}
 use Rattle.mn_run.specs.Answer.{run_answer, check_answer, checked, generate_answer, answer_of}
 use Rattle.mn_run.specs.Answer.{run_done}
@@ -46,8 +47,8 @@ use Rattle.mn_run.proofs.Generating.{WritesNone, writes_none, other_is}
 use Rattle.mn_run.specs.Headline.{IsKept, KeepsItsPromise, TellsTopology, IsGenerated, HeadlineIs}
 
 -- a refusal is no answer of a run that is done
-no_refusal : (o : Outcome) (answer : Answer) → (o ≡ Done → ⊥) → Some (refusal o) ≡ Some answer → answer.outcome ≡ Done → ⊥
-no_refusal o answer other e done = let same : refusal o ≡ answer = cc in other (ap (λ (a : Answer). a.outcome) same ∙ done)
+no_refusal : (o : Outcome) (answer : Answer) → (o ≡ Done → ⊥) → Some (refusal_of o) ≡ Some answer → answer.outcome ≡ Done → ⊥
+no_refusal o answer other e done = let same : refusal_of o ≡ answer = cc in other (ap (λ (a : Answer). a.outcome) same ∙ done)
 
 lawful : (found : Result Network (TopoRule × Place)) (next : Network → Option Answer) (answer : Answer) → if_lawful found next ≡ Some answer →
     answer.outcome ≡ Done → (t : Network) × (found ≡ Ok t) × (next t ≡ Some answer)
@@ -55,7 +56,7 @@ lawful (Ok t) next answer e done = (t, refl, e)
 lawful (Err refused) next answer e done = absurd (no_refusal (BadTopology refused.0 refused.1) answer (λ h. cc) e done)
 
 topology_sized : (bytes : List ℕ) (next : Network → Option Answer) (answer : Answer) (b : Bool) →
-    (if b then Some (refusal (TooLarge TopologyBytes most_topology_bytes)) else if_lawful (topology_of bytes) next) ≡ Some answer → answer.outcome ≡ Done →
+    (if b then Some (refusal_of (TooLarge TopologyBytes most_topology_bytes)) else if_lawful (topology_of bytes) next) ≡ Some answer → answer.outcome ≡ Done →
     (t : Network) × (topology_of bytes ≡ Ok t) × (next t ≡ Some answer)
 topology_sized bytes next answer true e done = absurd (no_refusal (TooLarge TopologyBytes most_topology_bytes) answer (λ h. cc) e done)
 topology_sized bytes next answer false e done = lawful (topology_of bytes) next answer e done
@@ -88,6 +89,7 @@ promise topology script capture folder files before after written inputs read is
       capture_read = capture_read;
       played = refl;
       lawful = goes;
+      told = each_packet_has_its_line inputs.topology packets inputs.lines.items;
       accounts = accounts inputs.topology run.past.entries (inputs_of packets run.past.entries) is_lawful goes.past.journal goes.past.each;
       arrives = it_arrives inputs.topology run.past.entries (inputs_of packets run.past.entries) is_lawful goes.past.journal;
       lines = text_is;
@@ -169,6 +171,7 @@ total_told number made are is_lawful before written Done o t =
       capture_read = are.over.capture_read;
       played = refl;
       lawful = goes;
+      told = each_packet_has_its_line made.topology packets made.lines.items;
       accounts = accounts made.topology run.past.entries (inputs_of packets run.past.entries) is_lawful goes.past.journal goes.past.each;
       arrives = it_arrives made.topology run.past.entries (inputs_of packets run.past.entries) is_lawful goes.past.journal;
       lines = t ∙ ap (λ b. Some (before ++ cond b (codes "too large steps\n")

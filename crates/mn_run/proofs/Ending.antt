@@ -7,7 +7,7 @@ use Rattle.mn_edge.specs.Written.{laid, IsPart, PartWritten}
 use Rattle.mn_run.specs.declared.outcome.Outcome.{Outcome}
 use Rattle.mn_run.specs.declared.outcome.Outcome.TheVariants.{Done, Usage, ReadFault, WriteFault, NoMemory, BadTopology, BadScript, BadCapture, TooLarge}
 use Rattle.mn_lines.specs.Putting.{PartPut}
-use Rattle.mn_run.specs.Answer.{Answer, refusal}
+use Rattle.mn_run.specs.Answer.{Answer, refusal_of}
 use Rattle.mn_run.specs.Endings.{PartText, PartFiles, OutcomeIs, FilesAre, IsLate, IsUnread, CausedBy, Completes, Counts, UsageIff}
 
 -- the first bytes of the next piece
@@ -66,7 +66,7 @@ completes a old new (BadCapture rule place) h c x e none = inl (given a (BadCapt
 completes a old new (TooLarge which limit) h c x e none = inl (given a (TooLarge which limit) h x e)
 
 -- a refusal of an input is no usage
-pub of_input : (good : Bool) (o r : Outcome) → good ≡ true → (o ≡ Usage → ⊥) → OutcomeIs (Some (refusal o)) r → UsageIff good r
+pub of_input : (good : Bool) (o r : Outcome) → good ≡ true → (o ≡ Usage → ⊥) → OutcomeIs (Some (refusal_of o)) r → UsageIff good r
 of_input good o Usage e i h = absurd (i h)
 of_input good o WriteFault e i h = tt
 of_input good o NoMemory e i h = tt

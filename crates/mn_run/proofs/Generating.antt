@@ -32,10 +32,11 @@ use Rattle.mn_run.specs.declared.outcome.Outcome.{Outcome}
 use Rattle.mn_run.specs.declared.outcome.Outcome.TheVariants.{Done, Usage, ReadFault, WriteFault, NoMemory, BadTopology, BadScript, BadCapture, TooLarge}
 use Rattle.mn_run.specs.declared.outcome.Limit.TheVariants.{TopologyBytes, ScriptBytes, ScriptLines, CaptureBytes, CaptureRecords, Steps}
 use Rattle.mn_run.specs.Words.{is_run, is_check, is_command, generator_number}
-use Rattle.mn_run.specs.Answer.{Answer, refusal, run_answer, check_answer, answer_of, generated_line, generated_done, generated_over, generated}
+use Rattle.mn_run.specs.Answer.{Answer, refusal_of, run_answer, check_answer, answer_of, generated_line, generated_done, generated_over, generated}
 use Rattle.mn_run.specs.Answer.{generate_answer}
 use Rattle.mn_run.specs.Answer.{if_lawful, if_accepted, if_captured, with_capture_bytes}
-use Rattle.mn_run.specs.Answer.{most_topology_bytes, most_script_bytes, most_script_lines, most_capture_bytes, most_capture_records}
+use Rattle.mn_run.specs.Answer.{most_topology_bytes, most_script_bytes, most_capture_bytes, most_capture_records}
+use Rattle.mn_base.specs.Limits.{most_script_lines}
 use Rattle.mn_run.specs.Endings.{OutcomeIs, FilesAre, TextIs, CausedBy, IsLate}
 use Rattle.mn_run.specs.Jobs.{TopologyIs, ScriptIs, ScriptFits, HeldIs, AreMadeOver, MadeOverIs, MadeIs, outcome_of}
 use Rattle.mn_run.proofs.Ending.{files_untouched, whole_untouched}
@@ -138,7 +139,7 @@ topology_writes (Ok t) next h = h t
 topology_writes (Err refused) next h = refl
 
 topology_bytes_write : (b : Bool) (found : Result Network (TopoRule × Place)) (next : Network → Option Answer) → ((t : Network) → WritesNone (next t))
-    → WritesNone (if b then Some (refusal (TooLarge TopologyBytes most_topology_bytes)) else if_lawful found next)
+    → WritesNone (if b then Some (refusal_of (TooLarge TopologyBytes most_topology_bytes)) else if_lawful found next)
 topology_bytes_write true found next h = refl
 topology_bytes_write false found next h = topology_writes found next h
 
@@ -149,8 +150,8 @@ script_writes (Err refused) next h = refl
 
 script_bytes_write : (b many : Bool) (found : Result (List Line) (ScriptRule × ℕ)) (next : List Line → Option Answer) → ((s : List Line) → WritesNone (next s))
     → WritesNone
-    (if b then Some (refusal (TooLarge ScriptBytes most_script_bytes)) else if many then Some
-    (refusal (TooLarge ScriptLines most_script_lines)) else if_accepted found next)
+    (if b then Some (refusal_of (TooLarge ScriptBytes most_script_bytes)) else if many then Some
+    (refusal_of (TooLarge ScriptLines most_script_lines)) else if_accepted found next)
 script_bytes_write true many found next h = refl
 script_bytes_write false true found next h = refl
 script_bytes_write false false found next h = script_writes found next h
@@ -164,8 +165,8 @@ capture_writes (Err bad.NoMemory) next h = refl
 capture_bytes_write : (b many : Bool) (found : Result (List (List ℕ)) PcapBad) (next : List (List ℕ) → Option Answer) →
     ((p : List (List ℕ)) → WritesNone (next p))
     → WritesNone
-    (if b then Some (refusal (TooLarge CaptureBytes most_capture_bytes)) else if many then Some
-    (refusal (TooLarge CaptureRecords most_capture_records)) else if_captured found next)
+    (if b then Some (refusal_of (TooLarge CaptureBytes most_capture_bytes)) else if many then Some
+    (refusal_of (TooLarge CaptureRecords most_capture_records)) else if_captured found next)
 capture_bytes_write true many found next h = refl
 capture_bytes_write false true found next h = refl
 capture_bytes_write false false found next h = capture_writes found next h

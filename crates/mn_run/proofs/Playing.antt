@@ -4,13 +4,15 @@ use Rattle.mn_edge.specs.Files.{Files, file}
 use Rattle.mn_topo.specs.Network.{Network}
 use Rattle.mn_script.specs.declared.command.Line.{Line}
 use Rattle.mn_capture.specs.Packets.{CaptureView, packets_in}
+use Rattle.mn_course.specs.Expansion.{expanded}
 use Rattle.mn_output.specs.Report as output
 use Rattle.mn_perform.specs.declared.ended.Ended.{Ended}
 use Rattle.mn_perform.specs.declared.ended.Ended.TheVariants as ended
 use Rattle.mn_perform.specs.declared.ended.Fault.{Fault}
 use Rattle.mn_perform.specs.declared.ended.Fault.TheVariants as fault
 use Rattle.mn_perform.specs.Faults.{Counts, Blamed}
-use Rattle.mn_perform.specs.Whole.{EndsAs, FilesOf, BegunAtRead, TextOf, TellsLate}
+use Rattle.mn_perform.specs.Running.{notes_text}
+use Rattle.mn_perform.specs.Whole.{running, EndsAs, FilesOf, BegunAtRead, UntoldAtRead, TextOf, TellsLate}
 use Rattle.mn_run.specs.declared.outcome.Outcome.TheVariants.{Done, Usage, TooLarge}
 use Rattle.mn_run.specs.declared.outcome.Limit.TheVariants.{Steps}
 use Rattle.mn_run.specs.Answer.{run_done}
@@ -49,14 +51,15 @@ module _ (folder : List ℕ) (t : Network) (lines : List Line) (packets : List (
   tells before after (Err fault.NoMemory) h = h
 
   pub unread : (m : Files) (after : Option Files) (before : List ℕ) (written : Option (List ℕ)) (result : Result Ended Fault)
-      → BegunAtRead (output.run_answer folder t lines packets).files m after result →
+      → BegunAtRead (running folder t packets (expanded t packets lines).past.entries) m after result
+      → UntoldAtRead (notes_text t packets (expanded t packets lines)) before written result →
       IsUnread (Some (run_done folder t lines packets)) m after before written (outcome_of result)
   unfolding run_done
-  unread m after before written (Ok ended.All) h = tt
-  unread m after before written (Ok ended.TooManySteps) h = tt
-  unread m after before written (Err fault.Read) h = inr (λ e. not_nil _ _ e, h)
-  unread m after before written (Err fault.Write) h = tt
-  unread m after before written (Err fault.NoMemory) h = tt
+  unread m after before written (Ok ended.All) h put = tt
+  unread m after before written (Ok ended.TooManySteps) h put = tt
+  unread m after before written (Err fault.Read) h put = inr (λ e. not_nil _ _ e, h, put)
+  unread m after before written (Err fault.Write) h put = tt
+  unread m after before written (Err fault.NoMemory) h put = tt
 
 pub blames : (old new : Counts) (result : Result Ended Fault) → Blamed old new result → CausedBy old new (outcome_of result)
 blames old new (Ok ended.All) h = h

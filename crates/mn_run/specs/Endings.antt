@@ -42,10 +42,12 @@ TextIs answer before after outcome = IsSomeAnd answer (λ a. after ≡ Some (bef
 abbrev pub IsLate : Option Answer → Files → Option Files → List ℕ → Option (List ℕ) → Type 0
 IsLate answer files after before written = MatchOption answer ⊤ (λ a. (after ≡ Some (laid a.files files)) ⊎ PartPut a.early before written)
 
--- where an input could not be read no file was begun and nothing was put; a read that failed later found every file of the run begun
+-- where an input could not be read no file was begun and nothing was put; a read that failed later failed among the lines: every file
+-- of the run was begun, with no more in it than while they are played, and no more than the early part was put
 abbrev pub IsUnread : Option Answer → Files → Option Files → List ℕ → Option (List ℕ) → Outcome → Type 0
 IsUnread answer files after before written ReadFault =
-    ((after ≡ Some files) × (written ≡ Some before)) ⊎ IsSomeAnd answer (λ a. (a.files ≢ []) × AllBegun a.files files after)
+    ((after ≡ Some files) × (written ≡ Some before))
+    ⊎ IsSomeAnd answer (λ a. (a.running ≢ []) × AllBegun a.running files after × PartPut a.early before written)
 IsUnread answer files after before written outcome = ⊤
 
 -- the counts of faults: of the shelf's reads, of its writes, of the sink

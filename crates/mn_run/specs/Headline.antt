@@ -14,6 +14,7 @@ use Rattle.mn_course.specs.Expansion.{Expansion, expanded}
 use Rattle.mn_course.specs.Lawful.{IsLawfulRun}
 use Rattle.mn_output.specs.Contents.{output}
 use Rattle.mn_output.specs.Report.{totals_of, report}
+use Rattle.mn_output.specs.Sendings.{AreSentBy}
 use Rattle.mn_ledger.specs.Ledger.{packets_of}
 use Rattle.mn_lines.specs.Lines.{total_line}
 use Rattle.mn_gen.specs.Topology.{topology_text}
@@ -39,6 +40,7 @@ pub record KeepsItsPromise (topology_name script_name capture_name folder : List
   pub capture_read : option_map pcap.packets_of (file files capture_name) ≡ Some (Ok packets)
   pub played : run ≡ expanded topology packets script
   pub lawful : IsLawfulRun topology packets run
+  pub told : AreSentBy script run
   pub accounts : Accounts topology run.past.entries (inputs_of packets run.past.entries)
   pub arrives : ItArrives topology run.past.entries (inputs_of packets run.past.entries)
   pub lines : written ≡ Some (before ++ report topology packets run)
@@ -63,6 +65,7 @@ pub record TellsTotal (number : ℕ) (before : List ℕ) (written : Option (List
   pub capture_read : pcap.packets_of (capture_bytes number) ≡ Ok packets
   pub played : run ≡ expanded topology packets script
   pub lawful : IsLawfulRun topology packets run
+  pub told : AreSentBy script run
   pub accounts : Accounts topology run.past.entries (inputs_of packets run.past.entries)
   pub arrives : ItArrives topology run.past.entries (inputs_of packets run.past.entries)
   pub lines : written ≡ Some

@@ -2,6 +2,7 @@
 use Rattle.std.specs.Prelude.{◌≡◌, ◌≢◌, ◌≤◌, ℕ, List, length, Option, Some, option_map, Result, Ok, Err, Vec, ⊤}
 use Rattle.std.specs.declared.alloc.Global.{Global}
 use Rattle.std.specs.Option.{ForSome}
+use Rattle.mn_base.specs.Limits.{most_script_lines, most_steps}
 use Rattle.mn_edge.specs.Files.{Files, file}
 use Rattle.mn_capture.specs.Packets.{CaptureView, packets_in}
 use Rattle.mn_perform.specs.declared.ended.Ended.{Ended}
@@ -22,7 +23,7 @@ use Rattle.mn_gen.specs.Script.{script_text}
 use Rattle.mn_gen.specs.Capture.{capture_bytes}
 use Rattle.mn_perform.specs.Memory.{MemoryView, packets_at}
 use Rattle.mn_run.specs.declared.generate.Made.{Made}
-use Rattle.mn_run.specs.Answer.{Answer, refusal, run_done, answer_over, run_over, with_topology, with_script, with_capture, with_capture_bytes}
+use Rattle.mn_run.specs.Answer.{Answer, refusal_of, run_done, answer_over, run_over, with_topology, with_script, with_capture, with_capture_bytes}
 use Rattle.mn_run.specs.Answer.{generated_done, generated_over, generated}
 
 -- an outcome that refuses the words or an input
@@ -54,18 +55,18 @@ IsSound (Err outcome) = RefusesInput outcome
 abbrev pub TopologyIs : Option (List ℕ) → Result Network Outcome → Type 0
 TopologyIs input (Ok topology) =
     (option_map topology_of input ≡ Some (Ok topology)) × ((next : Network → Option Answer) → with_topology input next ≡ next topology)
-TopologyIs input (Err outcome) = (next : Network → Option Answer) → with_topology input next ≡ Some (refusal outcome)
+TopologyIs input (Err outcome) = (next : Network → Option Answer) → with_topology input next ≡ Some (refusal_of outcome)
 
 -- the same of a script
 abbrev pub ScriptIs : Network → Option (List ℕ) → Result (Vec Line Global) Outcome → Type 0
 ScriptIs topology input (Ok script) =
     (option_map (script_of topology) input ≡ Some (Ok script.items))
     × ((next : List Line → Option Answer) → with_script topology input next ≡ next script.items)
-ScriptIs topology input (Err outcome) = (next : List Line → Option Answer) → with_script topology input next ≡ Some (refusal outcome)
+ScriptIs topology input (Err outcome) = (next : List Line → Option Answer) → with_script topology input next ≡ Some (refusal_of outcome)
 
 -- its lines fit the topology, and are few, also where the shelf tells no content
 abbrev pub ScriptFits : Network → Result (Vec Line Global) Outcome → Type 0
-ScriptFits topology (Ok script) = AllFit topology script.items × (length script.items ≤ 3000000)
+ScriptFits topology (Ok script) = AllFit topology script.items × (length script.items ≤ most_script_lines)
 ScriptFits topology (Err outcome) = ⊤
 
 -- the same of a capture, by the places of its records
@@ -73,13 +74,13 @@ abbrev pub CaptureIs : Option (List ℕ) → Result CaptureView Outcome → Type
 CaptureIs input (Ok capture) =
     (bytes : List ℕ) × (input ≡ Some bytes) × (pcap.packets_of bytes ≡ Ok (packets_in capture bytes)) × ((next : List (List ℕ) → Option Answer) →
     with_capture input next ≡ next (packets_in capture bytes))
-CaptureIs input (Err outcome) = (next : List (List ℕ) → Option Answer) → with_capture input next ≡ Some (refusal outcome)
+CaptureIs input (Err outcome) = (next : List (List ℕ) → Option Answer) → with_capture input next ≡ Some (refusal_of outcome)
 
 -- the same of a capture in memory
 abbrev pub HeldIs : List ℕ → Result MemoryView Outcome → Type 0
 HeldIs bytes (Ok capture) =
     (pcap.packets_of bytes ≡ Ok (packets_at capture)) × ((next : List (List ℕ) → Option Answer) → with_capture_bytes bytes next ≡ next (packets_at capture))
-HeldIs bytes (Err outcome) = (next : List (List ℕ) → Option Answer) → with_capture_bytes bytes next ≡ Some (refusal outcome)
+HeldIs bytes (Err outcome) = (next : List (List ℕ) → Option Answer) → with_capture_bytes bytes next ≡ Some (refusal_of outcome)
 
 abbrev pub CaptureOf : List ℕ → Result CaptureView Outcome → Type 0
 CaptureOf name (Ok capture) = capture.name ≡ name
@@ -103,14 +104,14 @@ pub record AreRead (topology script capture : List ℕ) (files : Files) (inputs 
 -- or one was refused, and that is the answer
 abbrev pub OverIs : Network → List ℕ → List ℕ → Files → Result Inputs Outcome → Type 0
 OverIs topology script capture files (Ok inputs) = AreOver topology script capture files inputs
-OverIs topology script capture files (Err outcome) = (folder : List ℕ) → answer_over folder files script capture topology ≡ Some (refusal outcome)
+OverIs topology script capture files (Err outcome) = (folder : List ℕ) → answer_over folder files script capture topology ≡ Some (refusal_of outcome)
 
 abbrev pub LoadedIs : List ℕ → List ℕ → List ℕ → Files → Result Inputs Outcome → Type 0
 LoadedIs topology script capture files (Ok inputs) = AreRead topology script capture files inputs
-LoadedIs topology script capture files (Err outcome) = (folder : List ℕ) → run_over topology script capture folder files ≡ Some (refusal outcome)
+LoadedIs topology script capture files (Err outcome) = (folder : List ℕ) → run_over topology script capture folder files ≡ Some (refusal_of outcome)
 
 abbrev pub InputsFit : List ℕ → Result Inputs Outcome → Type 0
-InputsFit name (Ok inputs) = AllFit inputs.topology inputs.lines.items × (length inputs.lines.items ≤ 3000000) × (inputs.capture.name ≡ name)
+InputsFit name (Ok inputs) = AllFit inputs.topology inputs.lines.items × (length inputs.lines.items ≤ most_script_lines) × (inputs.capture.name ≡ name)
 InputsFit name (Err outcome) = ⊤
 
 -- script and capture of the generator's number over a topology, and all three inputs: they were read, and the answer is that of
@@ -121,7 +122,7 @@ pub record AreMadeOver (number : ℕ) (topology : Network) (made : Made) : Type 
   pub capture_read : pcap.packets_of (capture_bytes number) ≡ Ok (packets_at made.capture)
   pub answer : generated_over number topology ≡ Some (generated_done number topology made.lines.items (packets_at made.capture))
   pub fit : AllFit topology made.lines.items
-  pub few : length made.lines.items ≤ 3000000
+  pub few : length made.lines.items ≤ most_script_lines
 
 pub record AreMade (number : ℕ) (made : Made) : Type 0 where
   pub over : AreMadeOver number made.topology made
@@ -131,16 +132,16 @@ pub record AreMade (number : ℕ) (made : Made) : Type 0 where
 -- or one was refused, and that is the answer
 abbrev pub MadeOverIs : ℕ → Network → Result Made Outcome → Type 0
 MadeOverIs number topology (Ok made) = AreMadeOver number topology made
-MadeOverIs number topology (Err outcome) = generated_over number topology ≡ Some (refusal outcome)
+MadeOverIs number topology (Err outcome) = generated_over number topology ≡ Some (refusal_of outcome)
 
 abbrev pub MadeIs : ℕ → Result Made Outcome → Type 0
 MadeIs number (Ok made) = AreMade number made
-MadeIs number (Err outcome) = generated number ≡ Some (refusal outcome)
+MadeIs number (Err outcome) = generated number ≡ Some (refusal_of outcome)
 
 -- how a call ends that played a script
 abbrev pub outcome_of : Result Ended Fault → Outcome
 outcome_of (Ok ended.All) = Done
-outcome_of (Ok ended.TooManySteps) = TooLarge Steps 4000000
+outcome_of (Ok ended.TooManySteps) = TooLarge Steps most_steps
 outcome_of (Err fault.Read) = ReadFault
 outcome_of (Err fault.Write) = WriteFault
 outcome_of (Err fault.NoMemory) = NoMemory

@@ -1,6 +1,7 @@
 //! The runs that the generator makes.
 ghost use Rattle.std.specs.Prelude.{◌≡◌, ◌≢◌, ◌≤◌, IfOk, Some, length, string_bytes};
 ghost use Rattle.std.specs.Option.{ForSome};
+ghost use Rattle.mn_base.specs.Limits.{most_script_lines};
 ghost use Rattle.mn_script.specs.Script.{AllFit};
 ghost use Rattle.mn_perform.specs.Memory.{packets_at};
 ghost use Rattle.mn_run.specs.Answer.{generated_line, generated_done, generated};
@@ -93,7 +94,7 @@ fn generated_line(alloc: Global, number: u32) -> Result<String, AllocError>
 /// Plays the script of inputs that were made.
 fn play_made<O: Sink>(alloc: Global, number: u32, made: Made, out: &mut O) -> Outcome
     requires fit { AllFit made.topology made.lines.items }
-    requires few { length made.lines.items ≤ 3000000 }
+    requires few { length made.lines.items ≤ most_script_lines }
     ensures outcome { OutcomeIs (Some (generated_done number made.topology made.lines.items (packets_at made.capture))) result }
     ensures text { ForSome (O.written out.old) (λ before.
         TextIs (Some (generated_done number made.topology made.lines.items (packets_at made.capture))) before (O.written out.new) result) }

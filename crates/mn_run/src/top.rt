@@ -1,13 +1,14 @@
 //! The one call that does all that the program does.
 ghost use Rattle.std.specs.Prelude.{◌≡◌, ◌≢◌, ℕ, ◌++◌, ◌≤◌, true, false, length, is_some, Some, OnOk, OnErr};
 ghost use Rattle.std.specs.Option.{ForSome};
+ghost use Rattle.mn_base.specs.Limits.{most_script_lines};
 ghost use Rattle.mn_edge.specs.Faults.{Counted};
 ghost use Rattle.mn_edge.specs.Written.{texts};
 ghost use Rattle.mn_lines.specs.Putting.{PartPut};
 ghost use Rattle.mn_perform.specs.Inside.{is_inside};
 ghost use Rattle.mn_script.specs.Script.{AllFit};
 ghost use Rattle.mn_run.specs.Words.{is_run, is_check, is_command, generator_number};
-ghost use Rattle.mn_run.specs.Answer.{answer_of, run_answer, run_over, check_answer, checked, generate_answer, refusal};
+ghost use Rattle.mn_run.specs.Answer.{answer_of, run_answer, run_over, check_answer, checked, generate_answer, refusal_of};
 ghost use Rattle.mn_run.specs.Endings.{OutcomeIs, FilesAre, TextIs, CausedBy, UsageIff, Completes, IsLate, IsUnread};
 ghost use Rattle.mn_run.specs.Headline.{IsKept, IsGenerated, HeadlineIs};
 ghost use Rattle.mn_run.specs.Words.{word};
@@ -26,8 +27,8 @@ use std::alloc::Global;
 
 /// Does what the words of a command line say, over a shelf of files and a sink for the report.
 ///
-/// `words` doesn't hold the program's name. Nothing is read for words that are `Usage`, and no file is begun before
-/// the three inputs of a run are read.
+/// `words` doesn't hold the program's name. Words that are no command line, and inputs that are refused, leave every
+/// file as it was, and one line is put.
 pub fn command<S: Shelf, O: Sink>(
     alloc: Global,
     words: &[String],
@@ -44,14 +45,14 @@ pub fn command<S: Shelf, O: Sink>(
     // Nothing is told of a packet, and no total, but where every file is whole.
     ensures late { ForSome (S.files shelf.old) (λ files. ForSome (O.written out.old) (λ before.
         IsLate (answer_of (texts words.now) files) files (S.files shelf.new) before (O.written out.new))) }
-    // Where an input couldn't be read, no file was begun and nothing was put; a fetch of a packet fails only once every
-    // file was begun.
+    // After a failed read either no file was begun and nothing was put, as is so where an input isn't there, or it failed
+    // among the lines of a run: every file was begun, no label is written, and nothing is told of a packet, and no total.
     ensures unread { ForSome (S.files shelf.old) (λ files. ForSome (O.written out.old) (λ before.
         IsUnread (answer_of (texts words.now) files) files (S.files shelf.new) before (O.written out.new) result)) }
     // A fault comes only where its count rose; every other count is as before, and no count falls.
     ensures cause { CausedBy (S.read_faults shelf.old, S.write_faults shelf.old, O.faults out.old)
         (S.read_faults shelf.new, S.write_faults shelf.new, O.faults out.new) result }
-    // `Usage` is answered exactly where the words are no command line.
+    // `Usage` is answered exactly where the words are no command line; a failed write or want of memory may come instead.
     ensures usage { UsageIff (is_command (texts words.now)) result }
     // Where the inputs are there and no count of faults rises, the answer comes, or want of memory.
     ensures complete { ForSome (S.files shelf.old) (λ files. Completes (answer_of (texts words.now) files)
@@ -59,10 +60,15 @@ pub fn command<S: Shelf, O: Sink>(
         (S.read_faults shelf.new, S.write_faults shelf.new, O.faults out.new) result) }
     // Where all was done by `run`, each packet that was sent has one line and is accounted for: it reached only the
     // site of the best route that its VRF held, unchanged but for TTL and checksum, or it fell to the first rule that
-    // applies, or it is on its way. By `check`, the topology is lawful and its line tells how much it has. By `generate`,
-    // the same holds of the packets of its run, and what was put is its number and their total.
+    // applies, or it is on its way; sent in a steady stretch of a settled network with a way to its route's edge, it
+    // arrives. The journal is the script's, and lawful; report and files are its own, and no other file changed. By
+    // `check`, the topology breaks no rule, its line tells how much it has, and no file changed. By `generate`, the same
+    // holds of the packets of its run, what was put is its number and their total, and no file changed.
     ensures headline { ForSome (S.files shelf.old) (λ files. ForSome (O.written out.old) (λ before.
         HeadlineIs (texts words.now) files before (S.files shelf.new) (O.written out.new) result)) }
+    // What is said of `generate`, but for files, holds over each shelf, whether or not it tells its files.
+    ensures generated { (number : ℕ) → generator_number (texts words.now) ≡ Some number → ForSome (O.written out.old) (λ before.
+        IsGenerated number before (O.written out.new) result) }
 {
     answer(alloc, words, shelf, out)
 }
@@ -200,7 +206,7 @@ fn play<S: Shelf, O: Sink>(
     out: &mut O,
 ) -> Outcome
     requires fit { AllFit inputs.topology inputs.lines.items }
-    requires few { length inputs.lines.items ≤ 3000000 }
+    requires few { length inputs.lines.items ≤ most_script_lines }
     requires apart { is_inside inputs.capture.name folder.now ≡ false }
     ensures outcome { ForDone (λ answer m. OutcomeIs answer result) folder.now inputs.topology inputs.lines.items inputs.capture (S.files shelf.old) }
     ensures files { ForDone (λ answer m. FilesAre answer m (S.files shelf.new) result) folder.now inputs.topology inputs.lines.items inputs.capture (S.files shelf.old) }
@@ -274,8 +280,8 @@ fn tell<O: Sink>(alloc: Global, topology: &Topology, out: &mut O) -> Outcome
 /// Puts the line of a refusal.
 pub(crate) fn refuse<O: Sink>(alloc: Global, out: &mut O, outcome: Outcome) -> Outcome
     requires { IsRefusal outcome }
-    ensures outcome { OutcomeIs (Some (refusal outcome)) result }
-    ensures text { ForSome (O.written out.old) (λ before. TextIs (Some (refusal outcome)) before (O.written out.new) result) }
+    ensures outcome { OutcomeIs (Some (refusal_of outcome)) result }
+    ensures text { ForSome (O.written out.old) (λ before. TextIs (Some (refusal_of outcome)) before (O.written out.new) result) }
     ensures cause { CausedBy (0, 0, O.faults out.old) (0, 0, O.faults out.new) result }
     ensures usage { outcome ≢ Outcome.Usage → result ≢ Outcome.Usage }
     ensures undone { result ≢ Outcome.Done }

@@ -8,7 +8,7 @@ use Rattle.mn_course.specs.declared.coming.Arrivals.{Arrivals}
 use Rattle.mn_course.specs.declared.coming.Arrivals.TheVariants.{DueBy, News, AllFrames}
 use Rattle.mn_course.specs.declared.coming.Coming.{Coming}
 use Rattle.mn_course.specs.declared.coming.Ending.TheVariants as ending
-use Rattle.mn_course.specs.Course.{Past, Course, ends, arrived, one_by_one, is_full, next_now, deliver}
+use Rattle.mn_course.specs.Course.{Past, Course, ends, arrived, one_by_one, is_journal_full, next_now, deliver}
 use Rattle.mn_net_now.specs.Now.{NetNow}
 use Rattle.mn_sched.specs.declared.line.Stopped.{Stopped}
 use Rattle.mn_sched.specs.declared.line.Stopped.TheVariants.{TooManySteps, Read, Write, NoMemory}
@@ -36,7 +36,7 @@ pub deliver_more : (topology : Network) (capture : List (List ℕ)) (arrivals : 
     IsFirstPart past.entries (deliver topology capture arrivals most past).past.entries
 deliver_more topology capture arrivals zero past = first_part_refl past.entries
 deliver_more topology capture arrivals (suc more) past =
-    one_more arrivals (λ later. deliver topology capture arrivals more later) past (is_full past) (next_now topology capture arrivals past)
+    one_more arrivals (λ later. deliver topology capture arrivals more later) past (is_journal_full past) (next_now topology capture arrivals past)
     (λ later. deliver_more topology capture arrivals more later)
 
 -- after one item the rest goes on from what has happened then
@@ -63,7 +63,7 @@ one_stops arrivals on past false item net NoMemory more h = first_part_trans _ _
 pub next_turn : (topology : Network) (capture : List (List ℕ)) (arrivals : Arrivals) (most turn : ℕ) (past : Past) (item : Option Coming) → turn < most →
     next_now topology capture arrivals past ≡ item →
     deliver topology capture arrivals (most - turn) past ≡ one_by_one arrivals (λ later. deliver topology capture arrivals (most - (turn + 1)) later) past
-    (is_full past) item
+    (is_journal_full past) item
 next_turn topology capture arrivals most turn past item lt is =
     ap (λ n. deliver topology capture arrivals n past) (let e : most - turn ≡ suc (most - (turn + 1)) = omega arith in e)
-    ∙ ap (λ o. one_by_one arrivals (λ later. deliver topology capture arrivals (most - (turn + 1)) later) past (is_full past) o) is
+    ∙ ap (λ o. one_by_one arrivals (λ later. deliver topology capture arrivals (most - (turn + 1)) later) past (is_journal_full past) o) is

@@ -1,5 +1,5 @@
 -- What a step comes to for the net and the watch.
-use Rattle.std.proofs.Common.{◌≡◌, ℕ, ◌+◌, ◌-◌, ◌≤◌, max, arith, Bool, true, false, List, [], ◌∷◌, ◌++◌, length, take, Option, Some, None, IfSome}
+use Rattle.std.proofs.Common.{◌≡◌, ◌≢◌, ℕ, ◌+◌, ◌-◌, ◌≤◌, max, arith, Bool, true, false, List, [], ◌∷◌, ◌++◌, length, take, Option, Some, None, IfSome}
 use Rattle.std.proofs.Common.{slice_get, Result}
 use Rattle.std.proofs.Common.{Ok, Err, IfOk, OnOk, OnErr, refl, sym, ◌∙◌, ap, subst, length-append, if◌then◌else◌}
 use Rattle.std.proofs.lemmas.List.{append-nil, take-append-le, take_all}
@@ -20,8 +20,8 @@ use Rattle.mn_course.specs.declared.coming.Ending.{Ending}
 use Rattle.mn_course.specs.declared.coming.Ending.TheVariants as ending
 use Rattle.mn_script.specs.declared.command.Command.TheVariants.{Do}
 use Rattle.mn_base.specs.declared.numbers.SiteNo.{SiteNo}
-use Rattle.mn_course.specs.Coming.{delivery, earlier, comes_before}
-use Rattle.mn_course.specs.Course.{Past, Course, ends, as_due, arrived, with_step, one_by_one, is_full, inputs_of, input_before, bytes_of, record_of}
+use Rattle.mn_course.specs.Coming.{delivery, earlier, is_due_before}
+use Rattle.mn_course.specs.Course.{Past, Course, ends, as_due, arrived, with_step, one_by_one, is_journal_full, inputs_of, input_before, bytes_of, record_of}
 use Rattle.mn_course.specs.Course.{injected, tried, stepped, refusal_now, until, on_to}
 use Rattle.mn_net.specs.declared.net.Done.{Done}
 use Rattle.mn_ledger.specs.OneMore.{added, with_packet}
@@ -36,7 +36,7 @@ use Rattle.mn_sched.specs.declared.line.Stopped.TheVariants.{TooManySteps, Read,
 use Rattle.mn_sched.specs.declared.watch.WatchBad.{WatchBad}
 use Rattle.mn_sched.specs.declared.watch.WatchBad.TheVariants as bad
 use Rattle.mn_sched.specs.Watching.{Together, Stood, Begun, but_last, made_over, MadeLast, LastFits}
-use Rattle.mn_sched.specs.Playing.{past_of, IsFirstPart, Arrives, Takes, After, Caused, Finished, MissingIff, names_no_record, arrived_by, stopped_by}
+use Rattle.mn_sched.specs.Playing.{past_of, IsFirstPart, Arrives, Takes, After, Caused, Finished, MissingIff, names_no_record, arrived_by, stopped_by, IsOwnCause}
 use Rattle.mn_sched.specs.Playing.{as_played, IsPaced}
 use Rattle.mn_sched.proofs.Delivering.{first_part_refl, one_more}
 
@@ -44,7 +44,7 @@ use Rattle.mn_sched.proofs.Delivering.{first_part_refl, one_more}
 pub earlier_has : (P : Coming → Type 0) (one other : Option Coming) → IfSome one P → IfSome other P → IfSome (earlier one other) P
 earlier_has P None other a b = b
 earlier_has P (Some x) None a b = a
-earlier_has P (Some x) (Some y) a b = pick (comes_before y.due y.number x.due x.number)
+earlier_has P (Some x) (Some y) a b = pick (is_due_before y.due y.number x.due x.number)
   where
     pick : (t : Bool) → IfSome (if t then Some y else Some x) P
     pick true = b
@@ -205,11 +205,11 @@ done_is arrivals item old mid new step past is l =
 
 pub one_arrives : (arrivals : Arrivals) (item : Coming) (old mid new : NetNow) (step : Step) (stepped : Result Done Refused)
     (ended : Result Played Stopped) → past_of mid ≡ as_due arrivals item.due (past_of old) → step ≡ delivery item →
-    Answers (where_holds (is_full (past_of old)) cause.TooManySteps) stepped → OnOk stepped (IsLonger mid new step) → Leaves mid new stepped →
-    Finished stepped ended → Arrives (one_by_one arrivals (ends ending.All) (past_of old) (is_full (past_of old)) (Some item)) new (arrived_by ended)
+    Answers (where_holds (is_journal_full (past_of old)) cause.TooManySteps) stepped → OnOk stepped (IsLonger mid new step) → Leaves mid new stepped →
+    Finished stepped ended → Arrives (one_by_one arrivals (ends ending.All) (past_of old) (is_journal_full (past_of old)) (Some item)) new (arrived_by ended)
 one_arrives arrivals item old mid new step (Ok made) ended past is answer long left finished =
     subst (λ b. Arrives (one_by_one arrivals (ends ending.All) (past_of old) b (Some item)) new (arrived_by ended))
-    (sym (not_full (is_full (past_of old)) answer)) (by ended finished)
+    (sym (not_full (is_journal_full (past_of old)) answer)) (by ended finished)
   where
     now : past_of new ≡ arrived arrivals (past_of old) item
     now = done_is arrivals item old mid new step past is long
@@ -227,17 +227,17 @@ one_arrives arrivals item old mid new step (Ok made) ended past is answer long l
     by (Err Write) f = part
     by (Err NoMemory) f = part
 one_arrives arrivals item old mid new step (Err cause.TooManySteps) ended past is answer long left finished =
-    subst (λ e. Arrives (one_by_one arrivals (ends ending.All) (past_of old) (is_full (past_of old)) (Some item)) new (arrived_by e)) (sym finished)
+    subst (λ e. Arrives (one_by_one arrivals (ends ending.All) (past_of old) (is_journal_full (past_of old)) (Some item)) new (arrived_by e)) (sym finished)
     (subst (λ b. Arrives (one_by_one arrivals (ends ending.All) (past_of old) b (Some item)) new (Err TooManySteps))
-    (sym (full_is (is_full (past_of old)) cause.TooManySteps answer).0)
+    (sym (full_is (is_journal_full (past_of old)) cause.TooManySteps answer).0)
     (refl, ap (λ n. n.journal) left ∙ same_journal arrivals item.due old mid past))
 one_arrives arrivals item old mid new step (Err cause.NoMemory) ended past is answer long left finished =
-    subst (λ e. Arrives (one_by_one arrivals (ends ending.All) (past_of old) (is_full (past_of old)) (Some item)) new (arrived_by e)) (sym finished)
-    (subst (λ j. IsFirstPart j (one_by_one arrivals (ends ending.All) (past_of old) (is_full (past_of old)) (Some item)).past.entries)
+    subst (λ e. Arrives (one_by_one arrivals (ends ending.All) (past_of old) (is_journal_full (past_of old)) (Some item)) new (arrived_by e)) (sym finished)
+    (subst (λ j. IsFirstPart j (one_by_one arrivals (ends ending.All) (past_of old) (is_journal_full (past_of old)) (Some item)).past.entries)
     (sym (left.journal ∙ same_journal arrivals item.due old mid past))
-    (one_more arrivals (ends ending.All) (past_of old) (is_full (past_of old)) (Some item) (λ later. first_part_refl later.entries)))
+    (one_more arrivals (ends ending.All) (past_of old) (is_journal_full (past_of old)) (Some item) (λ later. first_part_refl later.entries)))
 one_arrives arrivals item old mid new step (Err why) ended past is answer long left finished =
-    absurd (let e = (full_is (is_full (past_of old)) why answer).1 in cc)
+    absurd (let e = (full_is (is_journal_full (past_of old)) why answer).1 in cc)
 
 -- the net and the watch after it
 pub after_one : (stepped : Result Done Refused) (ended : Result Played Stopped) (mid new : NetNow) (packets : Option (List (List ℕ)))
@@ -270,7 +270,7 @@ after_one (Err why) ended mid new packets stands stands_then begins_then togethe
 -- what refuses an item's step once the clock is set on
 pub opens_then : (old mid : NetNow) (inputs : List (List ℕ)) (step item_step : Step) (stepped : Result Done Refused) → mid.journal ≡ old.journal →
     mid.topology ≡ old.topology → step ≡ item_step → IsOpen old.topology old.journal inputs item_step →
-    Answers (refusal mid.topology mid.journal inputs step []) stepped → Answers (where_holds (is_full (past_of old)) cause.TooManySteps) stepped
+    Answers (refusal mid.topology mid.journal inputs step []) stepped → Answers (where_holds (is_journal_full (past_of old)) cause.TooManySteps) stepped
 opens_then old mid inputs step item_step stepped journal topology is opens answer =
     let P : Option Refused → Type 0 = λ r. Answers r stepped in
     subst P (ap (λ t. refusal t mid.journal inputs step []) topology ∙ ap (λ j. refusal old.topology j inputs step []) journal
@@ -477,7 +477,7 @@ run_paced old mid new ticks few paced tick journal =
     let same : length new.journal ≡ length mid.journal = ap length journal in
     (omega (arith, same, paced.0), omega (arith, same, paced.0, paced.1, tick, few))
 
--- 7. What a step leaves, whether or not the net had failed before it
+-- 8. What a step leaves, whether or not the net had failed before it
 
 has_failed : (old new : NetNow) → old.failed ≡ true → new ≡ old → HasFailed old new
 has_failed old new failed same =
@@ -493,3 +493,38 @@ by_failed true result old new is left for_good =
 pub leaves : {T : Type 0} (result : Result T Refused) (old new : NetNow) → (old.failed ≡ false → Leaves old new result) →
     (old.failed ≡ true → IsErrOf result cause.NoMemory × (new ≡ old)) → Leaves old new result
 leaves result old new left for_good = by_failed old.failed result old new refl left for_good
+
+-- 9. The network after a line that isn't done, and the journal after each
+
+pub step_grown : (stepped : Result Done Refused) (old new : NetNow) (step : Step) → OnOk stepped (IsLonger old new step) → Leaves old new stepped →
+    IsFirstPart old.journal new.journal
+step_grown (Ok made) old new step long left = (record { tick = old.tick; step = step } ∷ [], sym long.journal)
+step_grown (Err cause.NoMemory) old new step long left = subst (λ j. IsFirstPart old.journal j) (sym left.journal) (first_part_refl old.journal)
+step_grown (Err why) old new step long left = subst (λ n. IsFirstPart old.journal n.journal) (sym left) (first_part_refl old.journal)
+
+pub step_kept : (stepped : Result Done Refused) (ended : Result Played Stopped) (old new : NetNow) → Leaves old new stepped → Finished stepped ended →
+    IfOk ended (λ p. p ≢ played.All → new ≡ old)
+step_kept (Ok made) (Ok played.All) old new left finished = λ other. absurd (other refl)
+step_kept (Ok made) (Ok (played.Refused why)) old new left finished = absurd finished
+step_kept (Ok made) (Ok played.NoRecord) old new left finished = absurd finished
+step_kept (Ok made) (Err why) old new left finished = tt
+step_kept (Err cause.TooManySteps) ended old new left finished = subst (λ e. IfOk e (λ p. p ≢ played.All → new ≡ old)) (sym finished) tt
+step_kept (Err cause.NoMemory) ended old new left finished = subst (λ e. IfOk e (λ p. p ≢ played.All → new ≡ old)) (sym finished) tt
+step_kept (Err why) ended old new left finished = subst (λ e. IfOk e (λ p. p ≢ played.All → new ≡ old)) (sym finished) (λ other. left)
+
+pub finished_refused : (stepped : Result Done Refused) (ended : Result Played Stopped) → Finished stepped ended → IfOk ended IsOwnCause
+finished_refused (Ok made) (Ok played.All) f = tt
+finished_refused (Ok made) (Ok (played.Refused why)) f = absurd f
+finished_refused (Ok made) (Ok played.NoRecord) f = absurd f
+finished_refused (Ok made) (Err why) f = tt
+finished_refused (Err cause.TooManySteps) ended f = subst (λ e. IfOk e IsOwnCause) (sym f) tt
+finished_refused (Err cause.NoMemory) ended f = subst (λ e. IfOk e IsOwnCause) (sym f) tt
+finished_refused (Err why) ended f = subst (λ e. IfOk e IsOwnCause) (sym f) tt
+
+pub arrived_kept : (r : Result (Unit {0}) Stopped) (old new : NetNow) → IfOk (as_played r) (λ p. p ≢ played.All → new ≡ old)
+arrived_kept (Ok x) old new = λ other. absurd (other refl)
+arrived_kept (Err why) old new = tt
+
+pub arrived_refused : (r : Result (Unit {0}) Stopped) → IfOk (as_played r) IsOwnCause
+arrived_refused (Ok x) = tt
+arrived_refused (Err why) = tt

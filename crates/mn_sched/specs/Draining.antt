@@ -1,5 +1,6 @@
 -- What `drain` without a number comes to.
 use Rattle.std.specs.Prelude.{◌<◌, ◌+◌, ℕ, List, length, None, Result, Ok, Err, ⊤}
+use Rattle.mn_base.specs.Limits.{most_steps}
 use Rattle.mn_script.specs.declared.command.Command.{Command}
 use Rattle.mn_script.specs.declared.command.Command.TheVariants.{Drain}
 use Rattle.mn_ledger.specs.Ledger.{world_of}
@@ -29,7 +30,7 @@ pub record HasDrained (capture : List (List ℕ)) (old new : NetNow) : Type 0 wh
 abbrev pub DrainsWhole : List (List ℕ) → NetNow → NetNow → Result Played Stopped → Type 0
 DrainsWhole capture old new (Ok All) = HasDrained capture old new
 DrainsWhole capture old new (Ok other) = ⊥
-DrainsWhole capture old new (Err TooManySteps) = 4000000 < length old.journal + drain_bound old.topology (world_of old.topology old.journal)
+DrainsWhole capture old new (Err TooManySteps) = most_steps < length old.journal + drain_bound old.topology (world_of old.topology old.journal)
 DrainsWhole capture old new (Err why) = ⊤
 
 -- no other line is asked for it

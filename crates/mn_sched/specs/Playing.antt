@@ -66,6 +66,12 @@ Caused old new (Err Read) = Grew old.0 new.0 × (new.1 ≡ old.1)
 Caused old new (Err Write) = Grew old.1 new.1 × (new.0 ≡ old.0)
 Caused old new result = (new.0 ≡ old.0) × (new.1 ≡ old.1)
 
+-- a line is refused neither for a full journal nor for want of memory
+abbrev pub IsOwnCause : Played → Type 0
+IsOwnCause (Refused cause.TooManySteps) = ⊥
+IsOwnCause (Refused cause.NoMemory) = ⊥
+IsOwnCause other = ⊤
+
 -- the line injects a record that the capture hasn't
 abbrev pub names_no_record : ℕ → Command → Bool
 names_no_record records (Do (Inject s number)) = not (is_record records number)

@@ -3,7 +3,7 @@ ghost use Rattle.std.specs.Option.{ForSome};
 ghost use Rattle.mn_ledger.specs.Ledger.{injects};
 ghost use Rattle.mn_topo.specs.Steps.{fits};
 ghost use Rattle.mn_course.specs.Coming.{earlier, delivery, next_arrival, ever};
-ghost use Rattle.mn_course.specs.Course.{as_due, deliver, ends, one_by_one, is_full};
+ghost use Rattle.mn_course.specs.Course.{as_due, deliver, ends, one_by_one, is_journal_full};
 ghost use Rattle.mn_course.specs.declared.coming.Ending.TheVariants as ending;
 ghost use Rattle.mn_laws.specs.Flight.{IsOpen};
 ghost use Rattle.mn_net_now.specs.Now.{StandsFor};

@@ -1,8 +1,8 @@
-ghost use Rattle.std.specs.Prelude.{◌≡◌, ◌≤◌, ◌+◌, ◌^◌, ℕ, List, [], true, false, Some, IfOk, OnOk, OnErr};
+ghost use Rattle.std.specs.Prelude.{◌≡◌, ◌≢◌, ◌≤◌, ◌+◌, ◌^◌, ℕ, List, [], true, false, Some, IfOk, OnOk, OnErr};
 ghost use Rattle.std.specs.Option.{ForSome};
 ghost use Rattle.mn_script.specs.Lines.{command_fits};
 ghost use Rattle.mn_course.specs.Coming.{delivery, next_arrival};
-ghost use Rattle.mn_course.specs.Course.{ends, one_by_one, is_full, deliver, played, stepped, all, most_of};
+ghost use Rattle.mn_course.specs.Course.{ends, one_by_one, is_journal_full, deliver, played, stepped, all, most_of};
 ghost use Rattle.mn_ledger.specs.Ledger.{injects};
 ghost use Rattle.mn_topo.specs.Steps.{fits};
 ghost use Rattle.mn_course.specs.declared.coming.Ending.TheVariants as ending;
@@ -44,7 +44,7 @@ pub enum Stopped {
     NoMemory,
 }
 
-ghost use Rattle.mn_sched.specs.Playing.{past_of, IsDelivery, Takes, Arrives, After, Caused, Finished, limit_of, stopped_by, arrived_by, as_played, IsPaced, names_no_record, MissingIff, is_show};
+ghost use Rattle.mn_sched.specs.Playing.{past_of, IsDelivery, IsFirstPart, Takes, Arrives, After, Caused, Finished, limit_of, stopped_by, arrived_by, as_played, IsPaced, names_no_record, MissingIff, is_show, IsOwnCause};
 
 fn stopped_by(bad: WatchBad) -> Stopped
     ensures { result ≡ stopped_by bad }
@@ -108,10 +108,11 @@ fn deliver_one<W: Watch>(
     requires fits { IsDelivery net.old.topology (delivery item) }
     requires opens { (inputs : List (List ℕ)) → StandsFor net.old inputs → IsOpen net.old.topology net.old.journal inputs (delivery item) }
     requires together { Together net.old (W.packets watch.old) (W.stands watch.old) }
-    ensures course { ForSome (W.packets watch.old) (λ capture. Arrives (one_by_one arrivals (ends ending.All) (past_of net.old) (is_full (past_of net.old)) (Some item)) net.new result) }
+    ensures course { ForSome (W.packets watch.old) (λ capture. Arrives (one_by_one arrivals (ends ending.All) (past_of net.old) (is_journal_full (past_of net.old)) (Some item)) net.new result) }
     ensures after { After net.new (W.packets watch.old) (W.stands watch.new) (W.begins watch.new) result }
     ensures topology { net.new.topology ≡ net.old.topology }
     ensures early { net.new.tick ≤ 2 ^ 62 }
+    ensures grown { IsFirstPart net.old.journal net.new.journal }
     ensures clock { OnOk result (IsPaced 0 net.old net.new) }
     ensures records { W.records watch.new ≡ W.records watch.old }
     ensures packets { W.packets watch.new ≡ W.packets watch.old }
@@ -139,6 +140,7 @@ fn deliver<W: Watch>(
     ensures after { After net.new (W.packets watch.old) (W.stands watch.new) (W.begins watch.new) result }
     ensures topology { net.new.topology ≡ net.old.topology }
     ensures early { net.new.tick ≤ 2 ^ 62 }
+    ensures grown { IsFirstPart net.old.journal net.new.journal }
     ensures clock { OnOk result (IsPaced 0 net.old net.new) }
     ensures records { W.records watch.new ≡ W.records watch.old }
     ensures packets { W.packets watch.new ≡ W.packets watch.old }
@@ -196,6 +198,9 @@ fn inject<W: Watch>(
     ensures after { After net.new (W.packets watch.old) (W.stands watch.new) (W.begins watch.new) result }
     ensures missing { MissingIff (names_no_record (W.records watch.old) (Command.Do step)) result }
     ensures topology { net.new.topology ≡ net.old.topology }
+    ensures kept { IfOk result (λ played. played ≢ Played.All → net.new ≡ net.old) }
+    ensures refused { IfOk result IsOwnCause }
+    ensures grown { IsFirstPart net.old.journal net.new.journal }
     ensures clock { OnOk result (IsPaced 1000000 net.old net.new) }
     ensures records { W.records watch.new ≡ W.records watch.old }
     ensures packets { W.packets watch.new ≡ W.packets watch.old }
@@ -219,6 +224,9 @@ fn step_plainly<W: Watch>(net: &mut Net, step: Step, watch: &mut W) -> Result<Pl
     ensures after { After net.new (W.packets watch.old) (W.stands watch.new) (W.begins watch.new) result }
     ensures missing { MissingIff (names_no_record (W.records watch.old) (Command.Do step)) result }
     ensures topology { net.new.topology ≡ net.old.topology }
+    ensures kept { IfOk result (λ played. played ≢ Played.All → net.new ≡ net.old) }
+    ensures refused { IfOk result IsOwnCause }
+    ensures grown { IsFirstPart net.old.journal net.new.journal }
     ensures clock { OnOk result (IsPaced 1000000 net.old net.new) }
     ensures records { W.records watch.new ≡ W.records watch.old }
     ensures packets { W.packets watch.new ≡ W.packets watch.old }
@@ -238,6 +246,9 @@ fn run<W: Watch>(net: &mut Net, ticks: u32, watch: &mut W) -> Result<Played, Sto
     ensures after { After net.new (W.packets watch.old) (W.stands watch.new) (W.begins watch.new) result }
     ensures missing { MissingIff false result }
     ensures topology { net.new.topology ≡ net.old.topology }
+    ensures kept { IfOk result (λ played. played ≢ Played.All → net.new ≡ net.old) }
+    ensures refused { IfOk result IsOwnCause }
+    ensures grown { IsFirstPart net.old.journal net.new.journal }
     ensures clock { OnOk result (IsPaced 1000000 net.old net.new) }
     ensures records { W.records watch.new ≡ W.records watch.old }
     ensures packets { W.packets watch.new ≡ W.packets watch.old }
@@ -263,6 +274,9 @@ fn drain<W: Watch>(net: &mut Net, most: Option<u32>, watch: &mut W) -> Result<Pl
     ensures after { After net.new (W.packets watch.old) (W.stands watch.new) (W.begins watch.new) result }
     ensures missing { MissingIff false result }
     ensures topology { net.new.topology ≡ net.old.topology }
+    ensures kept { IfOk result (λ played. played ≢ Played.All → net.new ≡ net.old) }
+    ensures refused { IfOk result IsOwnCause }
+    ensures grown { IsFirstPart net.old.journal net.new.journal }
     ensures clock { OnOk result (IsPaced 1000000 net.old net.new) }
     ensures records { W.records watch.new ≡ W.records watch.old }
     ensures packets { W.packets watch.new ≡ W.packets watch.old }
@@ -280,16 +294,21 @@ pub fn play<W: Watch>(net: &mut Net, command: &Command, watch: &mut W) -> Result
     requires shows { is_show command.now ≡ false }
     requires early { net.old.tick ≤ 2 ^ 61 }
     requires together { Together net.old (W.packets watch.old) (W.stands watch.old) }
-    // The journal grows by exactly what the line's course says, or by a first part of it.
+    // Where the watch tells its packets, the journal grows by exactly what the line's course says, or by a first part of it.
     ensures course { ForSome (W.packets watch.old) (λ capture. Takes (played net.old.topology capture (past_of net.old) command.now) net.new result) }
-    // `drain` without a number takes no more steps than its bound, leaves no notice and no message in flight, and settles the
-    // network where LDP is switched on for each link that is up and BGP between all edges.
+    // And there `drain` without a number takes no more steps than its bound, leaves no notice and no message in flight, and settles
+    // the network where LDP is switched on for each link that is up and BGP between all edges.
     ensures drained { ForSome (W.packets watch.old) (λ capture. DrainsBy command.now capture net.old net.new result) }
-    // Net and watch stand together afterwards; after a fault or want of memory the watch begins the journal.
+    // And there net and watch stand together afterwards; after a fault or want of memory the watch begins the journal.
     ensures after { After net.new (W.packets watch.old) (W.stands watch.new) (W.begins watch.new) result }
-    // That there is no such record is answered exactly there.
+    // For every watch: that there is no such record is answered exactly there, but for faults and want of memory.
     ensures missing { MissingIff (names_no_record (W.records watch.old) command.now) result }
     ensures topology { net.new.topology ≡ net.old.topology }
+    // A line that isn't done leaves the network as it was, and is refused neither for a full journal nor for want of memory.
+    ensures kept { IfOk result (λ played. played ≢ Played.All → net.new ≡ net.old) }
+    ensures refused { IfOk result IsOwnCause }
+    // The journal before it begins the journal afterwards, also where playing stops.
+    ensures grown { IsFirstPart net.old.journal net.new.journal }
     ensures clock { OnOk result (IsPaced 1000000 net.old net.new) }
     ensures records { W.records watch.new ≡ W.records watch.old }
     ensures packets { W.packets watch.new ≡ W.packets watch.old }

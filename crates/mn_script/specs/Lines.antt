@@ -1,5 +1,6 @@
 -- All lines, by their first word.
 use Rattle.std.specs.Prelude.{ℕ, ◌==◌, if◌then◌else◌, nat_le, Bool, true, List, length, Option, Some, None, Result, Ok, Err, codes}
+use Rattle.mn_base.specs.Limits.{most_steps}
 use Rattle.mn_topo.specs.Network.{Network}
 use Rattle.mn_topo.specs.Steps.{fits, has_node, has_vrf}
 use Rattle.mn_script.specs.declared.refusal.ScriptRule.{ScriptRule}
@@ -24,7 +25,7 @@ run_line ws = do
 unfoldable pub bounded_drain : List (List ℕ) → Result Command ScriptRule
 bounded_drain ws = do
   full ← counted ws 2
-  steps ← number_in (word_at ws 1) 0 4000000
+  steps ← number_in (word_at ws 1) 0 most_steps
   Ok (command.Drain (Some steps))
 
 -- drain N, or drain without a number, which has no bound
@@ -108,6 +109,6 @@ abbrev pub command_fits : Network → Command → Bool
 command_fits network (command.Do step) = fits network step
 command_fits network (command.Run ticks) = nat_le ticks 1000000
 command_fits network (command.Drain None) = true
-command_fits network (command.Drain (Some steps)) = nat_le steps 4000000
+command_fits network (command.Drain (Some steps)) = nat_le steps most_steps
 command_fits network command.Flush = true
 command_fits network (command.Show what) = show_fits network what

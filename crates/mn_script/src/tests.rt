@@ -162,7 +162,7 @@ fn the_other_lines_move_the_clock_and_show_tables(rt: HostRuntime) -> Result<(),
     Ok(())
 }
 
-// Words of no form, words of forms that come later, and such lines with a wrong number of words as well.
+// Words of no form, and such lines with a wrong number of words as well.
 const UNKNOWN: &str = "nonsense -> UnknownWord at 1
 Link up pe1 p -> UnknownWord at 1
 link sideways pe1 p -> UnknownWord at 1

@@ -23,8 +23,9 @@ use Rattle.mn_ledger.specs.Tables.{put}
 use Rattle.mn_ledger.specs.Places.{home_of, vrf_of, edges}
 use Rattle.mn_ledger.specs.World.{World}
 use Rattle.mn_ledger.specs.Transport.{usable, sessions_after}
-use Rattle.mn_ledger.specs.Vpn.{HeldRoute, held, best, peerings_after}
-use Rattle.mn_ledger.specs.Packets.{Token, Packets, channel, flying_on, away_from, judged, drop_at, visited, deliver, hop_over, hop, entry_rules, bound}
+use Rattle.mn_ledger.specs.Bgp.{peerings_after}
+use Rattle.mn_ledger.specs.Held.{HeldRoute, held, best}
+use Rattle.mn_ledger.specs.Packets.{Token, Packets, channel, flying_on, away_from, judged, drop_at, visited, deliver, hop_over, hop_on, entry_rules, bound}
 use Rattle.mn_ledger.specs.Packets.{route_by, enter_by, enter, one_more, without_place, taken, is_attachment, leave, arrive, carry, before_step, packets_after}
 use Rattle.mn_ledger.specs.Verdicts.{one_if, injections, times_in, times_by, verdict_on, AreInOnePlace}
 use Rattle.mn_ledger.specs.Settled.{moves_packets, IsSteady}
@@ -298,10 +299,10 @@ module _ (t : Network) (w : World) (j site edge attachment ttl : ℕ) (whole : L
       is =
           ap (λ b. elim b as (λ _. Packets) [
             | true ↦ drop_at a k.packet rule.TtlExpired y
-            | false ↦ elim (y == k.edge) as (λ _. Packets) [ true ↦ leave w a k y | false ↦ hop t w a (record k { ttl = k.ttl - 1 }) y rule.NoEntry ]
+            | false ↦ elim (y == k.edge) as (λ _. Packets) [ true ↦ leave w a k y | false ↦ hop_on t w a (record k { ttl = k.ttl - 1 }) y rule.NoEntry ]
           ])
           enough
-          ∙ ap (λ b. elim b as (λ _. Packets) [ true ↦ leave w a k y | false ↦ hop t w a (record k { ttl = k.ttl - 1 }) y rule.NoEntry ]) at_edge
+          ∙ ap (λ b. elim b as (λ _. Packets) [ true ↦ leave w a k y | false ↦ hop_on t w a (record k { ttl = k.ttl - 1 }) y rule.NoEntry ]) at_edge
           ∙ ap (λ b. elim b as (λ _. Packets) [ true ↦ deliver a k.packet k.site (k.ttl - 1) k.bytes | false ↦ drop_at a k.packet rule.SiteGone y ]) there
   arrives a k y (z ∷ hops) within none own before path route goes s e n ttl_is =
       subst Travels (sym is)
@@ -327,10 +328,10 @@ module _ (t : Network) (w : World) (j site edge attachment ttl : ℕ) (whole : L
       is =
           ap (λ b. elim b as (λ _. Packets) [
             | true ↦ drop_at a k.packet rule.TtlExpired y
-            | false ↦ elim (y == k.edge) as (λ _. Packets) [ true ↦ leave w a k y | false ↦ hop t w a (record k { ttl = k.ttl - 1 }) y rule.NoEntry ]
+            | false ↦ elim (y == k.edge) as (λ _. Packets) [ true ↦ leave w a k y | false ↦ hop_on t w a (record k { ttl = k.ttl - 1 }) y rule.NoEntry ]
           ])
           enough
-          ∙ ap (λ b. elim b as (λ _. Packets) [ true ↦ leave w a k y | false ↦ hop t w a (record k { ttl = k.ttl - 1 }) y rule.NoEntry ]) past
+          ∙ ap (λ b. elim b as (λ _. Packets) [ true ↦ leave w a k y | false ↦ hop_on t w a (record k { ttl = k.ttl - 1 }) y rule.NoEntry ]) past
           ∙ ap (hop_over t a (record k { ttl = k.ttl - 1 }) y rule.NoEntry) (ap (usable t w.config w.views w.sessions y) e ∙ goes.2)
 
   -- 4. A step that moves packets
@@ -500,7 +501,7 @@ module _ (t : Network) (w : World) (a : Packets) (count s : ℕ) (bytes : List �
       by_hops [] g e =
           subst Sets (sym (ap (λ b. elim b as (λ _. Packets) [
             | true ↦ deliver (one_more a (home_of t s)) (length a.verdicts) to.site (ttl_of bytes - 1) bytes
-            | false ↦ hop t w (one_more a (home_of t s)) (bound (length a.verdicts) to bytes) (home_of t s) rule.NoLsp
+            | false ↦ hop_on t w (one_more a (home_of t s)) (bound (length a.verdicts) to bytes) (home_of t s) rule.NoLsp
           ])
           (same to.edge (home_of t s) (sym g))))
           (delivers t w (length a.verdicts) to.site to.edge to.attachment (ttl_of bytes) (home_of t s ∷ hops) attached long (one_more a (home_of t s))
@@ -512,7 +513,7 @@ module _ (t : Network) (w : World) (a : Packets) (count s : ℕ) (bytes : List �
       by_hops (x ∷ xs) g e =
           subst Sets (sym (ap (λ b. elim b as (λ _. Packets) [
             | true ↦ deliver (one_more a (home_of t s)) (length a.verdicts) to.site (ttl_of bytes - 1) bytes
-            | false ↦ hop t w (one_more a (home_of t s)) (bound (length a.verdicts) to bytes) (home_of t s) rule.NoLsp
+            | false ↦ hop_on t w (one_more a (home_of t s)) (bound (length a.verdicts) to bytes) (home_of t s) rule.NoLsp
           ])
           (differ to.edge (home_of t s) (λ h. g.0 (sym h)))
           ∙ ap (hop_over t (one_more a (home_of t s)) (bound (length a.verdicts) to bytes) (home_of t s) rule.NoLsp) g.2))

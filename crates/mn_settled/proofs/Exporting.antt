@@ -14,9 +14,11 @@ use Rattle.mn_topo.specs.declared.steps.Step.TheVariants as step
 use Rattle.mn_ledger.specs.Turns.{PeersAreInTurn}
 use Rattle.mn_ledger.specs.Tables.{put_pair}
 use Rattle.mn_ledger.specs.Places.{edges}
-use Rattle.mn_ledger.specs.World.{SiteRoute, Config, Export, Telling, Open, Alive, Announce, Unreach, Peerings, World}
-use Rattle.mn_ledger.specs.Vpn.{Told, tellings_of, told_to, peers_live, state_heard, is_established, exports_of, reply, changed, steady_peers, route_news}
-use Rattle.mn_ledger.specs.Vpn.{bgp_restarted, bgp_counted, with_told, peerings_after, believed_from}
+use Rattle.mn_ledger.specs.World.{SiteRoute, Config, Export, Telling, Open, BgpKeepAlive, Announcement, Withdrawal, Peerings, World}
+use Rattle.mn_ledger.specs.Exports.{exports_of}
+use Rattle.mn_ledger.specs.Bgp.{Told, tellings_of, told_to, peers_live, state_heard, is_established, reply, changed, steady_peers, route_news}
+use Rattle.mn_ledger.specs.Bgp.{bgp_restarted, bgp_counted, with_told, peerings_after}
+use Rattle.mn_ledger.specs.Held.{believed_from}
 use Rattle.mn_ledger.specs.Ledger.{config_after, after}
 use Rattle.mn_ledger.specs.Packets.{Packets}
 use Rattle.mn_ledger.specs.Refusal.{is_empty}
@@ -220,24 +222,24 @@ module _ (t : Network) (c : Config) (p : Peerings) (a b : ℕ) (i : In (edges t)
         on = λ f. absurd (clash (sym f ∙ now_off));
         off =
             λ f x m. h.off (few-before few) x (subst (λ ys. In ys x)
-            (ap (believed_from []) (all-told (Alive ∷ []) [] (ap (λ n. reply (state_heard n) message (exports_of t c a)) e
-            ∙ ap (λ y. reply OpenSent y (exports_of t c a)) is) (unsteady few)) ∙ believed-append [] (p.told a b) (Alive ∷ [])) m);
+            (ap (believed_from []) (all-told (BgpKeepAlive ∷ []) [] (ap (λ n. reply (state_heard n) message (exports_of t c a)) e
+            ∙ ap (λ y. reply OpenSent y (exports_of t c a)) is) (unsteady few)) ∙ believed-append [] (p.told a b) (BgpKeepAlive ∷ [])) m);
       }
 
   hears-second : p.heard a b ≡ 1 → IsTold
   hears-second e =
-      let is : message ≡ Alive = subst (λ n. IsPeerNth n message) e turn in
+      let is : message ≡ BgpKeepAlive = subst (λ n. IsPeerNth n message) e turn in
       let few : p.heard a b < 2 = subst (λ n. n < 2) (sym e) (omega arith) in
       let now_on : is_established c then a b ≡ true = many_on (peers_live c a b) (put_pair p.heard a b (p.heard a b + 1) a b) alive
       (subst (λ n. 2 ≤ n) (sym (heard-is ∙ ap (λ n. n + 1) e)) (omega arith)) in
-      let all : then.told a b ≡ p.told a b ++ map (λ export. Announce export) (exports_of t c a) =
-      all-told (map (λ export. Announce export) (exports_of t c a)) []
+      let all : then.told a b ≡ p.told a b ++ map (λ export. Announcement export) (exports_of t c a) =
+      all-told (map (λ export. Announcement export) (exports_of t c a)) []
       (ap (λ n. reply (state_heard n) message (exports_of t c a)) e ∙ ap (λ y. reply OpenConfirm y (exports_of t c a)) is) (unsteady few)
-      ∙ ap (λ ys. p.told a b ++ ys) (append-nil (map (λ export. Announce export) (exports_of t c a))) in
+      ∙ ap (λ ys. p.told a b ++ ys) (append-nil (map (λ export. Announcement export) (exports_of t c a))) in
       record {
         on =
             λ f. subst (λ ys. AreSame ys (exports_of t c a)) (sym
-            (ap (believed_from []) all ∙ believed-append [] (p.told a b) (map (λ export. Announce export) (exports_of t c a))))
+            (ap (believed_from []) all ∙ believed-append [] (p.told a b) (map (λ export. Announcement export) (exports_of t c a))))
             (announced-all (believed_from [] (p.told a b)) (exports_of t c a) (h.off (few-before few)) (exports-different t c a statics));
         off = λ f. absurd (clash (sym now_on ∙ f));
       }
@@ -262,9 +264,9 @@ module _ (t : Network) (c : Config) (p : Peerings) (a b : ℕ) (i : In (edges t)
     where
       silent : (m : Telling) → reply Established m (exports_of t c a) ≡ []
       silent Open = refl
-      silent Alive = refl
-      silent (Announce x) = refl
-      silent (Unreach v x) = refl
+      silent BgpKeepAlive = refl
+      silent (Announcement x) = refl
+      silent (Withdrawal v x) = refl
 
   pub hears : IsTold
   hears = by_count (p.heard a b) refl

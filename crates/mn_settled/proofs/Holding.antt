@@ -13,8 +13,11 @@ use Rattle.mn_base.proofs.Bools.{clash}
 use Rattle.mn_topo.specs.declared.steps.JournalEntry.{JournalEntry}
 use Rattle.mn_ledger.specs.Places.{loopback, vrf_at, edges}
 use Rattle.mn_ledger.specs.World.{Config, Export, Telling, World}
-use Rattle.mn_ledger.specs.Vpn.{peers_live, is_established, exports_of, present_with, HeldRoute, Own, Near, Far, held_by, own_routes, near_routes, imported}
-use Rattle.mn_ledger.specs.Vpn.{meet, heard_of, believed, believed_from, far_routes, held, is_better, matching, unbeaten, first_of, best}
+use Rattle.mn_ledger.specs.Exports.{exports_of, present_with}
+use Rattle.mn_ledger.specs.Bgp.{peers_live, is_established}
+use Rattle.mn_ledger.specs.Held.{HeldRoute, Own, Near, Far, held_by, own_routes, near_routes, imported}
+use Rattle.mn_ledger.specs.Exports.{meet}
+use Rattle.mn_ledger.specs.Held.{heard_of, believed, believed_from, far_routes, held, is_better, matching, unbeaten, first_of, best}
 use Rattle.mn_ledger.specs.Ledger.{after, start, no_packets, next_of, left_by, world_from, world_of}
 use Rattle.mn_ledger.specs.Packets.{Packets, packets_after}
 use Rattle.mn_ledger.specs.Lawful.{IsLawfulFrom, IsLawfulJournal}

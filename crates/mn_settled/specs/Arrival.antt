@@ -8,7 +8,7 @@ use Rattle.mn_ipv4.specs.Header.{ttl_of, destination_of}
 use Rattle.mn_ledger.specs.Entry.{first_rule}
 use Rattle.mn_ledger.specs.Places.{home_of, vrf_of}
 use Rattle.mn_ledger.specs.World.{World}
-use Rattle.mn_ledger.specs.Vpn.{HeldRoute, held, best}
+use Rattle.mn_ledger.specs.Held.{HeldRoute, held, best}
 use Rattle.mn_ledger.specs.Packets.{Packets, entry_rules}
 use Rattle.mn_ledger.specs.Verdicts.{verdict_on}
 use Rattle.mn_ledger.specs.Ledger.{left_by}

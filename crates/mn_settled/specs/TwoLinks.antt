@@ -7,7 +7,7 @@ use Rattle.mn_topo.specs.Lawful.{IsLawful}
 use Rattle.mn_topo.specs.declared.steps.Step.TheVariants.{Inject, Carry}
 use Rattle.mn_topo.specs.declared.steps.JournalEntry.{JournalEntry}
 use Rattle.mn_ipv4.specs.Header.{ttl_of}
-use Rattle.mn_ledger.specs.Vpn.{HeldRoute, Far}
+use Rattle.mn_ledger.specs.Held.{HeldRoute, Far}
 use Rattle.mn_ledger.specs.Ledger.{world_of, packets_of}
 use Rattle.mn_ledger.specs.Lawful.{IsLawfulJournal}
 use Rattle.mn_ledger.specs.Settled.{IsSteady}

@@ -35,7 +35,7 @@ ghost use Rattle.mn_ipv4.specs.Header.{ttl_of};
 ghost use Rattle.std.specs.List.{Contains};
 ghost use Rattle.mn_ledger.specs.Places.{home_of, edges};
 ghost use Rattle.mn_settled.specs.Routes.{TellTheirExports, HoldsItsRoutes, routes_of};
-ghost use Rattle.mn_ledger.specs.Vpn.{HeldRoute, held, best};
+ghost use Rattle.mn_ledger.specs.Held.{HeldRoute, held, best};
 ghost use Rattle.mn_ledger.specs.Verdicts.{injections};
 ghost use Rattle.mn_settled.specs.Ways.{AreUpWhereOdd, KnowTheWays, Reaches};
 ghost use Rattle.mn_settled.specs.TwoLinks.{TwoLinksCarryAPacket};

@@ -12,7 +12,8 @@ use Rattle.mn_topo.specs.Network.{Network, wiring_of}
 use Rattle.mn_ledger.specs.World.{World}
 use Rattle.mn_ledger.specs.Transport.{lives}
 use Rattle.mn_ledger.specs.Transport as transport
-use Rattle.mn_ledger.specs.Vpn.{bgp_state_of, HeldRoute, Own, Near, Far}
+use Rattle.mn_ledger.specs.Bgp.{bgp_state_of}
+use Rattle.mn_ledger.specs.Held.{HeldRoute, Own, Near, Far}
 use Rattle.mn_text.specs.Addresses.{prefix_text}
 use Rattle.mn_frames.specs.Given.{Labelling, label_at}
 use Rattle.mn_ledger.specs.Items.{Item}

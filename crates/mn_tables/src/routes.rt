@@ -1,7 +1,7 @@
 //! The routes of a VRF (RFC 4364, section 3).
 ghost use Rattle.std.specs.Prelude.{◌≡◌, ℕ};
 ghost use Rattle.mn_text.specs.Addresses.{prefix_text};
-ghost use Rattle.mn_ledger.specs.Vpn.{HeldRoute, Own, Near, Far};
+ghost use Rattle.mn_ledger.specs.Held.{HeldRoute, Own, Near, Far};
 ghost use Rattle.mn_frames.specs.Given.{Labelling, label_at};
 ghost use Rattle.mn_output.specs.Tables.{route_line};
 ghost use Rattle.mn_tables.specs.Telling.{standing, Tells};

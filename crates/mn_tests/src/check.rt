@@ -6,12 +6,47 @@ use std::alloc::{AllocError, Global};
 use std::test::Fail;
 
 /// Three nodes in a row, with a VRF and a site at either end.
-const ROW: &str =
-    "[[node]]\nname = \"pe1\"\nloopback = \"192.0.2.1\"\n[[node]]\nname = \"p\"\nloopback = \"192.0.2.2\"\n[[node]]\nname = \"pe2\"\nloopback = \"192.0.2.3\"\n[[link]]\na = \"pe1\"\nb = \"p\"\n[[link]]\na = \"p\"\nb = \"pe2\"\n[[vrf]]\nname = \"red1\"\nnode = \"pe1\"\nrd = \"65000:1\"\n[[vrf]]\nname = \"red2\"\nnode = \"pe2\"\nrd = \"65000:2\"\n[[site]]\nname = \"a\"\nvrf = \"red1\"\nprefixes = [\"10.1.0.0/16\", \"10.3.0.0/16\"]\n[[site]]\nname = \"b\"\nvrf = \"red2\"\nprefixes = [\"10.2.0.0/16\"]\n";
+const ROW: &str = r#"[[node]]
+name = "pe1"
+loopback = "192.0.2.1"
+[[node]]
+name = "p"
+loopback = "192.0.2.2"
+[[node]]
+name = "pe2"
+loopback = "192.0.2.3"
+[[link]]
+a = "pe1"
+b = "p"
+[[link]]
+a = "p"
+b = "pe2"
+[[vrf]]
+name = "red1"
+node = "pe1"
+rd = "65000:1"
+[[vrf]]
+name = "red2"
+node = "pe2"
+rd = "65000:2"
+[[site]]
+name = "a"
+vrf = "red1"
+prefixes = ["10.1.0.0/16", "10.3.0.0/16"]
+[[site]]
+name = "b"
+vrf = "red2"
+prefixes = ["10.2.0.0/16"]
+"#;
 
 /// Two nodes with one loopback.
-const TWICE: &str =
-    "[[node]]\nname = \"a\"\nloopback = \"192.0.2.1\"\n[[node]]\nname = \"b\"\nloopback = \"192.0.2.1\"\n";
+const TWICE: &str = r#"[[node]]
+name = "a"
+loopback = "192.0.2.1"
+[[node]]
+name = "b"
+loopback = "192.0.2.1"
+"#;
 
 /// Whether the topology, named t, is answered by this status and line.
 fn answers(

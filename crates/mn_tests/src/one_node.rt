@@ -5,20 +5,81 @@ use std::alloc::{AllocError, Global};
 use std::test::Fail;
 
 /// A node with sites a (10.1.0.0/16) and b (10.2.0.0/16).
-const TWO_SITES: &str =
-    "[[node]]\nname = \"pe1\"\nloopback = \"192.0.2.1\"\n\n[[vrf]]\nname = \"red\"\nnode = \"pe1\"\nrd = \"65000:1\"\nimport = [\"65000:100\"]\nexport = [\"65000:100\"]\n\n[[site]]\nname = \"a\"\nvrf = \"red\"\nprefixes = [\"10.1.0.0/16\"]\n\n[[site]]\nname = \"b\"\nvrf = \"red\"\nprefixes = [\"10.2.0.0/16\"]\n";
+const TWO_SITES: &str = r#"[[node]]
+name = "pe1"
+loopback = "192.0.2.1"
+
+[[vrf]]
+name = "red"
+node = "pe1"
+rd = "65000:1"
+import = ["65000:100"]
+export = ["65000:100"]
+
+[[site]]
+name = "a"
+vrf = "red"
+prefixes = ["10.1.0.0/16"]
+
+[[site]]
+name = "b"
+vrf = "red"
+prefixes = ["10.2.0.0/16"]
+"#;
 
 /// The same node with sites a (0.0.0.0/0), b (10.2.0.0/24) and c (10.2.0.1/32).
-const NESTED_SITES: &str =
-    "[[node]]\nname = \"pe1\"\nloopback = \"192.0.2.1\"\n[[vrf]]\nname = \"red\"\nnode = \"pe1\"\nrd = \"65000:1\"\n[[site]]\nname = \"a\"\nvrf = \"red\"\nprefixes = [\"0.0.0.0/0\"]\n[[site]]\nname = \"b\"\nvrf = \"red\"\nprefixes = [\"10.2.0.0/24\"]\n[[site]]\nname = \"c\"\nvrf = \"red\"\nprefixes = [\"10.2.0.1/32\"]\n";
+const NESTED_SITES: &str = r#"[[node]]
+name = "pe1"
+loopback = "192.0.2.1"
+[[vrf]]
+name = "red"
+node = "pe1"
+rd = "65000:1"
+[[site]]
+name = "a"
+vrf = "red"
+prefixes = ["0.0.0.0/0"]
+[[site]]
+name = "b"
+vrf = "red"
+prefixes = ["10.2.0.0/24"]
+[[site]]
+name = "c"
+vrf = "red"
+prefixes = ["10.2.0.1/32"]
+"#;
 
 /// Without site c.
-const TWO_NESTED_SITES: &str =
-    "[[node]]\nname = \"pe1\"\nloopback = \"192.0.2.1\"\n[[vrf]]\nname = \"red\"\nnode = \"pe1\"\nrd = \"65000:1\"\n[[site]]\nname = \"a\"\nvrf = \"red\"\nprefixes = [\"0.0.0.0/0\"]\n[[site]]\nname = \"b\"\nvrf = \"red\"\nprefixes = [\"10.2.0.0/24\"]\n";
+const TWO_NESTED_SITES: &str = r#"[[node]]
+name = "pe1"
+loopback = "192.0.2.1"
+[[vrf]]
+name = "red"
+node = "pe1"
+rd = "65000:1"
+[[site]]
+name = "a"
+vrf = "red"
+prefixes = ["0.0.0.0/0"]
+[[site]]
+name = "b"
+vrf = "red"
+prefixes = ["10.2.0.0/24"]
+"#;
 
 /// With site a alone.
-const ONE_SITE: &str =
-    "[[node]]\nname = \"pe1\"\nloopback = \"192.0.2.1\"\n[[vrf]]\nname = \"red\"\nnode = \"pe1\"\nrd = \"65000:1\"\n[[site]]\nname = \"a\"\nvrf = \"red\"\nprefixes = [\"0.0.0.0/0\"]\n";
+const ONE_SITE: &str = r#"[[node]]
+name = "pe1"
+loopback = "192.0.2.1"
+[[vrf]]
+name = "red"
+node = "pe1"
+rd = "65000:1"
+[[site]]
+name = "a"
+vrf = "red"
+prefixes = ["0.0.0.0/0"]
+"#;
 
 /// A capture of IPv4 packets: link type 228.
 const CAPTURE_HEADER: [u8; 24] = [
@@ -138,8 +199,10 @@ fn a_packet_reaches_the_other_site(rt: HostRuntime) -> Result<(), Fail> {
     let outcome = command(alloc, &run_words(alloc)?, &mut shelf, &mut out);
     assert!(rt; outcome == Outcome::Done);
     assert_eq!(rt; outcome.status(), 0);
-    let report =
-        "packet 1 line 1 site a record 1 delivered b ttl 63 copy 1 path pe1\ntotal packets 1 delivered 1 dropped 0 flying 0 steps 1 refused 0 tick 0\n";
+    let report = "\
+packet 1 line 1 site a record 1 delivered b ttl 63 copy 1 path pe1
+total packets 1 delivered 1 dropped 0 flying 0 steps 1 refused 0 tick 0
+";
     assert!(rt; out.bytes() == report.as_bytes());
     let mut delivered = Vec::from_slice(alloc, &CAPTURE_HEADER)?;
     delivered.extend_from_slice(&RECORD_HEADER)?;
@@ -181,14 +244,29 @@ fn each_rule_drops_its_packet(rt: HostRuntime) -> Result<(), Fail> {
             NO_ROUTE.as_slice(),
         ],
     )?;
-    let script =
-        "inject a 1\ninject a 2\ninject a 3\ninject a 4\ninject a 5\ninject a 6\ninject a 7\n";
+    let script = "\
+inject a 1
+inject a 2
+inject a 3
+inject a 4
+inject a 5
+inject a 6
+inject a 7
+";
     let mut shelf = shelf(alloc, TWO_SITES, script, capture, Vec::new(alloc))?;
     let mut out = MemSink::new(alloc, Vec::new(alloc));
     let outcome = command(alloc, &run_words(alloc)?, &mut shelf, &mut out);
     assert!(rt; outcome == Outcome::Done);
-    let report =
-        "packet 1 line 1 site a record 1 dropped BadChecksum at pe1 path pe1\npacket 2 line 2 site a record 2 dropped Truncated at pe1 path pe1\npacket 3 line 3 site a record 3 dropped Malformed at pe1 path pe1\npacket 4 line 4 site a record 4 dropped NotIpv4 at pe1 path pe1\npacket 5 line 5 site a record 5 dropped NotUnicast at pe1 path pe1\npacket 6 line 6 site a record 6 dropped TtlExpired at pe1 path pe1\npacket 7 line 7 site a record 7 dropped NoRoute at pe1 path pe1\ntotal packets 7 delivered 0 dropped 7 flying 0 steps 7 refused 0 tick 0\n";
+    let report = "\
+packet 1 line 1 site a record 1 dropped BadChecksum at pe1 path pe1
+packet 2 line 2 site a record 2 dropped Truncated at pe1 path pe1
+packet 3 line 3 site a record 3 dropped Malformed at pe1 path pe1
+packet 4 line 4 site a record 4 dropped NotIpv4 at pe1 path pe1
+packet 5 line 5 site a record 5 dropped NotUnicast at pe1 path pe1
+packet 6 line 6 site a record 6 dropped TtlExpired at pe1 path pe1
+packet 7 line 7 site a record 7 dropped NoRoute at pe1 path pe1
+total packets 7 delivered 0 dropped 7 flying 0 steps 7 refused 0 tick 0
+";
     assert!(rt; out.bytes() == report.as_bytes());
     assert!(rt; shelf.file("out/delivered.pcap") == Some(CAPTURE_HEADER.as_slice()));
     Ok(())
@@ -206,14 +284,20 @@ fn reports(alloc: Global, topology: &str, report: &str) -> Result<bool, AllocErr
 #[test]
 fn the_longest_prefix_decides(rt: HostRuntime) -> Result<(), Fail> {
     let alloc = rt.alloc();
-    let to_c =
-        "packet 1 line 1 site a record 1 delivered c ttl 63 copy 1 path pe1\ntotal packets 1 delivered 1 dropped 0 flying 0 steps 1 refused 0 tick 0\n";
+    let to_c = "\
+packet 1 line 1 site a record 1 delivered c ttl 63 copy 1 path pe1
+total packets 1 delivered 1 dropped 0 flying 0 steps 1 refused 0 tick 0
+";
     assert!(rt; reports(alloc, NESTED_SITES, to_c)?);
-    let to_b =
-        "packet 1 line 1 site a record 1 delivered b ttl 63 copy 1 path pe1\ntotal packets 1 delivered 1 dropped 0 flying 0 steps 1 refused 0 tick 0\n";
+    let to_b = "\
+packet 1 line 1 site a record 1 delivered b ttl 63 copy 1 path pe1
+total packets 1 delivered 1 dropped 0 flying 0 steps 1 refused 0 tick 0
+";
     assert!(rt; reports(alloc, TWO_NESTED_SITES, to_b)?);
-    let back_to_a =
-        "packet 1 line 1 site a record 1 delivered a ttl 63 copy 1 path pe1\ntotal packets 1 delivered 1 dropped 0 flying 0 steps 1 refused 0 tick 0\n";
+    let back_to_a = "\
+packet 1 line 1 site a record 1 delivered a ttl 63 copy 1 path pe1
+total packets 1 delivered 1 dropped 0 flying 0 steps 1 refused 0 tick 0
+";
     assert!(rt; reports(alloc, ONE_SITE, back_to_a)?);
     Ok(())
 }
@@ -227,8 +311,12 @@ fn a_record_past_the_capture_is_refused_and_the_run_goes_on(rt: HostRuntime) -> 
     let mut out = MemSink::new(alloc, Vec::new(alloc));
     let outcome = command(alloc, &run_words(alloc)?, &mut shelf, &mut out);
     assert!(rt; outcome == Outcome::Done);
-    let report =
-        "line 1 refused NoRecord\npacket 1 line 4 site b record 1 delivered b ttl 63 copy 1 path pe1\npacket 2 line 5 site a record 1 delivered b ttl 63 copy 2 path pe1\ntotal packets 2 delivered 2 dropped 0 flying 0 steps 2 refused 1 tick 0\n";
+    let report = "\
+line 1 refused NoRecord
+packet 1 line 4 site b record 1 delivered b ttl 63 copy 1 path pe1
+packet 2 line 5 site a record 1 delivered b ttl 63 copy 2 path pe1
+total packets 2 delivered 2 dropped 0 flying 0 steps 2 refused 1 tick 0
+";
     assert!(rt; out.bytes() == report.as_bytes());
     Ok(())
 }
@@ -360,8 +448,11 @@ fn frames_of_ethernet_carry_packets(rt: HostRuntime) -> Result<(), Fail> {
     let mut out = MemSink::new(alloc, Vec::new(alloc));
     let outcome = command(alloc, &run_words(alloc)?, &mut shelf, &mut out);
     assert!(rt; outcome == Outcome::Done);
-    let report =
-        "packet 1 line 1 site a record 1 delivered b ttl 63 copy 1 path pe1\npacket 2 line 2 site a record 2 dropped NotIpv4 at pe1 path pe1\ntotal packets 2 delivered 1 dropped 1 flying 0 steps 2 refused 0 tick 0\n";
+    let report = "\
+packet 1 line 1 site a record 1 delivered b ttl 63 copy 1 path pe1
+packet 2 line 2 site a record 2 dropped NotIpv4 at pe1 path pe1
+total packets 2 delivered 1 dropped 1 flying 0 steps 2 refused 0 tick 0
+";
     assert!(rt; out.bytes() == report.as_bytes());
     let mut delivered = Vec::from_slice(alloc, &CAPTURE_HEADER)?;
     delivered.extend_from_slice(&RECORD_HEADER)?;
@@ -412,19 +503,37 @@ fn a_missing_input_is_a_read_fault(rt: HostRuntime) -> Result<(), Fail> {
     Ok(())
 }
 
-#[test]
-fn a_failing_begin_leaves_no_file(rt: HostRuntime) -> Result<(), Fail> {
-    let alloc = rt.alloc();
+/// Whether a run ends by a write fault where the call of this number fails, as it begins its files: nothing is put,
+/// and these stand.
+fn is_begun(
+    alloc: Global,
+    call: u64,
+    journal: Option<&[u8]>,
+    labels: Option<&[u8]>,
+) -> Result<bool, AllocError> {
     let capture = capture(alloc, &[PACKET.as_slice()])?;
-    let failing = vec![in alloc; 7u64]?;
+    let failing = vec![in alloc; call]?;
     let mut shelf = shelf(alloc, TWO_SITES, "inject a 1\n", capture, failing)?;
     let mut out = MemSink::new(alloc, Vec::new(alloc));
     let outcome = command(alloc, &run_words(alloc)?, &mut shelf, &mut out);
-    assert!(rt; outcome == Outcome::WriteFault);
-    assert_eq!(rt; outcome.status(), 7);
-    assert!(rt; shelf.file("out/journal.txt").is_none());
-    assert!(rt; shelf.file("out/delivered.pcap").is_none());
-    assert!(rt; out.bytes().is_empty());
+    Ok(
+        outcome == Outcome::WriteFault
+            && outcome.status() == 7
+            && out.bytes().is_empty()
+            && shelf.file("out/journal.txt") == journal
+            && shelf.file("out/labels.txt") == labels
+            && shelf.file("out/delivered.pcap").is_none(),
+    )
+}
+
+#[test]
+fn a_failing_begin_leaves_the_files_before_it(rt: HostRuntime) -> Result<(), Fail> {
+    // Calls 7 to 9 begin the journal, the labels and the deliveries.
+    let alloc = rt.alloc();
+    let empty = b"".as_slice();
+    assert!(rt; is_begun(alloc, 7, None, None)?);
+    assert!(rt; is_begun(alloc, 8, Some(empty), None)?);
+    assert!(rt; is_begun(alloc, 9, Some(empty), Some(empty))?);
     Ok(())
 }
 
@@ -434,11 +543,12 @@ const JOURNAL: &str = "0 inject a 1\n";
 /// The labels that the node gives to its sites.
 const LABELS: &str = "pe1 16 site a 1\npe1 17 site b 1\n";
 
-/// Whether a run that sends one packet ends by a write fault where the call of this number fails: nothing is
+/// Whether a run that sends one packet ends with this status where the call of this number fails: nothing is
 /// put, and the files are these.
 fn is_cut_off(
     alloc: Global,
     call: u64,
+    status: u8,
     journal: &str,
     labels: &str,
     delivered: &[u8],
@@ -449,7 +559,7 @@ fn is_cut_off(
     let mut out = MemSink::new(alloc, Vec::new(alloc));
     let outcome = command(alloc, &run_words(alloc)?, &mut shelf, &mut out);
     Ok(
-        outcome.status() == 7
+        outcome.status() == status
             && out.bytes().is_empty()
             && shelf.file("out/journal.txt") == Some(journal.as_bytes())
             && shelf.file("out/labels.txt") == Some(labels.as_bytes())
@@ -465,13 +575,23 @@ const HALF_DELIVERED: [u8; 34] = [
 ];
 
 #[test]
+fn a_packet_that_cannot_be_fetched_again_leaves_the_files_empty(
+    rt: HostRuntime,
+) -> Result<(), Fail> {
+    // Calls 1 to 6 read the inputs, 7 to 9 begin the files, and 10 fetches the packet as it is injected.
+    assert!(rt; is_cut_off(rt.alloc(), 10, 6, "", "", &[])?);
+    assert_eq!(rt; Outcome::ReadFault.status(), 6);
+    Ok(())
+}
+
+#[test]
 fn a_failing_append_leaves_a_first_part(rt: HostRuntime) -> Result<(), Fail> {
-    // Calls 1 to 6 read the inputs, 7 to 9 begin the files, and 10 fetches the packet. Then each file is
-    // appended by one call, and where it fails half of the bytes stay.
+    // Behind call 10, which fetches the packet, each file is appended by one call, and where it fails half of the
+    // bytes stay.
     let alloc = rt.alloc();
-    assert!(rt; is_cut_off(alloc, 11, "0 inje", "", &[])?);
-    assert!(rt; is_cut_off(alloc, 12, JOURNAL, "pe1 16 site a 1\n", &[])?);
-    assert!(rt; is_cut_off(alloc, 13, JOURNAL, LABELS, &HALF_DELIVERED)?);
+    assert!(rt; is_cut_off(alloc, 11, 7, "0 inje", "", &[])?);
+    assert!(rt; is_cut_off(alloc, 12, 7, JOURNAL, "pe1 16 site a 1\n", &[])?);
+    assert!(rt; is_cut_off(alloc, 13, 7, JOURNAL, LABELS, &HALF_DELIVERED)?);
     Ok(())
 }
 

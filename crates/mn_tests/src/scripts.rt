@@ -6,8 +6,18 @@ use std::alloc::{AllocError, Global};
 use std::test::Fail;
 
 /// A node with site a.
-const ONE_SITE: &str =
-    "[[node]]\nname = \"pe1\"\nloopback = \"192.0.2.1\"\n[[vrf]]\nname = \"red\"\nnode = \"pe1\"\nrd = \"65000:1\"\n[[site]]\nname = \"a\"\nvrf = \"red\"\nprefixes = [\"0.0.0.0/0\"]\n";
+const ONE_SITE: &str = r#"[[node]]
+name = "pe1"
+loopback = "192.0.2.1"
+[[vrf]]
+name = "red"
+node = "pe1"
+rd = "65000:1"
+[[site]]
+name = "a"
+vrf = "red"
+prefixes = ["0.0.0.0/0"]
+"#;
 
 /// Whether the script is answered by this status and line, with no capture there.
 fn answers(alloc: Global, script: Vec<u8>, status: u8, line: &str) -> Result<bool, AllocError> {

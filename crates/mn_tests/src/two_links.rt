@@ -1,11 +1,14 @@
 // Three nodes in a row: a packet that two labels carry from the site at one end to the site at the other.
+ghost use Rattle.std.specs.Prelude.{◌<◌};
+
 use crate::one_node::{run_words, shelf};
-use mn_edge::MemSink;
+use mn_edge::{MemShelf, MemSink};
 use mn_run::{Outcome, command};
+use std::alloc::{AllocError, Global};
 use std::test::Fail;
 
 /// Sites a (10.1.0.0/16) at pe1 and b (10.2.0.0/16) at pe2, whose VRFs share a route target.
-const TOPOLOGY: &str = r#"
+pub(crate) const TOPOLOGY: &str = r#"
 as = 65000
 [[node]]
 name = "pe1"
@@ -46,7 +49,7 @@ vrf = "red2"
 prefixes = ["10.2.0.0/16"]
 "#;
 
-const SCRIPT: &str = "\
+pub(crate) const SCRIPT: &str = "\
 link up pe1 p       # both links come up, and with them LDP's sessions
 link up p pe2
 bgp up pe1 pe2      # the edges begin to talk
@@ -62,7 +65,7 @@ flush               # the packet arrives
 ";
 
 /// Link type 228: a UDP packet of 28 bytes from 10.1.0.1 to 10.2.0.1 with TTL 64.
-const CAPTURE: [u8; 68] = [
+pub(crate) const CAPTURE: [u8; 68] = [
     0xD4, 0xC3, 0xB2, 0xA1, 0x02, 0x00, 0x04, 0x00, 0x00, 0x00, 0x00, 0x00, 0x00, 0x00, 0x00, 0x00,
     0x00, 0x00, 0x04, 0x00, 0xE4, 0x00, 0x00, 0x00, 0x00, 0x00, 0x00, 0x00, 0x00, 0x00, 0x00, 0x00,
     0x1C, 0x00, 0x00, 0x00, 0x1C, 0x00, 0x00, 0x00, 0x45, 0x00, 0x00, 0x1C, 0x00, 0x00, 0x00, 0x00,
@@ -70,7 +73,7 @@ const CAPTURE: [u8; 68] = [
     0x00, 0x08, 0x00, 0x00,
 ];
 
-const REPORT: &str = "\
+pub(crate) const REPORT: &str = "\
 link pe1 p up cost 10 changes 1
 link p pe2 up cost 10 changes 1
 tree pe1 to p cost 10 next p
@@ -152,6 +155,202 @@ const FIRST_LINK: [u8; 78] = [
     0x00, 0x01, 0x0A, 0x02, 0x00, 0x01, 0x00, 0x35, 0x00, 0x35, 0x00, 0x08, 0x00, 0x00,
 ];
 
+/// Link type 9, at tick 2 (2,000 µs) a frame of PPP: label 18 alone at the bottom, with TTL 62, since p is the last
+/// but one and pops; the packet as it was pushed.
+const SECOND_LINK: [u8; 74] = [
+    0xD4, 0xC3, 0xB2, 0xA1, 0x02, 0x00, 0x04, 0x00, 0x00, 0x00, 0x00, 0x00, 0x00, 0x00, 0x00, 0x00,
+    0x00, 0x00, 0x04, 0x00, 0x09, 0x00, 0x00, 0x00, 0x00, 0x00, 0x00, 0x00, 0xD0, 0x07, 0x00, 0x00,
+    0x22, 0x00, 0x00, 0x00, 0x22, 0x00, 0x00, 0x00, 0x02, 0x81, 0x00, 0x01, 0x21, 0x3E, 0x45, 0x00,
+    0x00, 0x1C, 0x00, 0x00, 0x00, 0x00, 0x3F, 0x11, 0x67, 0xCD, 0x0A, 0x01, 0x00, 0x01, 0x0A, 0x02,
+    0x00, 0x01, 0x00, 0x35, 0x00, 0x35, 0x00, 0x08, 0x00, 0x00,
+];
+
+/// The labels that each node gives: to the other nodes, and to its site.
+const LABELS: &str = "\
+pe1 16 fec 192.0.2.2/32
+pe1 17 fec 192.0.2.3/32
+pe1 18 site a 1
+p 16 fec 192.0.2.1/32
+p 17 fec 192.0.2.3/32
+pe2 16 fec 192.0.2.1/32
+pe2 17 fec 192.0.2.2/32
+pe2 18 site b 1
+";
+
+/// The PDUs that pe1 says to p.
+const PE1_TO_P: [&str; 6] = [
+    // Message 1, Initialization: version 1, KeepAlive time 180, PDUs of at most 4,096 bytes, to 192.0.2.2:0.
+    "00010020C0000201000002000016000000010500000E000100B400001000C00002020000",
+    // 2, KeepAlive.
+    "0001000EC000020100000201000400000002",
+    // 3, Address 192.0.2.1.
+    "00010018C000020100000300000E00000003010100060001C0000201",
+    // 4, Mapping: 192.0.2.1/32 by label 3.
+    "00010022C0000201000004000018000000040100000802000120C00002010200000400000003",
+    // 5, Mapping: 192.0.2.2/32 by label 16.
+    "00010022C0000201000004000018000000050100000802000120C00002020200000400000010",
+    // 6, Mapping: 192.0.2.3/32 by label 17.
+    "00010022C0000201000004000018000000060100000802000120C00002030200000400000011",
+];
+
+/// The PDUs that p says to pe1.
+const P_TO_PE1: [&str; 6] = [
+    // Message 1, Initialization: version 1, KeepAlive time 180, PDUs of at most 4,096 bytes, to 192.0.2.1:0.
+    "00010020C0000202000002000016000000010500000E000100B400001000C00002010000",
+    // 2, KeepAlive.
+    "0001000EC000020200000201000400000002",
+    // 3, Address 192.0.2.2.
+    "00010018C000020200000300000E00000003010100060001C0000202",
+    // 4, Mapping: 192.0.2.2/32 by label 3.
+    "00010022C0000202000004000018000000040100000802000120C00002020200000400000003",
+    // 5, Mapping: 192.0.2.3/32 by label 17.
+    "00010022C0000202000004000018000000050100000802000120C00002030200000400000011",
+    // 6, Mapping: 192.0.2.1/32 by label 16.
+    "00010022C0000202000004000018000000060100000802000120C00002010200000400000010",
+];
+
+/// The PDUs that p says to pe2.
+const P_TO_PE2: [&str; 6] = [
+    // Message 1, Initialization: version 1, KeepAlive time 180, PDUs of at most 4,096 bytes, to 192.0.2.3:0.
+    "00010020C0000202000002000016000000010500000E000100B400001000C00002030000",
+    // 2, KeepAlive.
+    "0001000EC000020200000201000400000002",
+    // 3, Address 192.0.2.2.
+    "00010018C000020200000300000E00000003010100060001C0000202",
+    // 4, Mapping: 192.0.2.2/32 by label 3.
+    "00010022C0000202000004000018000000040100000802000120C00002020200000400000003",
+    // 5, Mapping: 192.0.2.3/32 by label 17.
+    "00010022C0000202000004000018000000050100000802000120C00002030200000400000011",
+    // 6, Mapping: 192.0.2.1/32 by label 16.
+    "00010022C0000202000004000018000000060100000802000120C00002010200000400000010",
+];
+
+/// The PDUs that pe2 says to p.
+const PE2_TO_P: [&str; 6] = [
+    // Message 1, Initialization: version 1, KeepAlive time 180, PDUs of at most 4,096 bytes, to 192.0.2.2:0.
+    "00010020C0000203000002000016000000010500000E000100B400001000C00002020000",
+    // 2, KeepAlive.
+    "0001000EC000020300000201000400000002",
+    // 3, Address 192.0.2.3.
+    "00010018C000020300000300000E00000003010100060001C0000203",
+    // 4, Mapping: 192.0.2.3/32 by label 3.
+    "00010022C0000203000004000018000000040100000802000120C00002030200000400000003",
+    // 5, Mapping: 192.0.2.2/32 by label 17.
+    "00010022C0000203000004000018000000050100000802000120C00002020200000400000011",
+    // 6, Mapping: 192.0.2.1/32 by label 16.
+    "00010022C0000203000004000018000000060100000802000120C00002010200000400000010",
+];
+
+/// The messages that pe1 tells pe2.
+const PE1_TO_PE2: [&str; 3] = [
+    // OPEN: version 4, AS 65000, hold time 0, identifier 192.0.2.1, the capability of VPN-IPv4.
+    "FFFFFFFFFFFFFFFFFFFFFFFFFFFFFFFF00250104FDE80000C0000201080206010400010080",
+    // KEEPALIVE.
+    "FFFFFFFFFFFFFFFFFFFFFFFFFFFFFFFF001304",
+    // UPDATE: by next hop 192.0.2.1 label 18, 65000:1 and 10.1.0.0/16, with the target 65000:100.
+    "FFFFFFFFFFFFFFFFFFFFFFFFFFFFFFFF0052020000003B4001010040020040050400000064800E1F0001800C00000000\
+    00000000C000020100680001210000FDE8000000010A01C010080002FDE800000064",
+];
+
+/// The messages that pe2 tells pe1.
+const PE2_TO_PE1: [&str; 3] = [
+    // OPEN: version 4, AS 65000, hold time 0, identifier 192.0.2.3, the capability of VPN-IPv4.
+    "FFFFFFFFFFFFFFFFFFFFFFFFFFFFFFFF00250104FDE80000C0000203080206010400010080",
+    // KEEPALIVE.
+    "FFFFFFFFFFFFFFFFFFFFFFFFFFFFFFFF001304",
+    // UPDATE: by next hop 192.0.2.3 label 18, 65000:2 and 10.2.0.0/16, with the target 65000:100.
+    "FFFFFFFFFFFFFFFFFFFFFFFFFFFFFFFF0052020000003B4001010040020040050400000064800E1F0001800C00000000\
+    00000000C000020300680001210000FDE8000000020A02C010080002FDE800000064",
+];
+
+fn nibble(digit: u8) -> u8
+    ensures { result < 16 }
+{
+    match digit {
+        b'0'..=b'9' => digit - b'0',
+        b'A'..=b'F' => digit - b'A' + 10,
+        _ => 0,
+    }
+}
+
+/// The bytes that pairs of hexadecimal digits spell.
+fn bytes_of(alloc: Global, digits: &str) -> Result<Vec<u8>, AllocError> {
+    let digits = digits.as_bytes();
+    let mut bytes = Vec::new(alloc);
+    for at in 0..digits.len() / 2 {
+        bytes.push(nibble(digits[2 * at]) << 4 | nibble(digits[2 * at + 1]))?;
+    }
+    Ok(bytes)
+}
+
+/// A file, by its name and its bytes.
+pub(crate) type File = (String, Vec<u8>);
+
+fn push_file(
+    alloc: Global,
+    files: &mut Vec<File>,
+    name: &str,
+    bytes: &[u8],
+) -> Result<(), AllocError> {
+    files.push((
+        String::from_str(alloc, name)?,
+        Vec::from_slice(alloc, bytes)?,
+    ))?;
+    Ok(())
+}
+
+/// Appends the file of what is said one way, in digits.
+fn push_said(
+    alloc: Global,
+    files: &mut Vec<File>,
+    name: &str,
+    said: &[&str],
+) -> Result<(), AllocError> {
+    let mut bytes = Vec::new(alloc);
+    for digits in said {
+        bytes.extend_from_slice(&bytes_of(alloc, digits)?)?;
+    }
+    files.push((String::from_str(alloc, name)?, bytes))?;
+    Ok(())
+}
+
+/// All files of a run that sends one packet, in the order in which they are begun: with these deliveries and these
+/// captures of the two links.
+pub(crate) fn files(
+    alloc: Global,
+    delivered: &[u8],
+    first_link: &[u8],
+    second_link: &[u8],
+) -> Result<Vec<File>, AllocError> {
+    let mut files = Vec::new(alloc);
+    push_file(alloc, &mut files, "out/journal.txt", JOURNAL.as_bytes())?;
+    push_file(alloc, &mut files, "out/labels.txt", LABELS.as_bytes())?;
+    push_file(alloc, &mut files, "out/delivered.pcap", delivered)?;
+    push_file(alloc, &mut files, "out/pe1+p.pcap", first_link)?;
+    push_file(alloc, &mut files, "out/p+pe2.pcap", second_link)?;
+    push_said(alloc, &mut files, "out/pe1+p.ldp", &PE1_TO_P)?;
+    push_said(alloc, &mut files, "out/p+pe1.ldp", &P_TO_PE1)?;
+    push_said(alloc, &mut files, "out/p+pe2.ldp", &P_TO_PE2)?;
+    push_said(alloc, &mut files, "out/pe2+p.ldp", &PE2_TO_P)?;
+    push_said(alloc, &mut files, "out/pe1+pe2.bgp", &PE1_TO_PE2)?;
+    push_said(alloc, &mut files, "out/pe2+pe1.bgp", &PE2_TO_PE1)?;
+    Ok(files)
+}
+
+/// The files of the run over the capture.
+pub(crate) fn packet_files(alloc: Global) -> Result<Vec<File>, AllocError> {
+    files(alloc, &DELIVERED, &FIRST_LINK, &SECOND_LINK)
+}
+
+/// Whether all of these files stand on the shelf.
+pub(crate) fn are_whole(shelf: &MemShelf, files: &[File]) -> bool {
+    let mut whole = true;
+    for file in files {
+        whole = whole && shelf.file(file.0.as_str()) == Some(file.1.as_slice());
+    }
+    whole
+}
+
 #[test]
 fn two_labels_carry_a_packet(rt: HostRuntime) -> Result<(), Fail> {
     let alloc = rt.alloc();
@@ -161,8 +360,8 @@ fn two_labels_carry_a_packet(rt: HostRuntime) -> Result<(), Fail> {
     let outcome = command(alloc, &run_words(alloc)?, &mut shelf, &mut out);
     assert!(rt; outcome == Outcome::Done);
     assert!(rt; out.bytes() == REPORT.as_bytes());
-    assert!(rt; shelf.file("out/journal.txt") == Some(JOURNAL.as_bytes()));
-    assert!(rt; shelf.file("out/delivered.pcap") == Some(DELIVERED.as_slice()));
-    assert!(rt; shelf.file("out/pe1+p.pcap") == Some(FIRST_LINK.as_slice()));
+    let files = packet_files(alloc)?;
+    assert_eq!(rt; files.len(), 11);
+    assert!(rt; are_whole(&shelf, &files));
     Ok(())
 }

@@ -11,7 +11,7 @@ use Rattle.mn_ledger.specs.declared.verdict.Verdict.{Verdict}
 use Rattle.mn_ledger.specs.declared.verdict.Verdict.TheVariants.{Delivered, Dropped, Flying}
 use Rattle.mn_ledger.specs.World.{World}
 use Rattle.mn_ledger.specs.Transport.{Said, is_transport}
-use Rattle.mn_ledger.specs.Vpn.{Told, is_routing}
+use Rattle.mn_ledger.specs.Bgp.{Told, is_routing}
 use Rattle.mn_ledger.specs.Verdicts.{verdict_on}
 use Rattle.mn_ledger.specs.Packets.{Token, Packets, flying_on}
 use Rattle.mn_ledger.specs.Items.{Channel, Notices, Messages, Routes, Frames, Load, Notice, Carries, notices_in, message_of, messages_in, route_of}

@@ -2,6 +2,7 @@
 use Rattle.std.specs.Prelude.{◌≡◌, ◌≤◌, ℕ, Bool, true, not, ◌&&◌, nat_le, nat_lt, ◌==◌, List, length}
 use Rattle.std.specs.List.{list_all, IsDistinct, AllByRecursion}
 use Rattle.std.specs.Str.{bytes_eq}
+use Rattle.mn_base.specs.Limits.{most_static_routes, most_targets}
 use Rattle.mn_base.specs.Numbers.{has_rd_form, has_rt_form}
 use Rattle.mn_base.specs.Wiring.{JoinsNodes, EndsDiffer, JoinsOnce}
 use Rattle.mn_base.specs.declared.links.LinkEnds.{LinkEnds}
@@ -44,7 +45,7 @@ pub record AreLinks (nodes : ℕ) (links : List LinkEnds) : Type 0 where
 
 -- at most 16 targets of their form, of which no two are the same
 pub record AreTargets (targets : List Rt) : Type 0 where
-  pub few : length targets ≤ 16
+  pub few : length targets ≤ most_targets
   pub formed : list_all (λ target. has_rt_form target.0) targets ≡ true
   pub distinct : IsDistinct (λ one other. one.0 == other.0) targets
 
@@ -72,7 +73,7 @@ pub record AreSites (vrfs : ℕ) (sites : SiteTable) : Type 0 where
   pub placed : list_all (λ site. nat_lt site.vrf.0 vrfs) sites.sites ≡ true
   pub formed : list_all (λ static. is_lawful_prefix static.1) (statics_of sites.sites) ≡ true
   pub distinct : IsDistinct same_static (statics_of sites.sites)
-  pub few_prefixes : length (statics_of sites.sites) ≤ 65536
+  pub few_prefixes : length (statics_of sites.sites) ≤ most_static_routes
 
 -- the rules that a topology meets
 pub record IsLawful (network : Network) : Type 0 where

@@ -3,6 +3,7 @@ use Rattle.std.specs.Prelude.{◌≡◌, ℕ, ◌+◌, Bool, false, not, ◌||�
 use Rattle.std.specs.Prelude.{unwrap_or, codes, Result, Ok, Err}
 use Rattle.std.specs.Result.{result_ok}
 use Rattle.std.specs.Borrow.{Bor}
+use Rattle.mn_base.specs.Limits.{most_static_routes}
 use Rattle.toml.specs.Data.{Data, Items, no_items, item, Members, as_str}
 use Rattle.mn_prefix.specs.Prefix.{AddressBlock}
 use Rattle.mn_text.specs.Addresses.{prefix_of}
@@ -58,7 +59,7 @@ is_prefix_taken earlier vrf prefixes = is_one_taken prefixes (statics_of earlier
 
 -- with the site there are more than 65,536 prefixes in all
 abbrev pub are_too_many : SiteTable → List AddressBlock → Bool
-are_too_many earlier prefixes = nat_lt 65536 (length (statics_of earlier.sites) + length prefixes)
+are_too_many earlier prefixes = nat_lt most_static_routes (length (statics_of earlier.sites) + length prefixes)
 
 -- then those of its prefixes
 unfoldable pub site_rule : List (List ℕ) → SiteTable → Members → Option TopoRule

@@ -4,6 +4,7 @@ use Rattle.std.specs.Prelude.{option_and_then, unwrap_or, codes, Result, Ok, Err
 use Rattle.std.specs.List.{list_any}
 use Rattle.std.specs.Option.{option_map_or}
 use Rattle.std.specs.Borrow.{Bor}
+use Rattle.mn_base.specs.Limits.{most_targets}
 use Rattle.toml.specs.Data.{Items, no_items, item, Members, as_str}
 use Rattle.toml.specs.View.{items_view}
 use Rattle.mn_base.specs.declared.numbers.Rd.{Rd}
@@ -39,7 +40,7 @@ has_target targets target = list_any (λ other. target.0 == other.0) targets
 
 -- the target that a text is, which isn't among the earlier ones of the set and isn't its 17th
 abbrev pub next_target : List Rt → List ℕ → Option Rt
-next_target earlier word = rt_of word >>= (λ target. if has_target earlier target || nat_le 16 (length earlier) then None else Some target)
+next_target earlier word = rt_of word >>= (λ target. if has_target earlier target || nat_le most_targets (length earlier) then None else Some target)
 
 -- the targets that the items are after the earlier ones of the set
 abbrev pub targets_from : List Rt → Items → Option (List Rt)

@@ -13,8 +13,8 @@ use Rattle.mn_ledger.specs.declared.verdict.Verdict.TheVariants.{Delivered, Drop
 use Rattle.mn_ledger.specs.Entry.{first_rule}
 use Rattle.mn_ledger.specs.Places.{home_of, vrf_of}
 use Rattle.mn_ledger.specs.World.{World}
-use Rattle.mn_ledger.specs.Vpn.{HeldRoute, held, best}
-use Rattle.mn_ledger.specs.Packets.{Packets, entry_rules, bound, hop, one_more, before_step, packets_after}
+use Rattle.mn_ledger.specs.Held.{HeldRoute, held, best}
+use Rattle.mn_ledger.specs.Packets.{Packets, entry_rules, bound, hop_on, one_more, before_step, packets_after}
 use Rattle.mn_frames.specs.Given.{Labelling}
 use Rattle.mn_frames.specs.Entries.{Fate, Falls, Stays, Leaves, fate_of, fate, entered, IsAged}
 use Rattle.mn_frames.proofs.Entering.{by_fate}
@@ -156,8 +156,8 @@ leaves_home t w node site bytes route home leaves same =
 pub stands_gone : (t : Network) (g : Labelling) (w : World) (more new : Moving) (k : Packets) (node : NodeNo) (packet number : ℕ) (site : SiteNo)
     (bytes : List ℕ) (route : HeldRoute) →
     node.0 ≡ home_of t site.0 → fate t w site.0 bytes ≡ Leaves route → packet ≡ length k.verdicts →
-    StandsFor t g new (hop t w (one_more (before_step k) node.0) (bound packet route bytes) node.0 rule.NoLsp) →
+    StandsFor t g new (hop_on t w (one_more (before_step k) node.0) (bound packet route bytes) node.0 rule.NoLsp) →
     StandsFor t g new (packets_after t w k (Step.Inject site number) bytes)
 stands_gone t g w more new k node packet number site bytes route home leaves counts stands =
     enters_by t g w new k node.0 number site bytes (Leaves route) home leaves
-    (subst (λ n. StandsFor t g new (hop t w (one_more (before_step k) node.0) (bound n route bytes) node.0 rule.NoLsp)) counts stands)
+    (subst (λ n. StandsFor t g new (hop_on t w (one_more (before_step k) node.0) (bound n route bytes) node.0 rule.NoLsp)) counts stands)

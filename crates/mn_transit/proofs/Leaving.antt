@@ -10,8 +10,8 @@ use Rattle.mn_topo.specs.Links.{are_joined}
 use Rattle.mn_topo.specs.Lawful.{IsLawful}
 use Rattle.mn_ledger.specs.declared.verdict.Verdict.TheVariants.{Dropped}
 use Rattle.mn_ledger.specs.World.{World}
-use Rattle.mn_ledger.specs.Vpn.{HeldRoute}
-use Rattle.mn_ledger.specs.Packets.{Token, Packets, bound, hop}
+use Rattle.mn_ledger.specs.Held.{HeldRoute}
+use Rattle.mn_ledger.specs.Packets.{Token, Packets, bound, hop_on}
 use Rattle.mn_frames.specs.Given.{Labelling}
 use Rattle.mn_frames.specs.Departures.{with_outer, Departs}
 use Rattle.mn_frames.specs.Entries.{IsPushed, outer_for}
@@ -25,10 +25,10 @@ use Rattle.mn_transit.proofs.Going.{ends}
 departs : (t : Network) (g : Labelling) (w : World) (k : Packets) (route : HeldRoute) (bytes : List ℕ) (packet : ℕ) (node : NodeNo) (frame : Labelled)
     (out : Option (NodeNo × Option ℕ)) →
     IsLawful t → node.0 < length t.loopbacks → node.0 ≢ route.edge → out ≡ outer_for t g w node.0 route.edge → IsPushed t g route bytes frame →
-    Departs t g k (bound packet route bytes) node.0 (hop t w k (bound packet route bytes) node.0 rule.NoLsp) out frame
+    Departs t g k (bound packet route bytes) node.0 (hop_on t w k (bound packet route bytes) node.0 rule.NoLsp) out frame
 departs t g w k route bytes packet node frame out lawful there apart is pushed =
     subst (λ (o : Option (NodeNo × Option ℕ)). Departs t g k (bound packet route bytes) node.0
-    (hop t w k (bound packet route bytes) node.0 rule.NoLsp) o frame) (sym is)
+    (hop_on t w k (bound packet route bytes) node.0 rule.NoLsp) o frame) (sym is)
     (leaves_as_told t g w k packet route bytes node.0 frame lawful there apart pushed)
 
 pub stands_left : (t : Network) (g : Labelling) (w : World) (m new : Moving) (k : Packets) (route : HeldRoute) (bytes : List ℕ) (packet : ℕ)
@@ -38,7 +38,7 @@ pub stands_left : (t : Network) (g : Labelling) (w : World) (m new : Moving) (k 
     are_joined t.links node.0 next.0 ≡ true →
     (link : ℕ) × (dir : Dir) × Leads t node.0 next.0 link dir × StandsFor t g new (sent k token link dir)) →
     node.0 < length t.loopbacks → node.0 ≢ route.edge → Some (next, label) ≡ outer_for t g w node.0 route.edge → IsPushed t g route bytes frame →
-    StandsFor t g m k → StandsFor t g new (hop t w k (bound packet route bytes) node.0 rule.NoLsp)
+    StandsFor t g m k → StandsFor t g new (hop_on t w k (bound packet route bytes) node.0 rule.NoLsp)
 stands_left t g w m new k route bytes packet node next label frame after lawful entries same goes there apart out pushed stands =
     let told = departs t g w k route bytes packet node frame (Some (next, label)) lawful there apart out pushed in
     let flies : IsFlown t g next.0 (record { packet = packet; frame = after }) (bound packet route bytes) = record {
@@ -54,7 +54,7 @@ pub stands_unled : (t : Network) (g : Labelling) (w : World) (m new : Moving) (k
     (node : NodeNo) (frame : Labelled) →
     IsLawful t → new ≡ record m { verdicts = slice_set m.verdicts packet (Dropped rule.NoLsp node) } →
     node.0 < length t.loopbacks → node.0 ≢ route.edge → None ≡ outer_for t g w node.0 route.edge → IsPushed t g route bytes frame →
-    StandsFor t g m k → StandsFor t g new (hop t w k (bound packet route bytes) node.0 rule.NoLsp)
+    StandsFor t g m k → StandsFor t g new (hop_on t w k (bound packet route bytes) node.0 rule.NoLsp)
 stands_unled t g w m new k route bytes packet node frame lawful is there apart out pushed stands =
     let told = departs t g w k route bytes packet node frame None lawful there apart out pushed in
     subst (λ p. StandsFor t g new p) (sym told) (ends t g m new k packet packet node.0 node rule.NoLsp refl refl is stands)

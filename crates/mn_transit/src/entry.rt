@@ -1,14 +1,15 @@
 //! A packet enters.
 ghost use Rattle.std.specs.Prelude.{◌≡◌, ◌≢◌, ◌<◌, ◌≤◌, ◌+◌, ◌*◌, ◌^◌, ℕ, List, true, length, max, IsTrue, IfOk, OnOk, OnErr, IsErr};
 ghost use Rattle.std.specs.List.{All};
+ghost use Rattle.mn_base.specs.Limits.{most_steps};
 ghost use Rattle.mn_ipv4.specs.Header.{ttl_of};
 ghost use Rattle.mn_stack.specs.Grammar.{is_packet};
 ghost use Rattle.mn_lfib.specs.Hop.{carried_ttl};
 ghost use Rattle.mn_base.specs.declared.drops.Rule.TheVariants as Rule;
 ghost use Rattle.mn_topo.specs.declared.steps.Step.TheVariants as Step;
-ghost use Rattle.mn_ledger.specs.Packets.{Packets, bound, hop, packets_after};
+ghost use Rattle.mn_ledger.specs.Packets.{Packets, bound, hop_on, packets_after};
 ghost use Rattle.mn_ledger.specs.Places.{home_of};
-ghost use Rattle.mn_ledger.specs.Vpn.{HeldRoute};
+ghost use Rattle.mn_ledger.specs.Held.{HeldRoute};
 ghost use Rattle.mn_ledger.specs.World.{World};
 ghost use Rattle.mn_frames.specs.Departures.{with_outer};
 ghost use Rattle.mn_frames.specs.Entries.{IsPushed, outer_for};
@@ -92,7 +93,7 @@ impl Transit {
         ensures stands { (given : Labelling) (world : World) (packets : Packets) (route : HeldRoute) (bytes : List ℕ) →
             node.0 < length topology.now.loopbacks → node.0 ≢ route.edge → outer ≡ outer_for topology.now given world node.0 route.edge → IsPushed topology.now given route bytes flown.frame →
             StandsFor topology.now given self.old packets →
-            StandsFor topology.now given self.new (hop topology.now world packets (bound flown.packet route bytes) node.0 Rule.NoLsp) }
+            StandsFor topology.now given self.new (hop_on topology.now world packets (bound flown.packet route bytes) node.0 Rule.NoLsp) }
         ensures made { Makes topology.now clock.tick clock.number self.old.flying self.new.flying result }
         ensures counts { CountsOn self.old self.new 0 0 (length flown.frame.packet) }
     {
@@ -126,7 +127,7 @@ impl Transit {
         requires clock { clock.tick ≤ 2 ^ 62 }
         requires number { All (λ item. item.number < clock.number) self.old.flying }
         requires bytes { bytes_in self.old.flying < 2 ^ 32 }
-        requires few { length self.old.verdicts < 4000000 }
+        requires few { length self.old.verdicts < most_steps }
         requires copies { self.old.copies + 1 < 2 ^ 32 }
         requires room { HasRoom entered }
         requires label { OuterFits outer }

@@ -1,5 +1,5 @@
 //! What became of each packet, and what flies.
-ghost use Rattle.std.specs.Prelude.{◌≡◌, ◌<◌, ◌*◌, ◌^◌, ◌==◌, [], length, map, find, option_map, slice_index_or};
+ghost use Rattle.std.specs.Prelude.{◌≡◌, ◌<◌, ◌*◌, ◌^◌, ◌==◌, [], length, map, find, option_map, slice_get, slice_index_or, Some};
 ghost use Rattle.std.specs.Option.{option_copied};
 ghost use Rattle.mn_flight.specs.Earliest.{earliest};
 ghost use Rattle.mn_flight.specs.Flying.{IsFlight, on_channel};
@@ -10,6 +10,7 @@ ghost use Rattle.mn_ledger.specs.Verdicts.{verdict_on};
 ghost use Rattle.mn_frames.specs.Given.{Labelling};
 ghost use Rattle.mn_transit.specs.Moving.{bytes_in};
 ghost use Rattle.mn_transit.specs.Stands.{StandsFor};
+ghost use Rattle.mn_transit.specs.Visits.{path_of};
 
 use crate::ends::channel_of;
 use crate::flown::Flown;
@@ -39,6 +40,7 @@ impl Transit {
     pub fn verdict(&self, packet: u32) -> Verdict
         requires { packet < length self.now.verdicts }
         ensures told { (topology : Network) (given : Labelling) (packets : Packets) → StandsFor topology given self.now packets → result ≡ verdict_on packets packet }
+        ensures kept { slice_get self.now.verdicts packet ≡ Some result }
     {
         self.verdicts[packet as usize]
     }
@@ -48,6 +50,7 @@ impl Transit {
         requires { packet < length self.now.verdicts }
         ensures told { (topology : Network) (given : Labelling) (packets : Packets) → StandsFor topology given self.now packets →
             map (λ node. node.0) result.now ≡ slice_index_or packets.paths packet [] }
+        ensures kept { (path_of self.now.paths packet).nodes ≡ result.now }
     {
         self.paths[packet as usize].nodes()
     }

@@ -1,6 +1,7 @@
 //! What is kept of the packets, and one call for each thing that may become of one.
 ghost use Rattle.std.specs.Prelude.{◌≡◌, ◌≢◌, ◌<◌, ◌≤◌, ◌+◌, ◌*◌, ◌^◌, ◌∷◌, ◌++◌, [], ℕ, List, true, false, Some, None, length, slice_get, slice_set, IfOk, IfSome, IsSome, OnOk, OnErr};
 ghost use Rattle.std.specs.List.{All};
+ghost use Rattle.mn_base.specs.Limits.{most_steps};
 ghost use Rattle.mn_base.specs.Wiring.{link as link_of};
 ghost use Rattle.mn_base.specs.declared.drops.Rule.TheVariants as Rule;
 ghost use Rattle.mn_flight.specs.Flying.{IsFlight, on_channel, off_channel, without};
@@ -218,7 +219,7 @@ impl Transit {
         node: NodeNo,
         room: u8,
     ) -> Result<u32, AllocError>
-        requires { length self.old.verdicts < 4000000 }
+        requires { length self.old.verdicts < most_steps }
         ensures number { IfOk result (λ packet. packet ≡ length self.old.verdicts) }
         ensures more { OnOk result (self.new ≡ record self.old {
           verdicts = self.old.verdicts ++ verdict.Dropped Rule.Lost node ∷ [];

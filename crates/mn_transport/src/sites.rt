@@ -1,6 +1,7 @@
 //! The labels of attachments, and the transport of a network at its start.
 ghost use Rattle.std.specs.Prelude.{◌≡◌, ◌<◌, ◌+◌, ℕ, List, [], true, false, length, map, slice_get, IfOk, OnOk, IsErrOf, Err, Some, ◌↔◌};
 ghost use Rattle.std.specs.List.{range_with_len};
+ghost use Rattle.mn_base.specs.Limits.{most_labels};
 ghost use Rattle.mn_labels.specs.declared.refusal.LabelBad.TheVariants as bad;
 ghost use Rattle.mn_topo.specs.declared.steps.Step.TheVariants as step;
 ghost use Rattle.mn_topo.specs.declared.steps.JournalEntry.{JournalEntry};
@@ -122,7 +123,7 @@ impl Transport {
         ensures next { IfOk result (λ label. (journal : List JournalEntry) → IsTransport topology.now journal self.old → IsTurn topology.now (world_of topology.now journal) (step.Attach site) →
             label ≡ 16 + length (given topology.now journal (home_of topology.now site.0))) }
         ensures spent { self.old.failed ≡ false → (standing : Standing) → slice_get self.old.nodes (home_of topology.now site.0) ≡ Some standing →
-            IsErrOf result bad.Spent ↔ (length standing.given.given ≡ 1048560) }
+            IsErrOf result bad.Spent ↔ (length standing.given.given ≡ most_labels) }
         ensures notices { self.new.notices ≡ self.old.notices }
         ensures messages { self.new.messages ≡ self.old.messages }
         ensures unchanged { result ≡ Err bad.Spent → self.new.failed ≡ self.old.failed }

@@ -102,7 +102,7 @@ impl Transport {
         requires node { node.0 < length topology.now.loopbacks }
         requires edge { edge.0 < length topology.now.loopbacks }
         requires stands { (journal : List JournalEntry) × IsTransport topology.now journal self.now }
-        ensures told { (journal : List JournalEntry) → IsTransport topology.now journal self.now → node.0 ≢ edge.0 →
+        ensures told { (journal : List JournalEntry) → IsTransport topology.now journal self.now →
             result ≡ outer_for topology.now (given topology.now journal) (world_of topology.now journal) node.0 edge.0 }
         ensures fits { FitsOuter result }
     {

@@ -1,10 +1,12 @@
 -- The way out of a node is the ledger's.
-use Rattle.std.proofs.Common.{ℕ, ◌≡◌, ◌≢◌, ◌+◌, ◌<◌, Bool, true, false, List, length, refl, arith, sym, ◌∙◌, ap, subst, Option, None, Some, get_or}
+use Rattle.std.proofs.Common.{ℕ, ◌≡◌, ◌≢◌, ◌+◌, ◌<◌, Bool, true, false, List, length, refl, arith, sym, ◌∙◌, ap, subst, Option, None, Some, get_or, inl, inr}
 use Rattle.std.specs.Prelude.{◌==◌, option_map, slice_get, if◌then◌else◌}
 use Rattle.std.specs.List.{position_or_len}
+use Rattle.std.proofs.lemmas.Bool.Decides.{eqb_tells}
 use Rattle.std.proofs.lemmas.Option.{slice_get_read}
-use Rattle.mn_base.proofs.Bools.{other_test}
-use Rattle.mn_base.specs.Wiring.{Wiring}
+use Rattle.mn_base.proofs.Bools.{other_test, same_test}
+use Rattle.mn_base.specs.Wiring.{Wiring, View}
+use Rattle.mn_base.specs.Paths.{next, next_by, dists_to}
 use Rattle.mn_base.specs.declared.numbers.NodeNo.{NodeNo}
 use Rattle.mn_topo.specs.Network.{Network, wiring_of}
 use Rattle.mn_topo.specs.Lawful.{IsLawful}
@@ -12,11 +14,14 @@ use Rattle.mn_topo.specs.declared.steps.JournalEntry.{JournalEntry}
 use Rattle.mn_node.specs.Node.{Node}
 use Rattle.mn_ledger.specs.World.{World}
 use Rattle.mn_ledger.specs.Ledger.{world_of}
-use Rattle.mn_ledger.specs.Transport.{usable}
+use Rattle.mn_node.specs.Ldp.{usable_over}
+use Rattle.mn_node.specs.Node.{knowledge_in}
+use Rattle.mn_slice.specs.Slice.{node_at}
+use Rattle.mn_ledger.specs.Transport.{usable, knowledge_of}
 use Rattle.mn_frames.specs.Given.{Labelling, given, label_in, fec_of, same_bind}
 use Rattle.mn_frames.specs.Tables.{next_over}
 use Rattle.mn_frames.specs.Entries.{outer_over, outer_for}
-use Rattle.mn_lsr.specs.Standing.{Standing, way_to, sent_to, label_sent}
+use Rattle.mn_lsr.specs.Standing.{Standing, way_to, labelled, sent_to, label_sent}
 use Rattle.mn_transport_model.specs.Carried.{Carried}
 use Rattle.mn_transport_model.specs.Stands.{IsNode, IsTransport}
 use Rattle.mn_transport_model.proofs.Tables.{way-is}
@@ -32,13 +37,40 @@ over g edge (Some hop) = ap (λ label. let o : Option (NodeNo × Option ℕ) = S
         ap (λ b. if b then None else Some (label_in (g hop.0) (fec_of edge)))
         (other_test (16 + position_or_len (same_bind (fec_of edge)) (g hop.0)) 3 (λ e. absurd (omega (arith, e))))
 
-pub outer-is : (t : Network) (es : List JournalEntry) (lawful : IsLawful t) (w : World) (node : ℕ) → node < length t.loopbacks →
+apart-is : (t : Network) (es : List JournalEntry) (lawful : IsLawful t) (w : World) (node : ℕ) → node < length t.loopbacks →
     (s : Standing) → IsNode t (given t es) w node s → (edge : ℕ) → edge < length t.loopbacks → node ≢ edge
     → option_map sent_to (way_to s.wiring s.node edge) ≡ outer_for t (given t es) w node edge
-outer-is t es lawful w node below s is edge under apart =
+apart-is t es lawful w node below s is edge under apart =
     ap (option_map sent_to) (ap (λ (x : Wiring). way_to x s.node edge) is.wiring ∙ ap (λ (n : Node). way_to (wiring_of t) n edge) is.node_is
     ∙ way-is t es lawful w node below edge under apart)
     ∙ over (given t es) edge (usable t w.config w.views w.sessions node edge)
+
+-- no next hop leads from a node to itself
+no_next : (wiring : Wiring) (view : View) (node : ℕ) → next wiring view node node ≡ None
+unfolding next
+no_next wiring view node = none_at (node == node) (next_by wiring view (dists_to wiring view node) node) (same_test node)
+  where
+    none_at : (here : Bool) (hop : Option (ℕ × ℕ)) → here ≡ true → elim here as (λ x. Option (ℕ × ℕ)) [ true ↦ None | false ↦ hop ] ≡ None
+    none_at true hop e = refl
+    none_at false hop e = cc
+
+itself-is : (t : Network) (g : Labelling) (w : World) (node : ℕ) (s : Standing) → IsNode t g w node s →
+    option_map sent_to (way_to s.wiring s.node node) ≡ outer_for t g w node node
+itself-is t g w node s is =
+    let own = node_at t w node in
+    let known = knowledge_of (wiring_of t) w.config w.views w.sessions node in
+    ap (option_map sent_to) (ap (λ (x : Wiring). way_to x s.node node) is.wiring ∙ ap (λ (n : Node). way_to (wiring_of t) n node) is.node_is
+    ∙ ap (λ o. labelled own node (usable_over (knowledge_in own) node o)) (no_next (wiring_of t) (knowledge_in own).view node))
+    ∙ sym (ap (λ o. outer_over g node (usable_over known node o)) (no_next (wiring_of t) known.view node))
+
+pub outer-is : (t : Network) (es : List JournalEntry) (lawful : IsLawful t) (w : World) (node : ℕ) → node < length t.loopbacks →
+    (s : Standing) → IsNode t (given t es) w node s → (edge : ℕ) → edge < length t.loopbacks
+    → option_map sent_to (way_to s.wiring s.node edge) ≡ outer_for t (given t es) w node edge
+outer-is t es lawful w node below s is edge under =
+    elim (eqb_tells node edge) [
+      | inl e ↦ subst (λ k. option_map sent_to (way_to s.wiring s.node k) ≡ outer_for t (given t es) w node k) e.1 (itself-is t (given t es) w node s is)
+      | inr e ↦ apart-is t es lawful w node below s is edge under e.1
+    ]
 
 -- Contracts see the transport as `seen`, the code as `old`. The node at this index was read.
 module _ (t : Network) (lawful : IsLawful t) (old seen : Carried) (view_is : old ≡ seen) (node index : ℕ) (below : node < length t.loopbacks)
@@ -55,7 +87,7 @@ module _ (t : Network) (lawful : IsLawful t) (old seen : Carried) (view_is : old
     pub edge-there : (edge : ℕ) → edge < length t.loopbacks → edge < length x.wiring.loopbacks
     edge-there edge under = subst (λ (w : Wiring). edge < length w.loopbacks) (sym node-is.wiring) under
 
-    pub outer-told : (edge : ℕ) → edge < length t.loopbacks → node ≢ edge → (way : Option (NodeNo × Option ℕ)) →
+    pub outer-told : (edge : ℕ) → edge < length t.loopbacks → (way : Option (NodeNo × Option ℕ)) →
         (x.failed ≡ false → way ≡ option_map sent_to (way_to x.wiring x.node edge))
         → way ≡ outer_for t (given t es) (world_of t es) node edge
-    outer-told edge under apart way is = is node-is.works ∙ outer-is t es lawful (world_of t es) node below x node-is edge under apart
+    outer-told edge under way is = is node-is.works ∙ outer-is t es lawful (world_of t es) node below x node-is edge under

@@ -41,7 +41,7 @@ module _ (t : Network) (es : List JournalEntry) (lawful : IsLawful t) (w : World
 
   -- where it can send, the next hop has mapped the FEC, and so gave its label
   label-there : (edge : ℕ) (hop : ℕ × ℕ) → edge < length t.loopbacks → node ≢ edge → usable t w.config w.views w.sessions node edge ≡ Some hop
-      → lsr.label_in (session_at (node_at t w node) hop.1) edge ≡ Some (label_of hop.0 edge)
+      → lsr.session_label (session_at (node_at t w node) hop.1) edge ≡ Some (label_of hop.0 edge)
   label-there edge hop under apart can =
       let is : IsHop t node hop = hop_is t w node edge hop lawful below apart can in
       let first : next (wiring_of t) known.view node edge ≡ Some hop = by_next known edge (next (wiring_of t) known.view node edge) hop can in
@@ -64,7 +64,7 @@ module _ (t : Network) (es : List JournalEntry) (lawful : IsLawful t) (w : World
         labels = map (label_heard far messages) (nodes_of (wiring_of t));
       }) =
       in_session (lives w.config hop.1 && is_end (wiring_of t) hop.1 node) alive _ in
-      ap (λ o. lsr.label_in o edge) (session_at-is t w.config w.views w.sessions node hop.1 is.there ∙ there)
+      ap (λ o. lsr.session_label o edge) (session_at-is t w.config w.views w.sessions node hop.1 is.there ∙ there)
       ∙ get_or-map-range_with_len (label_heard far messages) 0 (length t.loopbacks) edge edge None under (omega arith)
       ∙ ap (λ b. if b then Some (label_of far edge) else None) mapped
       ∙ ap (λ n. let o : Option ℕ = Some (label_of n edge) in o) (sym is.leads)

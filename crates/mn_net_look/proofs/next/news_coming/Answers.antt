@@ -53,16 +53,16 @@ returns-in_default-earliest c =
     (news_none (tells_on (length c.args.topology.now.loopbacks)) c.args.limit c.args.routes.now.messages
     (ap (earliest c.args.limit) (sym c.messages-2.ensures) ∙ sym c.earliest-2.ensures.value ∙ ap option_copied c.in_default-earliest.is))
 
-pub message_coming-requires-then-comes_before-clause-channel : goal.message_coming-requires-then-comes_before-clause-channel
-message_coming-requires-then-comes_before-clause-channel c =
+pub message_coming-requires-then-is_due_before-clause-channel : goal.message_coming-requires-then-is_due_before-clause-channel
+message_coming-requires-then-is_due_before-clause-channel c =
     subst (λ n. c.in-Some-earliest.message.now.channel < n * n) (sym (ap length c.nodes.ensures ∙ as_many_nodes c.args.topology.now.loopbacks))
     (first_on ((length c.args.topology.now.loopbacks) * (length c.args.topology.now.loopbacks)) c.args.limit c.args.routes.now.messages
     c.in-Some-earliest.message.now c.requires.messages (ap (earliest c.args.limit) (sym c.messages-2.ensures) ∙ sym c.earliest-2.ensures.value
     ∙ ap option_copied c.in-Some-earliest.is))
 
-pub returns-then-comes_before : goal.returns-then-comes_before
-returns-then-comes_before c =
-    ap Some c.message_coming-then-comes_before.ensures ∙ ap (λ n. Some (as_coming (tells_on n) (λ number. false) (key_of c.in-Some-earliest.message.now)))
+pub returns-then-is_due_before : goal.returns-then-is_due_before
+returns-then-is_due_before c =
+    ap Some c.message_coming-then-is_due_before.ensures ∙ ap (λ n. Some (as_coming (tells_on n) (λ number. false) (key_of c.in-Some-earliest.message.now)))
     (ap length c.nodes.ensures ∙ as_many_nodes c.args.topology.now.loopbacks)
     ∙ other_first (news_coming hears_on c.args.limit (keys_in c.args.transport.now.messages))
     (news_coming (tells_on (length c.args.topology.now.loopbacks)) c.args.limit (keys_in c.args.routes.now.messages))
@@ -72,7 +72,7 @@ returns-then-comes_before c =
     ∙ sym c.earliest.ensures.value ∙ ap option_copied c.in-Some.is))
     (news_by (tells_on (length c.args.topology.now.loopbacks)) c.args.limit c.args.routes.now.messages c.in-Some-earliest.message.now
     (ap (earliest c.args.limit) (sym c.messages-2.ensures) ∙ sym c.earliest-2.ensures.value ∙ ap option_copied c.in-Some-earliest.is))
-    (sym c.comes_before.ensures ∙ c.if-comes_before.true)
+    (sym c.is_due_before.ensures ∙ c.if-is_due_before.true)
 
 pub pdu_coming-requires-2 : goal.pdu_coming-requires-2
 pdu_coming-requires-2 c =
@@ -92,4 +92,4 @@ returns c =
     ∙ sym c.earliest.ensures.value ∙ ap option_copied c.in-Some.is))
     (news_by (tells_on (length c.args.topology.now.loopbacks)) c.args.limit c.args.routes.now.messages c.in-Some-earliest.message.now
     (ap (earliest c.args.limit) (sym c.messages-2.ensures) ∙ sym c.earliest-2.ensures.value ∙ ap option_copied c.in-Some-earliest.is))
-    (sym c.comes_before.ensures ∙ c.if-comes_before.false)
+    (sym c.is_due_before.ensures ∙ c.if-is_due_before.false)

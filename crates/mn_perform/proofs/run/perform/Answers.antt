@@ -4,9 +4,9 @@ use Rattle.mn_script.specs.Script.{AllFit}
 use Rattle.mn_course.specs.Expansion.{expanded}
 use Rattle.mn_capture.specs.Packets.{packets_in}
 use Rattle.mn_perform.proofs.Whole.{told, put_nothing, unplayed_files, played_ends, played_files, played_text, played_late, played_begun}
-use Rattle.mn_perform.proofs.Whole.{written_failed, at_start, told_before}
-use Rattle.mn_perform.specs.Whole.{BegunAtRead, RunEnds, RunFiles, RunText, IsLate, whole_files}
-use Rattle.mn_output.specs.Report.{run_answer}
+use Rattle.mn_perform.proofs.Whole.{written_failed, written_untold, at_start, told_before}
+use Rattle.mn_perform.specs.Whole.{running, running_files, BegunAtRead, UntoldAtRead, RunEnds, RunFiles, RunText, IsLate}
+use Rattle.mn_perform.specs.Running.{notes_text}
 use Rattle.mn_perform.specs.declared.ended.Ended.{Ended}
 use Rattle.mn_perform.specs.declared.ended.Fault.TheVariants.{NoMemory}
 use Rattle.mn_perform.proofs.run.perform.Goals as goal
@@ -102,8 +102,15 @@ returns-clause-late g c = λ m is bytes there before begun.
 
 pub returns-in-Err-clause-begun : goal.returns-in-Err-clause-begun
 returns-in-Err-clause-begun g c = λ m is bytes there.
-    subst (λ why. BegunAtRead {T = Ended} (run_answer c.args.folder.now c.args.topology c.args.lines.now (packets_in c.args.capture.now bytes)).files m
-    (g.S.Shelf.files c.open.new.shelf) (Err why)) (sym c.from.ensures) (written_failed _ m _ c.in-Err.bad)
+    subst (λ why. BegunAtRead {T = Ended} (running c.args.folder.now c.args.topology (packets_in c.args.capture.now bytes)
+    (expanded c.args.topology (packets_in c.args.capture.now bytes) c.args.lines.now).past.entries) m (g.S.Shelf.files c.open.new.shelf) (Err why))
+    (sym c.from.ensures) (written_failed _ m _ c.in-Err.bad)
+
+pub returns-in-Err-clause-untold : goal.returns-in-Err-clause-untold
+returns-in-Err-clause-untold g c = λ m is bytes there before begun.
+    subst (λ why. UntoldAtRead {T = Ended} (notes_text c.args.topology (packets_in c.args.capture.now bytes)
+    (expanded c.args.topology (packets_in c.args.capture.now bytes) c.args.lines.now)) before (g.O.Sink.written c.args.out.now) (Err why)) (sym c.from.ensures)
+    (written_untold _ before _ c.in-Err.bad)
 
 pub returns-clause-begun : goal.returns-clause-begun
 returns-clause-begun g c = λ m is bytes there.
@@ -114,6 +121,16 @@ returns-clause-begun g c = λ m is bytes there.
     played_begun c.args.folder.now c.args.topology c.args.lines.now c.args.capture.now m bytes c.in-Ok.books.names _ there c.requires.apart
     c.in-Ok.ensures.names framed
     (g.S.Shelf.files c.run.new.shelf) c.run.result
-    (subst (λ t. BegunAtRead (whole_files t (packets_in c.args.capture.now bytes) c.args.lines.now c.in-Ok.books.names) m
+    (subst (λ t. BegunAtRead (running_files t (packets_in c.args.capture.now bytes) c.args.lines.now c.in-Ok.books.names) m
     (g.S.Shelf.files c.run.new.shelf) c.run.result)
     c.in-Ok-new-2.ensures.topology (c.run.ensures.begun _ told_so m framed))
+
+pub returns-clause-untold : goal.returns-clause-untold
+returns-clause-untold g c = λ m is bytes there before begun.
+    let framed = subst (λ o. Framed c.in-Ok.books.names o (g.S.Shelf.files c.open.new.shelf)) is c.in-Ok.ensures.framed in
+    let told_so =
+    told c.args.folder.now c.args.topology c.args.lines.now c.args.capture.now m bytes c.in-Ok.books.names _ there c.requires.apart
+    c.in-Ok.ensures.names framed in
+    subst (λ t. UntoldAtRead (notes_text t (packets_in c.args.capture.now bytes) (expanded t (packets_in c.args.capture.now bytes) c.args.lines.now)) before
+    (g.O.Sink.written c.run.new.out) c.run.result) c.in-Ok-new-2.ensures.topology
+    (c.run.ensures.untold _ told_so before begun)

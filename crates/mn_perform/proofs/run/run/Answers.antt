@@ -1,6 +1,6 @@
 use Rattle.mn_course.specs.Expansion.{expanded}
 use Rattle.mn_edge.specs.KeptLaws.{framed_both}
-use Rattle.mn_perform.proofs.Ending.{run_files, run_text, run_late, broken_files, broken_begun, no_read, notes_begin}
+use Rattle.mn_perform.proofs.Ending.{run_files, run_text, run_late, broken_files, broken_begun, broken_untold, no_read, untold_unread, notes_begin}
 use Rattle.mn_perform.proofs.run.run.Goals as goal
 
 pub returns-in-Ok-clause-files : goal.returns-in-Ok-clause-files
@@ -34,3 +34,9 @@ pub returns-in-Err-clause-begun : goal.returns-in-Err-clause-begun
 returns-in-Err-clause-begun g c = λ all told base framed.
     broken_begun _ _ _ c.args.lines.now _ c.args.books.now.names base _ _ c.in-Err.fault c.play_lines.ensures.names (c.in-Err.ensures.went all told)
     (framed_both _ _ _ _ framed c.play_lines.ensures.framed)
+
+pub returns-in-Ok-clause-untold : goal.returns-in-Ok-clause-untold
+returns-in-Ok-clause-untold g c = λ all told before is. untold_unread _ before _ c.finish.result c.finish.ensures.unread
+
+pub returns-in-Err-clause-untold : goal.returns-in-Err-clause-untold
+returns-in-Err-clause-untold g c = λ all told before is. broken_untold _ before _ c.in-Err.fault ((c.in-Err.ensures.went all told).text before is)

@@ -1,7 +1,9 @@
 use Rattle.std.proofs.Common.{Some, sym, subst}
 use Rattle.mn_capture.specs.Packets.{packets_in}
+use Rattle.mn_course.specs.Expansion.{expanded}
 use Rattle.mn_output.specs.Report as output
-use Rattle.mn_perform.specs.Whole.{EndsAs, FilesOf, BegunAtRead, TextOf, TellsLate}
+use Rattle.mn_perform.specs.Running.{notes_text}
+use Rattle.mn_perform.specs.Whole.{running, EndsAs, FilesOf, BegunAtRead, UntoldAtRead, TextOf, TellsLate}
 use Rattle.mn_run.specs.Answer.{run_done}
 use Rattle.mn_run.specs.Endings.{OutcomeIs, FilesAre, TextIs, IsUnread}
 use Rattle.mn_run.proofs.Playing.{ends, leaves, tells, late, unread}
@@ -46,5 +48,10 @@ returns-clause-unread g c = λ m is bytes there before begun.
     subst (IsUnread (Some (run_done c.args.folder.now c.args.inputs.topology c.args.inputs.lines.items (packets_in c.args.inputs.capture bytes))) m
     (g.S.Shelf.files c.perform-ended.new.shelf) before (g.O.Sink.written c.perform-ended.new.out)) (sym c.outcome_of.ensures)
     (unread _ _ _ _ m _ before _ c.perform-ended.result
-    (subst (λ l. BegunAtRead (output.run_answer c.args.folder.now c.args.inputs.topology l (packets_in c.args.inputs.capture bytes)).files m
-    (g.S.Shelf.files c.perform-ended.new.shelf) c.perform-ended.result) c.as_slice.ensures.value (c.perform-ended.ensures.begun m is bytes there)))
+    (subst (λ l. BegunAtRead (running c.args.folder.now c.args.inputs.topology (packets_in c.args.inputs.capture bytes)
+    (expanded c.args.inputs.topology (packets_in c.args.inputs.capture bytes) l).past.entries) m
+    (g.S.Shelf.files c.perform-ended.new.shelf) c.perform-ended.result) c.as_slice.ensures.value (c.perform-ended.ensures.begun m is bytes there))
+    (subst (λ l. UntoldAtRead (notes_text c.args.inputs.topology (packets_in c.args.inputs.capture bytes)
+    (expanded c.args.inputs.topology (packets_in c.args.inputs.capture bytes) l)) before
+    (g.O.Sink.written c.perform-ended.new.out) c.perform-ended.result) c.as_slice.ensures.value
+    (c.perform-ended.ensures.untold m is bytes there before begun)))

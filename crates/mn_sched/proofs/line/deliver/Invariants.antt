@@ -1,7 +1,7 @@
 use Rattle.std.proofs.Common.{◌≡◌, ◌≤◌, ◌^◌, ◌-◌, ℕ, List, Some}
 use Rattle.mn_course.specs.Course.{deliver}
 use Rattle.mn_sched.specs.Watching.{Together}
-use Rattle.mn_sched.specs.Playing.{past_of, IsPaced}
+use Rattle.mn_sched.specs.Playing.{past_of, IsFirstPart, IsPaced}
 use Rattle.mn_sched.proofs.line.deliver.Given as goal
 
 abbrev pub invariant-loop-turn : goal.invariant-loop-turn
@@ -11,6 +11,7 @@ invariant-loop-turn g l = record {
       (past_of l.fn.net);
   together : Together l.net (g.W.Watch.packets l.watch) (g.W.Watch.stands l.watch);
   topology : l.net.topology ≡ l.fn.net.topology;
+  grown : IsFirstPart l.fn.net.journal l.net.journal;
   clock : IsPaced 0 l.fn.net l.net;
   early : l.net.tick ≤ 2 ^ 62;
   records : g.W.Watch.records l.watch ≡ g.W.Watch.records l.fn.watch;

@@ -2,8 +2,9 @@ use Rattle.std.proofs.Common.{sym, ◌∙◌, subst}
 use Rattle.mn_course.specs.Course.{inputs_of, refusal_now, stepped}
 use Rattle.mn_sched.specs.Playing.{past_of, Takes}
 use Rattle.mn_sched.specs.Playing.{After}
-use Rattle.mn_sched.proofs.Telling.{leaves, made_last, last_fits, step_paced, err_then, stood, takes_input, step_takes, stepped_inject, stepped_more}
+use Rattle.mn_sched.proofs.Telling.{leaves, made_last, last_fits, step_paced, step_grown, step_kept, finished_refused, err_then, stood, takes_input, step_takes, stepped_inject, stepped_more}
 use Rattle.mn_sched.proofs.Telling.{after_step, after_fault}
+use Rattle.mn_sched.proofs.Delivering.{first_part_refl}
 use Rattle.mn_sched.proofs.Telling.{fault_takes, fault_missing}
 use Rattle.mn_sched.proofs.line.inject.Goals as goal
 
@@ -80,3 +81,22 @@ pub returns-clause-clock : goal.returns-clause-clock
 returns-clause-clock g c =
     step_paced c.step-stepped.result c.finish.result c.args.net.now c.step-stepped.new.self c.args.step c.step-stepped.ensures.longer
     (leaves _ _ _ c.step-stepped.ensures.left c.step-stepped.ensures.for_good) c.finish.ensures.ended
+
+pub returns-clause-kept : goal.returns-clause-kept
+returns-clause-kept g c =
+    step_kept c.step-stepped.result c.finish.result c.args.net.now c.step-stepped.new.self
+    (leaves _ _ _ c.step-stepped.ensures.left c.step-stepped.ensures.for_good) c.finish.ensures.ended
+
+pub returns-clause-refused : goal.returns-clause-refused
+returns-clause-refused g c = finished_refused c.step-stepped.result c.finish.result c.finish.ensures.ended
+
+pub returns-clause-grown : goal.returns-clause-grown
+returns-clause-grown g c =
+    step_grown c.step-stepped.result c.args.net.now c.step-stepped.new.self c.args.step c.step-stepped.ensures.longer
+    (leaves _ _ _ c.step-stepped.ensures.left c.step-stepped.ensures.for_good)
+
+pub returns-in-Ok-None-clause-grown : goal.returns-in-Ok-None-clause-grown
+returns-in-Ok-None-clause-grown g c = first_part_refl c.args.net.now.journal
+
+pub returns-in-Err-clause-grown : goal.returns-in-Err-clause-grown
+returns-in-Err-clause-grown g c = first_part_refl c.args.net.now.journal

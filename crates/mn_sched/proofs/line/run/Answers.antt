@@ -1,7 +1,7 @@
-use Rattle.std.proofs.Common.{◌≡◌, ℕ, List, Result, Ok, Err, ◌∙◌, ap, subst, ◌+◌, max, rules}
+use Rattle.std.proofs.Common.{sym, ◌≡◌, ℕ, List, Result, Ok, Err, ◌∙◌, ap, subst, ◌+◌, max, rules}
 use Rattle.mn_course.specs.Course.{Course, deliver, all}
 use Rattle.mn_course.specs.declared.coming.Arrivals.TheVariants.{DueBy}
-use Rattle.mn_sched.specs.Playing.{past_of, Arrives}
+use Rattle.mn_sched.specs.Playing.{past_of, Arrives, IsFirstPart}
 use Rattle.mn_sched.specs.declared.line.Stopped.{Stopped}
 use Rattle.mn_net_now.specs.Now.{NetNow}
 use Rattle.mn_sched.proofs.Telling.{run_paced, run_takes, run_stops, set_on}
@@ -48,3 +48,7 @@ returns-in-Ok-clause-clock g c =
     let clock : c.max.result ≡ max c.deliver.new.net.tick end = search rules in
     run_paced net c.deliver.new.net c.advance.new.self c.args.ticks c.requires.few c.in-Ok.ensures.clock (ap (λ n. n.tick) c.advance.ensures.set ∙ clock)
     (ap (λ n. n.journal) c.advance.ensures.set)
+
+pub returns-in-Ok-clause-grown : goal.returns-in-Ok-clause-grown
+returns-in-Ok-clause-grown g c =
+    subst (λ j. IsFirstPart c.args.net.now.journal j) (sym (ap (λ n. n.journal) c.advance.ensures.set)) c.in-Ok.ensures.grown

@@ -1,7 +1,7 @@
 use Rattle.std.proofs.Common.{[], sym, subst}
 use Rattle.mn_course.specs.Course.{inputs_of, refusal_now}
 use Rattle.mn_sched.specs.Playing.{past_of, Takes}
-use Rattle.mn_sched.proofs.Telling.{leaves, made_last, last_fits, step_paced, err_then, stood, takes_no_input, step_takes, stepped_plain, after_step}
+use Rattle.mn_sched.proofs.Telling.{leaves, made_last, last_fits, step_paced, step_grown, step_kept, finished_refused, err_then, stood, takes_no_input, step_takes, stepped_plain, after_step}
 use Rattle.mn_sched.proofs.line.step_plainly.Goals as goal
 
 pub finish-requires : goal.finish-requires
@@ -40,3 +40,16 @@ pub returns-clause-clock : goal.returns-clause-clock
 returns-clause-clock g c =
     step_paced c.step-stepped.result c.finish.result c.args.net.now c.step-stepped.new.self c.args.step c.step-stepped.ensures.longer
     (leaves _ _ _ c.step-stepped.ensures.left c.step-stepped.ensures.for_good) c.finish.ensures.ended
+
+pub returns-clause-kept : goal.returns-clause-kept
+returns-clause-kept g c =
+    step_kept c.step-stepped.result c.finish.result c.args.net.now c.step-stepped.new.self
+    (leaves _ _ _ c.step-stepped.ensures.left c.step-stepped.ensures.for_good) c.finish.ensures.ended
+
+pub returns-clause-refused : goal.returns-clause-refused
+returns-clause-refused g c = finished_refused c.step-stepped.result c.finish.result c.finish.ensures.ended
+
+pub returns-clause-grown : goal.returns-clause-grown
+returns-clause-grown g c =
+    step_grown c.step-stepped.result c.args.net.now c.step-stepped.new.self c.args.step c.step-stepped.ensures.longer
+    (leaves _ _ _ c.step-stepped.ensures.left c.step-stepped.ensures.for_good)

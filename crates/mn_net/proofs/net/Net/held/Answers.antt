@@ -2,7 +2,7 @@ use Rattle.std.proofs.Common.{◌<◌, ◌∙◌, ap, sym, subst, length, None}
 use Rattle.std.specs.Prelude.{option_map, slice_index_or}
 use Rattle.mn_ledger.specs.Ledger.{world_of}
 use Rattle.mn_ledger.specs.Places.{edge_of}
-use Rattle.mn_ledger.specs.Vpn.{held}
+use Rattle.mn_ledger.specs.Held.{held}
 use Rattle.mn_frames.specs.Given.{given}
 use Rattle.mn_frames.specs.Numbers.{labels_of}
 use Rattle.mn_pe.specs.Entries.{as_held as given_held}

@@ -30,17 +30,17 @@ returns c =
     let t = c.self.inside.topology in
     let es = c.self.inside.journal.items in
     let w = world_of t es in
-    let told : (c.args.node.0 ≢ c.args.edge.0) → c.next_hop.result ≡ hop_to t w c.args.node.0 c.args.edge.0 =
-    λ apart. c.next_hop.ensures
-    ∙ ap (λ o. option_map (λ (h : NodeNo × Option ℕ). h.0) o) (c.outer.ensures.told es is.stands.transport apart)
+    let told : c.next_hop.result ≡ hop_to t w c.args.node.0 c.args.edge.0 =
+    c.next_hop.ensures
+    ∙ ap (λ o. option_map (λ (h : NodeNo × Option ℕ). h.0) o) (c.outer.ensures.told es is.stands.transport)
     ∙ hop_of (given t es) c.args.edge.0 (usable t w.config w.views w.sessions c.args.node.0 c.args.edge.0) in
     record {
-      told = λ apart. told apart ∙ ap (λ (n : NetNow). hop_to n.topology (world_of n.topology n.journal) c.args.node.0 c.args.edge.0) c.self.view_is;
+      told = told ∙ ap (λ (n : NetNow). hop_to n.topology (world_of n.topology n.journal) c.args.node.0 c.args.edge.0) c.self.view_is;
       settled = λ apart.
           subst (λ (n : NetNow). IsSettled n.topology (world_of n.topology n.journal)
           → IsByLinks n.topology (world_of n.topology n.journal) c.args.node.0 c.args.edge.0 c.next_hop.result) c.self.view_is
           (λ settled. by_links t es is.inputs c.args.node.0 c.args.edge.0 c.laws.ensures is.stands.stands.lawful settled
           (subst (λ (n : NetNow). c.args.node.0 < length n.topology.loopbacks) (sym c.self.view_is) c.requires.node)
           (subst (λ (n : NetNow). c.args.edge.0 < length n.topology.loopbacks) (sym c.self.view_is) c.requires.edge)
-          apart c.next_hop.result (told apart));
+          apart c.next_hop.result told);
     }

@@ -21,17 +21,14 @@ notice-requires-clause-channel c =
     subst (λ n. c.in-Some.item.now.channel < 1024 * n) (sym (ap length c.nodes.ensures ∙ as_many_nodes c.self.inside.topology.loopbacks))
     (wider (length c.self.inside.topology.links) 1024 (length c.self.inside.topology.loopbacks) c.in-Some.item.now.channel c.laws.ensures.few_links there)
 
-pub returns-in-Some : goal.returns-in-Some
-returns-in-Some c =
-    record {
-      told =
-          λ ps h. told_as _ _ _ _ _ _ _ _ c.notice.ensures.kind
-          (c.notice.ensures.channel ∙ ap (λ n. notice_at (c.in-Some.item.now.channel / n) (c.in-Some.item.now.channel % n))
-          (ap length c.nodes.ensures ∙ as_many_nodes c.self.inside.topology.loopbacks)) c.notice.ensures.due c.notice.ensures.bytes
-          ∙ notice_told _ c.laws.ensures ps (subst (λ (n : NetNow). StandsFor n ps) (sym c.self.view_is) h) c.args.number c.in-Some.item.now
-          (ap (by_number c.args.number) (sym c.notices.ensures) ∙ sym c.get.ensures.value ∙ ap option_copied c.in-Some.is)
-          ∙ ap (λ (n : NetNow). told_at n.topology n.journal ps c.args.number) c.self.view_is;
-    }
+pub returns-in-Some-clause-told : goal.returns-in-Some-clause-told
+returns-in-Some-clause-told c =
+    λ ps h. told_as _ _ _ _ _ _ _ _ c.notice.ensures.kind
+    (c.notice.ensures.channel ∙ ap (λ n. notice_at (c.in-Some.item.now.channel / n) (c.in-Some.item.now.channel % n))
+    (ap length c.nodes.ensures ∙ as_many_nodes c.self.inside.topology.loopbacks)) c.notice.ensures.due c.notice.ensures.bytes
+    ∙ notice_told _ c.laws.ensures ps (subst (λ (n : NetNow). StandsFor n ps) (sym c.self.view_is) h) c.args.number c.in-Some.item.now
+    (ap (by_number c.args.number) (sym c.notices.ensures) ∙ sym c.get.ensures.value ∙ ap option_copied c.in-Some.is)
+    ∙ ap (λ (n : NetNow). told_at n.topology n.journal ps c.args.number) c.self.view_is
 
 pub pdu-requires : goal.pdu-requires
 pdu-requires c =
@@ -42,15 +39,12 @@ pdu-requires c =
     (ap (by_number c.args.number) (sym c.messages.ensures) ∙ sym c.get-2.ensures.value ∙ ap option_copied c.in-Some-get.is) in
     omega (arith, there, c.laws.ensures.few_links)
 
-pub returns-in-Some-get : goal.returns-in-Some-get
-returns-in-Some-get c =
-    record {
-      told =
-          λ ps h. told_as _ _ _ _ _ _ _ _ c.pdu.ensures.kind c.pdu.ensures.channel c.pdu.ensures.due c.pdu.ensures.bytes
-          ∙ pdu_told _ c.laws.ensures ps (subst (λ (n : NetNow). StandsFor n ps) (sym c.self.view_is) h) c.args.number c.in-Some-get.item.now
-          (ap (by_number c.args.number) (sym c.messages.ensures) ∙ sym c.get-2.ensures.value ∙ ap option_copied c.in-Some-get.is)
-          ∙ ap (λ (n : NetNow). told_at n.topology n.journal ps c.args.number) c.self.view_is;
-    }
+pub returns-in-Some-get-clause-told : goal.returns-in-Some-get-clause-told
+returns-in-Some-get-clause-told c =
+    λ ps h. told_as _ _ _ _ _ _ _ _ c.pdu.ensures.kind c.pdu.ensures.channel c.pdu.ensures.due c.pdu.ensures.bytes
+    ∙ pdu_told _ c.laws.ensures ps (subst (λ (n : NetNow). StandsFor n ps) (sym c.self.view_is) h) c.args.number c.in-Some-get.item.now
+    (ap (by_number c.args.number) (sym c.messages.ensures) ∙ sym c.get-2.ensures.value ∙ ap option_copied c.in-Some-get.is)
+    ∙ ap (λ (n : NetNow). told_at n.topology n.journal ps c.args.number) c.self.view_is
 
 pub message-requires-clause-channel : goal.message-requires-clause-channel
 message-requires-clause-channel c =
@@ -61,31 +55,25 @@ message-requires-clause-channel c =
     (ap (by_number c.args.number) (sym c.messages-2.ensures) ∙ sym c.get-3.ensures.value ∙ ap option_copied c.in-Some-get-2.is) in
     subst (λ n. c.in-Some-get-2.item.now.channel < n * n) (sym (ap length c.nodes.ensures ∙ as_many_nodes c.self.inside.topology.loopbacks)) there
 
-pub returns-in-Some-get-2 : goal.returns-in-Some-get-2
-returns-in-Some-get-2 c =
-    record {
-      told =
-          λ ps h. told_as _ _ _ _ _ _ _ _ c.message.ensures.kind
-          (c.message.ensures.channel ∙ ap (λ n. bgp_at (c.in-Some-get-2.item.now.channel / n) (c.in-Some-get-2.item.now.channel % n))
-          (ap length c.nodes.ensures ∙ as_many_nodes c.self.inside.topology.loopbacks)) c.message.ensures.due c.message.ensures.bytes
-          ∙ message_told _ c.laws.ensures ps (subst (λ (n : NetNow). StandsFor n ps) (sym c.self.view_is) h) c.args.number c.in-Some-get-2.item.now
-          (ap (by_number c.args.number) (sym c.messages-2.ensures) ∙ sym c.get-3.ensures.value ∙ ap option_copied c.in-Some-get-2.is)
-          ∙ ap (λ (n : NetNow). told_at n.topology n.journal ps c.args.number) c.self.view_is;
-    }
+pub returns-in-Some-get-2-clause-told : goal.returns-in-Some-get-2-clause-told
+returns-in-Some-get-2-clause-told c =
+    λ ps h. told_as _ _ _ _ _ _ _ _ c.message.ensures.kind
+    (c.message.ensures.channel ∙ ap (λ n. bgp_at (c.in-Some-get-2.item.now.channel / n) (c.in-Some-get-2.item.now.channel % n))
+    (ap length c.nodes.ensures ∙ as_many_nodes c.self.inside.topology.loopbacks)) c.message.ensures.due c.message.ensures.bytes
+    ∙ message_told _ c.laws.ensures ps (subst (λ (n : NetNow). StandsFor n ps) (sym c.self.view_is) h) c.args.number c.in-Some-get-2.item.now
+    (ap (by_number c.args.number) (sym c.messages-2.ensures) ∙ sym c.get-3.ensures.value ∙ ap option_copied c.in-Some-get-2.is)
+    ∙ ap (λ (n : NetNow). told_at n.topology n.journal ps c.args.number) c.self.view_is
 
-pub returns-in_err-item : goal.returns-in_err-item
-returns-in_err-item c =
-    record {
-      told =
-          λ ps h. ap (λ o. option_map (λ (flying : Flying). let told : Told =
-          record { kind = flying.kind; channel = flying.channel; due = flying.due; bytes = flying.bytes.now } in told) o) c.from_residual.ensures
-          ∙ none_told _ c.laws.ensures ps (subst (λ (n : NetNow). StandsFor n ps) (sym c.self.view_is) h) c.args.number
-          (ap (by_number c.args.number) (sym c.notices.ensures) ∙ sym c.get.ensures.value ∙ ap option_copied c.in_default.is)
-          (ap (by_number c.args.number) (sym c.messages.ensures) ∙ sym c.get-2.ensures.value ∙ ap option_copied c.in_default-get.is)
-          (ap (by_number c.args.number) (sym c.messages-2.ensures) ∙ sym c.get-3.ensures.value ∙ ap option_copied c.in_default-get-2.is)
-          (sym c.frame.ensures ∙ ap option_copied c.in_err-item.was)
-          ∙ ap (λ (n : NetNow). told_at n.topology n.journal ps c.args.number) c.self.view_is;
-    }
+pub returns-in_err-item-clause-told : goal.returns-in_err-item-clause-told
+returns-in_err-item-clause-told c =
+    λ ps h. ap (λ o. option_map (λ (flying : Flying). let told : Told =
+    record { kind = flying.kind; channel = flying.channel; due = flying.due; bytes = flying.bytes.now } in told) o) c.from_residual.ensures
+    ∙ none_told _ c.laws.ensures ps (subst (λ (n : NetNow). StandsFor n ps) (sym c.self.view_is) h) c.args.number
+    (ap (by_number c.args.number) (sym c.notices.ensures) ∙ sym c.get.ensures.value ∙ ap option_copied c.in_default.is)
+    (ap (by_number c.args.number) (sym c.messages.ensures) ∙ sym c.get-2.ensures.value ∙ ap option_copied c.in_default-get.is)
+    (ap (by_number c.args.number) (sym c.messages-2.ensures) ∙ sym c.get-3.ensures.value ∙ ap option_copied c.in_default-get-2.is)
+    (sym c.frame.ensures ∙ ap option_copied c.in_err-item.was)
+    ∙ ap (λ (n : NetNow). told_at n.topology n.journal ps c.args.number) c.self.view_is
 
 pub frame-requires-2 : goal.frame-requires-2
 frame-requires-2 c =
@@ -96,12 +84,9 @@ frame-requires-2 c =
     (sym c.frame.ensures ∙ ap option_copied c.in_ok-item.was) in
     omega (arith, there, c.laws.ensures.few_links)
 
-pub returns : goal.returns
-returns c =
-    record {
-      told =
-          λ ps h. told_as _ _ _ _ _ _ _ _ c.frame-2.ensures.kind c.frame-2.ensures.channel c.frame-2.ensures.due c.frame-2.ensures.bytes
-          ∙ frame_told _ c.laws.ensures ps (subst (λ (n : NetNow). StandsFor n ps) (sym c.self.view_is) h) c.args.number c.in_ok-item.item.now
-          (sym c.frame.ensures ∙ ap option_copied c.in_ok-item.was)
-          ∙ ap (λ (n : NetNow). told_at n.topology n.journal ps c.args.number) c.self.view_is;
-    }
+pub returns-clause-told : goal.returns-clause-told
+returns-clause-told c =
+    λ ps h. told_as _ _ _ _ _ _ _ _ c.frame-2.ensures.kind c.frame-2.ensures.channel c.frame-2.ensures.due c.frame-2.ensures.bytes
+    ∙ frame_told _ c.laws.ensures ps (subst (λ (n : NetNow). StandsFor n ps) (sym c.self.view_is) h) c.args.number c.in_ok-item.item.now
+    (sym c.frame.ensures ∙ ap option_copied c.in_ok-item.was)
+    ∙ ap (λ (n : NetNow). told_at n.topology n.journal ps c.args.number) c.self.view_is

@@ -5,12 +5,9 @@ use Rattle.mn_frames.specs.Given.{given}
 use Rattle.mn_ledger.specs.Ledger.{packets_of}
 use Rattle.mn_net.proofs.net.Net.path.Goals as goal
 
-pub returns : goal.returns
-returns c =
-    record {
-      told =
-          λ inputs h. c.path.ensures.told c.args.self.now.topology (given c.args.self.now.topology c.args.self.now.journal)
-          (packets_of c.args.self.now.topology c.args.self.now.journal inputs)
-          (subst (λ m. transit.StandsFor c.args.self.now.topology (given c.args.self.now.topology c.args.self.now.journal) m
-          (packets_of c.args.self.now.topology c.args.self.now.journal inputs)) (ap (λ (n : NetNow). n.moving) (sym c.self.view_is)) h.stands.packets);
-    }
+pub returns-clause-told : goal.returns-clause-told
+returns-clause-told c =
+    λ inputs h. c.path.ensures.told c.args.self.now.topology (given c.args.self.now.topology c.args.self.now.journal)
+    (packets_of c.args.self.now.topology c.args.self.now.journal inputs)
+    (subst (λ m. transit.StandsFor c.args.self.now.topology (given c.args.self.now.topology c.args.self.now.journal) m
+    (packets_of c.args.self.now.topology c.args.self.now.journal inputs)) (ap (λ (n : NetNow). n.moving) (sym c.self.view_is)) h.stands.packets)

@@ -54,7 +54,7 @@ returns-clause-told c =
           i.messages.items;
       failed = i.failed;
     } in
-    λ journal stands apart.
+    λ journal stands.
     outer-told c.args.topology.now c.laws.ensures old c.args.self.now c.self.view_is c.args.node.0 c.from.result c.requires.node c.from.ensures journal
     stands c.index.result.now c.index.ensures
-    c.args.edge.0 c.requires.edge apart c.outer.result c.outer.ensures.way
+    c.args.edge.0 c.requires.edge c.outer.result c.outer.ensures.way

@@ -1,0 +1,209 @@
+// Devices that fail while a run goes over two links.
+use crate::one_node::{run_words, shelf};
+use crate::two_links::{CAPTURE, File, REPORT, SCRIPT, TOPOLOGY, are_whole, files, packet_files};
+use mn_edge::{MemShelf, MemSink};
+use mn_run::{Outcome, command};
+use std::alloc::{AllocError, Global};
+use std::test::Fail;
+
+/// The capture up to the first 28 bytes of a packet of 40,000: from 10.1.0.1 to 10.2.0.1 with TTL 64. Its checksum is that
+/// of the packet of 28 bytes, less 9C24 in one's complement.
+const LONG_CAPTURE: [u8; 68] = [
+    0xD4, 0xC3, 0xB2, 0xA1, 0x02, 0x00, 0x04, 0x00, 0x00, 0x00, 0x00, 0x00, 0x00, 0x00, 0x00, 0x00,
+    0x00, 0x00, 0x04, 0x00, 0xE4, 0x00, 0x00, 0x00, 0x00, 0x00, 0x00, 0x00, 0x00, 0x00, 0x00, 0x00,
+    0x40, 0x9C, 0x00, 0x00, 0x40, 0x9C, 0x00, 0x00, 0x45, 0x00, 0x9C, 0x40, 0x00, 0x00, 0x00, 0x00,
+    0x40, 0x11, 0xCA, 0xA8, 0x0A, 0x01, 0x00, 0x01, 0x0A, 0x02, 0x00, 0x01, 0x00, 0x35, 0x00, 0x35,
+    0x9C, 0x2C, 0x00, 0x00,
+];
+
+/// The same of the deliveries: at tick 4, with TTL 61.
+const LONG_DELIVERED: [u8; 68] = [
+    0xD4, 0xC3, 0xB2, 0xA1, 0x02, 0x00, 0x04, 0x00, 0x00, 0x00, 0x00, 0x00, 0x00, 0x00, 0x00, 0x00,
+    0x00, 0x00, 0x04, 0x00, 0xE4, 0x00, 0x00, 0x00, 0x00, 0x00, 0x00, 0x00, 0xA0, 0x0F, 0x00, 0x00,
+    0x40, 0x9C, 0x00, 0x00, 0x40, 0x9C, 0x00, 0x00, 0x45, 0x00, 0x9C, 0x40, 0x00, 0x00, 0x00, 0x00,
+    0x3D, 0x11, 0xCD, 0xA8, 0x0A, 0x01, 0x00, 0x01, 0x0A, 0x02, 0x00, 0x01, 0x00, 0x35, 0x00, 0x35,
+    0x9C, 0x2C, 0x00, 0x00,
+];
+
+/// The same of the first link: at tick 0, labels 17 and 18, and the packet, each with TTL 63.
+const LONG_FIRST_LINK: [u8; 78] = [
+    0xD4, 0xC3, 0xB2, 0xA1, 0x02, 0x00, 0x04, 0x00, 0x00, 0x00, 0x00, 0x00, 0x00, 0x00, 0x00, 0x00,
+    0x00, 0x00, 0x04, 0x00, 0x09, 0x00, 0x00, 0x00, 0x00, 0x00, 0x00, 0x00, 0x00, 0x00, 0x00, 0x00,
+    0x4A, 0x9C, 0x00, 0x00, 0x4A, 0x9C, 0x00, 0x00, 0x02, 0x81, 0x00, 0x01, 0x10, 0x3F, 0x00, 0x01,
+    0x21, 0x3F, 0x45, 0x00, 0x9C, 0x40, 0x00, 0x00, 0x00, 0x00, 0x3F, 0x11, 0xCB, 0xA8, 0x0A, 0x01,
+    0x00, 0x01, 0x0A, 0x02, 0x00, 0x01, 0x00, 0x35, 0x00, 0x35, 0x9C, 0x2C, 0x00, 0x00,
+];
+
+/// The same of the second link: at tick 2, label 18 with TTL 62, and the packet as it was pushed.
+const LONG_SECOND_LINK: [u8; 74] = [
+    0xD4, 0xC3, 0xB2, 0xA1, 0x02, 0x00, 0x04, 0x00, 0x00, 0x00, 0x00, 0x00, 0x00, 0x00, 0x00, 0x00,
+    0x00, 0x00, 0x04, 0x00, 0x09, 0x00, 0x00, 0x00, 0x00, 0x00, 0x00, 0x00, 0xD0, 0x07, 0x00, 0x00,
+    0x46, 0x9C, 0x00, 0x00, 0x46, 0x9C, 0x00, 0x00, 0x02, 0x81, 0x00, 0x01, 0x21, 0x3E, 0x45, 0x00,
+    0x9C, 0x40, 0x00, 0x00, 0x00, 0x00, 0x3F, 0x11, 0xCB, 0xA8, 0x0A, 0x01, 0x00, 0x01, 0x0A, 0x02,
+    0x00, 0x01, 0x00, 0x35, 0x00, 0x35, 0x9C, 0x2C, 0x00, 0x00,
+];
+
+/// What begins with these bytes, and ends with the other 39,972 of the long packet, which are zeros.
+fn long(alloc: Global, head: &[u8]) -> Result<Vec<u8>, AllocError> {
+    let mut bytes = Vec::from_slice(alloc, head)?;
+    let zeros = vec![in alloc; 0u8; 39_972]?;
+    bytes.extend_from_slice(&zeros)?;
+    Ok(bytes)
+}
+
+/// The files of the run over the long packet.
+fn long_files(alloc: Global) -> Result<Vec<File>, AllocError> {
+    let delivered = long(alloc, &LONG_DELIVERED)?;
+    let first_link = long(alloc, &LONG_FIRST_LINK)?;
+    let second_link = long(alloc, &LONG_SECOND_LINK)?;
+    files(alloc, &delivered, &first_link, &second_link)
+}
+
+/// Whether each of these files was begun, and is a first part of its bytes.
+fn are_first_parts(shelf: &MemShelf, files: &[File]) -> bool {
+    let mut parts = true;
+    for file in files {
+        parts = match shelf.file(file.0.as_str()) {
+            Some(found) => parts && file.1.as_slice().starts_with(found),
+            None => false,
+        };
+    }
+    parts
+}
+
+/// Whether the files before this place are whole, that at it is half there, and those behind it are empty.
+fn are_whole_up_to(shelf: &MemShelf, files: &[File], end: usize) -> bool {
+    let mut as_said = true;
+    for (place, file) in files.iter().enumerate() {
+        let whole = file.1.len();
+        let length = if place < end {
+            whole
+        } else if place == end {
+            whole / 2
+        } else {
+            0
+        };
+        as_said = match shelf.file(file.0.as_str()) {
+            Some(found) => as_said && found.len() == length,
+            None => false,
+        };
+    }
+    as_said
+}
+
+#[test]
+fn a_packet_that_cannot_be_fetched_again_leaves_the_files_empty(
+    rt: HostRuntime,
+) -> Result<(), Fail> {
+    // Calls 1 to 6 read the inputs, 7 to 17 begin the files, and 18 fetches the packet as it is injected.
+    let alloc = rt.alloc();
+    let capture = Vec::from_slice(alloc, &CAPTURE)?;
+    let mut shelf = shelf(alloc, TOPOLOGY, SCRIPT, capture, vec![in alloc; 18u64]?)?;
+    let mut out = MemSink::new(alloc, Vec::new(alloc));
+    let outcome = command(alloc, &run_words(alloc)?, &mut shelf, &mut out);
+    assert!(rt; outcome == Outcome::ReadFault);
+    assert_eq!(rt; outcome.status(), 6);
+    assert!(rt; out.bytes().is_empty());
+    for file in packet_files(alloc)?.iter() {
+        assert!(rt; shelf.file(file.0.as_str()) == Some(b"".as_slice()));
+    }
+    Ok(())
+}
+
+#[test]
+fn a_failing_append_at_the_end_leaves_half_of_its_file(rt: HostRuntime) -> Result<(), Fail> {
+    // All bytes of the run wait until its end: then calls 19 to 29 append the files.
+    for place in 0..11usize {
+        let alloc = rt.alloc();
+        let capture = Vec::from_slice(alloc, &CAPTURE)?;
+        let failing = vec![in alloc; place as u64 + 19]?;
+        let mut shelf = shelf(alloc, TOPOLOGY, SCRIPT, capture, failing)?;
+        let mut out = MemSink::new(alloc, Vec::new(alloc));
+        let outcome = command(alloc, &run_words(alloc)?, &mut shelf, &mut out);
+        assert!(rt; outcome == Outcome::WriteFault);
+        assert_eq!(rt; outcome.status(), 7);
+        assert!(rt; out.bytes().is_empty());
+        let files = packet_files(alloc)?;
+        assert!(rt; are_first_parts(&shelf, &files));
+        assert!(rt; are_whole_up_to(&shelf, &files, place));
+    }
+    Ok(())
+}
+
+#[test]
+fn a_failing_put_comes_once_the_files_are_whole(rt: HostRuntime) -> Result<(), Fail> {
+    let alloc = rt.alloc();
+    let capture = Vec::from_slice(alloc, &CAPTURE)?;
+    let mut shelf = shelf(alloc, TOPOLOGY, SCRIPT, capture, Vec::new(alloc))?;
+    let mut out = MemSink::new(alloc, vec![in alloc; 1u64]?);
+    let outcome = command(alloc, &run_words(alloc)?, &mut shelf, &mut out);
+    assert!(rt; outcome == Outcome::WriteFault);
+    assert_eq!(rt; outcome.status(), 7);
+    assert!(rt; are_whole(&shelf, &packet_files(alloc)?));
+    // The report is put by one call: of its 481 bytes the first 240 stay.
+    assert_eq!(rt; out.bytes().len(), 240);
+    assert!(rt; REPORT.as_bytes().starts_with(out.bytes()));
+    Ok(())
+}
+
+#[test]
+fn a_long_packet_is_written_in_two_parts(rt: HostRuntime) -> Result<(), Fail> {
+    let alloc = rt.alloc();
+    let capture = long(alloc, &LONG_CAPTURE)?;
+    let mut shelf = shelf(alloc, TOPOLOGY, SCRIPT, capture, Vec::new(alloc))?;
+    let mut out = MemSink::new(alloc, Vec::new(alloc));
+    let outcome = command(alloc, &run_words(alloc)?, &mut shelf, &mut out);
+    assert!(rt; outcome == Outcome::Done);
+    assert!(rt; out.bytes() == REPORT.as_bytes());
+    assert!(rt; are_whole(&shelf, &long_files(alloc)?));
+    // At most 64 KiB wait. So calls 19 to 28 append what waits, to all files but the labels, as the packet goes over
+    // the second link; and calls 29 to 32 the rest, at the end, to the journal, the labels, the deliveries and that
+    // link's capture.
+    assert_eq!(rt; shelf.calls(), 32);
+    Ok(())
+}
+
+#[test]
+fn a_failing_append_in_the_middle_leaves_first_parts(rt: HostRuntime) -> Result<(), Fail> {
+    for call in 19..33u64 {
+        let alloc = rt.alloc();
+        let capture = long(alloc, &LONG_CAPTURE)?;
+        let mut shelf = shelf(alloc, TOPOLOGY, SCRIPT, capture, vec![in alloc; call]?)?;
+        let mut out = MemSink::new(alloc, Vec::new(alloc));
+        let outcome = command(alloc, &run_words(alloc)?, &mut shelf, &mut out);
+        assert!(rt; outcome == Outcome::WriteFault);
+        assert_eq!(rt; outcome.status(), 7);
+        assert!(rt; out.bytes().is_empty());
+        let files = long_files(alloc)?;
+        assert!(rt; are_first_parts(&shelf, &files));
+        assert!(rt; !are_whole(&shelf, &files));
+    }
+    Ok(())
+}
+
+#[test]
+fn a_later_packet_that_cannot_be_fetched_again_leaves_first_parts(
+    rt: HostRuntime,
+) -> Result<(), Fail> {
+    // Call 29 fetches the packet for a second injection, behind the appends as it first went over the second link.
+    let alloc = rt.alloc();
+    let capture = long(alloc, &LONG_CAPTURE)?;
+    let mut script = String::from_str(alloc, SCRIPT)?;
+    script.push_str("inject a 1\n")?;
+    let failing = vec![in alloc; 29u64]?;
+    let mut shelf = shelf(alloc, TOPOLOGY, script.as_str(), capture, failing)?;
+    let mut out = MemSink::new(alloc, Vec::new(alloc));
+    let outcome = command(alloc, &run_words(alloc)?, &mut shelf, &mut out);
+    assert!(rt; outcome == Outcome::ReadFault);
+    assert_eq!(rt; outcome.status(), 6);
+    assert!(rt; out.bytes().is_empty());
+    let files = long_files(alloc)?;
+    assert!(rt; are_first_parts(&shelf, &files));
+    // The labels wait for the end; the first link's capture is whole, the second's isn't.
+    assert!(rt; shelf.file("out/labels.txt") == Some(b"".as_slice()));
+    let first_link = long(alloc, &LONG_FIRST_LINK)?;
+    assert!(rt; shelf.file("out/pe1+p.pcap") == Some(first_link.as_slice()));
+    let second_link = shelf.file("out/p+pe2.pcap").ok_or("no capture")?;
+    assert!(rt; second_link.len() > 74 && second_link.len() < 40_046);
+    Ok(())
+}
