@@ -5,6 +5,7 @@
 //! - `drops`: the rules by which a packet is dropped
 //! - `states`: the states of an LDP and of a BGP session
 //! - `laws`: what holds of rules tried in order (`specs/Rules.antt`) and of lists kept in an order (`specs/Ordered.antt`)
+//! - `specs/Limits`: how much a network and a run may hold
 //! - `list`: a `Vec` that contracts see as a list
 //! - `counter`: a counter of steps, for contracts that bound them
 //! - `paths`: what holds of the walks and least costs of `specs/Paths.antt`

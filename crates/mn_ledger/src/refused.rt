@@ -17,8 +17,8 @@ pub enum Refused {
     TargetsFull,
     /// The node has given 1,048,560 labels.
     LabelsSpent,
-    /// 2,000,000 notices and messages are in flight, or the packet's bytes and those of all flying packets
-    /// would pass 268,435,456.
+    /// 2,000,000 notices and messages are in flight, and the step takes nothing out of flight; or the packet's bytes and
+    /// those of all flying packets would pass 268,435,456.
     NetFull,
     /// The journal has 4,000,000 steps.
     TooManySteps,

@@ -16,9 +16,9 @@
 //! Where memory is wanted in the midst of a change, the parts may not fit together any more: the node then answers
 //! `NoMemory` to each change from then on.
 //!
-//! - `lsr`: the node, in the words of its contract
+//! - `lsr`: the node, in the words of its contract; `refusal`: why it refuses
 //! - `parts`, `hearing`, `making`, `sites`: its parts, and what each change does to them
-//! - `message`, `speaking`: what is said, as PDUs on links
+//! - `message`, `speaking`, `said`: what is said, as PDUs on links
 //! - `ways`: the labels of FECs and their uses
 //! - `laws`: what is said and heard where both ends of a session are nodes
 #![tactic(auto)]

@@ -10,7 +10,7 @@
 //! - `refused`: lines of a script that were refused
 //! - `table`: the tables that a script asks for, each as the network stands; `links`, `tree`, `ldp`, `bgp`, `flight`, `routes`
 //! - `packets`: what became of each packet; `total`: what all comes to
-//! - `counts`: how many nodes and links there are
+//! - `counts`: how many nodes and links there are; `written`: a written line, put on a page
 #![tactic(auto)]
 
 mod bgp;
