@@ -19,8 +19,6 @@ mod list;
 mod numbers;
 mod paths;
 mod states;
-#[cfg(test)]
-mod tests;
 
 pub use counter::Steps;
 pub use drops::Rule;

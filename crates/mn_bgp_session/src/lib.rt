@@ -19,12 +19,8 @@
 #![tactic(auto)]
 
 mod refusal;
-#[cfg(test)]
-mod router_messages;
 mod session;
 mod table;
-#[cfg(test)]
-mod tests;
 
 pub use refusal::BgpBad;
 pub use session::BgpSession;

@@ -56,8 +56,3 @@ pub use message::{BgpMessage, Update};
 pub use read::read_bgp;
 pub use refusal::BgpWireBad;
 pub use write::{write_keep, write_open, write_reach, write_unreach};
-
-#[cfg(test)]
-mod router_messages;
-#[cfg(test)]
-mod tests;

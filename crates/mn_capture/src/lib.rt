@@ -13,6 +13,3 @@ mod read; // a file, read once
 
 pub use capture::Capture;
 pub use read::{Scanned, scan};
-
-#[cfg(test)]
-mod tests;

@@ -25,6 +25,3 @@ pub use gather::Gather;
 pub use memory::{MemShelf, MemSink};
 pub use read::{Content, read_all};
 pub use write::{append_all, begin_all, write_all};
-
-#[cfg(test)]
-mod tests;

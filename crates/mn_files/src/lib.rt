@@ -26,8 +26,6 @@ mod find;
 mod laws;
 mod names;
 mod numbers;
-#[cfg(test)]
-mod tests;
 
 pub use edges::EdgePlaces;
 pub use find::{find_frames, find_said, find_told};

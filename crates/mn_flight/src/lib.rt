@@ -21,8 +21,6 @@
 mod calls;
 mod laws;
 mod list;
-#[cfg(test)]
-mod tests;
 
 pub use calls::Flight;
 pub use laws::{calls_keep_a_flight, earliest_goes_first, four_items_fly, taking_leaves_one_less};

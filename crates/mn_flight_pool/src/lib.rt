@@ -31,8 +31,6 @@ mod moves;
 mod node;
 mod pool;
 mod store;
-#[cfg(test)]
-mod tests;
 mod tick;
 mod walk;
 

@@ -20,6 +20,3 @@ mod topology;
 pub use capture::capture_bytes;
 pub use script::script_text;
 pub use topology::topology_text;
-
-#[cfg(test)]
-mod tests;

@@ -21,8 +21,6 @@
 
 mod read;
 mod refusal;
-#[cfg(test)]
-mod tests;
 mod text;
 mod write;
 

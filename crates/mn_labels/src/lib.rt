@@ -21,8 +21,6 @@
 mod meaning;
 mod refusal;
 mod table;
-#[cfg(test)]
-mod tests;
 
 pub use meaning::Bind;
 pub use refusal::LabelBad;

@@ -24,8 +24,6 @@ mod kind;
 mod laws;
 mod refusal;
 mod session;
-#[cfg(test)]
-mod tests;
 
 pub use kind::{LdpKind, kind_of};
 pub use laws::{

@@ -44,6 +44,3 @@ pub use message::{Addresses, LdpBody, LdpId, LdpMessage, Pdu};
 pub use read::read_pdu;
 pub use refusal::WireBad;
 pub use write::write_pdu;
-
-#[cfg(test)]
-mod tests;

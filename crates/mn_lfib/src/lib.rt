@@ -25,8 +25,6 @@
 
 mod answer;
 mod table;
-#[cfg(test)]
-mod tests;
 
 pub use answer::{Forwarded, Use};
 pub use table::Lfib;

@@ -29,8 +29,6 @@ mod event;
 mod laws;
 mod news;
 mod row;
-#[cfg(test)]
-mod tests;
 mod undo;
 
 pub use bindings::Lib;

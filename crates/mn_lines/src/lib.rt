@@ -20,8 +20,6 @@
 mod lines;
 mod names;
 mod page;
-#[cfg(test)]
-mod tests;
 mod write;
 
 pub use lines::{Sent, Totals, cause_name, rule_name};

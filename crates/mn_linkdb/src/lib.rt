@@ -24,8 +24,6 @@ mod laws;
 mod learned;
 mod network;
 mod paths;
-#[cfg(test)]
-mod tests;
 
 pub use changes::{LinkDb, Unchanged};
 pub use laws::{count_tells_the_last_change, each_root_has_a_tree, one_tree, tree_is_computed};

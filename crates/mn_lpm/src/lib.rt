@@ -19,8 +19,6 @@
 
 mod levels;
 mod plain;
-#[cfg(test)]
-mod tests;
 
 pub use levels::LengthTable;
 pub use plain::PlainTable;

@@ -33,8 +33,6 @@ mod refusal;
 mod said;
 mod sites;
 mod speaking;
-#[cfg(test)]
-mod tests;
 mod ways;
 
 pub use laws::{a_node_speaks_of_nodes, routers_in_a_row_are_wired, what_is_said_is_one_change};

@@ -13,8 +13,6 @@
 mod count;
 mod laws;
 mod tally;
-#[cfg(test)]
-mod tests;
 
 pub use count::{count_frame, count_static};
 pub use laws::{a_tally_goes_on, a_tally_tells_losses};

@@ -7,6 +7,7 @@ use mn_net::Net;
 use mn_script::{Command, Line, read_script};
 use mn_topo::{Step, read_topology};
 use std::alloc::{AllocError, Global};
+use std::process::Abort;
 use std::test::Fail;
 
 /// A network after a script, and what of it was refused.
@@ -142,6 +143,18 @@ pub(crate) fn went(net: &Net, packet: u32, nodes: &[NodeNo]) -> bool {
     }
     net.laws();
     packet < net.packets() && net.path(packet) == nodes
+}
+
+/// A packet, numbered from 0, came to this end, and was at exactly these nodes, in order.
+pub(crate) fn ended(
+    rt: &impl Abort,
+    net: &Net,
+    packet: u32,
+    end: Option<Verdict>,
+    nodes: &[NodeNo],
+) {
+    assert_eq!(rt; verdict(net, packet), end, "packet {packet}");
+    assert!(rt; went(net, packet, nodes), "packet {packet}");
 }
 
 /// The label that the node gave next after 15 others and these, from 0 on.

@@ -1,9 +1,9 @@
 // Lines of scripts: the steps that each of them does, the clock after it, and what becomes of packets.
-use crate::driven::{given, network, verdict, went};
+use crate::driven::{ended, given, network, verdict, went};
 use crate::topologies::{
     DETOUR, LOSSY_ROW, NESTED, PACKET, RING, ROW, SQUARE, TO_10_1_0_9, TTL_3, TTL_4, TTL_5,
 };
-use crate::watched::{Outcome, came_to, journal, last, played};
+use crate::watched::{Outcome, Run, came_to, journal, last, played};
 use mn_base::{Dir, LinkNo, NodeNo, Rule, SiteNo};
 use mn_labels::Bind;
 use mn_ledger::{Refused, Verdict};
@@ -11,6 +11,7 @@ use mn_net::Net;
 use mn_sched::{Played, Stopped};
 use mn_script::count_lines;
 use std::alloc::{AllocError, Global};
+use std::process::Abort;
 use std::test::Fail;
 
 const PE1: NodeNo = NodeNo(0);
@@ -60,6 +61,31 @@ fn dropped(rule: Rule, node: NodeNo) -> Option<Verdict> {
     Some(Verdict::Dropped { rule, node })
 }
 
+/// Each of these lines, by its place from 0, did all that it asks for: so many steps are done, and the clock is at this
+/// tick.
+fn did_all(rt: &impl Abort, run: &Run, lines: &[(usize, usize, u64)]) {
+    for line in lines {
+        let (place, steps, tick) = *line;
+        assert_eq!(rt; came_to(run, place), all(steps, tick), "line {place}");
+    }
+}
+
+/// Over two links the script's last line comes to this, and the first packet to this end, at these nodes.
+fn plays(
+    rt: &impl Abort,
+    alloc: Global,
+    script: &str,
+    packet: [u8; 28],
+    outcome: Option<Outcome>,
+    end: Option<Verdict>,
+    nodes: &[NodeNo],
+) -> Result<Run, Fail> {
+    let run = played(alloc, ROW, script, packet, 0)?;
+    assert_eq!(rt; last(&run), outcome);
+    ended(rt, &run.net, 0, end, nodes);
+    Ok(run)
+}
+
 /// A packet goes from site a to site b over two links of a settled network.
 const ACROSS: &str = "\
 link up pe1 p
@@ -74,32 +100,40 @@ flush
 fn each_line_does_its_steps_and_sets_the_clock(rt: HostRuntime) -> Result<(), Fail> {
     let run = played(rt.alloc(), ROW, ACROSS, PACKET, 0)?;
     assert_eq!(rt; run.outcomes.len(), 6);
-    assert_eq!(rt; came_to(&run, 0), all(1, 0));
-    assert_eq!(rt; came_to(&run, 1), all(2, 0));
-    assert_eq!(rt; came_to(&run, 2), all(3, 0));
-    assert_eq!(rt; came_to(&run, 3), all(39, 0));
-    assert_eq!(rt; came_to(&run, 4), all(40, 0));
-    assert_eq!(rt; came_to(&run, 5), all(42, 4));
+    did_all(&rt, &run, &[(0, 1, 0), (1, 2, 0), (2, 3, 0)]);
+    did_all(&rt, &run, &[(3, 39, 0), (4, 40, 0), (5, 42, 4)]);
     assert!(rt; journal(&run).ends_with(b"0 inject a 1\n2 carry pe1 p 0\n4 carry p pe2 0\n"));
-    assert_eq!(rt; verdict(&run.net, 0), delivered(B, 61, 1));
-    assert!(rt; went(&run.net, 0, &[PE1, P, PE2]));
+    ended(&rt, &run.net, 0, delivered(B, 61, 1), &[PE1, P, PE2]);
     Ok(())
 }
 
 #[test]
 fn flush_carries_a_packet_whose_time_to_live_is_enough(rt: HostRuntime) -> Result<(), Fail> {
-    let run = played(rt.alloc(), ROW, ACROSS, TTL_4, 0)?;
-    assert_eq!(rt; last(&run), all(42, 4));
-    assert_eq!(rt; verdict(&run.net, 0), delivered(B, 1, 1));
+    let end = delivered(B, 1, 1);
+    let _run = plays(
+        &rt,
+        rt.alloc(),
+        ACROSS,
+        TTL_4,
+        all(42, 4),
+        end,
+        &[PE1, P, PE2],
+    )?;
     Ok(())
 }
 
 #[test]
 fn flush_carries_a_packet_while_it_lives(rt: HostRuntime) -> Result<(), Fail> {
-    let run = played(rt.alloc(), ROW, ACROSS, TTL_3, 0)?;
-    assert_eq!(rt; last(&run), all(42, 4));
-    assert_eq!(rt; verdict(&run.net, 0), dropped(Rule::TtlExpired, PE2));
-    assert!(rt; went(&run.net, 0, &[PE1, P, PE2]));
+    let end = dropped(Rule::TtlExpired, PE2);
+    let _run = plays(
+        &rt,
+        rt.alloc(),
+        ACROSS,
+        TTL_3,
+        all(42, 4),
+        end,
+        &[PE1, P, PE2],
+    )?;
     Ok(())
 }
 
@@ -110,6 +144,15 @@ fn an_empty_script_does_nothing(rt: HostRuntime) -> Result<(), Fail> {
     assert!(rt; journal(&run).is_empty());
     assert_eq!(rt; run.net.tick(), 0);
     Ok(())
+}
+
+fn fec(node: NodeNo) -> Option<Bind> {
+    Some(Bind::Fec(node))
+}
+
+/// The first attachment of a site.
+fn attached(site: SiteNo) -> Option<Bind> {
+    Some(Bind::Site(site, 1))
 }
 
 /// Whether the labels that the node gave, from 16 on, are exactly these three.
@@ -123,11 +166,9 @@ fn gave(net: &Net, node: NodeNo, labels: [Option<Bind>; 3]) -> bool {
 #[test]
 fn at_the_start_each_node_has_a_label_for_each_other(rt: HostRuntime) -> Result<(), Fail> {
     let net = network(rt.alloc(), ROW)?;
-    let fec = |node| Some(Bind::Fec(node));
-    let site = |site| Some(Bind::Site(site, 1));
-    assert!(rt; gave(&net, PE1, [fec(P), fec(PE2), site(A)]));
+    assert!(rt; gave(&net, PE1, [fec(P), fec(PE2), attached(A)]));
     assert!(rt; gave(&net, P, [fec(PE1), fec(PE2), None]));
-    assert!(rt; gave(&net, PE2, [fec(PE1), fec(P), site(B)]));
+    assert!(rt; gave(&net, PE2, [fec(PE1), fec(P), attached(B)]));
     Ok(())
 }
 
@@ -163,10 +204,8 @@ flush
 
 #[test]
 fn a_change_of_imports_needs_no_message(rt: HostRuntime) -> Result<(), Fail> {
-    let run = played(rt.alloc(), ROW, IMPORTS, PACKET, 0)?;
-    assert_eq!(rt; last(&run), all(45, 4));
-    assert_eq!(rt; verdict(&run.net, 0), dropped(Rule::NoRoute, PE1));
-    assert!(rt; went(&run.net, 0, &[PE1]));
+    let end = dropped(Rule::NoRoute, PE1);
+    let run = plays(&rt, rt.alloc(), IMPORTS, PACKET, all(45, 4), end, &[PE1])?;
     assert_eq!(rt; verdict(&run.net, 1), delivered(B, 61, 1));
     Ok(())
 }
@@ -188,12 +227,101 @@ flush
 
 #[test]
 fn an_announcement_counts_once_it_is_heard(rt: HostRuntime) -> Result<(), Fail> {
-    let run = played(rt.alloc(), ROW, ANNOUNCED, PACKET, 0)?;
+    let end = dropped(Rule::NoRoute, PE1);
+    let run = plays(&rt, rt.alloc(), ANNOUNCED, PACKET, all(42, 4), end, &[PE1])?;
     // The drain is 36 steps without the six of BGP.
     assert_eq!(rt; came_to(&run, 2), all(32, 0));
-    assert_eq!(rt; last(&run), all(42, 4));
-    assert_eq!(rt; verdict(&run.net, 0), dropped(Rule::NoRoute, PE1));
     assert_eq!(rt; verdict(&run.net, 1), delivered(B, 61, 1));
+    Ok(())
+}
+
+const ATTACHED_ANEW: &str = "\
+link up pe1 p
+link up p pe2
+bgp up pe1 pe2
+drain 1000
+inject a 1
+site down b
+site up b
+flush
+";
+
+#[test]
+fn a_site_that_came_back_is_another_attachment(rt: HostRuntime) -> Result<(), Fail> {
+    let end = dropped(Rule::SiteGone, PE2);
+    let run = plays(
+        &rt,
+        rt.alloc(),
+        ATTACHED_ANEW,
+        PACKET,
+        all(44, 4),
+        end,
+        &[PE1, P, PE2],
+    )?;
+    assert_eq!(rt; given(&run.net, PE2, 3), Some(Bind::Site(B, 2)));
+    Ok(())
+}
+
+const SWITCHED: &str = "\
+link up pe1 p
+link up p pe2
+bgp up pe1 pe2
+drain 1000
+ldp off pe1 p
+inject a 1
+ldp on pe1 p
+drain 1000
+inject a 1
+flush
+";
+
+#[test]
+fn labels_are_exchanged_anew_once_ldp_is_on_again(rt: HostRuntime) -> Result<(), Fail> {
+    let run = played(rt.alloc(), ROW, SWITCHED, PACKET, 0)?;
+    ended(&rt, &run.net, 0, dropped(Rule::NoLsp, PE1), &[PE1]);
+    assert_eq!(rt; verdict(&run.net, 1), delivered(B, 61, 1));
+    assert_eq!(rt; run.net.tick(), 4);
+    Ok(())
+}
+
+const LOST: &str = "\
+link up pe1 p
+link up p pe2
+bgp up pe1 pe2
+drain 1000
+inject a 1
+inject a 1
+lose pe1 p 0
+flush
+carry pe1 p 0
+";
+
+#[test]
+fn a_frame_that_a_line_loses_does_not_arrive(rt: HostRuntime) -> Result<(), Fail> {
+    let empty = refused(Refused::Empty, 44, 4);
+    let end = dropped(Rule::Lost, PE1);
+    let run = plays(&rt, rt.alloc(), LOST, PACKET, empty, end, &[PE1])?;
+    assert_eq!(rt; came_to(&run, 7), all(44, 4));
+    assert_eq!(rt; verdict(&run.net, 1), delivered(B, 61, 1));
+    Ok(())
+}
+
+const TWO_WAYS: &str = "\
+link up pe1 x
+link up pe1 y
+link up x pe2
+link up y pe2
+bgp up pe1 pe2
+drain 10000
+inject a 1
+flush
+";
+
+#[test]
+fn of_two_least_ways_the_lesser_neighbour_is_next(rt: HostRuntime) -> Result<(), Fail> {
+    let run = played(rt.alloc(), SQUARE, TWO_WAYS, PACKET, 0)?;
+    let way = [PE1, NodeNo(1), NodeNo(3)];
+    ended(&rt, &run.net, 0, delivered(B, 61, 1), &way);
     Ok(())
 }
 
@@ -215,31 +343,10 @@ fn a_packet_goes_back_and_forth_until_its_time_is_up(rt: HostRuntime) -> Result<
     let run = played(rt.alloc(), DETOUR, BACK_AND_FORTH, TTL_5, 0)?;
     let x = NodeNo(1);
     let y = NodeNo(2);
-    assert_eq!(rt; verdict(&run.net, 0), dropped(Rule::TtlExpired, y));
-    assert!(rt; went(&run.net, 0, &[PE1, x, y, x, y]));
+    let end = dropped(Rule::TtlExpired, y);
+    ended(&rt, &run.net, 0, end, &[PE1, x, y, x, y]);
     // Four links of delay 1.
     assert_eq!(rt; run.net.tick(), 4);
-    Ok(())
-}
-
-const ATTACHED_ANEW: &str = "\
-link up pe1 p
-link up p pe2
-bgp up pe1 pe2
-drain 1000
-inject a 1
-site down b
-site up b
-flush
-";
-
-#[test]
-fn a_site_that_came_back_is_another_attachment(rt: HostRuntime) -> Result<(), Fail> {
-    let run = played(rt.alloc(), ROW, ATTACHED_ANEW, PACKET, 0)?;
-    assert_eq!(rt; last(&run), all(44, 4));
-    assert_eq!(rt; verdict(&run.net, 0), dropped(Rule::SiteGone, PE2));
-    assert!(rt; went(&run.net, 0, &[PE1, P, PE2]));
-    assert_eq!(rt; given(&run.net, PE2, 3), Some(Bind::Site(B, 2)));
     Ok(())
 }
 
@@ -261,59 +368,12 @@ hear ldp p pe1
 fn a_refused_line_does_not_end_the_script(rt: HostRuntime) -> Result<(), Fail> {
     let run = played(rt.alloc(), ROW, CUT, PACKET, 0)?;
     assert_eq!(rt; run.outcomes.len(), 11);
-    assert_eq!(rt; came_to(&run, 8), all(44, 0));
+    did_all(&rt, &run, &[(8, 44, 0)]);
     assert_eq!(rt; came_to(&run, 9), refused(Refused::Unchanged, 44, 0));
     assert_eq!(rt; came_to(&run, 10), refused(Refused::Empty, 44, 0));
-    assert_eq!(rt; verdict(&run.net, 0), dropped(Rule::LinkCut, PE1));
-    assert_eq!(rt; verdict(&run.net, 1), dropped(Rule::LinkCut, PE1));
-    assert_eq!(rt; verdict(&run.net, 2), dropped(Rule::LinkCut, PE1));
-    assert!(rt; went(&run.net, 2, &[PE1]));
-    Ok(())
-}
-
-const SWITCHED: &str = "\
-link up pe1 p
-link up p pe2
-bgp up pe1 pe2
-drain 1000
-ldp off pe1 p
-inject a 1
-ldp on pe1 p
-drain 1000
-inject a 1
-flush
-";
-
-#[test]
-fn labels_are_exchanged_anew_once_ldp_is_on_again(rt: HostRuntime) -> Result<(), Fail> {
-    let run = played(rt.alloc(), ROW, SWITCHED, PACKET, 0)?;
-    assert_eq!(rt; verdict(&run.net, 0), dropped(Rule::NoLsp, PE1));
-    assert!(rt; went(&run.net, 0, &[PE1]));
-    assert_eq!(rt; verdict(&run.net, 1), delivered(B, 61, 1));
-    assert_eq!(rt; run.net.tick(), 4);
-    Ok(())
-}
-
-const LOST: &str = "\
-link up pe1 p
-link up p pe2
-bgp up pe1 pe2
-drain 1000
-inject a 1
-inject a 1
-lose pe1 p 0
-flush
-carry pe1 p 0
-";
-
-#[test]
-fn a_frame_that_a_line_loses_does_not_arrive(rt: HostRuntime) -> Result<(), Fail> {
-    let run = played(rt.alloc(), ROW, LOST, PACKET, 0)?;
-    assert_eq!(rt; came_to(&run, 7), all(44, 4));
-    assert_eq!(rt; came_to(&run, 8), refused(Refused::Empty, 44, 4));
-    assert_eq!(rt; verdict(&run.net, 0), dropped(Rule::Lost, PE1));
-    assert!(rt; went(&run.net, 0, &[PE1]));
-    assert_eq!(rt; verdict(&run.net, 1), delivered(B, 61, 1));
+    for packet in 0..3u32 {
+        ended(&rt, &run.net, packet, dropped(Rule::LinkCut, PE1), &[PE1]);
+    }
     Ok(())
 }
 
@@ -374,16 +434,13 @@ const IN_TIME_JOURNAL: &[u8] = b"\
 #[test]
 fn run_delivers_what_is_due_and_ends_at_its_tick(rt: HostRuntime) -> Result<(), Fail> {
     let run = played(rt.alloc(), ROW, IN_TIME, PACKET, 0)?;
-    assert_eq!(rt; came_to(&run, 3), all(39, 100));
-    assert_eq!(rt; came_to(&run, 4), all(40, 100));
-    assert_eq!(rt; came_to(&run, 5), all(41, 103));
+    did_all(&rt, &run, &[(3, 39, 100), (4, 40, 100), (5, 41, 103)]);
     assert_eq!(rt; journal(&run), IN_TIME_JOURNAL);
     let on_its_way = Verdict::Flying {
         link: LinkNo(1),
         dir: Dir::Forth,
     };
-    assert_eq!(rt; verdict(&run.net, 0), Some(on_its_way));
-    assert!(rt; went(&run.net, 0, &[PE1, P]));
+    ended(&rt, &run.net, 0, Some(on_its_way), &[PE1, P]);
     Ok(())
 }
 
@@ -400,16 +457,9 @@ const OPENED: &[u8] = b"\
 
 #[test]
 fn each_item_arrives_as_it_is_due(rt: HostRuntime) -> Result<(), Fail> {
-    let run = played(
-        rt.alloc(),
-        ROW,
-        "link up pe1 p\nrun 1\nrun 2\nrun 1\n",
-        PACKET,
-        0,
-    )?;
-    assert_eq!(rt; came_to(&run, 1), all(4, 1));
-    assert_eq!(rt; came_to(&run, 2), all(5, 3));
-    assert_eq!(rt; came_to(&run, 3), all(7, 4));
+    let script = "link up pe1 p\nrun 1\nrun 2\nrun 1\n";
+    let run = played(rt.alloc(), ROW, script, PACKET, 0)?;
+    did_all(&rt, &run, &[(1, 4, 1), (2, 5, 3), (3, 7, 4)]);
     assert_eq!(rt; journal(&run), OPENED);
     Ok(())
 }
@@ -429,28 +479,8 @@ fn a_link_loses_each_second_frame(rt: HostRuntime) -> Result<(), Fail> {
     let run = played(rt.alloc(), LOSSY_ROW, TWO_FRAMES, PACKET, 0)?;
     assert_eq!(rt; last(&run), all(44, 4));
     assert_eq!(rt; verdict(&run.net, 0), delivered(B, 61, 1));
-    assert_eq!(rt; verdict(&run.net, 1), dropped(Rule::Lost, PE1));
-    assert!(rt; went(&run.net, 1, &[PE1]));
+    ended(&rt, &run.net, 1, dropped(Rule::Lost, PE1), &[PE1]);
     assert!(rt; journal(&run).ends_with(b"2 carry pe1 p 0\n2 lose pe1 p 0\n4 carry p pe2 0\n"));
-    Ok(())
-}
-
-const TWO_WAYS: &str = "\
-link up pe1 x
-link up pe1 y
-link up x pe2
-link up y pe2
-bgp up pe1 pe2
-drain 10000
-inject a 1
-flush
-";
-
-#[test]
-fn of_two_least_ways_the_lesser_neighbour_is_next(rt: HostRuntime) -> Result<(), Fail> {
-    let run = played(rt.alloc(), SQUARE, TWO_WAYS, PACKET, 0)?;
-    assert_eq!(rt; verdict(&run.net, 0), delivered(B, 61, 1));
-    assert!(rt; went(&run.net, 0, &[PE1, NodeNo(1), NodeNo(3)]));
     Ok(())
 }
 
@@ -464,8 +494,7 @@ drain
 drain
 ";
     let run = played(rt.alloc(), ROW, script, PACKET, 0)?;
-    assert_eq!(rt; came_to(&run, 3), all(39, 0));
-    assert_eq!(rt; came_to(&run, 4), all(39, 0));
+    did_all(&rt, &run, &[(3, 39, 0), (4, 39, 0)]);
     Ok(())
 }
 
@@ -481,10 +510,7 @@ drain 31
 drain 1
 ";
     let run = played(rt.alloc(), ROW, script, PACKET, 0)?;
-    assert_eq!(rt; came_to(&run, 3), all(3, 0));
-    assert_eq!(rt; came_to(&run, 4), all(8, 0));
-    assert_eq!(rt; came_to(&run, 5), all(39, 0));
-    assert_eq!(rt; came_to(&run, 6), all(39, 0));
+    did_all(&rt, &run, &[(3, 3, 0), (4, 8, 0), (5, 39, 0), (6, 39, 0)]);
     Ok(())
 }
 
@@ -502,13 +528,18 @@ fn a_record_that_is_not_there_is_passed_over(rt: HostRuntime) -> Result<(), Fail
     Ok(())
 }
 
+/// The script stopped so at its last line, and the watch has noted so many steps.
+fn stops(rt: &impl Abort, run: &Run, end: Option<Outcome>, noted: u64) {
+    assert_eq!(rt; last(run), end);
+    assert_eq!(rt; count_lines(journal(run)), noted);
+}
+
 #[test]
 fn a_failing_fetch_ends_the_script_before_the_step(rt: HostRuntime) -> Result<(), Fail> {
     // The watch is told of 39 steps, and then asked for the packet.
     let run = played(rt.alloc(), ROW, ACROSS, PACKET, 40)?;
     assert_eq!(rt; run.outcomes.len(), 5);
-    assert_eq!(rt; last(&run), stopped(Stopped::Read, 39, 0));
-    assert_eq!(rt; count_lines(journal(&run)), 39);
+    stops(&rt, &run, stopped(Stopped::Read, 39, 0), 39);
     assert_eq!(rt; (run.watch.reads, run.watch.writes), (1, 0));
     Ok(())
 }
@@ -516,8 +547,7 @@ fn a_failing_fetch_ends_the_script_before_the_step(rt: HostRuntime) -> Result<()
 #[test]
 fn a_failing_write_ends_the_script_after_the_step(rt: HostRuntime) -> Result<(), Fail> {
     let run = played(rt.alloc(), ROW, ACROSS, PACKET, 41)?;
-    assert_eq!(rt; last(&run), stopped(Stopped::Write, 40, 0));
-    assert_eq!(rt; count_lines(journal(&run)), 39);
+    stops(&rt, &run, stopped(Stopped::Write, 40, 0), 39);
     assert_eq!(rt; (run.watch.reads, run.watch.writes), (0, 1));
     Ok(())
 }
@@ -525,16 +555,14 @@ fn a_failing_write_ends_the_script_after_the_step(rt: HostRuntime) -> Result<(),
 #[test]
 fn a_failing_write_ends_a_flush_at_the_tick_of_its_step(rt: HostRuntime) -> Result<(), Fail> {
     let run = played(rt.alloc(), ROW, ACROSS, PACKET, 42)?;
-    assert_eq!(rt; last(&run), stopped(Stopped::Write, 41, 2));
-    assert_eq!(rt; count_lines(journal(&run)), 40);
+    stops(&rt, &run, stopped(Stopped::Write, 41, 2), 40);
     Ok(())
 }
 
 #[test]
 fn a_failing_write_ends_a_drain(rt: HostRuntime) -> Result<(), Fail> {
     let run = played(rt.alloc(), ROW, ACROSS, PACKET, 5)?;
-    assert_eq!(rt; last(&run), stopped(Stopped::Write, 5, 0));
-    assert_eq!(rt; count_lines(journal(&run)), 4);
+    stops(&rt, &run, stopped(Stopped::Write, 5, 0), 4);
     Ok(())
 }
 

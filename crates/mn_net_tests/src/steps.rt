@@ -1,11 +1,12 @@
 // Networks that go on step by step: each frame arrives by a step of its own, so the clock stands at 0.
-use crate::driven::{driven, given, refused, steps, verdict, went};
+use crate::driven::{Run, driven, ended, given, refused, steps, verdict};
 use crate::topologies::{
     APART, ARRIVED, DETOUR, PACKET, ROW, SQUARE, TTL_3, TTL_4, TTL_5, TWO_VRFS,
 };
 use mn_base::{NodeNo, Rule, SiteNo};
 use mn_labels::Bind;
 use mn_ledger::{Refused, Verdict};
+use std::process::Abort;
 use std::test::Fail;
 
 const PE1: NodeNo = NodeNo(0);
@@ -27,6 +28,12 @@ fn dropped(rule: Rule, node: NodeNo) -> Option<Verdict> {
     Some(Verdict::Dropped { rule, node })
 }
 
+/// No line was refused, and so many steps were done.
+fn did_all(rt: &impl Abort, run: &Run, count: usize) {
+    assert!(rt; run.refused.is_empty());
+    assert_eq!(rt; steps(&run.net), count);
+}
+
 /// A packet goes from site a to site b over two links of a settled network.
 const ACROSS: &str = "
 link up pe1 p
@@ -41,11 +48,9 @@ carry p pe2 0
 #[test]
 fn a_packet_crosses_two_links_by_labels(rt: HostRuntime) -> Result<(), Fail> {
     let run = driven(rt.alloc(), ROW, ACROSS, &PACKET)?;
-    assert!(rt; run.refused.is_empty());
-    assert_eq!(rt; steps(&run.net), 42);
+    did_all(&rt, &run, 42);
     assert_eq!(rt; run.net.tick(), 0);
-    assert_eq!(rt; verdict(&run.net, 0), delivered(B, 61));
-    assert!(rt; went(&run.net, 0, &[PE1, P, PE2]));
+    ended(&rt, &run.net, 0, delivered(B, 61), &[PE1, P, PE2]);
     assert_eq!(rt; run.net.delivered(), Some(ARRIVED.as_slice()));
     Ok(())
 }
@@ -62,8 +67,8 @@ fn a_time_to_live_of_four_is_enough_for_two_links(rt: HostRuntime) -> Result<(),
 fn a_time_to_live_of_three_ends_at_the_far_edge(rt: HostRuntime) -> Result<(), Fail> {
     let run = driven(rt.alloc(), ROW, ACROSS, &TTL_3)?;
     assert!(rt; run.refused.is_empty());
-    assert_eq!(rt; verdict(&run.net, 0), dropped(Rule::TtlExpired, PE2));
-    assert!(rt; went(&run.net, 0, &[PE1, P, PE2]));
+    let end = dropped(Rule::TtlExpired, PE2);
+    ended(&rt, &run.net, 0, end, &[PE1, P, PE2]);
     Ok(())
 }
 
@@ -83,10 +88,8 @@ carry p pe2 0
 #[test]
 fn an_import_target_opens_and_closes_the_way(rt: HostRuntime) -> Result<(), Fail> {
     let run = driven(rt.alloc(), ROW, IMPORTS, &PACKET)?;
-    assert!(rt; run.refused.is_empty());
-    assert_eq!(rt; steps(&run.net), 45);
-    assert_eq!(rt; verdict(&run.net, 0), dropped(Rule::NoRoute, PE1));
-    assert!(rt; went(&run.net, 0, &[PE1]));
+    did_all(&rt, &run, 45);
+    ended(&rt, &run.net, 0, dropped(Rule::NoRoute, PE1), &[PE1]);
     assert_eq!(rt; verdict(&run.net, 1), delivered(B, 61));
     Ok(())
 }
@@ -110,7 +113,7 @@ carry p pe2 0
 #[test]
 fn a_route_is_held_once_its_announcement_is_heard(rt: HostRuntime) -> Result<(), Fail> {
     let run = driven(rt.alloc(), ROW, ANNOUNCED, &PACKET)?;
-    assert!(rt; run.refused.is_empty());
+    did_all(&rt, &run, 42);
     assert_eq!(rt; verdict(&run.net, 0), dropped(Rule::NoRoute, PE1));
     assert_eq!(rt; verdict(&run.net, 1), delivered(B, 61));
     Ok(())
@@ -138,8 +141,8 @@ fn a_packet_goes_round_while_nodes_know_different_links(rt: HostRuntime) -> Resu
     assert!(rt; run.refused.is_empty());
     let x = NodeNo(1);
     let y = NodeNo(2);
-    assert_eq!(rt; verdict(&run.net, 0), dropped(Rule::TtlExpired, y));
-    assert!(rt; went(&run.net, 0, &[PE1, x, y, x, y]));
+    let end = dropped(Rule::TtlExpired, y);
+    ended(&rt, &run.net, 0, end, &[PE1, x, y, x, y]);
     Ok(())
 }
 
@@ -158,10 +161,9 @@ carry p pe2 0
 #[test]
 fn a_frame_does_not_reach_a_later_attachment(rt: HostRuntime) -> Result<(), Fail> {
     let run = driven(rt.alloc(), ROW, ATTACHED_ANEW, &PACKET)?;
-    assert!(rt; run.refused.is_empty());
-    assert_eq!(rt; steps(&run.net), 44);
-    assert_eq!(rt; verdict(&run.net, 0), dropped(Rule::SiteGone, PE2));
-    assert!(rt; went(&run.net, 0, &[PE1, P, PE2]));
+    did_all(&rt, &run, 44);
+    let end = dropped(Rule::SiteGone, PE2);
+    ended(&rt, &run.net, 0, end, &[PE1, P, PE2]);
     // Labels are given from 16 on: two to FECs, 18 to the first attachment, 19 to the second.
     assert_eq!(rt; given(&run.net, PE2, 2), Some(Bind::Site(B, 1)));
     assert_eq!(rt; given(&run.net, PE2, 3), Some(Bind::Site(B, 2)));
@@ -189,10 +191,9 @@ fn a_link_that_goes_down_cuts_frames_and_messages_off(rt: HostRuntime) -> Result
     assert_eq!(rt; refused(&run, 0), Some((11, Refused::Unchanged)));
     assert_eq!(rt; refused(&run, 1), Some((12, Refused::Empty)));
     assert_eq!(rt; steps(&run.net), 44);
-    assert_eq!(rt; verdict(&run.net, 0), dropped(Rule::LinkCut, PE1));
-    assert_eq!(rt; verdict(&run.net, 1), dropped(Rule::LinkCut, PE1));
-    assert_eq!(rt; verdict(&run.net, 2), dropped(Rule::LinkCut, PE1));
-    assert!(rt; went(&run.net, 0, &[PE1]));
+    for packet in 0..3u32 {
+        ended(&rt, &run.net, packet, dropped(Rule::LinkCut, PE1), &[PE1]);
+    }
     Ok(())
 }
 
@@ -214,8 +215,7 @@ carry p pe2 0
 fn without_ldp_no_label_leads_on(rt: HostRuntime) -> Result<(), Fail> {
     let run = driven(rt.alloc(), ROW, SWITCHED, &PACKET)?;
     assert!(rt; run.refused.is_empty());
-    assert_eq!(rt; verdict(&run.net, 0), dropped(Rule::NoLsp, PE1));
-    assert!(rt; went(&run.net, 0, &[PE1]));
+    ended(&rt, &run.net, 0, dropped(Rule::NoLsp, PE1), &[PE1]);
     assert_eq!(rt; verdict(&run.net, 1), delivered(B, 61));
     Ok(())
 }
@@ -239,8 +239,7 @@ fn a_lost_frame_is_none_of_the_deliveries(rt: HostRuntime) -> Result<(), Fail> {
     assert_eq!(rt; run.refused.len(), 1);
     assert_eq!(rt; refused(&run, 0), Some((11, Refused::Empty)));
     assert_eq!(rt; steps(&run.net), 44);
-    assert_eq!(rt; verdict(&run.net, 0), dropped(Rule::Lost, PE1));
-    assert!(rt; went(&run.net, 0, &[PE1]));
+    ended(&rt, &run.net, 0, dropped(Rule::Lost, PE1), &[PE1]);
     assert_eq!(rt; verdict(&run.net, 1), delivered(B, 61));
     Ok(())
 }
@@ -261,8 +260,8 @@ carry x pe2 0
 fn of_two_ways_of_one_cost_the_lesser_node_is_taken(rt: HostRuntime) -> Result<(), Fail> {
     let run = driven(rt.alloc(), SQUARE, TWO_WAYS, &PACKET)?;
     assert!(rt; run.refused.is_empty());
-    assert_eq!(rt; verdict(&run.net, 0), delivered(B, 61));
-    assert!(rt; went(&run.net, 0, &[PE1, NodeNo(1), NodeNo(3)]));
+    let way = [PE1, NodeNo(1), NodeNo(3)];
+    ended(&rt, &run.net, 0, delivered(B, 61), &way);
     Ok(())
 }
 

@@ -42,8 +42,3 @@ pub use read::{count_records, packet_of, read_header, records};
 pub use refusal::{PcapBad, PcapRule};
 pub use scan::Scan;
 pub use write::{put_header, put_record};
-
-#[cfg(test)]
-mod piece_tests;
-#[cfg(test)]
-mod tests;

@@ -43,8 +43,6 @@ mod refusal;
 mod spreading;
 mod start;
 mod switching;
-#[cfg(test)]
-mod tests;
 
 pub use entering::Entered;
 pub use export::Export;

@@ -22,8 +22,6 @@ use std::marker::Model;
 mod carried;
 mod laws;
 mod table;
-#[cfg(test)]
-mod tests;
 
 pub use carried::{address_of, octets};
 pub use laws::{

@@ -24,8 +24,6 @@ mod labels;
 mod output;
 mod recorder;
 mod step;
-#[cfg(test)]
-mod tests;
 
 pub use books::Books;
 pub use recorder::{is_record, record_line};

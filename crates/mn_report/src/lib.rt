@@ -22,8 +22,6 @@ mod packets;
 mod refused;
 mod routes;
 mod table;
-#[cfg(test)]
-mod tests;
 mod total;
 mod tree;
 mod written;

@@ -20,8 +20,6 @@
 
 mod rib;
 mod route;
-#[cfg(test)]
-mod tests;
 
 pub use rib::RibIn;
 pub use route::HeardRoute;

@@ -32,8 +32,6 @@ mod operands;
 mod read;
 mod refusal;
 mod steps;
-#[cfg(test)]
-mod tests;
 mod words;
 
 pub use command::{Command, Line, Show};

@@ -33,8 +33,6 @@ use std::alloc::{AllocError, Global};
 
 mod adjacency;
 mod search;
-#[cfg(test)]
-mod tests;
 mod way;
 
 use adjacency::links_by_node;

@@ -28,8 +28,6 @@ mod cut;
 mod grow;
 mod mend;
 mod net;
-#[cfg(test)]
-mod tests;
 mod tree;
 mod way;
 

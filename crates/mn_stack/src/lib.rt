@@ -31,8 +31,6 @@ mod laws;
 mod message;
 mod read;
 mod refusal;
-#[cfg(test)]
-mod tests;
 mod write;
 
 pub use laws::{entries_differ_in_bytes, written_is_read};

@@ -23,8 +23,6 @@ mod links;
 mod names;
 mod pieces;
 mod routes;
-#[cfg(test)]
-mod tests;
 mod tree;
 
 pub use bgp::put_bgp;

@@ -22,8 +22,6 @@
 
 mod laws;
 mod set;
-#[cfg(test)]
-mod tests;
 
 pub use laws::{ascending_is_distinct, one_list_of_a_set};
 pub use set::Targets;

@@ -1,7 +1,7 @@
 // Topologies that are checked, or refused.
-use crate::one_node::words;
-use mn_edge::{MemShelf, MemSink};
-use mn_run::{Outcome, command};
+use crate::one_node::{does, is_answer, is_fault, shelf_of};
+use mn_edge::MemShelf;
+use mn_run::Outcome;
 use std::alloc::{AllocError, Global};
 use std::test::Fail;
 
@@ -48,6 +48,15 @@ name = "b"
 loopback = "192.0.2.1"
 "#;
 
+/// A shelf with the topology t and an empty script and capture, on which the calls of these numbers fail.
+fn topology_alone(
+    alloc: Global,
+    topology: Vec<u8>,
+    failing: Vec<u64>,
+) -> Result<MemShelf, AllocError> {
+    shelf_of(alloc, topology, Vec::new(alloc), Vec::new(alloc), failing)
+}
+
 /// Whether the topology, named t, is answered by this status and line.
 fn answers(
     alloc: Global,
@@ -56,12 +65,9 @@ fn answers(
     status: u8,
     line: &str,
 ) -> Result<bool, AllocError> {
-    let mut files = Vec::new(alloc);
-    files.push((String::from_str(alloc, "t")?, topology))?;
-    let mut shelf = MemShelf::new(alloc, files, Vec::new(alloc));
-    let mut out = MemSink::new(alloc, Vec::new(alloc));
-    let outcome = command(alloc, &words(alloc, command_line)?, &mut shelf, &mut out);
-    Ok(outcome.status() == status && out.bytes() == line.as_bytes())
+    let shelf = topology_alone(alloc, topology, Vec::new(alloc))?;
+    let ran = does(alloc, command_line, shelf, Vec::new(alloc))?;
+    Ok(is_answer(&ran, status, line))
 }
 
 /// Whether a check of the text is answered by this status and line.
@@ -80,20 +86,29 @@ fn a_lawful_topology_is_counted(rt: HostRuntime) -> Result<(), Fail> {
     Ok(())
 }
 
+/// Topologies, each with the line that refuses it.
+const FAULTY: [(&str, &str); 5] = [
+    (TWICE, "topology refused T10 TwiceLoopback at node 1\n"),
+    ("node = [", "topology refused T1 NotToml at top\n"),
+    (
+        "[[link]]\na = \"x\"\n",
+        "topology refused T3 MissingKey at link 0\n",
+    ),
+    (
+        "[[vrf]]\nname = \"v\"\nnode = \"n\"\nrd = \"1:1\"\n",
+        "topology refused T7 NoSuchName at vrf 0\n",
+    ),
+    (
+        "[[site]]\nmetric = 1\n",
+        "topology refused T2 UnknownKey at site 0\n",
+    ),
+];
+
 #[test]
 fn a_faulty_topology_is_refused_by_rule_and_place(rt: HostRuntime) -> Result<(), Fail> {
-    let alloc = rt.alloc();
-    let twice = "topology refused T10 TwiceLoopback at node 1\n";
-    assert!(rt; check_answers(alloc, TWICE, 3, twice)?);
-    let no_toml = "topology refused T1 NotToml at top\n";
-    assert!(rt; check_answers(alloc, "node = [", 3, no_toml)?);
-    let kind = "topology refused T3 MissingKey at link 0\n";
-    assert!(rt; check_answers(alloc, "[[link]]\na = \"x\"\n", 3, kind)?);
-    let vrf = "topology refused T7 NoSuchName at vrf 0\n";
-    let text = "[[vrf]]\nname = \"v\"\nnode = \"n\"\nrd = \"1:1\"\n";
-    assert!(rt; check_answers(alloc, text, 3, vrf)?);
-    let site = "topology refused T2 UnknownKey at site 0\n";
-    assert!(rt; check_answers(alloc, "[[site]]\nmetric = 1\n", 3, site)?);
+    for (text, line) in FAULTY {
+        assert!(rt; check_answers(rt.alloc(), text, 3, line)?, "{line}");
+    }
     Ok(())
 }
 
@@ -101,40 +116,41 @@ fn a_faulty_topology_is_refused_by_rule_and_place(rt: HostRuntime) -> Result<(),
 fn a_run_refuses_a_topology_before_it_reads_on(rt: HostRuntime) -> Result<(), Fail> {
     let alloc = rt.alloc();
     let run = ["run", "t", "nowhere", "nowhere", "out"];
-    let twice = Vec::from_slice(alloc, TWICE.as_bytes())?;
-    let line = "topology refused T10 TwiceLoopback at node 1\n";
-    assert!(rt; answers(alloc, &run, twice, 3, line)?);
-    // A lawful one: the script is asked for, and isn't there.
-    let row = Vec::from_slice(alloc, ROW.as_bytes())?;
-    assert!(rt; answers(alloc, &run, row, 6, "")?);
+    // Of a lawful one the script is asked for, and isn't there.
+    for (text, status, line) in [
+        (TWICE, 3, "topology refused T10 TwiceLoopback at node 1\n"),
+        (ROW, 6, ""),
+    ] {
+        let topology = Vec::from_slice(alloc, text.as_bytes())?;
+        assert!(rt; answers(alloc, &run, topology, status, line)?, "{line}");
+    }
     Ok(())
-}
-
-/// A document of this length, which is a comment.
-fn comment(alloc: Global, length: usize) -> Result<Vec<u8>, AllocError> {
-    vec![in alloc; b'#'; length]
 }
 
 #[test]
 fn a_topology_has_at_most_one_mebibyte(rt: HostRuntime) -> Result<(), Fail> {
     let alloc = rt.alloc();
-    let most = comment(alloc, 1 << 20)?;
     let none = "topology ok nodes 0 links 0 vrfs 0 sites 0 prefixes 0\n";
-    assert!(rt; answers(alloc, &["check", "t"], most, 0, none)?);
-    let more = comment(alloc, (1 << 20) + 1)?;
-    let line = "too large topology bytes\n";
-    assert!(rt; answers(alloc, &["check", "t"], more, 9, line)?);
+    for (length, status, line) in [
+        (1 << 20, 0, none),
+        ((1 << 20) + 1, 9, "too large topology bytes\n"),
+    ] {
+        // A comment.
+        let topology = vec![in alloc; b'#'; length]?;
+        assert!(rt;
+            answers(alloc, &["check", "t"], topology, status, line)?,
+            "{line}"
+        );
+    }
     Ok(())
 }
 
 #[test]
 fn a_topology_that_is_not_there_is_a_read_fault(rt: HostRuntime) -> Result<(), Fail> {
     let alloc = rt.alloc();
-    let empty = Vec::new(alloc);
-    assert!(rt; answers(alloc, &["check", "elsewhere"], empty, 6, "")?);
-    let mut shelf = MemShelf::new(alloc, Vec::new(alloc), vec![in alloc; 1u64]?);
-    let mut out = MemSink::new(alloc, Vec::new(alloc));
-    let outcome = command(alloc, &words(alloc, &["check", "t"])?, &mut shelf, &mut out);
-    assert!(rt; outcome == Outcome::ReadFault && out.bytes().is_empty());
+    assert!(rt; answers(alloc, &["check", "elsewhere"], Vec::new(alloc), 6, "")?);
+    let shelf = topology_alone(alloc, Vec::new(alloc), vec![in alloc; 1u64]?)?;
+    let ran = does(alloc, &["check", "t"], shelf, Vec::new(alloc))?;
+    is_fault(&rt, &ran, Outcome::ReadFault, 6);
     Ok(())
 }

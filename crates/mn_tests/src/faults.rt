@@ -1,9 +1,12 @@
 // Devices that fail while a run goes over two links.
-use crate::one_node::{run_words, shelf};
-use crate::two_links::{CAPTURE, File, REPORT, SCRIPT, TOPOLOGY, are_whole, files, packet_files};
-use mn_edge::{MemShelf, MemSink};
-use mn_run::{Outcome, command};
+use crate::one_node::{RUN, Ran, does, is_fault, reports, runs, shelf};
+use crate::two_links::{
+    CAPTURE, File, REPORT, SCRIPT, TOPOLOGY, are_whole, files, packet_files, sent,
+};
+use mn_edge::MemShelf;
+use mn_run::Outcome;
 use std::alloc::{AllocError, Global};
+use std::process::Abort;
 use std::test::Fail;
 
 /// The capture up to the first 28 bytes of a packet of 40,000: from 10.1.0.1 to 10.2.0.1 with TTL 64. Its checksum is that
@@ -59,6 +62,21 @@ fn long_files(alloc: Global) -> Result<Vec<File>, AllocError> {
     files(alloc, &delivered, &first_link, &second_link)
 }
 
+/// The run over the long packet, where the shelf's calls of these numbers fail.
+fn sent_long(alloc: Global, script: &str, failing: Vec<u64>) -> Result<Ran, AllocError> {
+    let capture = long(alloc, &LONG_CAPTURE)?;
+    runs(alloc, TOPOLOGY, script, capture, failing)
+}
+
+/// Whether these files were begun, and nothing is in them.
+fn are_empty(shelf: &MemShelf, files: &[File]) -> bool {
+    let mut empty = true;
+    for file in files {
+        empty = empty && shelf.file(file.0.as_str()) == Some(b"".as_slice());
+    }
+    empty
+}
+
 /// Whether each of these files was begun, and is a first part of its bytes.
 fn are_first_parts(shelf: &MemShelf, files: &[File]) -> bool {
     let mut parts = true;
@@ -97,16 +115,19 @@ fn a_packet_that_cannot_be_fetched_again_leaves_the_files_empty(
 ) -> Result<(), Fail> {
     // Calls 1 to 6 read the inputs, 7 to 17 begin the files, and 18 fetches the packet as it is injected.
     let alloc = rt.alloc();
-    let capture = Vec::from_slice(alloc, &CAPTURE)?;
-    let mut shelf = shelf(alloc, TOPOLOGY, SCRIPT, capture, vec![in alloc; 18u64]?)?;
-    let mut out = MemSink::new(alloc, Vec::new(alloc));
-    let outcome = command(alloc, &run_words(alloc)?, &mut shelf, &mut out);
-    assert!(rt; outcome == Outcome::ReadFault);
-    assert_eq!(rt; outcome.status(), 6);
-    assert!(rt; out.bytes().is_empty());
-    for file in packet_files(alloc)?.iter() {
-        assert!(rt; shelf.file(file.0.as_str()) == Some(b"".as_slice()));
-    }
+    let ran = sent(alloc, vec![in alloc; 18u64]?)?;
+    is_fault(&rt, &ran, Outcome::ReadFault, 6);
+    assert!(rt; are_empty(&ran.shelf, &packet_files(alloc)?));
+    Ok(())
+}
+
+/// The call of this number fails, which appends the file at this place.
+fn leaves_half(rt: &impl Abort, alloc: Global, call: u64, place: usize) -> Result<(), Fail> {
+    let ran = sent(alloc, vec![in alloc; call]?)?;
+    is_fault(rt, &ran, Outcome::WriteFault, 7);
+    let files = packet_files(alloc)?;
+    assert!(rt; are_first_parts(&ran.shelf, &files));
+    assert!(rt; are_whole_up_to(&ran.shelf, &files, place));
     Ok(())
 }
 
@@ -114,70 +135,84 @@ fn a_packet_that_cannot_be_fetched_again_leaves_the_files_empty(
 fn a_failing_append_at_the_end_leaves_half_of_its_file(rt: HostRuntime) -> Result<(), Fail> {
     // All bytes of the run wait until its end: then calls 19 to 29 append the files.
     for place in 0..11usize {
-        let alloc = rt.alloc();
-        let capture = Vec::from_slice(alloc, &CAPTURE)?;
-        let failing = vec![in alloc; place as u64 + 19]?;
-        let mut shelf = shelf(alloc, TOPOLOGY, SCRIPT, capture, failing)?;
-        let mut out = MemSink::new(alloc, Vec::new(alloc));
-        let outcome = command(alloc, &run_words(alloc)?, &mut shelf, &mut out);
-        assert!(rt; outcome == Outcome::WriteFault);
-        assert_eq!(rt; outcome.status(), 7);
-        assert!(rt; out.bytes().is_empty());
-        let files = packet_files(alloc)?;
-        assert!(rt; are_first_parts(&shelf, &files));
-        assert!(rt; are_whole_up_to(&shelf, &files, place));
+        leaves_half(&rt, rt.alloc(), place as u64 + 19, place)?;
     }
     Ok(())
 }
 
+/// The run over the capture, where the first put fails.
+fn put_fails(alloc: Global) -> Result<Ran, AllocError> {
+    let capture = Vec::from_slice(alloc, &CAPTURE)?;
+    let shelf = shelf(alloc, TOPOLOGY, SCRIPT, capture, Vec::new(alloc))?;
+    does(alloc, &RUN, shelf, vec![in alloc; 1u64]?)
+}
+
+/// The report is put by one call: of its 481 bytes the first 240 stay.
+fn half_is_put(rt: &impl Abort, ran: &Ran) {
+    assert_eq!(rt; ran.out.bytes().len(), 240);
+    assert!(rt; REPORT.as_bytes().starts_with(ran.out.bytes()));
+}
+
 #[test]
 fn a_failing_put_comes_once_the_files_are_whole(rt: HostRuntime) -> Result<(), Fail> {
-    let alloc = rt.alloc();
-    let capture = Vec::from_slice(alloc, &CAPTURE)?;
-    let mut shelf = shelf(alloc, TOPOLOGY, SCRIPT, capture, Vec::new(alloc))?;
-    let mut out = MemSink::new(alloc, vec![in alloc; 1u64]?);
-    let outcome = command(alloc, &run_words(alloc)?, &mut shelf, &mut out);
-    assert!(rt; outcome == Outcome::WriteFault);
-    assert_eq!(rt; outcome.status(), 7);
-    assert!(rt; are_whole(&shelf, &packet_files(alloc)?));
-    // The report is put by one call: of its 481 bytes the first 240 stay.
-    assert_eq!(rt; out.bytes().len(), 240);
-    assert!(rt; REPORT.as_bytes().starts_with(out.bytes()));
+    let ran = put_fails(rt.alloc())?;
+    assert!(rt; ran.outcome == Outcome::WriteFault);
+    assert_eq!(rt; ran.outcome.status(), 7);
+    assert!(rt; are_whole(&ran.shelf, &packet_files(rt.alloc())?));
+    half_is_put(&rt, &ran);
     Ok(())
 }
 
 #[test]
 fn a_long_packet_is_written_in_two_parts(rt: HostRuntime) -> Result<(), Fail> {
     let alloc = rt.alloc();
-    let capture = long(alloc, &LONG_CAPTURE)?;
-    let mut shelf = shelf(alloc, TOPOLOGY, SCRIPT, capture, Vec::new(alloc))?;
-    let mut out = MemSink::new(alloc, Vec::new(alloc));
-    let outcome = command(alloc, &run_words(alloc)?, &mut shelf, &mut out);
-    assert!(rt; outcome == Outcome::Done);
-    assert!(rt; out.bytes() == REPORT.as_bytes());
-    assert!(rt; are_whole(&shelf, &long_files(alloc)?));
+    let ran = sent_long(alloc, SCRIPT, Vec::new(alloc))?;
+    reports(&rt, &ran, REPORT);
+    assert!(rt; are_whole(&ran.shelf, &long_files(alloc)?));
     // At most 64 KiB wait. So calls 19 to 28 append what waits, to all files but the labels, as the packet goes over
     // the second link; and calls 29 to 32 the rest, at the end, to the journal, the labels, the deliveries and that
     // link's capture.
-    assert_eq!(rt; shelf.calls(), 32);
+    assert_eq!(rt; ran.shelf.calls(), 32);
+    Ok(())
+}
+
+/// The call of this number fails, which appends a part of a file.
+fn leaves_first_parts(rt: &impl Abort, alloc: Global, call: u64) -> Result<(), Fail> {
+    let ran = sent_long(alloc, SCRIPT, vec![in alloc; call]?)?;
+    is_fault(rt, &ran, Outcome::WriteFault, 7);
+    let files = long_files(alloc)?;
+    assert!(rt; are_first_parts(&ran.shelf, &files));
+    assert!(rt; !are_whole(&ran.shelf, &files));
     Ok(())
 }
 
 #[test]
 fn a_failing_append_in_the_middle_leaves_first_parts(rt: HostRuntime) -> Result<(), Fail> {
     for call in 19..33u64 {
-        let alloc = rt.alloc();
-        let capture = long(alloc, &LONG_CAPTURE)?;
-        let mut shelf = shelf(alloc, TOPOLOGY, SCRIPT, capture, vec![in alloc; call]?)?;
-        let mut out = MemSink::new(alloc, Vec::new(alloc));
-        let outcome = command(alloc, &run_words(alloc)?, &mut shelf, &mut out);
-        assert!(rt; outcome == Outcome::WriteFault);
-        assert_eq!(rt; outcome.status(), 7);
-        assert!(rt; out.bytes().is_empty());
-        let files = long_files(alloc)?;
-        assert!(rt; are_first_parts(&shelf, &files));
-        assert!(rt; !are_whole(&shelf, &files));
+        leaves_first_parts(&rt, rt.alloc(), call)?;
     }
+    Ok(())
+}
+
+/// The run that sends the long packet twice.
+fn sent_twice(alloc: Global, failing: Vec<u64>) -> Result<Ran, AllocError> {
+    let mut script = String::from_str(alloc, SCRIPT)?;
+    script.push_str("inject a 1\n")?;
+    sent_long(alloc, script.as_str(), failing)
+}
+
+/// The labels wait for the end, and the first link's capture is whole.
+fn first_link_is_whole(rt: &impl Abort, alloc: Global, shelf: &MemShelf) -> Result<(), Fail> {
+    assert!(rt; shelf.file("out/labels.txt") == Some(b"".as_slice()));
+    let first_link = long(alloc, &LONG_FIRST_LINK)?;
+    assert!(rt; shelf.file("out/pe1+p.pcap") == Some(first_link.as_slice()));
+    Ok(())
+}
+
+/// The second link's capture isn't whole: a part of the long packet is there.
+fn second_link_is_cut_off(rt: &impl Abort, shelf: &MemShelf) -> Result<(), Fail> {
+    let second_link = shelf.file("out/p+pe2.pcap").ok_or("no capture")?;
+    assert!(rt; second_link.len() > 74 && second_link.len() < 40_046);
     Ok(())
 }
 
@@ -187,23 +222,9 @@ fn a_later_packet_that_cannot_be_fetched_again_leaves_first_parts(
 ) -> Result<(), Fail> {
     // Call 29 fetches the packet for a second injection, behind the appends as it first went over the second link.
     let alloc = rt.alloc();
-    let capture = long(alloc, &LONG_CAPTURE)?;
-    let mut script = String::from_str(alloc, SCRIPT)?;
-    script.push_str("inject a 1\n")?;
-    let failing = vec![in alloc; 29u64]?;
-    let mut shelf = shelf(alloc, TOPOLOGY, script.as_str(), capture, failing)?;
-    let mut out = MemSink::new(alloc, Vec::new(alloc));
-    let outcome = command(alloc, &run_words(alloc)?, &mut shelf, &mut out);
-    assert!(rt; outcome == Outcome::ReadFault);
-    assert_eq!(rt; outcome.status(), 6);
-    assert!(rt; out.bytes().is_empty());
-    let files = long_files(alloc)?;
-    assert!(rt; are_first_parts(&shelf, &files));
-    // The labels wait for the end; the first link's capture is whole, the second's isn't.
-    assert!(rt; shelf.file("out/labels.txt") == Some(b"".as_slice()));
-    let first_link = long(alloc, &LONG_FIRST_LINK)?;
-    assert!(rt; shelf.file("out/pe1+p.pcap") == Some(first_link.as_slice()));
-    let second_link = shelf.file("out/p+pe2.pcap").ok_or("no capture")?;
-    assert!(rt; second_link.len() > 74 && second_link.len() < 40_046);
-    Ok(())
+    let ran = sent_twice(alloc, vec![in alloc; 29u64]?)?;
+    is_fault(&rt, &ran, Outcome::ReadFault, 6);
+    assert!(rt; are_first_parts(&ran.shelf, &long_files(alloc)?));
+    first_link_is_whole(&rt, alloc, &ran.shelf)?;
+    second_link_is_cut_off(&rt, &ran.shelf)
 }

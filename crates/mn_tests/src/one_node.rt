@@ -2,6 +2,7 @@
 use mn_edge::{MemShelf, MemSink};
 use mn_run::{Outcome, command};
 use std::alloc::{AllocError, Global};
+use std::process::Abort;
 use std::test::Fail;
 
 /// A node with sites a (10.1.0.0/16) and b (10.2.0.0/16).
@@ -68,7 +69,7 @@ prefixes = ["10.2.0.0/24"]
 "#;
 
 /// With site a alone.
-const ONE_SITE: &str = r#"[[node]]
+pub(crate) const ONE_SITE: &str = r#"[[node]]
 name = "pe1"
 loopback = "192.0.2.1"
 [[vrf]]
@@ -146,17 +147,21 @@ const NO_ROUTE: [u8; 28] = [
     0x0A, 0x09, 0x00, 0x01, 0x00, 0x35, 0x00, 0x35, 0x00, 0x08, 0x00, 0x00,
 ];
 
-pub(crate) fn words(alloc: Global, texts: &[&str]) -> Result<Vec<String>, AllocError> {
+/// The report of a run that sends the packet at site a.
+const REACHED: &str = "\
+packet 1 line 1 site a record 1 delivered b ttl 63 copy 1 path pe1
+total packets 1 delivered 1 dropped 0 flying 0 steps 1 refused 0 tick 0
+";
+
+/// The words of a run over the inputs t, s and c into the folder out.
+pub(crate) const RUN: [&str; 5] = ["run", "t", "s", "c", "out"];
+
+fn words(alloc: Global, texts: &[&str]) -> Result<Vec<String>, AllocError> {
     let mut words = Vec::new(alloc);
     for text in texts {
         words.push(String::from_str(alloc, text)?)?;
     }
     Ok(words)
-}
-
-/// The words of a run over the inputs t, s and c into the folder out.
-pub(crate) fn run_words(alloc: Global) -> Result<Vec<String>, AllocError> {
-    words(alloc, &["run", "t", "s", "c", "out"])
 }
 
 /// A capture of packets of 28 bytes.
@@ -170,6 +175,21 @@ fn capture(alloc: Global, packets: &[&[u8]]) -> Result<Vec<u8>, AllocError> {
 }
 
 /// A shelf with the three inputs, on which the calls of these numbers fail.
+pub(crate) fn shelf_of(
+    alloc: Global,
+    topology: Vec<u8>,
+    script: Vec<u8>,
+    capture: Vec<u8>,
+    failing: Vec<u64>,
+) -> Result<MemShelf, AllocError> {
+    let mut files = Vec::new(alloc);
+    files.push((String::from_str(alloc, "t")?, topology))?;
+    files.push((String::from_str(alloc, "s")?, script))?;
+    files.push((String::from_str(alloc, "c")?, capture))?;
+    Ok(MemShelf::new(alloc, files, failing))
+}
+
+/// The same, where the topology and the script are texts.
 pub(crate) fn shelf(
     alloc: Global,
     topology: &str,
@@ -177,62 +197,121 @@ pub(crate) fn shelf(
     capture: Vec<u8>,
     failing: Vec<u64>,
 ) -> Result<MemShelf, AllocError> {
-    let mut files = Vec::new(alloc);
-    files.push((
-        String::from_str(alloc, "t")?,
-        Vec::from_slice(alloc, topology.as_bytes())?,
-    ))?;
-    files.push((
-        String::from_str(alloc, "s")?,
-        Vec::from_slice(alloc, script.as_bytes())?,
-    ))?;
-    files.push((String::from_str(alloc, "c")?, capture))?;
-    Ok(MemShelf::new(alloc, files, failing))
+    let topology = Vec::from_slice(alloc, topology.as_bytes())?;
+    let script = Vec::from_slice(alloc, script.as_bytes())?;
+    shelf_of(alloc, topology, script, capture, failing)
+}
+
+/// What a command came to, and the devices after it.
+#[derive(Drop)]
+pub(crate) struct Ran {
+    pub outcome: Outcome,
+    pub shelf: MemShelf,
+    pub out: MemSink,
+}
+
+/// Does what the words say over the shelf, with a sink on which the calls of these numbers fail.
+pub(crate) fn does(
+    alloc: Global,
+    texts: &[&str],
+    mut shelf: MemShelf,
+    failing: Vec<u64>,
+) -> Result<Ran, AllocError> {
+    let words = words(alloc, texts)?;
+    let mut out = MemSink::new(alloc, failing);
+    let outcome = command(alloc, &words, &mut shelf, &mut out);
+    Ok(Ran {
+        outcome,
+        shelf,
+        out,
+    })
+}
+
+/// A run over the three inputs, where the shelf's calls of these numbers fail.
+pub(crate) fn runs(
+    alloc: Global,
+    topology: &str,
+    script: &str,
+    capture: Vec<u8>,
+    failing: Vec<u64>,
+) -> Result<Ran, AllocError> {
+    let shelf = shelf(alloc, topology, script, capture, failing)?;
+    does(alloc, &RUN, shelf, Vec::new(alloc))
+}
+
+/// Whether it ended with this status, and this alone was put.
+pub(crate) fn is_answer(ran: &Ran, status: u8, text: &str) -> bool {
+    ran.outcome.status() == status && ran.out.bytes() == text.as_bytes()
+}
+
+/// All was done, and reported so.
+pub(crate) fn reports(rt: &impl Abort, ran: &Ran, report: &str) {
+    assert!(rt; ran.outcome == Outcome::Done);
+    assert_eq!(rt; ran.outcome.status(), 0);
+    assert!(rt; ran.out.bytes() == report.as_bytes());
+}
+
+/// It ended by this fault, and nothing was put.
+pub(crate) fn is_fault(rt: &impl Abort, ran: &Ran, fault: Outcome, status: u8) {
+    assert!(rt; ran.outcome == fault);
+    assert_eq!(rt; ran.outcome.status(), status);
+    assert!(rt; ran.out.bytes().is_empty());
+}
+
+/// The capture of the deliveries is of these packets.
+fn delivers(rt: &impl Abort, alloc: Global, ran: &Ran, packets: &[&[u8]]) -> Result<(), Fail> {
+    let delivered = capture(alloc, packets)?;
+    assert!(rt; ran.shelf.file("out/delivered.pcap") == Some(delivered.as_slice()));
+    Ok(())
+}
+
+/// Whether no deliveries are there.
+fn delivers_nowhere(ran: &Ran) -> bool {
+    ran.shelf.file("out/delivered.pcap").is_none()
+}
+
+/// A run that sends the packet at site a, where the shelf's calls of these numbers fail.
+fn sent(alloc: Global, topology: &str, failing: Vec<u64>) -> Result<Ran, AllocError> {
+    let packet = capture(alloc, &[PACKET.as_slice()])?;
+    runs(alloc, topology, "inject a 1\n", packet, failing)
+}
+
+/// Does what the words say over the inputs of such a run.
+fn told(alloc: Global, texts: &[&str]) -> Result<Ran, AllocError> {
+    let packet = capture(alloc, &[PACKET.as_slice()])?;
+    let shelf = shelf(alloc, TWO_SITES, "inject a 1\n", packet, Vec::new(alloc))?;
+    does(alloc, texts, shelf, Vec::new(alloc))
 }
 
 #[test]
 fn a_packet_reaches_the_other_site(rt: HostRuntime) -> Result<(), Fail> {
     let alloc = rt.alloc();
-    let capture = capture(alloc, &[PACKET.as_slice()])?;
-    let mut shelf = shelf(alloc, TWO_SITES, "inject a 1\n", capture, Vec::new(alloc))?;
-    let mut out = MemSink::new(alloc, Vec::new(alloc));
-    let outcome = command(alloc, &run_words(alloc)?, &mut shelf, &mut out);
-    assert!(rt; outcome == Outcome::Done);
-    assert_eq!(rt; outcome.status(), 0);
-    let report = "\
-packet 1 line 1 site a record 1 delivered b ttl 63 copy 1 path pe1
-total packets 1 delivered 1 dropped 0 flying 0 steps 1 refused 0 tick 0
-";
-    assert!(rt; out.bytes() == report.as_bytes());
-    let mut delivered = Vec::from_slice(alloc, &CAPTURE_HEADER)?;
-    delivered.extend_from_slice(&RECORD_HEADER)?;
-    delivered.extend_from_slice(&ARRIVED)?;
-    assert!(rt; shelf.file("out/delivered.pcap") == Some(delivered.as_slice()));
-    Ok(())
+    let ran = sent(alloc, TWO_SITES, Vec::new(alloc))?;
+    reports(&rt, &ran, REACHED);
+    delivers(&rt, alloc, &ran, &[ARRIVED.as_slice()])
+}
+
+/// A capture of the packet with two bytes behind it.
+fn padded(alloc: Global) -> Result<Vec<u8>, AllocError> {
+    let mut bytes = Vec::from_slice(alloc, &CAPTURE_HEADER)?;
+    bytes.extend_from_slice(&[0, 0, 0, 0, 0, 0, 0, 0, 30, 0, 0, 0, 30, 0, 0, 0])?;
+    bytes.extend_from_slice(&PACKET)?;
+    bytes.extend_from_slice(&[0xAA, 0xBB])?;
+    Ok(bytes)
 }
 
 #[test]
 fn bytes_past_the_total_length_are_cut(rt: HostRuntime) -> Result<(), Fail> {
     let alloc = rt.alloc();
-    let mut capture = Vec::from_slice(alloc, &CAPTURE_HEADER)?;
-    capture.extend_from_slice(&[0, 0, 0, 0, 0, 0, 0, 0, 30, 0, 0, 0, 30, 0, 0, 0])?;
-    capture.extend_from_slice(&PACKET)?;
-    capture.extend_from_slice(&[0xAA, 0xBB])?;
-    let mut shelf = shelf(alloc, TWO_SITES, "inject a 1", capture, Vec::new(alloc))?;
-    let mut out = MemSink::new(alloc, Vec::new(alloc));
-    let outcome = command(alloc, &run_words(alloc)?, &mut shelf, &mut out);
-    assert!(rt; outcome == Outcome::Done);
-    let mut delivered = Vec::from_slice(alloc, &CAPTURE_HEADER)?;
-    delivered.extend_from_slice(&RECORD_HEADER)?;
-    delivered.extend_from_slice(&ARRIVED)?;
-    assert!(rt; shelf.file("out/delivered.pcap") == Some(delivered.as_slice()));
-    Ok(())
+    let padded = padded(alloc)?;
+    let ran = runs(alloc, TWO_SITES, "inject a 1", padded, Vec::new(alloc))?;
+    reports(&rt, &ran, REACHED);
+    delivers(&rt, alloc, &ran, &[ARRIVED.as_slice()])
 }
 
-#[test]
-fn each_rule_drops_its_packet(rt: HostRuntime) -> Result<(), Fail> {
-    let alloc = rt.alloc();
-    let capture = capture(
+/// A packet for each rule.
+fn faulty_packets(alloc: Global) -> Result<Vec<u8>, AllocError> {
+    capture(
         alloc,
         &[
             BAD_CHECKSUM.as_slice(),
@@ -243,8 +322,10 @@ fn each_rule_drops_its_packet(rt: HostRuntime) -> Result<(), Fail> {
             TTL_EXPIRED.as_slice(),
             NO_ROUTE.as_slice(),
         ],
-    )?;
-    let script = "\
+    )
+}
+
+const SEVEN_SENT: &str = "\
 inject a 1
 inject a 2
 inject a 3
@@ -253,11 +334,8 @@ inject a 5
 inject a 6
 inject a 7
 ";
-    let mut shelf = shelf(alloc, TWO_SITES, script, capture, Vec::new(alloc))?;
-    let mut out = MemSink::new(alloc, Vec::new(alloc));
-    let outcome = command(alloc, &run_words(alloc)?, &mut shelf, &mut out);
-    assert!(rt; outcome == Outcome::Done);
-    let report = "\
+
+const SEVEN_DROPPED: &str = "\
 packet 1 line 1 site a record 1 dropped BadChecksum at pe1 path pe1
 packet 2 line 2 site a record 2 dropped Truncated at pe1 path pe1
 packet 3 line 3 site a record 3 dropped Malformed at pe1 path pe1
@@ -267,118 +345,98 @@ packet 6 line 6 site a record 6 dropped TtlExpired at pe1 path pe1
 packet 7 line 7 site a record 7 dropped NoRoute at pe1 path pe1
 total packets 7 delivered 0 dropped 7 flying 0 steps 7 refused 0 tick 0
 ";
-    assert!(rt; out.bytes() == report.as_bytes());
-    assert!(rt; shelf.file("out/delivered.pcap") == Some(CAPTURE_HEADER.as_slice()));
-    Ok(())
+
+#[test]
+fn each_rule_drops_its_packet(rt: HostRuntime) -> Result<(), Fail> {
+    let alloc = rt.alloc();
+    let packets = faulty_packets(alloc)?;
+    let ran = runs(alloc, TWO_SITES, SEVEN_SENT, packets, Vec::new(alloc))?;
+    reports(&rt, &ran, SEVEN_DROPPED);
+    delivers(&rt, alloc, &ran, &[])
 }
 
-/// Whether the packet, sent at site a, is reported in these lines.
-fn reports(alloc: Global, topology: &str, report: &str) -> Result<bool, AllocError> {
-    let capture = capture(alloc, &[PACKET.as_slice()])?;
-    let mut shelf = shelf(alloc, topology, "inject a 1\n", capture, Vec::new(alloc))?;
-    let mut out = MemSink::new(alloc, Vec::new(alloc));
-    let outcome = command(alloc, &run_words(alloc)?, &mut shelf, &mut out);
-    Ok(outcome == Outcome::Done && out.bytes() == report.as_bytes())
-}
+/// The report of a run that sends the packet at site a, where it goes to c.
+const TO_C: &str = "\
+packet 1 line 1 site a record 1 delivered c ttl 63 copy 1 path pe1
+total packets 1 delivered 1 dropped 0 flying 0 steps 1 refused 0 tick 0
+";
+
+const BACK_TO_A: &str = "\
+packet 1 line 1 site a record 1 delivered a ttl 63 copy 1 path pe1
+total packets 1 delivered 1 dropped 0 flying 0 steps 1 refused 0 tick 0
+";
 
 #[test]
 fn the_longest_prefix_decides(rt: HostRuntime) -> Result<(), Fail> {
     let alloc = rt.alloc();
-    let to_c = "\
-packet 1 line 1 site a record 1 delivered c ttl 63 copy 1 path pe1
-total packets 1 delivered 1 dropped 0 flying 0 steps 1 refused 0 tick 0
-";
-    assert!(rt; reports(alloc, NESTED_SITES, to_c)?);
-    let to_b = "\
-packet 1 line 1 site a record 1 delivered b ttl 63 copy 1 path pe1
-total packets 1 delivered 1 dropped 0 flying 0 steps 1 refused 0 tick 0
-";
-    assert!(rt; reports(alloc, TWO_NESTED_SITES, to_b)?);
-    let back_to_a = "\
-packet 1 line 1 site a record 1 delivered a ttl 63 copy 1 path pe1
-total packets 1 delivered 1 dropped 0 flying 0 steps 1 refused 0 tick 0
-";
-    assert!(rt; reports(alloc, ONE_SITE, back_to_a)?);
+    for (topology, report) in [
+        (NESTED_SITES, TO_C),
+        (TWO_NESTED_SITES, REACHED),
+        (ONE_SITE, BACK_TO_A),
+    ] {
+        let ran = sent(alloc, topology, Vec::new(alloc))?;
+        assert!(rt; is_answer(&ran, 0, report), "{report}");
+    }
     Ok(())
 }
 
-#[test]
-fn a_record_past_the_capture_is_refused_and_the_run_goes_on(rt: HostRuntime) -> Result<(), Fail> {
-    let alloc = rt.alloc();
-    let capture = capture(alloc, &[PACKET.as_slice()])?;
-    let script = "inject a 2\r\n\n  # nothing\n\tinject b 1 # back\ninject a 1";
-    let mut shelf = shelf(alloc, TWO_SITES, script, capture, Vec::new(alloc))?;
-    let mut out = MemSink::new(alloc, Vec::new(alloc));
-    let outcome = command(alloc, &run_words(alloc)?, &mut shelf, &mut out);
-    assert!(rt; outcome == Outcome::Done);
-    let report = "\
+const WITH_A_GAP: &str = "inject a 2\r\n\n  # nothing\n\tinject b 1 # back\ninject a 1";
+
+const GAP_REFUSED: &str = "\
 line 1 refused NoRecord
 packet 1 line 4 site b record 1 delivered b ttl 63 copy 1 path pe1
 packet 2 line 5 site a record 1 delivered b ttl 63 copy 2 path pe1
 total packets 2 delivered 2 dropped 0 flying 0 steps 2 refused 1 tick 0
 ";
-    assert!(rt; out.bytes() == report.as_bytes());
+
+#[test]
+fn a_record_past_the_capture_is_refused_and_the_run_goes_on(rt: HostRuntime) -> Result<(), Fail> {
+    let alloc = rt.alloc();
+    let packet = capture(alloc, &[PACKET.as_slice()])?;
+    let ran = runs(alloc, TWO_SITES, WITH_A_GAP, packet, Vec::new(alloc))?;
+    reports(&rt, &ran, GAP_REFUSED);
     Ok(())
 }
 
 #[test]
 fn an_empty_script_writes_the_header_alone(rt: HostRuntime) -> Result<(), Fail> {
     let alloc = rt.alloc();
-    let capture = capture(alloc, &[])?;
-    let mut shelf = shelf(alloc, TWO_SITES, "", capture, Vec::new(alloc))?;
-    let mut out = MemSink::new(alloc, Vec::new(alloc));
-    let outcome = command(alloc, &run_words(alloc)?, &mut shelf, &mut out);
-    assert!(rt; outcome == Outcome::Done);
+    let none = capture(alloc, &[])?;
+    let ran = runs(alloc, TWO_SITES, "", none, Vec::new(alloc))?;
     let report = "total packets 0 delivered 0 dropped 0 flying 0 steps 0 refused 0 tick 0\n";
-    assert!(rt; out.bytes() == report.as_bytes());
-    assert!(rt; shelf.file("out/delivered.pcap") == Some(CAPTURE_HEADER.as_slice()));
-    Ok(())
+    reports(&rt, &ran, report);
+    delivers(&rt, alloc, &ran, &[])
 }
+
+const USAGE: &str =
+    "usage: mplsnet run TOPOLOGY SCRIPT CAPTURE FOLDER | check TOPOLOGY | generate NUMBER\n";
+
+/// Words that are no command line.
+const OTHER_WORDS: [&[&str]; 10] = [
+    &[],
+    &["--help"],
+    &["run", "t", "s", "c"],
+    &["run", "out/t", "s", "c", "out"],
+    &["check"],
+    &["check", "t", "t"],
+    &["generate"],
+    &["generate", "00"],
+    &["generate", "100"],
+    &["generate", "0", "0"],
+];
 
 /// Whether the words are answered by the line on usage, and nothing is written.
 fn is_usage(alloc: Global, texts: &[&str]) -> Result<bool, AllocError> {
-    let capture = capture(alloc, &[PACKET.as_slice()])?;
-    let mut shelf = shelf(alloc, TWO_SITES, "inject a 1\n", capture, Vec::new(alloc))?;
-    let mut out = MemSink::new(alloc, Vec::new(alloc));
-    let outcome = command(alloc, &words(alloc, texts)?, &mut shelf, &mut out);
-    let line =
-        "usage: mplsnet run TOPOLOGY SCRIPT CAPTURE FOLDER | check TOPOLOGY | generate NUMBER\n";
-    Ok(
-        outcome == Outcome::Usage
-            && outcome.status() == 2
-            && out.bytes() == line.as_bytes()
-            && shelf.file("out/delivered.pcap").is_none(),
-    )
+    let ran = told(alloc, texts)?;
+    Ok(ran.outcome == Outcome::Usage && is_answer(&ran, 2, USAGE) && delivers_nowhere(&ran))
 }
 
 #[test]
 fn other_words_are_usage(rt: HostRuntime) -> Result<(), Fail> {
-    let alloc = rt.alloc();
-    assert!(rt; is_usage(alloc, &[])?);
-    assert!(rt; is_usage(alloc, &["--help"])?);
-    assert!(rt; is_usage(alloc, &["run", "t", "s", "c"])?);
-    assert!(rt; is_usage(alloc, &["run", "out/t", "s", "c", "out"])?);
-    assert!(rt; is_usage(alloc, &["check"])?);
-    assert!(rt; is_usage(alloc, &["check", "t", "t"])?);
-    assert!(rt; is_usage(alloc, &["generate"])?);
-    assert!(rt; is_usage(alloc, &["generate", "00"])?);
-    assert!(rt; is_usage(alloc, &["generate", "100"])?);
-    assert!(rt; is_usage(alloc, &["generate", "0", "0"])?);
-    Ok(())
-}
-
-/// A capture of the packets, in which the byte at this place has another value.
-fn altered(
-    alloc: Global,
-    packets: &[&[u8]],
-    place: usize,
-    value: u8,
-) -> Result<Vec<u8>, AllocError> {
-    let mut bytes = capture(alloc, packets)?;
-    if let Some(byte) = bytes.get_mut(place) {
-        *byte = value;
+    for texts in OTHER_WORDS {
+        assert!(rt; is_usage(rt.alloc(), texts)?, "{texts:?}");
     }
-    Ok(bytes)
+    Ok(())
 }
 
 /// Whether the capture is refused with this status and line, with nothing written.
@@ -388,38 +446,63 @@ fn is_refused_capture(
     status: u8,
     line: &str,
 ) -> Result<bool, AllocError> {
-    let mut shelf = shelf(alloc, TWO_SITES, "inject a 1\n", capture, Vec::new(alloc))?;
-    let mut out = MemSink::new(alloc, Vec::new(alloc));
-    let outcome = command(alloc, &run_words(alloc)?, &mut shelf, &mut out);
-    Ok(
-        outcome.status() == status
-            && out.bytes() == line.as_bytes()
-            && shelf.file("out/delivered.pcap").is_none(),
-    )
+    let ran = runs(alloc, TWO_SITES, "inject a 1\n", capture, Vec::new(alloc))?;
+    Ok(is_answer(&ran, status, line) && delivers_nowhere(&ran))
+}
+
+/// Two records of 44 bytes, cut in the first or in the second.
+fn captures_cut_short_are_refused(rt: &impl Abort, alloc: Global) -> Result<(), Fail> {
+    for (length, line) in [
+        (50, "capture refused CutShort at byte 24\n"),
+        (111, "capture refused CutShort at byte 68\n"),
+    ] {
+        let mut cut = capture(alloc, &[PACKET.as_slice(), PACKET.as_slice()])?;
+        cut.truncate(length);
+        assert!(rt; is_refused_capture(alloc, cut, 5, line)?, "{line}");
+    }
+    Ok(())
+}
+
+/// Four bytes and 24 zeros.
+fn other_files_are_refused(rt: &impl Abort, alloc: Global) -> Result<(), Fail> {
+    for (magic, line) in [
+        (b"\x0A\x0D\x0D\x0A", "capture refused IsPcapng at byte 0\n"),
+        (b"mpls", "capture refused BadMagic at byte 0\n"),
+    ] {
+        let mut other = Vec::from_slice(alloc, magic)?;
+        other.extend_from_slice(&[0; 24])?;
+        assert!(rt; is_refused_capture(alloc, other, 5, line)?, "{line}");
+    }
+    Ok(())
+}
+
+/// A capture of the packet, in which the byte at this place has another value.
+fn altered(alloc: Global, place: usize, value: u8) -> Result<Vec<u8>, AllocError> {
+    let mut bytes = capture(alloc, &[PACKET.as_slice()])?;
+    if let Some(byte) = bytes.get_mut(place) {
+        *byte = value;
+    }
+    Ok(bytes)
+}
+
+/// Another version, another link type, and a record that captured more than 262,144 bytes.
+fn altered_headers_are_refused(rt: &impl Abort, alloc: Global) -> Result<(), Fail> {
+    for (place, value, line) in [
+        (6, 3, "capture refused BadVersion at byte 4\n"),
+        (20, 113, "capture refused BadLinkType at byte 20\n"),
+        (34, 5, "capture refused BadRecord at byte 24\n"),
+    ] {
+        let capture = altered(alloc, place, value)?;
+        assert!(rt; is_refused_capture(alloc, capture, 5, line)?, "{line}");
+    }
+    Ok(())
 }
 
 #[test]
 fn a_capture_is_refused_by_rule_and_place(rt: HostRuntime) -> Result<(), Fail> {
-    let alloc = rt.alloc();
-    let mut cut = capture(alloc, &[PACKET.as_slice()])?;
-    cut.truncate(50);
-    assert!(rt; is_refused_capture(alloc, cut, 5, "capture refused CutShort at byte 24\n")?);
-    let mut second = capture(alloc, &[PACKET.as_slice(), PACKET.as_slice()])?;
-    second.truncate(111);
-    assert!(rt; is_refused_capture(alloc, second, 5, "capture refused CutShort at byte 68\n")?);
-    let mut blocks = Vec::from_slice(alloc, &[0x0A, 0x0D, 0x0D, 0x0A])?;
-    blocks.extend_from_slice(&[0; 24])?;
-    assert!(rt; is_refused_capture(alloc, blocks, 5, "capture refused IsPcapng at byte 0\n")?);
-    let mut text = Vec::from_slice(alloc, b"mpls")?;
-    text.extend_from_slice(&[0; 24])?;
-    assert!(rt; is_refused_capture(alloc, text, 5, "capture refused BadMagic at byte 0\n")?);
-    let version = altered(alloc, &[], 6, 3)?;
-    assert!(rt; is_refused_capture(alloc, version, 5, "capture refused BadVersion at byte 4\n")?);
-    let link = altered(alloc, &[], 20, 113)?;
-    assert!(rt; is_refused_capture(alloc, link, 5, "capture refused BadLinkType at byte 20\n")?);
-    let long = altered(alloc, &[PACKET.as_slice()], 34, 5)?;
-    assert!(rt; is_refused_capture(alloc, long, 5, "capture refused BadRecord at byte 24\n")?);
-    Ok(())
+    captures_cut_short_are_refused(&rt, rt.alloc())?;
+    other_files_are_refused(&rt, rt.alloc())?;
+    altered_headers_are_refused(&rt, rt.alloc())
 }
 
 /// A header for Ethernet (link type 1), big-endian, with times in nanoseconds.
@@ -437,28 +520,34 @@ fn push_frame(capture: &mut Vec<u8>, frame_type: [u8; 2]) -> Result<(), AllocErr
     capture.extend_from_slice(&[0; 18])
 }
 
-#[test]
-fn frames_of_ethernet_carry_packets(rt: HostRuntime) -> Result<(), Fail> {
-    let alloc = rt.alloc();
+/// A frame of IPv4, and one of a VLAN.
+fn frames(alloc: Global) -> Result<Vec<u8>, AllocError> {
     let mut capture = Vec::from_slice(alloc, &ETHERNET_HEADER)?;
     push_frame(&mut capture, [0x08, 0x00])?;
     push_frame(&mut capture, [0x81, 0x00])?;
-    let script = "inject a 1\ninject a 2\n";
-    let mut shelf = shelf(alloc, TWO_SITES, script, capture, Vec::new(alloc))?;
-    let mut out = MemSink::new(alloc, Vec::new(alloc));
-    let outcome = command(alloc, &run_words(alloc)?, &mut shelf, &mut out);
-    assert!(rt; outcome == Outcome::Done);
-    let report = "\
+    Ok(capture)
+}
+
+const FRAMES_SENT: &str = "inject a 1\ninject a 2\n";
+
+const ONE_FRAME_DROPPED: &str = "\
 packet 1 line 1 site a record 1 delivered b ttl 63 copy 1 path pe1
 packet 2 line 2 site a record 2 dropped NotIpv4 at pe1 path pe1
 total packets 2 delivered 1 dropped 1 flying 0 steps 2 refused 0 tick 0
 ";
-    assert!(rt; out.bytes() == report.as_bytes());
-    let mut delivered = Vec::from_slice(alloc, &CAPTURE_HEADER)?;
-    delivered.extend_from_slice(&RECORD_HEADER)?;
-    delivered.extend_from_slice(&ARRIVED)?;
-    assert!(rt; shelf.file("out/delivered.pcap") == Some(delivered.as_slice()));
-    Ok(())
+
+#[test]
+fn frames_of_ethernet_carry_packets(rt: HostRuntime) -> Result<(), Fail> {
+    let alloc = rt.alloc();
+    let ran = runs(
+        alloc,
+        TWO_SITES,
+        FRAMES_SENT,
+        frames(alloc)?,
+        Vec::new(alloc),
+    )?;
+    reports(&rt, &ran, ONE_FRAME_DROPPED);
+    delivers(&rt, alloc, &ran, &[ARRIVED.as_slice()])
 }
 
 #[test]
@@ -472,58 +561,49 @@ fn a_capture_has_at_most_so_many_records(rt: HostRuntime) -> Result<(), Fail> {
     Ok(())
 }
 
+/// The run ended by a read fault, before a file was begun.
+fn cannot_read(rt: &impl Abort, ran: &Ran) {
+    is_fault(rt, ran, Outcome::ReadFault, 6);
+    assert!(rt; delivers_nowhere(ran));
+}
+
 #[test]
 fn a_failing_read_ends_the_run_before_a_file_is_begun(rt: HostRuntime) -> Result<(), Fail> {
     // Each input takes two fetches: its bytes, and its end.
     for call in 1..7u64 {
         let alloc = rt.alloc();
-        let capture = capture(alloc, &[PACKET.as_slice()])?;
-        let failing = vec![in alloc; call]?;
-        let mut shelf = shelf(alloc, TWO_SITES, "inject a 1\n", capture, failing)?;
-        let mut out = MemSink::new(alloc, Vec::new(alloc));
-        let outcome = command(alloc, &run_words(alloc)?, &mut shelf, &mut out);
-        assert!(rt; outcome == Outcome::ReadFault);
-        assert_eq!(rt; outcome.status(), 6);
-        assert!(rt; shelf.file("out/delivered.pcap").is_none());
-        assert!(rt; out.bytes().is_empty());
+        let ran = sent(alloc, TWO_SITES, vec![in alloc; call]?)?;
+        cannot_read(&rt, &ran);
     }
     Ok(())
 }
 
 #[test]
 fn a_missing_input_is_a_read_fault(rt: HostRuntime) -> Result<(), Fail> {
-    let alloc = rt.alloc();
-    let capture = capture(alloc, &[PACKET.as_slice()])?;
-    let mut shelf = shelf(alloc, TWO_SITES, "inject a 1\n", capture, Vec::new(alloc))?;
-    let mut out = MemSink::new(alloc, Vec::new(alloc));
-    let words = words(alloc, &["run", "t", "s", "nowhere", "out"])?;
-    let outcome = command(alloc, &words, &mut shelf, &mut out);
-    assert!(rt; outcome == Outcome::ReadFault);
-    assert!(rt; shelf.file("out/delivered.pcap").is_none());
+    let ran = told(rt.alloc(), &["run", "t", "s", "nowhere", "out"])?;
+    cannot_read(&rt, &ran);
     Ok(())
 }
 
-/// Whether a run ends by a write fault where the call of this number fails, as it begins its files: nothing is put,
-/// and these stand.
-fn is_begun(
+/// These files stand, and no deliveries.
+fn stand(rt: &impl Abort, ran: &Ran, journal: Option<&[u8]>, labels: Option<&[u8]>) {
+    assert!(rt; ran.shelf.file("out/journal.txt") == journal);
+    assert!(rt; ran.shelf.file("out/labels.txt") == labels);
+    assert!(rt; delivers_nowhere(ran));
+}
+
+/// A run ends by a write fault where the call of this number fails, as it begins its files: these stand.
+fn begins(
+    rt: &impl Abort,
     alloc: Global,
     call: u64,
     journal: Option<&[u8]>,
     labels: Option<&[u8]>,
-) -> Result<bool, AllocError> {
-    let capture = capture(alloc, &[PACKET.as_slice()])?;
-    let failing = vec![in alloc; call]?;
-    let mut shelf = shelf(alloc, TWO_SITES, "inject a 1\n", capture, failing)?;
-    let mut out = MemSink::new(alloc, Vec::new(alloc));
-    let outcome = command(alloc, &run_words(alloc)?, &mut shelf, &mut out);
-    Ok(
-        outcome == Outcome::WriteFault
-            && outcome.status() == 7
-            && out.bytes().is_empty()
-            && shelf.file("out/journal.txt") == journal
-            && shelf.file("out/labels.txt") == labels
-            && shelf.file("out/delivered.pcap").is_none(),
-    )
+) -> Result<(), Fail> {
+    let ran = sent(alloc, TWO_SITES, vec![in alloc; call]?)?;
+    is_fault(rt, &ran, Outcome::WriteFault, 7);
+    stand(rt, &ran, journal, labels);
+    Ok(())
 }
 
 #[test]
@@ -531,83 +611,7 @@ fn a_failing_begin_leaves_the_files_before_it(rt: HostRuntime) -> Result<(), Fai
     // Calls 7 to 9 begin the journal, the labels and the deliveries.
     let alloc = rt.alloc();
     let empty = b"".as_slice();
-    assert!(rt; is_begun(alloc, 7, None, None)?);
-    assert!(rt; is_begun(alloc, 8, Some(empty), None)?);
-    assert!(rt; is_begun(alloc, 9, Some(empty), Some(empty))?);
-    Ok(())
-}
-
-/// The steps of a run that sends one packet at site a.
-const JOURNAL: &str = "0 inject a 1\n";
-
-/// The labels that the node gives to its sites.
-const LABELS: &str = "pe1 16 site a 1\npe1 17 site b 1\n";
-
-/// Whether a run that sends one packet ends with this status where the call of this number fails: nothing is
-/// put, and the files are these.
-fn is_cut_off(
-    alloc: Global,
-    call: u64,
-    status: u8,
-    journal: &str,
-    labels: &str,
-    delivered: &[u8],
-) -> Result<bool, AllocError> {
-    let capture = capture(alloc, &[PACKET.as_slice()])?;
-    let failing = vec![in alloc; call]?;
-    let mut shelf = shelf(alloc, TWO_SITES, "inject a 1\n", capture, failing)?;
-    let mut out = MemSink::new(alloc, Vec::new(alloc));
-    let outcome = command(alloc, &run_words(alloc)?, &mut shelf, &mut out);
-    Ok(
-        outcome.status() == status
-            && out.bytes().is_empty()
-            && shelf.file("out/journal.txt") == Some(journal.as_bytes())
-            && shelf.file("out/labels.txt") == Some(labels.as_bytes())
-            && shelf.file("out/delivered.pcap") == Some(delivered),
-    )
-}
-
-/// Half of the 68 bytes of the deliveries: the header, and the record's up to the middle of its captured length.
-const HALF_DELIVERED: [u8; 34] = [
-    0xD4, 0xC3, 0xB2, 0xA1, 0x02, 0x00, 0x04, 0x00, 0x00, 0x00, 0x00, 0x00, 0x00, 0x00, 0x00, 0x00,
-    0x00, 0x00, 0x04, 0x00, 0xE4, 0x00, 0x00, 0x00, 0x00, 0x00, 0x00, 0x00, 0x00, 0x00, 0x00, 0x00,
-    0x1C, 0x00,
-];
-
-#[test]
-fn a_packet_that_cannot_be_fetched_again_leaves_the_files_empty(
-    rt: HostRuntime,
-) -> Result<(), Fail> {
-    // Calls 1 to 6 read the inputs, 7 to 9 begin the files, and 10 fetches the packet as it is injected.
-    assert!(rt; is_cut_off(rt.alloc(), 10, 6, "", "", &[])?);
-    assert_eq!(rt; Outcome::ReadFault.status(), 6);
-    Ok(())
-}
-
-#[test]
-fn a_failing_append_leaves_a_first_part(rt: HostRuntime) -> Result<(), Fail> {
-    // Behind call 10, which fetches the packet, each file is appended by one call, and where it fails half of the
-    // bytes stay.
-    let alloc = rt.alloc();
-    assert!(rt; is_cut_off(alloc, 11, 7, "0 inje", "", &[])?);
-    assert!(rt; is_cut_off(alloc, 12, 7, JOURNAL, "pe1 16 site a 1\n", &[])?);
-    assert!(rt; is_cut_off(alloc, 13, 7, JOURNAL, LABELS, &HALF_DELIVERED)?);
-    Ok(())
-}
-
-#[test]
-fn a_failing_put_leaves_a_first_part_of_the_report(rt: HostRuntime) -> Result<(), Fail> {
-    let alloc = rt.alloc();
-    let capture = capture(alloc, &[PACKET.as_slice()])?;
-    let mut shelf = shelf(alloc, TWO_SITES, "inject a 1\n", capture, Vec::new(alloc))?;
-    let mut out = MemSink::new(alloc, vec![in alloc; 1u64]?);
-    let outcome = command(alloc, &run_words(alloc)?, &mut shelf, &mut out);
-    assert!(rt; outcome == Outcome::WriteFault);
-    assert_eq!(rt; outcome.status(), 7);
-    // The report is put by one call: of its 139 bytes the first 69 stay. The files are whole by then.
-    let half = "packet 1 line 1 site a record 1 delivered b ttl 63 copy 1 path pe1\nto";
-    assert!(rt; out.bytes() == half.as_bytes());
-    assert!(rt; shelf.file("out/journal.txt") == Some(JOURNAL.as_bytes()));
-    assert!(rt; shelf.file("out/labels.txt") == Some(LABELS.as_bytes()));
-    Ok(())
+    begins(&rt, alloc, 7, None, None)?;
+    begins(&rt, alloc, 8, Some(empty), None)?;
+    begins(&rt, alloc, 9, Some(empty), Some(empty))
 }

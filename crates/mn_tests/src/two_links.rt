@@ -1,9 +1,8 @@
 // Three nodes in a row: a packet that two labels carry from the site at one end to the site at the other.
 ghost use Rattle.std.specs.Prelude.{◌<◌};
 
-use crate::one_node::{run_words, shelf};
-use mn_edge::{MemShelf, MemSink};
-use mn_run::{Outcome, command};
+use crate::one_node::{Ran, reports, runs};
+use mn_edge::MemShelf;
 use std::alloc::{AllocError, Global};
 use std::test::Fail;
 
@@ -314,6 +313,31 @@ fn push_said(
     Ok(())
 }
 
+/// Appends the captures of the deliveries and of the two links.
+fn push_captures(
+    alloc: Global,
+    files: &mut Vec<File>,
+    delivered: &[u8],
+    first_link: &[u8],
+    second_link: &[u8],
+) -> Result<(), AllocError> {
+    push_file(alloc, files, "out/delivered.pcap", delivered)?;
+    push_file(alloc, files, "out/pe1+p.pcap", first_link)?;
+    push_file(alloc, files, "out/p+pe2.pcap", second_link)
+}
+
+fn push_ldp(alloc: Global, files: &mut Vec<File>) -> Result<(), AllocError> {
+    push_said(alloc, files, "out/pe1+p.ldp", &PE1_TO_P)?;
+    push_said(alloc, files, "out/p+pe1.ldp", &P_TO_PE1)?;
+    push_said(alloc, files, "out/p+pe2.ldp", &P_TO_PE2)?;
+    push_said(alloc, files, "out/pe2+p.ldp", &PE2_TO_P)
+}
+
+fn push_bgp(alloc: Global, files: &mut Vec<File>) -> Result<(), AllocError> {
+    push_said(alloc, files, "out/pe1+pe2.bgp", &PE1_TO_PE2)?;
+    push_said(alloc, files, "out/pe2+pe1.bgp", &PE2_TO_PE1)
+}
+
 /// All files of a run that sends one packet, in the order in which they are begun: with these deliveries and these
 /// captures of the two links.
 pub(crate) fn files(
@@ -325,15 +349,9 @@ pub(crate) fn files(
     let mut files = Vec::new(alloc);
     push_file(alloc, &mut files, "out/journal.txt", JOURNAL.as_bytes())?;
     push_file(alloc, &mut files, "out/labels.txt", LABELS.as_bytes())?;
-    push_file(alloc, &mut files, "out/delivered.pcap", delivered)?;
-    push_file(alloc, &mut files, "out/pe1+p.pcap", first_link)?;
-    push_file(alloc, &mut files, "out/p+pe2.pcap", second_link)?;
-    push_said(alloc, &mut files, "out/pe1+p.ldp", &PE1_TO_P)?;
-    push_said(alloc, &mut files, "out/p+pe1.ldp", &P_TO_PE1)?;
-    push_said(alloc, &mut files, "out/p+pe2.ldp", &P_TO_PE2)?;
-    push_said(alloc, &mut files, "out/pe2+p.ldp", &PE2_TO_P)?;
-    push_said(alloc, &mut files, "out/pe1+pe2.bgp", &PE1_TO_PE2)?;
-    push_said(alloc, &mut files, "out/pe2+pe1.bgp", &PE2_TO_PE1)?;
+    push_captures(alloc, &mut files, delivered, first_link, second_link)?;
+    push_ldp(alloc, &mut files)?;
+    push_bgp(alloc, &mut files)?;
     Ok(files)
 }
 
@@ -351,17 +369,19 @@ pub(crate) fn are_whole(shelf: &MemShelf, files: &[File]) -> bool {
     whole
 }
 
+/// The run over the capture, where the shelf's calls of these numbers fail.
+pub(crate) fn sent(alloc: Global, failing: Vec<u64>) -> Result<Ran, AllocError> {
+    let capture = Vec::from_slice(alloc, &CAPTURE)?;
+    runs(alloc, TOPOLOGY, SCRIPT, capture, failing)
+}
+
 #[test]
 fn two_labels_carry_a_packet(rt: HostRuntime) -> Result<(), Fail> {
     let alloc = rt.alloc();
-    let capture = Vec::from_slice(alloc, &CAPTURE)?;
-    let mut shelf = shelf(alloc, TOPOLOGY, SCRIPT, capture, Vec::new(alloc))?;
-    let mut out = MemSink::new(alloc, Vec::new(alloc));
-    let outcome = command(alloc, &run_words(alloc)?, &mut shelf, &mut out);
-    assert!(rt; outcome == Outcome::Done);
-    assert!(rt; out.bytes() == REPORT.as_bytes());
+    let ran = sent(alloc, Vec::new(alloc))?;
+    reports(&rt, &ran, REPORT);
     let files = packet_files(alloc)?;
     assert_eq!(rt; files.len(), 11);
-    assert!(rt; are_whole(&shelf, &files));
+    assert!(rt; are_whole(&ran.shelf, &files));
     Ok(())
 }

@@ -24,8 +24,6 @@ mod laws;
 mod lines;
 mod read;
 mod refusal;
-#[cfg(test)]
-mod tests;
 mod write;
 
 pub use laws::{address_again, number_again, prefix_again, rd_again, rt_again};

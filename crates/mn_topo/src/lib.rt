@@ -31,8 +31,6 @@ mod sites;
 mod statics;
 mod steps;
 mod tables;
-#[cfg(test)]
-mod tests;
 mod top;
 mod topology;
 mod vrfs;

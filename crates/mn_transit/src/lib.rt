@@ -33,8 +33,6 @@ mod laws;
 mod loss;
 mod path;
 mod tell;
-#[cfg(test)]
-mod tests;
 mod transit;
 
 pub use flown::Flown;

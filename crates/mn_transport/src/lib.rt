@@ -18,8 +18,6 @@
 mod flying;
 mod sites;
 mod steps;
-#[cfg(test)]
-mod tests;
 mod transport;
 
 pub use flying::{Clock, Messages, Notices};

@@ -30,10 +30,6 @@ mod laws;
 mod message;
 mod read;
 mod refusal;
-#[cfg(test)]
-mod tests;
-#[cfg(test)]
-mod vectors;
 mod write;
 
 pub use laws::{

@@ -22,15 +22,11 @@
 //! - `refusal`: why a VRF isn't changed
 #![tactic(auto)]
 
-#[cfg(test)]
-mod plain;
 mod refusal;
 mod routes;
 mod source;
 mod sources;
 mod statics;
-#[cfg(test)]
-mod tests;
 mod vrf;
 
 pub use refusal::VrfBad;

@@ -1,4 +1,0 @@
-use Rattle.mn_base.proofs.tests.steps_are_counted_over_a_blank_ledger.Given as goal
-
-abbrev pub ghosts-two_steps : goal.ghosts-two_steps
-ghosts-two_steps a = record { name = a.blank.name; parts = a.blank.parts }

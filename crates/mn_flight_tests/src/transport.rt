@@ -1,0 +1,97 @@
+//! A network at its start, where one of two sites of an edge is detached and attached anew.
+//!
+//! ```text
+//!   sites a and b --- pe1 --- p --- pe2 --- site c
+//! ```
+use mn_base::{LinkNo, NodeNo, SiteNo};
+use mn_flight::Flight;
+use mn_labels::Bind;
+use mn_topo::read_topology;
+use mn_transport::Transport;
+use std::test::Fail;
+
+const TOPOLOGY: &str = r#"
+as = 65000
+[[node]]
+name = "pe1"
+loopback = "192.0.2.1"
+[[node]]
+name = "p"
+loopback = "192.0.2.2"
+[[node]]
+name = "pe2"
+loopback = "192.0.2.3"
+[[link]]
+a = "pe1"
+b = "p"
+[[link]]
+a = "p"
+b = "pe2"
+[[vrf]]
+name = "red"
+node = "pe1"
+rd = "65000:1"
+import = ["65000:100"]
+export = ["65000:100"]
+[[vrf]]
+name = "far"
+node = "pe2"
+rd = "65000:2"
+import = ["65000:100"]
+export = ["65000:100"]
+[[site]]
+name = "a"
+vrf = "red"
+prefixes = ["10.1.0.0/16"]
+[[site]]
+name = "b"
+vrf = "red"
+prefixes = ["10.2.0.0/16"]
+[[site]]
+name = "c"
+vrf = "far"
+prefixes = ["10.3.0.0/16"]
+"#;
+
+const PE1: NodeNo = NodeNo(0);
+
+const PE2: NodeNo = NodeNo(2);
+
+const A: SiteNo = SiteNo(0);
+
+const B: SiteNo = SiteNo(1);
+
+const C: SiteNo = SiteNo(2);
+
+/// Each edge gave labels 16 and 17 to the FECs of the other two nodes.
+#[test]
+fn a_site_that_is_attached_anew_has_the_next_label(rt: HostRuntime) -> Result<(), Fail> {
+    let topology = read_topology(rt.alloc(), TOPOLOGY.as_bytes())?;
+    let mut transport = Transport::new(rt.alloc(), &topology)?;
+    topology.laws();
+    assert!(rt; topology.nodes().len() == 3);
+    assert!(rt; topology.links().len() == 2);
+    assert!(rt; topology.sites().len() == 3);
+
+    assert!(rt; !transport.is_link_up(LinkNo(1)));
+    assert!(rt; transport.ldp_on(LinkNo(1)));
+    assert_eq!(rt; transport.notices().len(), 0);
+    assert_eq!(rt; transport.messages().len(), 0);
+    let at_start = transport.node(PE1).labels();
+    assert_eq!(rt; at_start.means(18), Some(Bind::Site(A, 1)));
+    assert_eq!(rt; at_start.means(19), Some(Bind::Site(B, 1)));
+    assert_eq!(rt; at_start.means(20), None);
+    assert_eq!(rt;
+        transport.node(PE2).labels().means(18),
+        Some(Bind::Site(C, 1))
+    );
+
+    transport.detach(&topology, A);
+    let label = transport.attach(&topology, A)?;
+    assert_eq!(rt; label, 20);
+    assert_eq!(rt;
+        transport.node(PE1).labels().means(20),
+        Some(Bind::Site(A, 2))
+    );
+    Ok(())
+}
