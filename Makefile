@@ -1,27 +1,40 @@
-# make test      the whole gate: proofs, must-fail edits, tests, programs
-# make build     proves and builds the program, and prints where it is
-# make demo      runs an example (EXAMPLE=first; two-links where none is named), and says whether what ran was the proved build
-# make examples  runs all examples and compares everything they write with what is expected (EXAMPLES="loss ring" for some)
-# make runs      compares the built program, and examples/reference.py, with the stored runs in runs/, in seconds
-# make tools     tests the tools, the schema, the man page and the completions, and has tshark decode the examples' runs, in seconds
-# make index     shows that all that docs/INDEX.md names is there, and that it has every rule, in a second
-# make clean     removes what was built
+# make test       the whole gate: proofs, must-fail edits, tests, programs
+# make trial      compiles the program without proofs, once, and prints where it is: minutes
+# make build      proves and builds the program, and prints where it is: hours the first time
+# make install    puts the proved program, else the trial build, with tools, man page, completions and schema below PREFIX, which is
+#                 /usr/local where none is named; DESTDIR=FOLDER puts FOLDER before it
+# make uninstall  removes what 'make install' put there, with the same PREFIX and DESTDIR
+# make demo       runs an example (EXAMPLE=first; two-links where none is named), and says whether what ran was the proved build
+# make examples   runs all examples and compares everything they write with what is expected (EXAMPLES="loss ring" for some)
+# make runs       compares the built program, and examples/reference.py, with the stored runs (crates/mn_stored_runs), in seconds
+# make tools      tests the tools, the scripts, the schema, the man page and the completions, and has tshark decode the examples' runs
+# make index      shows that all that docs/INDEX.md names is there, and that it has every rule, in a second
+# make clean      removes what was built
 
-.PHONY: test build demo examples runs tools index clean
+.PHONY: test trial build install uninstall demo examples runs tools index clean
 
-PROGRAM = crates/mplsnet/out/mplsnet
+PREFIX = /usr/local
 
 test:
 	rt ci
 
+trial:
+	@python3 -B scripts/trial
+
 build:
-	@sh scripts/build
+	@python3 -B scripts/build
+
+install:
+	@python3 -B scripts/install --prefix '$(PREFIX)' --destdir '$(DESTDIR)'
+
+uninstall:
+	@python3 -B scripts/install --prefix '$(PREFIX)' --destdir '$(DESTDIR)' --remove
 
 demo:
 	@sh scripts/demo $(EXAMPLE)
 
 examples:
-	@sh scripts/examples $(EXAMPLES)
+	@python3 -B scripts/examples $(EXAMPLES)
 
 runs:
 	@python3 -B scripts/compare
@@ -34,4 +47,4 @@ index:
 	@python3 scripts/index
 
 clean:
-	rm -rf crates/*/out demo demo.examples
+	@python3 -B scripts/clean

@@ -100,6 +100,7 @@ class Link:
     cost: int
     delay: int
     loss: int
+    life: int
 
     def other(self, end):
         return self.a + self.b - end
@@ -155,7 +156,7 @@ TEXT, INTEGER, TEXTS, TABLES = "text", "integer", "texts", "tables"
 KEYS = {
     "top": {"as": INTEGER, "notice_delay": INTEGER, "bgp_delay": INTEGER} | dict.fromkeys(LENGTHS, TABLES),
     "node": {"name": TEXT, "loopback": TEXT},
-    "link": {"a": TEXT, "b": TEXT, "cost": INTEGER, "delay": INTEGER, "loss": INTEGER},
+    "link": {"a": TEXT, "b": TEXT, "cost": INTEGER, "delay": INTEGER, "loss": INTEGER, "life": INTEGER},
     "vrf": {"name": TEXT, "node": TEXT, "rd": TEXT, "import": TEXTS, "export": TEXTS},
     "site": {"name": TEXT, "vrf": TEXT, "prefixes": TEXTS},
 }
@@ -246,7 +247,7 @@ def read_node(topology, table, refused):
 
 def read_link(topology, table, refused):
     a, b = (topology.named("node", table[end]) for end in "ab")
-    link = Link(a, b, table.get("cost", 10), table.get("delay", 1), table.get("loss", 0))
+    link = Link(a, b, table.get("cost", 10), table.get("delay", 1), table.get("loss", 0), table.get("life", 2000))
     if a is None or b is None:
         refused("T7 NoSuchName")
     if a == b:
@@ -256,6 +257,8 @@ def read_link(topology, table, refused):
     if not 1 <= link.cost <= 65_535:
         refused("T11 BadCost")
     if not 1 <= link.delay <= 1000 or not 0 <= link.loss <= 65_535:
+        refused("T12 BadDelay")
+    if not link.delay <= link.life <= 1_000_000:
         refused("T12 BadDelay")
     topology.links.append(link)
 

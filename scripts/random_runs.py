@@ -65,6 +65,7 @@ def random_links(rng, nodes):
         link = {"a": a, "b": b} if rng.random() < 0.6 else {"a": b, "b": a}
         link = some(rng, link, 0.4, cost=lambda: rng.choice([1, 2, 3, 10, 20, 65535]))
         link = some(rng, link, 0.4, delay=lambda: rng.choice([1, 2, 3, 7, 1000]))
+        link = some(rng, link, 0.1, life=lambda: rng.choice([1000, 2000, 1000000]))
         yield some(rng, link, 0.2, loss=lambda: rng.choice([0, 1, 2, 3, 65535]))
 
 
@@ -111,7 +112,7 @@ x 10.0.0.1 127.0.0.1 240.0.0.1 1:1 65536:1 1:4294967296 01:1 x:y 1.2.3.4:65536 1
 WRONG += [True, 1.5, 0, -1, 1, 65535, 65536, 1001, 10**19, -(10**19), "", "n 1", "y" * 33, [], [1], [[]], {}, [{}]]
 WRONG += [["1:1"], ["1:1", "1:1"], ["10.0.0.0/8", "10.0.0.0/8"]]
 WRONG += [[f"1:{n}" for n in range(most)] for most in (16, 17)]
-KEYS = "name loopback a b cost delay loss node rd import export vrf prefixes as other".split()
+KEYS = "name loopback a b cost delay loss life node rd import export vrf prefixes as other".split()
 TOP_KEYS = ["as", "notice_delay", "bgp_delay", "more"]
 LETTERS = ["", " ", "\n", "\r", "\t", "0", "9", "#", "=", "[", '"', "x", ":", "/", "\x00", "\u00e9"]
 

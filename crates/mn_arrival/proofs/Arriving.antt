@@ -99,11 +99,11 @@ module _ (t : Network) (lawful : IsLawful t) (es : List JournalEntry) (ps : List
   site = record { 0 = s.site }
 
   entry : JournalEntry
-  entry = record { tick = stands.sent.entry.tick; step = Inject site stands.sent.number }
+  entry = record { tick = stands.sent.entry.tick; step = Inject site stands.sent.number; damaged = stands.sent.entry.damaged }
 
   sending_is : stands.sent.entry ≡ entry
   unfolding entry site
-  sending_is = ap (λ (y : Step). record { tick = stands.sent.entry.tick; step = y }) stands.sent.injects
+  sending_is = ap (λ (y : Step). record { tick = stands.sent.entry.tick; step = y; damaged = stands.sent.entry.damaged }) stands.sent.injects
 
   parts : (later : List JournalEntry) × (drop from (take to es) ≡ drop from (take s.place es) ++ stands.sent.entry ∷ later)
   parts = around es from s.place to stands.sent.entry stands.sent.there stands.since stands.until
@@ -158,7 +158,7 @@ module _ (t : Network) (lawful : IsLawful t) (es : List JournalEntry) (ps : List
       subst (λ b. HasArrived t (world_at t es from) (packets_at t es ps to) s.packet s.site b x) bytes_are
       (subst (λ j. HasArrived t (world_at t es from) (packets_at t es ps to) j s.site (next_of (left_after (before ++ earlier) ps)) x) number_is
       (subst (λ k. HasArrived t (world_at t es from) k (injections (before ++ earlier)) s.site (next_of (left_after (before ++ earlier) ps)) x) ends_at
-      (has_arrived t before earlier later stands.sent.entry.tick stands.sent.number site ps x lawful lawful_before steady site_there
+      (has_arrived t before earlier later stands.sent.entry.tick stands.sent.number stands.sent.entry.damaged site ps x lawful lawful_before steady site_there
       (subst (λ b. IsAddressed t (world_at t es from) s.site b x) (sym bytes_are) way.addressed) way.reached
       (subst (λ b. length (route_to t (world_at t es from) s.site x) + 1 ≤ ttl_of b) (sym bytes_are) way.lives)
       (subst (λ (k : Packets). (at : ℕ) → k.flying at ≡ []) (sym ends_at) stands.landed))))

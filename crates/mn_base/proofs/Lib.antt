@@ -1,5 +1,3 @@
-pub mod Dist
-pub mod Next
 pub mod Bools
 pub mod Members
 pub mod Rules

@@ -1,7 +1,4 @@
 pub mod Numbers
-pub mod Wiring
-pub mod Paths
-pub mod Square
 pub mod Bytes
 pub mod Rules
 pub mod Refusals

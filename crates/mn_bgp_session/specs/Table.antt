@@ -5,8 +5,8 @@
 --   OpenConfirm   KEEPALIVE              routes     Established
 --   Established   KEEPALIVE or UPDATE    nothing    Established
 use Rattle.std.specs.Prelude.{◌==◌, ◌&&◌, Bool, true, false, if◌then◌else◌, Result, Ok, Err}
-use Rattle.mn_base.specs.declared.states.BgpState.{BgpState}
-use Rattle.mn_base.specs.declared.states.BgpState.TheVariants.{OpenSent, OpenConfirm, Established}
+use Rattle.mn_states.specs.declared.states.BgpState.{BgpState}
+use Rattle.mn_states.specs.declared.states.BgpState.TheVariants.{OpenSent, OpenConfirm, Established}
 use Rattle.mn_bgp_wire.specs.declared.message.BgpMessage.{BgpMessage}
 use Rattle.mn_bgp_wire.specs.declared.message.BgpMessage.TheVariants as message
 use Rattle.mn_bgp_session.specs.declared.table.BgpKind.{BgpKind}

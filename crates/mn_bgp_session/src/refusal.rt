@@ -1,5 +1,5 @@
 use crate::BgpKind;
-use mn_base::BgpState;
+use mn_states::BgpState;
 use thiserror::Error;
 
 /// Why a message isn't taken.

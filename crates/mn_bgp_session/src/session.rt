@@ -1,12 +1,12 @@
 // One end, which hears one message after another.
 ghost use Rattle.std.specs.Prelude.{◌≡◌};
-ghost use Rattle.mn_base.specs.declared.states.BgpState.TheVariants.{OpenSent};
+ghost use Rattle.mn_states.specs.declared.states.BgpState.TheVariants.{OpenSent};
 ghost use Rattle.mn_bgp_session.specs.Table.{is_of_peer, answer_in, after_message};
 
 use crate::table::{has_row, kind_of, next_state, reply_in};
 use crate::{BgpBad, BgpReply};
-use mn_base::BgpState;
 use mn_bgp_wire::BgpMessage;
+use mn_states::BgpState;
 
 /// One end of a session.
 #[derive(Clone, Copy, Debug, PartialEq, Eq)]

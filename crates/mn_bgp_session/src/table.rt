@@ -2,8 +2,8 @@
 ghost use Rattle.std.specs.Prelude.{◌≡◌};
 ghost use Rattle.mn_bgp_session.specs.Table.{kind_of, has_row, next_state, reply_in};
 
-use mn_base::BgpState;
 use mn_bgp_wire::BgpMessage;
+use mn_states::BgpState;
 
 /// The kind of a message.
 #[derive(Clone, Copy, Debug, PartialEq, Eq)]

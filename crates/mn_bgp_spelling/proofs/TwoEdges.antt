@@ -6,7 +6,7 @@ use Rattle.mn_ledger.specs.Transport.{knowledge_of, news, sessions_after}
 use Rattle.mn_ledger.specs.Packets.{packets_after}
 use Rattle.mn_ledger.specs.Refusal.{in_flight, bytes_flying}
 use Rattle.mn_ledger.specs.Lawful.{IsLawfulJournal}
-use Rattle.mn_base.specs.Paths.{next}
+use Rattle.mn_wiring.specs.Paths.{next}
 use Rattle.mn_vpn_nlri.specs.Grammar.{nlri_of}
 use Rattle.std.specs.Prelude.{[]}
 use Rattle.mn_ledger.proofs.InTurn.{in_turn}

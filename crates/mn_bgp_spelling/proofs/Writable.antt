@@ -6,8 +6,8 @@ use Rattle.std.specs.List.{flat_map, list_any, list_all, AllByRecursion, Contain
 use Rattle.std.proofs.lemmas.Bool.Decides.{nat_tests}
 use Rattle.mn_base.specs.Numbers.{has_rd_form, has_rt_form}
 use Rattle.mn_base.specs.declared.numbers.Rt.{Rt}
-use Rattle.mn_base.specs.declared.states.BgpState.{BgpState}
-use Rattle.mn_base.specs.declared.states.BgpState.TheVariants.{OpenSent, OpenConfirm}
+use Rattle.mn_states.specs.declared.states.BgpState.{BgpState}
+use Rattle.mn_states.specs.declared.states.BgpState.TheVariants.{OpenSent, OpenConfirm}
 use Rattle.mn_base.proofs.Bools.{and_left, and_right, none_below}
 use Rattle.mn_base.proofs.Members.{In, in_append, in_map, in_filter, in_flat_map, in_contained}
 use Rattle.mn_base.proofs.Places.{all_filter}

@@ -69,7 +69,6 @@ impl Capture {
         ensures writes { S.write_faults shelf.new ≡ S.write_faults shelf.old }
     {
         let place = self.places[nth as usize - 1];
-        bytes.clear();
         bytes.resize(place.length as usize, 0)?;
         let count = fill(shelf, self.name.as_str(), place.at, bytes)?;
         bytes.truncate(count);

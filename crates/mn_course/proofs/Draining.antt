@@ -10,6 +10,7 @@ use Rattle.mn_topo.specs.Lawful.{IsLawful}
 use Rattle.mn_topo.specs.Network.{Network}
 use Rattle.mn_topo.specs.declared.steps.Step.{Step}
 use Rattle.mn_topo.specs.declared.steps.JournalEntry.{JournalEntry}
+use Rattle.mn_topo.specs.declared.steps.Damaged.TheVariants.{Undamaged}
 use Rattle.mn_ledger.specs.declared.refused.Refused.{Refused}
 use Rattle.mn_ledger.specs.declared.refused.Refused.TheVariants.{Empty, TooManySteps}
 use Rattle.mn_ledger.specs.World.{World}
@@ -151,7 +152,7 @@ module _ (t : Network) (lawful : IsLawful t) (capture : List (List ℕ)) where
   record Drained (most : ℕ) (past : Past) (course : Course) : Type 0 where
     steps : List Step
     drain : IsDrain t (world past) steps
-    made : course.past.entries ≡ past.entries ++ map (λ step. record { tick = past.clock; step = step }) steps
+    made : course.past.entries ≡ past.entries ++ map (λ step. record { tick = past.clock; step = step; damaged = Undamaged }) steps
     clock : course.past.clock ≡ past.clock
     later : world course.past ≡ after_steps t (world past) steps
     over : (course.ending ≡ ending.All) ⊎ (course.ending ≡ ending.TooManySteps)
@@ -190,13 +191,13 @@ module _ (t : Network) (lawful : IsLawful t) (capture : List (List ℕ)) where
       by false (Some item) f c d rest =
           let s : Step = delivery item in
           let later : Past = with_step past s in
-          let e : JournalEntry = record { tick = past.clock; step = s } in
+          let e : JournalEntry = record { tick = past.clock; step = s; damaged = Undamaged } in
           let more : Drained most later (deliver t capture News most later) = rest later (arrived_goes t lawful capture News past item h c f) early in
           let after_it : world later ≡ after t (world past) s = world_from-push t past.entries (start t) e in
           record {
             steps = s ∷ more.steps;
             drain = (d, subst (λ w. IsDrain t w more.steps) after_it more.drain);
-            made = more.made ∙ append_assoc past.entries (e ∷ []) (map (λ step. record { tick = past.clock; step = step }) more.steps);
+            made = more.made ∙ append_assoc past.entries (e ∷ []) (map (λ step. record { tick = past.clock; step = step; damaged = Undamaged }) more.steps);
             clock = more.clock;
             later = more.later ∙ ap (λ w. after_steps t w more.steps) after_it;
             over = more.over;
@@ -259,8 +260,8 @@ module _ (t : Network) (lawful : IsLawful t) (capture : List (List ℕ)) where
       all_is_done course d room (inl over) = over
       all_is_done course d room (inr stopped) =
           let g = d.full stopped in
-          let at : List JournalEntry = map (λ step. record { tick = past.clock; step = step }) d.steps in
+          let at : List JournalEntry = map (λ step. record { tick = past.clock; step = step; damaged = Undamaged }) d.steps in
           absurd (too_many (length past.entries) d.steps g.1.0 (length at) (drain_bound t (world past))
           (subst (λ n. 4000000 ≤ n) (ap length d.made ∙ length-append past.entries at) g.0)
           (drain_is_bounded t past.entries (inputs past) (d.steps ++ g.1.0 ∷ []) lawful h.journal (drain_more t (world past) d.steps g.1.0 d.drain g.1.1))
-          (length-map d.steps (λ step. record { tick = past.clock; step = step })) room)
+          (length-map d.steps (λ step. record { tick = past.clock; step = step; damaged = Undamaged })) room)

@@ -11,6 +11,7 @@ use Rattle.mn_topo.specs.Steps.{fits}
 use Rattle.mn_topo.specs.declared.steps.Step.{Step}
 use Rattle.mn_topo.specs.declared.steps.Step.TheVariants.{Inject}
 use Rattle.mn_topo.specs.declared.steps.JournalEntry.{JournalEntry}
+use Rattle.mn_topo.specs.declared.steps.Damaged.TheVariants.{Undamaged}
 use Rattle.mn_script.specs.declared.command.Command.{Command}
 use Rattle.mn_script.specs.declared.command.Command.TheVariants.{Do, Run, Drain, Flush, Show}
 use Rattle.mn_script.specs.declared.command.Show as show
@@ -147,7 +148,7 @@ module _ (t : Network) (lawful : IsLawful t) (capture : List (List ℕ)) where
       → IsGood (with_step past s)
   step_more past s h fit r =
       let es : List JournalEntry = past.entries in
-      let e : JournalEntry = record { tick = past.clock; step = s } in
+      let e : JournalEntry = record { tick = past.clock; step = s; damaged = Undamaged } in
       record {
         journal = subst (IsLawfulJournal t (es ++ e ∷ [])) (sym (inputs_more capture es e))
             (lawful_from-push t es e (packet_at capture s) 0 (start t) no_packets 0 (inputs_of capture es) h.each h.journal fit h.late

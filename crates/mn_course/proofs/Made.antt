@@ -2,8 +2,8 @@
 use Rattle.std.proofs.Common.{ℕ, suc, ◌≡◌, ◌+◌, ◌<◌, ◌≤◌, inl, inr, true, List, [], ◌∷◌, length, refl, arith, sym, ap, ◌∙◌, subst}
 use Rattle.std.specs.Prelude.{◌==◌, ◌&&◌, nat_le}
 use Rattle.std.specs.List.{Contains, AllByRecursion}
-use Rattle.mn_base.specs.declared.links.LinkEnds.{LinkEnds}
-use Rattle.mn_base.specs.Wiring.{link}
+use Rattle.mn_wiring.specs.declared.links.LinkEnds.{LinkEnds}
+use Rattle.mn_wiring.specs.Wiring.{link}
 use Rattle.mn_base.proofs.Bools.{no, and_left, and_right, and_on, at_most_tells, same_numbers, same_test}
 use Rattle.mn_base.proofs.Members.{In, in_contained, in_append}
 use Rattle.mn_topo.specs.Lawful.{IsLawful, has_figures}
@@ -117,7 +117,7 @@ module _ (t : Network) (lawful : IsLawful t) where
       (and_right (nat_le 1 ends.delay) (nat_le ends.delay 1000)
       (and_right (nat_le 1 ends.cost && nat_le ends.cost 65535) (nat_le 1 ends.delay && nat_le ends.delay 1000)
       (and_left ((nat_le 1 ends.cost && nat_le ends.cost 65535) && (nat_le 1 ends.delay && nat_le ends.delay 1000))
-      (nat_le 0 ends.loss && nat_le ends.loss 65535) figures)))
+      (nat_le 0 ends.loss && nat_le ends.loss 65535) (and_left _ _ figures))))
 
   few_ticks : (on : Channel) (load : Load) → IsOfChannel t on load → delay_on t on ≤ 1000
   few_ticks (Notices l n) load c =

@@ -4,6 +4,7 @@ use Rattle.std.proofs.Common.{Some, None, max}
 use Rattle.std.proofs.Math.Nat.{le-max_left, max-le}
 use Rattle.mn_base.proofs.Bools.{at_most_tells}
 use Rattle.mn_topo.specs.Lawful.{IsLawful}
+use Rattle.mn_topo.specs.declared.steps.Damaged.TheVariants.{Undamaged}
 use Rattle.mn_topo.specs.Network.{Network}
 use Rattle.mn_topo.specs.declared.steps.Step.{Step}
 use Rattle.mn_topo.specs.declared.steps.Step.TheVariants.{Inject}
@@ -42,13 +43,13 @@ then_pace ticks a b c h g = record {
 
 one_step : (past : Past) (s : Step) → IsPaced 0 past (with_step past s)
 one_step past s =
-    let long = length-append past.entries (record { tick = past.clock; step = s } ∷ []) in
+    let long = length-append past.entries (record { tick = past.clock; step = s; damaged = Undamaged } ∷ []) in
     record { onward = omega arith; longer = omega (arith, long); within = omega (arith, long) }
 
 -- at most 1,000 ticks, and a step
 one_arrival : (past : Past) (due : ℕ) (s : Step) → due ≤ past.clock + 1000 → IsPaced 0 past (with_step (on_to due past) s)
 one_arrival past due s soon =
-    let long = length-append past.entries (record { tick = max past.clock due; step = s } ∷ []) in
+    let long = length-append past.entries (record { tick = max past.clock due; step = s; damaged = Undamaged } ∷ []) in
     let back : past.clock ≤ max past.clock due = le-max_left past.clock due in
     let few : max past.clock due ≤ past.clock + 1000 = max-le (omega arith) soon in
     record { onward = back; longer = omega (arith, long); within = omega (arith, long, few) }

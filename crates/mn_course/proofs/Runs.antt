@@ -3,14 +3,15 @@
 --     site a --- pe1 --- p --- pe2 --- site b
 use Rattle.std.proofs.Common.{arith}
 use Rattle.std.specs.Prelude.{◌≡◌, ◌<◌, refl, ℕ, zero, suc, ◌+◌, ◌-◌, false, List, [], ◌∷◌, ◌++◌, length, drop, Some, None}
-use Rattle.mn_base.specs.declared.links.Dir.TheVariants.{Forth, Back}
-use Rattle.mn_base.specs.declared.drops.Rule.TheVariants as rule
-use Rattle.mn_base.specs.Paths.{next}
+use Rattle.mn_wiring.specs.declared.links.Dir.TheVariants.{Forth, Back}
+use Rattle.mn_drops.specs.declared.drops.Rule.TheVariants as rule
+use Rattle.mn_wiring.specs.Paths.{next}
 use Rattle.mn_ipv4.specs.Header.{is_not_ipv4, is_malformed, is_truncated, has_bad_checksum, good, checksum_for, with_ttl, aged}
 use Rattle.mn_topo.specs.Network.{Network}
 use Rattle.mn_topo.specs.declared.steps.Step.{Step}
 use Rattle.mn_topo.specs.declared.steps.Step.TheVariants.{LinkUp, LinkDown, Learn, HearLdp, BgpUp, HearBgp, Detach, Inject, Carry, Lose}
 use Rattle.mn_topo.specs.declared.steps.JournalEntry.{JournalEntry}
+use Rattle.mn_topo.specs.declared.steps.Damaged.TheVariants.{Undamaged}
 use Rattle.mn_script.specs.declared.command.Command.{Command}
 use Rattle.mn_script.specs.declared.command.Command.TheVariants.{Do, Run, Drain, Flush, Show}
 use Rattle.mn_script.specs.declared.command.Show.TheVariants.{Links}
@@ -54,7 +55,7 @@ abbrev pub last_entries : ℕ → Past → List JournalEntry
 last_entries count past = drop (length past.entries - count) past.entries
 
 abbrev pub at : ℕ → Step → JournalEntry
-at tick step = record { tick = tick; step = step }
+at tick step = record { tick = tick; step = step; damaged = Undamaged }
 
 -- what has become of the packets
 abbrev pub verdicts : Network → Past → List Verdict
@@ -171,8 +172,8 @@ the_last_tick_counts = refl
 abbrev pub losing : Network
 losing = record two_links {
   links =
-      record { a = node_no 0; b = node_no 1; cost = 10; delay = 2; loss = 2 }
-      ∷ record { a = node_no 1; b = node_no 2; cost = 10; delay = 2; loss = 0 } ∷ [];
+      record { a = node_no 0; b = node_no 1; cost = 10; delay = 2; loss = 2; life = 2000 }
+      ∷ record { a = node_no 1; b = node_no 2; cost = 10; delay = 2; loss = 0; life = 2000 } ∷ [];
 }
 
 abbrev pub one_is_lost : Past

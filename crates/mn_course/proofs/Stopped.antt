@@ -125,6 +125,7 @@ module _ (t : Network) (lawful : IsLawful t) (capture : List (List ℕ)) where
       absurd (never_for_memory t (world_of t past.entries) (packets_of t past.entries (inputs_of capture past.entries)) (length past.entries) s bytes r)
   tried_ends past s bytes (Some why.Unchanged) h r = other past why.Unchanged (λ e. cc) (λ e. cc)
   tried_ends past s bytes (Some why.Empty) h r = other past why.Empty (λ e. cc) (λ e. cc)
+  tried_ends past s bytes (Some why.StillReads) h r = other past why.StillReads (λ e. cc) (λ e. cc)
   tried_ends past s bytes (Some (why.PrefixTaken site)) h r = other past (why.PrefixTaken site) (λ e. cc) (λ e. cc)
   tried_ends past s bytes (Some why.NoRouteThere) h r = other past why.NoRouteThere (λ e. cc) (λ e. cc)
   tried_ends past s bytes (Some why.RoutesFull) h r = other past why.RoutesFull (λ e. cc) (λ e. cc)

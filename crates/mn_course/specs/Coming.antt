@@ -1,7 +1,7 @@
 -- What comes next: of the items in flight the one of least due tick and, among these, of least number; and the step that delivers it.
 use Rattle.std.specs.Prelude.{ℕ, zero, suc, ◌+◌, ◌^◌, ◌==◌, ◌%◌, ◌&&◌, ◌||◌, Bool, true, false, nat_lt, nat_le, if◌then◌else◌, List, [], ◌∷◌, filter}
 use Rattle.std.specs.Prelude.{length, Option, Some, None}
-use Rattle.mn_base.specs.Wiring.{link}
+use Rattle.mn_wiring.specs.Wiring.{link}
 use Rattle.mn_topo.specs.Network.{Network, wiring_of}
 use Rattle.mn_topo.specs.declared.steps.Step.{Step}
 use Rattle.mn_topo.specs.declared.steps.Step.TheVariants.{Carry, Lose}

@@ -5,6 +5,7 @@ use Rattle.mn_topo.specs.Network.{Network}
 use Rattle.mn_topo.specs.declared.steps.Step.{Step}
 use Rattle.mn_topo.specs.declared.steps.Step.TheVariants.{Inject}
 use Rattle.mn_topo.specs.declared.steps.JournalEntry.{JournalEntry}
+use Rattle.mn_topo.specs.declared.steps.Damaged.TheVariants.{Undamaged}
 use Rattle.mn_script.specs.declared.command.Command.{Command}
 use Rattle.mn_script.specs.declared.command.Command.TheVariants.{Do, Run, Drain, Flush, Show}
 use Rattle.mn_ledger.specs.declared.refused.Refused.{Refused}
@@ -34,7 +35,7 @@ ends how past = record { past = past; ending = how }
 
 -- one step more, at the present tick
 abbrev pub with_step : Past → Step → Past
-with_step past step = record { clock = past.clock; entries = past.entries ++ record { tick = past.clock; step = step } ∷ [] }
+with_step past step = record { clock = past.clock; entries = past.entries ++ record { tick = past.clock; step = step; damaged = Undamaged } ∷ [] }
 
 -- the clock goes on to a tick, and never back
 abbrev pub on_to : ℕ → Past → Past

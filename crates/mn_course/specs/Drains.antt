@@ -2,6 +2,7 @@
 use Rattle.std.specs.Prelude.{◌≡◌, ◌≤◌, ◌+◌, List, ◌++◌, map, length}
 use Rattle.mn_base.specs.Limits.{most_steps}
 use Rattle.mn_topo.specs.Network.{Network}
+use Rattle.mn_topo.specs.declared.steps.Damaged.TheVariants.{Undamaged}
 use Rattle.mn_topo.specs.declared.steps.Step.{Step}
 use Rattle.mn_ledger.specs.Ledger.{world_of}
 use Rattle.mn_ledger.specs.Settled.{IsSettled}
@@ -13,7 +14,7 @@ use Rattle.mn_course.specs.Course.{Past, Course}
 pub record DrainsOn (topology : Network) (past : Past) (course : Course) : Type 0 where
   pub steps : List Step
   pub drain : IsDrain topology (world_of topology past.entries) steps
-  pub made : course.past.entries ≡ past.entries ++ map (λ step. record { tick = past.clock; step = step }) steps
+  pub made : course.past.entries ≡ past.entries ++ map (λ step. record { tick = past.clock; step = step; damaged = Undamaged }) steps
   pub clock : course.past.clock ≡ past.clock
   pub few : length steps ≤ drain_bound topology (world_of topology past.entries)
 

@@ -1,8 +1,8 @@
 -- What lies ahead is bounded by what is in flight, and by what all ends may have to say before they are OPERATIONAL.
 use Rattle.std.proofs.Common.{ℕ, zero, suc, ◌≡◌, ◌+◌, ◌*◌, ◌≤◌, Bool, true, false, List, [], ◌∷◌, length, drop, arith, subst}
 use Rattle.std.specs.Prelude.{◌&&◌}
-use Rattle.mn_base.specs.Wiring.{View, is_end, across}
-use Rattle.mn_base.specs.Paths.{next}
+use Rattle.mn_wiring.specs.Wiring.{View, is_end, across}
+use Rattle.mn_wiring.specs.Paths.{next}
 use Rattle.mn_topo.specs.Network.{Network, wiring_of}
 use Rattle.mn_topo.specs.Lawful.{IsLawful}
 use Rattle.mn_ledger.specs.World.{Config, Sessions, Message, Initialization, KeepAlive, Address, Mapping, Withdraw, Release}

@@ -6,7 +6,7 @@ use Rattle.std.specs.List.{flat_map, range_with_len}
 use Rattle.std.proofs.lemmas.Bool.Decides.{eqb_tells}
 use Rattle.std.proofs.lemmas.List.{length-drop}
 use Rattle.std.proofs.lemmas.List.Sums.{sum_by-append}
-use Rattle.mn_base.specs.Wiring.{links_of, nodes_of, link, across}
+use Rattle.mn_wiring.specs.Wiring.{links_of, nodes_of, link, across}
 use Rattle.mn_topo.specs.VrfTable.{is_edge}
 use Rattle.mn_topo.specs.Network.{Network, wiring_of}
 use Rattle.mn_topo.specs.Lawful.{IsLawful}

@@ -7,10 +7,10 @@ use Rattle.std.proofs.lemmas.Bool.Decides.{eqb_tells, leb_tells}
 use Rattle.std.proofs.lemmas.List.{drop-append-le}
 use Rattle.std.proofs.Math.Seq.{take-suc, drop-cons}
 use Rattle.mn_base.proofs.Bools.{two_ways, and_off_left, and_off_right, clash}
-use Rattle.mn_base.specs.Wiring.{Wiring, View, nodes_of, is_end, across}
-use Rattle.mn_base.specs.Paths.{IsNext, next}
-use Rattle.mn_base.proofs.Next.{next_is}
-use Rattle.mn_base.specs.declared.states.LdpState.TheVariants.{Operational}
+use Rattle.mn_wiring.specs.Wiring.{Wiring, View, nodes_of, is_end, across}
+use Rattle.mn_wiring.specs.Paths.{IsNext, next}
+use Rattle.mn_wiring.proofs.Next.{next_is}
+use Rattle.mn_states.specs.declared.states.LdpState.TheVariants.{Operational}
 use Rattle.mn_topo.specs.Network.{Network, wiring_of}
 use Rattle.mn_topo.specs.Lawful.{IsLawful}
 use Rattle.mn_ledger.specs.Tables.{put_pair}

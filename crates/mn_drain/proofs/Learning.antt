@@ -4,7 +4,7 @@ use Rattle.std.proofs.Common.{ap, subst}
 use Rattle.std.specs.Prelude.{◌==◌, ◌&&◌, ◌%◌}
 use Rattle.std.specs.List.{flat_map}
 use Rattle.std.proofs.lemmas.List.{drop-append-le, length-append}
-use Rattle.mn_base.specs.Wiring.{View, nodes_of, links_of, is_end, across}
+use Rattle.mn_wiring.specs.Wiring.{View, nodes_of, links_of, is_end, across}
 use Rattle.mn_topo.specs.Network.{Network, wiring_of}
 use Rattle.mn_topo.specs.Lawful.{IsLawful}
 use Rattle.mn_ledger.specs.Turns.{EndsAreInTurn}

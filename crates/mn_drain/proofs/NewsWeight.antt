@@ -4,7 +4,7 @@ use Rattle.std.proofs.Common.{sym, ◌∙◌, ap, subst}
 use Rattle.std.specs.Prelude.{◌&&◌, not, if◌then◌else◌}
 use Rattle.std.specs.List.{flat_map, range_with_len}
 use Rattle.std.proofs.lemmas.Bool.Decides.{eqb_tells}
-use Rattle.mn_base.specs.Wiring.{Wiring}
+use Rattle.mn_wiring.specs.Wiring.{Wiring}
 use Rattle.mn_ledger.specs.World.{Message, Mapping, Withdraw}
 use Rattle.mn_ledger.specs.Transport.{Said, Knowledge, is_operational, messages_of, said_on, mention, mentioned_on, mentioned_from, offers, by_neighbour, news}
 use Rattle.mn_ledger.proofs.Members.{In}

@@ -6,7 +6,7 @@ use Rattle.std.specs.List.{flat_map, list_any}
 use Rattle.std.proofs.lemmas.Bool.Decides.{eqb_tells}
 use Rattle.std.proofs.lemmas.List.{drop-append-le, length-append, length-map, length-drop}
 use Rattle.mn_base.proofs.Bools.{no, and_left, and_right}
-use Rattle.mn_base.specs.declared.states.BgpState.TheVariants.{OpenSent, OpenConfirm, Established}
+use Rattle.mn_states.specs.declared.states.BgpState.TheVariants.{OpenSent, OpenConfirm, Established}
 use Rattle.mn_topo.specs.Network.{Network}
 use Rattle.mn_ledger.specs.Turns.{PeersAreInTurn}
 use Rattle.mn_ledger.specs.Tables.{put_pair}

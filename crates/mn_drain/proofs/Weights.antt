@@ -6,8 +6,8 @@ use Rattle.std.specs.List.{IsDistinct, list_any}
 use Rattle.std.proofs.lemmas.Bool.Decides.{eqb_tells}
 use Rattle.std.proofs.lemmas.Map.Steps.{length-le_from_distinct_below}
 use Rattle.mn_base.proofs.Bools.{two_ways, clash}
-use Rattle.mn_base.specs.Wiring.{View, link, is_end, across}
-use Rattle.mn_base.specs.Paths.{IsLeast, next}
+use Rattle.mn_wiring.specs.Wiring.{View, link, is_end, across}
+use Rattle.mn_wiring.specs.Paths.{IsLeast, next}
 use Rattle.mn_base.proofs.Rules.{none_is, some_is}
 use Rattle.mn_topo.specs.Network.{Network, wiring_of}
 use Rattle.mn_topo.specs.Lawful.{IsLawful}

@@ -1,6 +1,6 @@
 -- A drain of the network of two links: 36 steps, whose bound is 1678.
 use Rattle.std.proofs.Common.{rules, ◌≡◌, [], refl}
-use Rattle.mn_base.specs.Paths.{next}
+use Rattle.mn_wiring.specs.Paths.{next}
 use Rattle.mn_ipv4.specs.Header.{is_not_ipv4, is_malformed, is_truncated, has_bad_checksum, good, checksum_for, with_ttl, aged}
 use Rattle.mn_ledger.specs.Transport.{knowledge_of, news, sessions_after}
 use Rattle.mn_ledger.specs.Bgp.{peerings_after}

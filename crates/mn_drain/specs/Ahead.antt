@@ -1,7 +1,7 @@
 -- What lies ahead of the hearings of LDP messages, once all nodes have learned of all changes: a number that each hearing
 -- lowers.
 use Rattle.std.specs.Prelude.{ℕ, zero, suc, ◌+◌, ◌&&◌, List, [], ◌∷◌, drop, length}
-use Rattle.mn_base.specs.Wiring.{Wiring, View, is_end, across}
+use Rattle.mn_wiring.specs.Wiring.{Wiring, View, is_end, across}
 use Rattle.mn_ledger.specs.World.{Config, Sessions, Message, Mapping, Withdraw}
 use Rattle.mn_ledger.specs.Transport.{lives}
 use Rattle.mn_drain.specs.Sums.{total, where_so}

@@ -2,7 +2,7 @@
 -- takes at most, in whatever order the notices are learned and the messages heard.
 use Rattle.std.specs.Prelude.{◌≡◌, ◌≢◌, ◌<◌, sum, map, ℕ, zero, suc, ◌+◌, ◌-◌, ◌*◌, ◌==◌, ◌&&◌, Bool, true, false, not, List, [], ◌∷◌, drop, length, Option}
 use Rattle.std.specs.Prelude.{Some, None, ⊤}
-use Rattle.mn_base.specs.Wiring.{links_of, is_end, across, sender}
+use Rattle.mn_wiring.specs.Wiring.{links_of, is_end, across, sender}
 use Rattle.mn_topo.specs.VrfTable.{is_edge}
 use Rattle.mn_topo.specs.Network.{Network, wiring_of}
 use Rattle.mn_topo.specs.Steps.{fits}

@@ -1,7 +1,7 @@
 -- How many hearings may follow where a node begins or ceases to offer a FEC, while the next hops stay as they are.
 use Rattle.std.specs.Prelude.{ℕ, zero, suc, ◌+◌, ◌*◌, ◌==◌, Bool, false, length, Option, Some, None}
-use Rattle.mn_base.specs.Wiring.{Wiring, View, is_end}
-use Rattle.mn_base.specs.Paths.{next}
+use Rattle.mn_wiring.specs.Wiring.{Wiring, View, is_end}
+use Rattle.mn_wiring.specs.Paths.{next}
 use Rattle.mn_drain.specs.Sums.{total, where_so}
 
 -- how many links there are at a node

@@ -1,12 +1,14 @@
-//! Which failures count.
+//! Which failures count, and what is kept of the last one.
 ghost use Rattle.std.specs.Prelude.{Err};
 ghost use Rattle.mn_edge.specs.Faults.{Counted};
 
 use mn_edge::DeviceBad;
+use std::alloc::Global;
+use std::fmt;
 use std::io::{Error, ErrorKind};
 
 /// The answer to a failure, which counts unless it is want of memory.
-pub(crate) fn counted(faults: &mut u64, error: Error) -> DeviceBad
+pub(crate) fn counted(faults: &mut u64, error: &Error) -> DeviceBad
     ensures { Counted {T = Unit {0}} faults.old faults.new (Err result) }
 {
     if error.kind() == ErrorKind::OutOfMemory {
@@ -14,4 +16,44 @@ pub(crate) fn counted(faults: &mut u64, error: Error) -> DeviceBad
     }
     *faults = faults.saturating_add(1);
     DeviceBad::Failed
+}
+
+/// What couldn't be done to a file.
+#[derive(Clone, Copy, Debug, PartialEq, Eq)]
+pub enum Call {
+    Read,
+    Begin,
+    Append,
+}
+
+/// The call that failed last, the file that it was on, and why. `{}` writes `NAME: can't be read: REASON`.
+#[derive(Drop)]
+pub struct Failure {
+    call: Call,
+    /// Empty where there was no memory for it.
+    name: String,
+    error: Error,
+}
+
+impl Failure {
+    pub(crate) fn new(alloc: Global, call: Call, name: &str, error: Error) -> Failure {
+        let name = match String::from_str(alloc, name) {
+            Ok(name) => name,
+            Err(_) => String::new(alloc),
+        };
+        Failure { call, name, error }
+    }
+}
+
+impl fmt::Display for Failure {
+    fn fmt<W: fmt::Write>(&self, f: &mut fmt::Formatter<W>) -> fmt::Result {
+        let name = self.name.as_str();
+        let done = match self.call {
+            Call::Read => "read",
+            Call::Begin => "made",
+            Call::Append => "written",
+        };
+        let error = &self.error;
+        write!(f, "{name}: can't be {done}: {error}")
+    }
 }

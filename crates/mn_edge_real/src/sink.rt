@@ -4,7 +4,7 @@ ghost use Rattle.mn_edge.specs.Faults.{Counted};
 
 use crate::fault::counted;
 use mn_edge::{DeviceBad, Sink};
-use std::io::Write;
+use std::io::{Error, Write};
 use std::marker::Model;
 
 /// A stream of bytes, as standard output. It tells nothing of them. Contracts see it as its count of faults.
@@ -12,6 +12,7 @@ use std::marker::Model;
 pub struct HostSink<W> {
     inner: W,
     faults: u64,
+    failure: Option<Error>,
 }
 
 impl<W> Model for HostSink<W> {
@@ -26,7 +27,16 @@ impl<W: Write> HostSink<W> {
     pub fn new(inner: W) -> HostSink<W>
         ensures { result ≡ 0 }
     {
-        HostSink { inner, faults: 0 }
+        HostSink {
+            inner,
+            faults: 0,
+            failure: None,
+        }
+    }
+
+    /// Why a put or a flush failed last.
+    pub fn failure(&self) -> Option<&Error> {
+        self.failure.as_ref()
     }
 
     /// Hands on what the stream itself holds back. A failure counts as one of a put.
@@ -35,7 +45,11 @@ impl<W: Write> HostSink<W> {
     {
         match self.inner.flush() {
             Ok(()) => Ok(()),
-            Err(error) => Err(counted(&mut self.faults, error)),
+            Err(error) => {
+                let bad = counted(&mut self.faults, &error);
+                self.failure = Some(error);
+                Err(bad)
+            }
         }
     }
 }
@@ -48,7 +62,11 @@ impl<W: Write> Sink for HostSink<W> {
     fn put(&mut self, piece: &[u8]) -> Result<(), DeviceBad> {
         match self.inner.write_all(piece) {
             Ok(()) => Ok(()),
-            Err(error) => Err(counted(&mut self.faults, error)),
+            Err(error) => {
+                let bad = counted(&mut self.faults, &error);
+                self.failure = Some(error);
+                Err(bad)
+            }
         }
     }
 }

@@ -1,10 +1,12 @@
 // The files of small networks, with ample memory.
-use mn_base::{Dir, LinkNo, NodeNo};
+use mn_base::{LinkNo, NodeNo};
 use mn_files::{
     EdgePlaces, deliveries_file, file_names, frames_file, journal_file, labels_file, names_differ,
     one_number, said_file, told_file,
 };
-use mn_topo::{TopoBad, Topology, read_topology};
+use mn_topo::Topology;
+use mn_topo_toml::{TopoBad, read_topology};
+use mn_wiring::Dir;
 use std::alloc::Global;
 use std::test::Fail;
 

@@ -1,4 +1,4 @@
-//! Tests of what is written: files, lines, tables and the report, over the public calls of their crates.
+//! Tests of what is written: names of files, lines and tables, over the public calls of their crates.
 //!
 //! Expected values were worked by hand from docs/FORMATS.md.
 #![tactic(auto)]
@@ -7,9 +7,5 @@
 mod files;
 #[cfg(test)]
 mod lines;
-#[cfg(test)]
-mod record;
-#[cfg(test)]
-mod report;
 #[cfg(test)]
 mod tables;

@@ -1,9 +1,12 @@
 // Lines with ample memory, and pages that fill.
-use mn_base::{Dir, LinkNo, NodeNo, Rule, SiteNo};
+use mn_base::{LinkNo, NodeNo, SiteNo};
+use mn_drops::Rule;
 use mn_edge::{DeviceBad, MemSink};
 use mn_ledger::{Refused, Verdict};
 use mn_lines::{Page, Sent, Totals, write_packet, write_refusal, write_refused, write_total};
-use mn_topo::{Topology, read_topology};
+use mn_topo::Topology;
+use mn_topo_toml::read_topology;
+use mn_wiring::Dir;
 use std::alloc::{AllocError, Global};
 use std::test::Fail;
 

@@ -1,14 +1,17 @@
 //! One line of each table, as it is to be read.
 ghost use Rattle.std.specs.Prelude.{◌≡◌, length};
 
-use mn_base::{BgpState, Dir, LdpState, LinkNo, NodeNo, SiteNo, VrfNo};
+use mn_base::{LinkNo, NodeNo, SiteNo, VrfNo};
 use mn_edge::MemSink;
 use mn_lines::Page;
+use mn_states::{BgpState, LdpState};
 use mn_tables::{
     put_bgp, put_counts, put_far_route, put_frames, put_ldp, put_link, put_near_route,
     put_own_route, put_walk,
 };
-use mn_topo::{Topology, read_topology};
+use mn_topo::Topology;
+use mn_topo_toml::read_topology;
+use mn_wiring::Dir;
 use std::alloc::Global;
 use std::test::Fail;
 

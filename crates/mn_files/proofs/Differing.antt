@@ -4,8 +4,8 @@ use Rattle.std.specs.Prelude.{◌==◌, not, slice_get, slice_index_or, codes}
 use Rattle.std.specs.List.{flat_map, range_with_len}
 use Rattle.std.proofs.lemmas.List.{append_cancel_left}
 use Rattle.mn_base.proofs.Members.{In, in_append, in_map, in_filter, in_flat_map, in_range}
-use Rattle.mn_base.specs.Wiring.{links_of}
-use Rattle.mn_base.specs.declared.links.Dir.TheVariants.{Forth, Back}
+use Rattle.mn_wiring.specs.Wiring.{links_of}
+use Rattle.mn_wiring.specs.declared.links.Dir.TheVariants.{Forth, Back}
 use Rattle.mn_edge.specs.Memory.{all_differ}
 use Rattle.mn_edge.specs.KeptLaws.{all_differ-from}
 use Rattle.mn_topo.specs.Network.{Network, wiring_of}

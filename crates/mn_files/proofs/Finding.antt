@@ -4,9 +4,9 @@ use Rattle.std.proofs.Common.{length, slice_index_or, refl, sym, ◌∙◌, ap, 
 use Rattle.std.specs.List.{flat_map, range_with_len}
 use Rattle.mn_base.proofs.Bools.{same_test, other_numbers}
 use Rattle.mn_base.proofs.Members.{In, in_append, in_map, in_filter, in_flat_map, in_range}
-use Rattle.mn_base.specs.Wiring.{links_of}
-use Rattle.mn_base.specs.declared.links.Dir.{Dir}
-use Rattle.mn_base.specs.declared.links.Dir.TheVariants.{Forth, Back}
+use Rattle.mn_wiring.specs.Wiring.{links_of}
+use Rattle.mn_wiring.specs.declared.links.Dir.{Dir}
+use Rattle.mn_wiring.specs.declared.links.Dir.TheVariants.{Forth, Back}
 use Rattle.mn_topo.specs.Network.{Network, wiring_of}
 use Rattle.mn_topo.specs.VrfTable.{is_edge}
 use Rattle.mn_ledger.specs.Places.{edges}

@@ -10,9 +10,9 @@ use Rattle.std.proofs.lemmas.Option.{slice_get-get_or, get_or_from_slice_get}
 use Rattle.mn_base.proofs.Bools.{no, and_parts, or_ways, same_numbers, other_test}
 use Rattle.mn_base.proofs.Members.{In, in_front, in_rest, map_in, filter_in, flat_map_in, range_in}
 use Rattle.mn_base.specs.Numbers.{has_rd_form}
-use Rattle.mn_base.specs.Wiring.{links_of}
-use Rattle.mn_base.specs.declared.links.Dir.{Dir}
-use Rattle.mn_base.specs.declared.links.Dir.TheVariants.{Forth, Back}
+use Rattle.mn_wiring.specs.Wiring.{links_of}
+use Rattle.mn_wiring.specs.declared.links.Dir.{Dir}
+use Rattle.mn_wiring.specs.declared.links.Dir.TheVariants.{Forth, Back}
 use Rattle.mn_topo.specs.declared.vrfs.VrfDef.{VrfDef}
 use Rattle.mn_topo.specs.declared.nodes.Node.{Node}
 use Rattle.mn_topo.specs.Network.{Network, wiring_of, nodes_with}

@@ -4,9 +4,9 @@ use Rattle.std.specs.Prelude.{◌==◌, ◌&&◌, nat_le, codes, slice_index_or,
 use Rattle.std.specs.List.{list_all}
 use Rattle.std.proofs.lemmas.List.{reverse-append, length-append}
 use Rattle.mn_base.proofs.Bools.{no, two_ways, and_parts, and_right, same_numbers}
-use Rattle.mn_base.specs.Wiring.{sender, receiver}
-use Rattle.mn_base.specs.declared.links.Dir.{Dir}
-use Rattle.mn_base.specs.declared.links.Dir.TheVariants.{Forth, Back}
+use Rattle.mn_wiring.specs.Wiring.{sender, receiver}
+use Rattle.mn_wiring.specs.declared.links.Dir.{Dir}
+use Rattle.mn_wiring.specs.declared.links.Dir.TheVariants.{Forth, Back}
 use Rattle.mn_base.specs.declared.numbers.LinkNo.{LinkNo}
 use Rattle.mn_topo.specs.Tables.{is_name, is_name_byte}
 use Rattle.mn_topo.specs.Names.{number_of}

@@ -12,7 +12,7 @@ use Rattle.std.proofs.lemmas.List.FromFn.{map-range_with_len_more}
 use Rattle.std.proofs.lemmas.Option.{get_or_from_slice_get}
 use Rattle.std.proofs.lemmas.Str.{IsUtf8-from_ascii}
 use Rattle.mn_base.proofs.Bools.{and_left, and_right}
-use Rattle.mn_base.specs.declared.links.Dir.TheVariants.{Forth, Back}
+use Rattle.mn_wiring.specs.declared.links.Dir.TheVariants.{Forth, Back}
 use Rattle.mn_edge.specs.Written.{texts}
 use Rattle.mn_topo.specs.Tables.{is_name, is_name_byte}
 use Rattle.mn_topo.specs.VrfTable.{is_edge}

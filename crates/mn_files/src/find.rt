@@ -6,8 +6,9 @@ ghost use Rattle.mn_files.specs.Numbers.{IsPlace, edge_places};
 
 use crate::edges::EdgePlaces;
 use crate::numbers::{FIRST, frames_file, place_without, said_file};
-use mn_base::{Dir, LinkNo, NodeNo};
+use mn_base::{LinkNo, NodeNo};
 use mn_topo::Topology;
+use mn_wiring::Dir;
 
 /// The frames that a link was given, in either direction.
 pub fn find_frames(topology: &Topology, link: LinkNo) -> Option<u32>

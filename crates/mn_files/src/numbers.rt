@@ -6,8 +6,9 @@ ghost use Rattle.mn_output.specs.Files.{Journal, Labels, Deliveries, Frames, Sai
 ghost use Rattle.mn_files.specs.Numbers.{IsNumber, edge_places, edges_before};
 
 use crate::edges::EdgePlaces;
-use mn_base::{Dir, LinkNo, NodeNo};
+use mn_base::{LinkNo, NodeNo};
 use mn_topo::Topology;
+use mn_wiring::Dir;
 
 /// The first of the files of links.
 pub(crate) const FIRST: u32 = 3;

@@ -14,15 +14,18 @@
 //!
 //! - this file: `Item` and `Back`
 //! - `calls`: `Flight`, the calls that each flight has
+//! - `clock`: `Clock`, when a step is done and which numbers its items get
 //! - `list`: `ListFlight`, the plainest one, its items in a `Vec`
 //! - `laws`: what follows from the definitions of `specs/`
 #![tactic(auto)]
 
 mod calls;
+mod clock;
 mod laws;
 mod list;
 
 pub use calls::Flight;
+pub use clock::{Clock, next_number};
 pub use laws::{calls_keep_a_flight, earliest_goes_first, four_items_fly, taking_leaves_one_less};
 pub use list::ListFlight;
 

@@ -10,7 +10,7 @@ use Rattle.mn_flight_pool.specs.Cells.{same_ptr, value_at}
 use Rattle.mn_flight_pool.specs.Rings.{IsFree, IsIn, IsRing, IsVacantFirst, item_in, item_at, next_in, prev_in, next_of, link_of, with_link, set_next, lone}
 use Rattle.mn_flight_pool.specs.ByDue.{IsByDue, IsTick}
 use Rattle.mn_flight_pool.specs.Pool.{items_in, nodes_on, order_of, trace, IsHeld, IsLinked}
-use Rattle.mn_flight_pool.specs.Whole.{ptrs, dues_of, order_in, items_of, IsWhole, IsCounted}
+use Rattle.mn_flight_pool.specs.Whole.{AreLast, ptrs, dues_of, order_in, items_of, IsWhole, IsCounted}
 use Rattle.mn_flight_pool.specs.declared.pool.Pool.{Pool}
 use Rattle.mn_flight_pool.specs.declared.arena.Place.{Place}
 use Rattle.mn_flight_pool.specs.declared.tick.Tick.{Tick}
@@ -130,6 +130,9 @@ module _ {T : Type 0} where
     grown_items =
         held.items_added node.ptr pool.store new added fresh pool.head.ptr (ptrs pool.heads.items) (ptrs pool.free.items) pool.count whole.held heads_there
 
+    pub grown_recent : AreLast (order_of pool.head.ptr pool.count new) (ptrs pool.recent.items)
+    grown_recent = record { front = whole.recent.front; cut = same_order ∙ whole.recent.cut }
+
     pub grown_counted : IsCounted pool.counts.items (length pool.heads.items) (order_of pool.head.ptr pool.count new) new
     grown_counted =
         subst (λ o. IsCounted pool.counts.items (length pool.heads.items) o new) (sym same_order)
@@ -243,6 +246,12 @@ module _ {T : Type 0} where
           zeros [] (suc c) f = refl
           zeros (k ∷ ns) zero f = f 0 (omega arith)
           zeros (k ∷ ns) (suc c) f = zeros ns c (λ j b. f (suc j) (omega (arith, b)))
+
+      pub channel_recent : AreLast (order_of head pool.count two) (ptrs pool.recent.items)
+      channel_recent = record {
+        front = whole.recent.front;
+        cut = ap (λ n. order_of head n two) none ∙ sym (ap (λ n. order_of head n pool.store) none) ∙ whole.recent.cut;
+      }
 
       pub channel_by_due : IsByDue head (order_of head pool.count two) (dues_of head pool.count two) pool.ticks.items two
       channel_by_due =

@@ -26,6 +26,17 @@ module _ {T : Type 0} (pool : Pool T) (whole : IsWhole pool) (number : ℕ) wher
   pub none_passed : IsPassed pool number 0 pool.head.ptr
   none_passed = record { front = order_in pool; passed = []; cut = sym (append-nil (order_in pool)); count = refl; node = refl; greater = λ q y i e. absurd i }
 
+  -- a node of the order whose item has the number
+  pub found_at : (node : Ptr) → IsIn node (order_in pool) → (x : Item T) → Some x ≡ item_at pool.store node → x.number ≡ number →
+      IsIn node (order_in pool) × (item_at pool.store node ≡ find (λ (item : Item T). item.number == number) (items_of pool))
+  found_at node on x holds h =
+      let member = item_member pool.store (order_in pool) node x on (sym holds) in (
+        on,
+        sym holds ∙ sym (members.find_only (λ (item : Item T). item.number == number) x (items_of pool) member (grind (arith, nat_tests, h)) (λ y i t.
+            let same : y.number ≡ x.number = grind (arith, nat_tests, t, h) in
+            one_item (items_of pool) (flight pool whole).ascending y x i member same)),
+      )
+
   -- one more node back
   pub record Next (k : ℕ) (node : Ptr) : Type 0 where
     pub front : List Ptr
@@ -105,17 +116,9 @@ module _ {T : Type 0} (pool : Pool T) (whole : IsWhole pool) (number : ℕ) wher
             ];
           }
 
-      member : members.IsIn x (items_of pool)
-      member = item_member pool.store (order_in pool) node x in_order (sym holds)
-
       -- it is the one
       pub found : x.number ≡ number → IsIn node (order_in pool) × (item_at pool.store node ≡ find (λ (item : Item T). item.number == number) (items_of pool))
-      found h = (
-        in_order,
-        sym holds ∙ sym (members.find_only (λ (item : Item T). item.number == number) x (items_of pool) member (grind (arith, nat_tests, h)) (λ y i t.
-            let same : y.number ≡ x.number = grind (arith, nat_tests, t, h) in
-            one_item (items_of pool) (flight pool whole).ascending y x i member same)),
-      )
+      found h = found_at node in_order x holds h
 
       -- it is less, so none has the number
       pub missing : x.number < number → find (λ (item : Item T). item.number == number) (items_of pool) ≡ None

@@ -1,6 +1,6 @@
 -- A whole pool takes an item.
 use Rattle.std.proofs.Common.{◌≡◌, ◌<◌, ◌≤◌, ◌+◌, ℕ, zero, suc, List, [], ◌∷◌, ◌++◌, length, Option, Some, None, IsSome, inl, inr, refl, sym, ap, ◌∙◌}
-use Rattle.std.proofs.Common.{subst, arith, length-append, get_or}
+use Rattle.std.proofs.Common.{subst, arith, append_assoc, length-append, get_or}
 use Rattle.std.specs.Prelude.{slice_get, slice_index_or, slice_set}
 use Rattle.std.specs.List.{All, AllByRecursion}
 use Rattle.std.proofs.lemmas.List.{map-append}
@@ -12,7 +12,7 @@ use Rattle.mn_flight_pool.specs.Rings.{IsIn, IsRing, item_at, next_of, link_behi
 use Rattle.mn_flight_pool.specs.Ticks.{last_by, put_tick}
 use Rattle.mn_flight_pool.specs.ByDue.{IsByDue, IsTick}
 use Rattle.mn_flight_pool.specs.Pool.{is_on, items_in, nodes_on, order_of, trace, entered, IsHeld}
-use Rattle.mn_flight_pool.specs.Whole.{ptrs, dues_of, order_in, items_of, IsWhole, IsCounted}
+use Rattle.mn_flight_pool.specs.Whole.{AreLast, ptrs, dues_of, order_in, items_of, IsWhole, IsCounted}
 use Rattle.mn_flight_pool.specs.declared.pool.Pool.{Pool}
 use Rattle.mn_flight_pool.specs.declared.arena.Place.{Place}
 use Rattle.mn_flight_pool.specs.declared.tick.Tick.{Tick}
@@ -172,6 +172,14 @@ module _ {T : Type 0} (pool : Pool T) (whole : IsWhole pool) where
                 subst (λ c. items_in c (order_of pool.head.ptr (pool.count + 1) c) ≡ items_of pool ++ x ∷ []) (sym is)
                 (items_kept three four (alike_link node.ptr last three) pool.head.ptr (ptrs pool.heads.items) (ptrs front) (pool.count + 1) held_three
                 ∙ items_pushed pool.head.ptr (ptrs pool.heads.items) (ptrs front) pool.count node.ptr pool.store held_cut x first.ptr at)
+
+            pub put_recent : (late : List Place) → late ≡ pool.recent.items ++ node ∷ [] → AreLast (order_of pool.head.ptr (pool.count + 1) two) (ptrs late)
+            put_recent late e = record {
+              front = whole.recent.front;
+              cut = ap (λ c. order_of pool.head.ptr (pool.count + 1) c) is ∙ order_four ∙ ap (λ o. o ++ node.ptr ∷ []) whole.recent.cut
+                  ∙ append_assoc whole.recent.front (ptrs pool.recent.items) (node.ptr ∷ [])
+                  ∙ ap (λ l. whole.recent.front ++ l) (sym (ap (λ l. ptrs l) e ∙ ptrs_push pool.recent.items node));
+            }
 
             pub put_counted : (counts : List ℕ) → counts ≡ slice_set pool.counts.items x.channel (get_or pool.counts.items x.channel 0 + 1) →
                 IsCounted counts (length pool.heads.items) (order_of pool.head.ptr (pool.count + 1) two) two

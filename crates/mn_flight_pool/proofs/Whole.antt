@@ -1,8 +1,9 @@
 -- What a whole pool says of its nodes and items.
 use Rattle.std.proofs.Common.{◌≡◌, ◌<◌, ◌≤◌, ◌+◌, ◌-◌, ℕ, zero, suc, List, [], ◌∷◌, ◌++◌, length, Option, Some, None, IsSome, inl, inr, refl, sym, ap, ◌∙◌}
-use Rattle.std.proofs.Common.{subst, arith, length-append, get_or}
+use Rattle.std.proofs.Common.{subst, arith, length-append, append-nil, get_or}
 use Rattle.std.specs.Prelude.{slice_get, slice_index_or}
 use Rattle.std.specs.List.{AllByRecursion}
+use Rattle.std.proofs.lemmas.Option.{same_Some}
 use denote.RawPtr.{Ptr}
 use Rattle.mn_flight.specs.declared.Item.{Item}
 use Rattle.mn_flight.specs.Flying.{IsFlight, on_channel}
@@ -10,7 +11,7 @@ use Rattle.mn_flight.specs.Earliest.{earliest}
 use Rattle.mn_flight_pool.specs.Cells.{value_at}
 use Rattle.mn_flight_pool.specs.Rings.{IsIn, IsRing, item_at, next_of, prev_of}
 use Rattle.mn_flight_pool.specs.Pool.{nodes_on, steps_of}
-use Rattle.mn_flight_pool.specs.Whole.{ptrs, dues_of, order_in, items_of, IsWhole}
+use Rattle.mn_flight_pool.specs.Whole.{AreLast, ptrs, dues_of, order_in, items_of, IsWhole}
 use Rattle.mn_flight_pool.specs.declared.pool.Pool.{Pool}
 use Rattle.mn_flight_pool.specs.declared.arena.Place.{Place}
 use Rattle.mn_flight_pool.specs.declared.node.Pair.TheVariants.{Number, Channel, Due}
@@ -31,6 +32,10 @@ pub head_at : (ps : List Place) (c : ℕ) (f : Place) → c < length ps → f �
 head_at [] c f h e = absurd (omega (arith, h))
 head_at (p ∷ ps) zero f h e = ap (λ (q : Place). Some q.ptr) (sym e)
 head_at (p ∷ ps) (suc c) f h e = head_at ps c f (omega (arith, h)) e
+
+-- no node is the last of any order
+pub none_last : (order : List Ptr) (late : List Place) → late ≡ [] → AreLast order (ptrs late)
+none_last order late e = record { front = order; cut = sym (ap (λ l. order ++ ptrs l) e ∙ append-nil order) }
 
 module _ {T : Type 0} (pool : Pool T) (whole : IsWhole pool) where
   pub order_length : length (order_in pool) ≡ pool.count
@@ -150,3 +155,35 @@ module _ {T : Type 0} (pool : Pool T) (whole : IsWhole pool) where
             none : (o : Option (Item T)) → o ≡ None → IsSome o → ⊥
             none None k s = cc
             none (Some y) k s = cc
+
+  -- 3. The nodes put last
+  last_of_order : (k : ℕ) (p : Ptr) → slice_get (ptrs pool.recent.items) k ≡ Some p → IsIn p (order_in pool)
+  last_of_order k p e =
+      subst (λ l. IsIn p l) (sym whole.recent.cut)
+      (in_behind whole.recent.front (ptrs pool.recent.items) (in_at (ptrs pool.recent.items) k p e))
+    where
+      in_behind : (us vs : List Ptr) → IsIn p vs → IsIn p (us ++ vs)
+      in_behind [] vs i = i
+      in_behind (u ∷ us) vs i = inr (in_behind us vs i)
+
+  pub recent_at : (k : ℕ) (p : Place) → k < length pool.recent.items → p ≡ slice_index_or pool.recent.items k p → IsIn p.ptr (order_in pool)
+  recent_at k p h e = last_of_order k p.ptr (head_at pool.recent.items k p h e)
+
+  pub recent_get : (k : ℕ) (p : Place) → Some p ≡ slice_get pool.recent.items k → IsIn p.ptr (order_in pool)
+  recent_get k p e = last_of_order k p.ptr (by pool.recent.items k e)
+    where
+      by : (ps : List Place) (n : ℕ) → Some p ≡ slice_get ps n → slice_get (ptrs ps) n ≡ Some p.ptr
+      by [] n h = cc
+      by (q ∷ ps) zero h = ap (λ (r : Place). Some r.ptr) (sym (same_Some p q h))
+      by (q ∷ ps) (suc n) h = by ps n h
+
+  -- they are no more than all
+  pub recent_few : length pool.recent.items ≤ pool.count
+  recent_few =
+      omega (
+        arith,
+        ptrs_length pool.recent.items,
+        order_length,
+        ap length whole.recent.cut,
+        length-append whole.recent.front (ptrs pool.recent.items),
+      )

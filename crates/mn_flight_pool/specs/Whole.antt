@@ -1,5 +1,5 @@
 -- What a pool keeps between two calls, and the items that it holds.
-use Rattle.std.specs.Prelude.{◌≡◌, ◌≤◌, ◌<◌, ◌+◌, ℕ, List, length, map, slice_index, vec_len}
+use Rattle.std.specs.Prelude.{◌≡◌, ◌≤◌, ◌<◌, ◌+◌, ◌++◌, ℕ, List, length, map, slice_index, vec_len}
 use Rattle.std.specs.Vec.{vec_capacity}
 use denote.RawPtr.{Ptr}
 use Rattle.mn_flight.specs.declared.Item.{Item}
@@ -10,6 +10,11 @@ use Rattle.mn_flight_pool.specs.declared.arena.Place.{Place}
 use Rattle.mn_flight_pool.specs.declared.node.Node.{Node}
 use Rattle.mn_flight_pool.specs.declared.node.Pair.TheVariants.{Due}
 use Rattle.mn_flight_pool.specs.declared.pool.Pool.{Pool}
+
+-- these are the last of the order
+pub record AreLast (order late : List Ptr) : Type 0 where
+  pub front : List Ptr
+  pub cut : order ≡ front ++ late
 
 abbrev pub ptrs : List Place → List Ptr
 ptrs ps = map (λ p. p.ptr) ps
@@ -38,3 +43,5 @@ module _ {T : Type 0} where
     pub by_due : IsByDue pool.head.ptr (order_in pool) (dues_of pool.head.ptr pool.count pool.store) pool.ticks.items pool.store
     pub room : pool.count + vec_len pool.free ≤ vec_capacity pool.free
     pub ticks_room : pool.count + vec_len pool.free ≤ vec_capacity pool.ticks
+    pub recent : AreLast (order_in pool) (ptrs pool.recent.items)
+    pub recent_room : pool.count + vec_len pool.free ≤ vec_capacity pool.recent

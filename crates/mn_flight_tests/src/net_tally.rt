@@ -1,7 +1,7 @@
 //! The counts of a topology at its start.
 
 use mn_net_tally::Tally;
-use mn_topo::read_topology;
+use mn_topo_toml::read_topology;
 use std::test::Fail;
 
 const TOPOLOGY: &str = r#"
@@ -35,7 +35,7 @@ prefixes = ["10.3.0.0/16"]
 fn routes_of_all_sites_count(rt: HostRuntime) -> Result<(), Fail> {
     let topology = read_topology(rt.alloc(), TOPOLOGY.as_bytes())?;
     let mut tally = Tally::new(rt.alloc(), &topology)?;
-    tally.reserve()?;
+    tally.reserve(1)?;
     assert_eq!(rt; tally.statics(), 3);
     Ok(())
 }

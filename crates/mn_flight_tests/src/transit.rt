@@ -7,13 +7,17 @@ ghost use Rattle.std.specs.Prelude.{◌≡◌, ◌<◌, ◌≤◌, ◌*◌, leng
 ghost use Rattle.std.specs.List.{All};
 ghost use Rattle.mn_transit.specs.Entering.{HasRoom, OuterFits};
 
-use mn_base::{Dir, LinkNo, NodeNo, Rule, SiteNo};
+use mn_base::{LinkNo, NodeNo, SiteNo};
+use mn_drops::Rule;
+use mn_flight::Clock;
 use mn_ledger::Verdict;
 use mn_lfib::Lfib;
 use mn_pe::Entered;
 use mn_stack::Frame;
-use mn_topo::{Topology, read_topology};
-use mn_transit::{Clock, Transit};
+use mn_topo::Topology;
+use mn_topo_toml::read_topology;
+use mn_transit::Transit;
+use mn_wiring::Dir;
 use std::alloc::Global;
 use std::process::Abort;
 use std::test::Fail;

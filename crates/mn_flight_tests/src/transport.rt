@@ -6,7 +6,7 @@
 use mn_base::{LinkNo, NodeNo, SiteNo};
 use mn_flight::Flight;
 use mn_labels::Bind;
-use mn_topo::read_topology;
+use mn_topo_toml::read_topology;
 use mn_transport::Transport;
 use std::test::Fail;
 

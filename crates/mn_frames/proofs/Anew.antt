@@ -5,7 +5,7 @@ use Rattle.std.specs.Prelude.{◌==◌, ◌&&◌, nat_lt, if◌then◌else◌}
 use Rattle.std.specs.List.{range_with_len}
 use Rattle.std.proofs.lemmas.List.{length-append, length-map}
 use Rattle.std.proofs.lemmas.Bool.Decides.{nat_tests, eqb_tells}
-use Rattle.mn_base.specs.Wiring.{nodes_of}
+use Rattle.mn_wiring.specs.Wiring.{nodes_of}
 use Rattle.mn_base.proofs.Bools.{same_test, same_numbers}
 use Rattle.mn_labels.specs.declared.meaning.Bind.{Bind}
 use Rattle.mn_topo.specs.Network.{Network, wiring_of}

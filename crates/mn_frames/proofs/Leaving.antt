@@ -1,8 +1,8 @@
 -- A packet that leaves its edge.
 use Rattle.std.proofs.Common.{ℕ, ◌≡◌, ◌≢◌, ◌-◌, ◌<◌, ◌∷◌, [], Bool, true, false, List, length, refl, arith, sym, ◌∙◌, ap, Some, None}
 use Rattle.std.specs.Prelude.{◌==◌, Option, if◌then◌else◌}
-use Rattle.mn_base.specs.declared.drops.Rule.TheVariants as rule
-use Rattle.mn_base.specs.declared.links.Dir.{Dir}
+use Rattle.mn_drops.specs.declared.drops.Rule.TheVariants as rule
+use Rattle.mn_wiring.specs.declared.links.Dir.{Dir}
 use Rattle.mn_ipv4.specs.Header.{ttl_of, aged}
 use Rattle.mn_stack.specs.Labelled.{Labelled}
 use Rattle.mn_topo.specs.Network.{Network, Leads}

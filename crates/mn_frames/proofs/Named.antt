@@ -3,8 +3,8 @@ use Rattle.std.proofs.Common.{ℕ, ◌≡◌, ◌<◌, Bool, true, false, Some, 
 use Rattle.std.specs.Prelude.{◌==◌, IsTrue, Option, if◌then◌else◌}
 use Rattle.std.specs.List.{Contains}
 use Rattle.mn_base.proofs.Bools.{test_same}
-use Rattle.mn_base.specs.declared.drops.Rule.{Rule}
-use Rattle.mn_base.specs.declared.drops.Rule.TheVariants as rule
+use Rattle.mn_drops.specs.declared.drops.Rule.{Rule}
+use Rattle.mn_drops.specs.declared.drops.Rule.TheVariants as rule
 use Rattle.mn_ipv4.specs.Header.{good, total_length, destination_of}
 use Rattle.mn_stack.specs.Grammar.{is_packet}
 use Rattle.mn_topo.specs.Network.{Network}

@@ -12,8 +12,8 @@ use Rattle.std.specs.Ordering.{nat_cmp, is_eq}
 use Rattle.std.specs.BTreeMap.{is_at}
 use Rattle.std.proofs.lemmas.Option.{same_Some}
 use Rattle.mn_base.proofs.Bools.{no, other_test, and_left, and_right, less_tells}
-use Rattle.mn_base.specs.declared.links.Dir.TheVariants.{Forth}
-use Rattle.mn_base.specs.Paths.{next}
+use Rattle.mn_wiring.specs.declared.links.Dir.TheVariants.{Forth}
+use Rattle.mn_wiring.specs.Paths.{next}
 use Rattle.mn_ipv4.specs.Header.{is_not_ipv4, is_malformed, is_truncated, has_bad_checksum, good, checksum_for, with_ttl, aged}
 use Rattle.mn_stack.specs.Labelled.{Labelled}
 use Rattle.mn_labels.specs.declared.meaning.Bind.{Bind}

@@ -1,7 +1,7 @@
 -- What becomes of a packet that leaves its edge, by what the node answers of the way out: RFC 3031, section 3.10; RFC 4364, section 5.
 use Rattle.std.specs.Prelude.{◌≡◌, ◌≢◌, ◌<◌, ℕ, ◌-◌, List, [], ◌∷◌, length, Option, Some, None, true}
-use Rattle.mn_base.specs.declared.drops.Rule.TheVariants as rule
-use Rattle.mn_base.specs.declared.links.Dir.{Dir}
+use Rattle.mn_drops.specs.declared.drops.Rule.TheVariants as rule
+use Rattle.mn_wiring.specs.declared.links.Dir.{Dir}
 use Rattle.mn_base.specs.declared.numbers.NodeNo.{NodeNo}
 use Rattle.mn_ipv4.specs.Header.{ttl_of}
 use Rattle.mn_stack.specs.declared.message.Entry.{Entry}

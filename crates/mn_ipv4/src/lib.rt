@@ -28,8 +28,6 @@
 mod checksum;
 mod header;
 mod lifetime;
-#[cfg(test)]
-mod tests;
 
 pub use header::{Bad, Head, check};
 pub use lifetime::{age, set_ttl};

@@ -92,6 +92,7 @@ asked_again network entry lawful is =
     (tick_again entry.tick is.tick)
     ∙ ap (λ ws. entry_with (Some entry.tick) (step_of (line_says network ws))) (no_comments (step_words network entry.step) plain)
     ∙ ap (λ said. entry_with (Some entry.tick) (step_of said)) (command_again network (Do entry.step) lawful is.fit is.step)
+    ∙ ap (λ mark. let found : JournalEntry = record { tick = entry.tick; step = entry.step; damaged = mark } in Some found) (sym is.undamaged)
 
 -- the text is that of one entry alone
 pub same_entry : (network : Network) (one other : JournalEntry) → IsLawful network → IsEntry network one → IsEntry network other →

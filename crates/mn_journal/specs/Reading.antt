@@ -6,6 +6,7 @@ use Rattle.std.specs.declared.alloc.Global.{Global}
 use Rattle.mn_topo.specs.Network.{Network}
 use Rattle.mn_topo.specs.Steps.{fits}
 use Rattle.mn_topo.specs.declared.steps.JournalEntry.{JournalEntry}
+use Rattle.mn_topo.specs.declared.steps.Damaged.TheVariants.{Undamaged}
 use Rattle.mn_text.specs.Numbers.{number_up_to}
 use Rattle.mn_text.specs.Words.{words}
 use Rattle.mn_topo.specs.declared.steps.Step.{Step}
@@ -29,7 +30,7 @@ step_of (Ok None) = None
 step_of (Err rule) = None
 
 abbrev pub entry_with : Option ℕ → Option Step → Option JournalEntry
-entry_with (Some tick) (Some step) = Some (record { tick = tick; step = step })
+entry_with (Some tick) (Some step) = Some (record { tick = tick; step = step; damaged = Undamaged })
 entry_with (Some tick) None = None
 entry_with None step = None
 

@@ -13,7 +13,7 @@ use crate::JournalBad;
 use crate::write::put_text;
 use mn_script::{Command, line_says, line_words};
 use mn_text::{first_line, first_word, number_up_to};
-use mn_topo::{JournalEntry, Step, Topology};
+use mn_topo::{Damaged, JournalEntry, Step, Topology};
 use std::alloc::{AllocError, Global};
 
 /// The step that words say, if they say one.
@@ -52,7 +52,14 @@ fn asked(
         return Ok(None);
     };
     match step_in(alloc, topology, rest)? {
-        Some(step) => Ok(Some(JournalEntry { tick, step })),
+        Some(step) => {
+            let damaged = Damaged::Undamaged;
+            Ok(Some(JournalEntry {
+                tick,
+                step,
+                damaged,
+            }))
+        }
         None => Ok(None),
     }
 }
@@ -100,8 +107,18 @@ impl Reading {
         ensures { IfOk result (Takes topology.now line.now self.old.entries.items self.new.entries.items) }
     {
         match read_line(topology, line, &mut self.scratch)? {
-            Some(JournalEntry { tick, step }) => {
-                self.entries.push(JournalEntry { tick, step })?;
+            Some(
+                JournalEntry {
+                    tick,
+                    step,
+                    damaged,
+                },
+            ) => {
+                self.entries.push(JournalEntry {
+                    tick,
+                    step,
+                    damaged,
+                })?;
                 Ok(true)
             }
             None => Ok(false),

@@ -1,21 +1,23 @@
 //! From an entry to its line.
 ghost use Rattle.std.specs.Prelude.{◌≡◌, ◌<◌, ◌++◌, ◌∷◌, [], OnOk, OnErr, length, true, slice_index_or, codes, if◌then◌else◌};
-ghost use Rattle.mn_base.specs.declared.links.Dir.TheVariants.{Forth};
-ghost use Rattle.mn_base.specs.Wiring.{sender, receiver};
+ghost use Rattle.mn_wiring.specs.declared.links.Dir.TheVariants.{Forth};
+ghost use Rattle.mn_wiring.specs.Wiring.{sender, receiver};
 ghost use Rattle.mn_script.specs.Spelled.{node_text, vrf_text, site_text, from_text, to_text, step_words};
 ghost use Rattle.mn_text.specs.Addresses.{prefix_text};
 ghost use Rattle.mn_text.specs.Numbers.{number_text};
 ghost use Rattle.mn_text.specs.Pairs.{rt_text};
 ghost use Rattle.mn_topo.specs.Network.{wiring_of};
+ghost use Rattle.mn_topo.specs.declared.steps.Damaged.TheVariants.{Undamaged};
 ghost use Rattle.mn_topo.specs.Steps.{fits};
 ghost use Rattle.mn_topo.specs.declared.steps.JournalEntry.{JournalEntry};
 ghost use Rattle.mn_journal.specs.Lines.{line_of, spaced, text_of, texts, Grew};
 
 use crate::text::{prefix_text, target_text};
 use itoa::Buffer;
-use mn_base::{Dir, LinkNo, NodeNo, Rt, SiteNo, VrfNo};
+use mn_base::{LinkNo, NodeNo, Rt, SiteNo, VrfNo};
 use mn_prefix::Prefix;
 use mn_topo::{Step, Topology};
+use mn_wiring::Dir;
 use std::alloc::AllocError;
 
 /// Appends words, each after a space; an `Err` a first part of them.
@@ -240,7 +242,7 @@ pub(crate) fn put_text(
 ) -> Result<(), AllocError>
     requires { fits topology.now step.now ≡ true }
     ensures ok { OnOk result (out.new.items ≡
-        out.old.items ++ text_of topology.now (record { tick = tick; step = step.now })) }
+        out.old.items ++ text_of topology.now (record { tick = tick; step = step.now; damaged = Undamaged })) }
     ensures grew { Grew out.old.items out.new.items }
 {
     let mut digits = Buffer::new();
@@ -256,7 +258,7 @@ fn put_line(
 ) -> Result<(), AllocError>
     requires { fits topology.now step.now ≡ true }
     ensures ok { OnOk result (out.new.items ≡
-        out.old.items ++ line_of topology.now (record { tick = tick; step = step.now })) }
+        out.old.items ++ line_of topology.now (record { tick = tick; step = step.now; damaged = Undamaged })) }
     ensures grew { Grew out.old.items out.new.items }
 {
     put_text(out, topology, tick, step)?;
@@ -272,7 +274,7 @@ pub fn put_step(
 ) -> Result<(), AllocError>
     requires { fits topology.now step.now ≡ true }
     ensures ok { OnOk result (out.new.items ≡
-        out.old.items ++ line_of topology.now (record { tick = tick; step = step.now })) }
+        out.old.items ++ line_of topology.now (record { tick = tick; step = step.now; damaged = Undamaged })) }
     ensures err { OnErr result (out.new.items ≡ out.old.items) }
 {
     let before = out.len();

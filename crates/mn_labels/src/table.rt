@@ -4,14 +4,12 @@ ghost use Rattle.mn_labels.specs.Labels.{meaning_of};
 
 use crate::meaning::Bind;
 use crate::refusal::LabelBad;
+use mn_base::MOST_LABELS;
 use std::alloc::{AllocError, Global};
 use std::marker::Model;
 
 /// The least label that isn't reserved: RFC 3032, section 2.1.
 const FIRST: u32 = 16;
-
-/// How many labels of 20 bits aren't reserved.
-const COUNT: usize = 1_048_560;
 
 /// The labels that a node has given.
 ///
@@ -72,7 +70,7 @@ impl Labels {
         ensures spare_stays { OnErr result (self.old.spare ≤ self.new.spare) }
     {
         let given = self.table.len();
-        if given == COUNT {
+        if given == MOST_LABELS {
             return Err(LabelBad::Spent);
         }
         self.table.push(what).map_err(|_| LabelBad::NoMemory)?;

@@ -5,7 +5,7 @@ use Rattle.std.specs.Prelude.{◌==◌, ◌&&◌, not, nat_lt, slice_get, if◌t
 use Rattle.std.specs.List.{flat_map, Contains}
 use Rattle.std.proofs.lemmas.Bool.{and_parts}
 use Rattle.std.proofs.lemmas.Bool.Decides.{eqb_tells, leb_tells}
-use Rattle.mn_base.specs.Wiring.{Wiring, nodes_of, links_of, links_at, joining, link, is_end, across, receiver, EndsDiffer}
+use Rattle.mn_wiring.specs.Wiring.{Wiring, nodes_of, links_of, links_at, joining, link, is_end, across, receiver, EndsDiffer}
 use Rattle.mn_base.proofs.Bools.{and_parts, clash, less_tells, unlike_numbers}
 use Rattle.mn_topo.specs.VrfTable.{is_edge}
 use Rattle.mn_topo.specs.Network.{Network, wiring_of}

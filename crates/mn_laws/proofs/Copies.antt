@@ -6,11 +6,11 @@ use Rattle.std.proofs.lemmas.Bool.Decides.{eqb_tells}
 use Rattle.std.proofs.lemmas.List.{length-append, length-set, length_push}
 use Rattle.std.proofs.lemmas.Option.{same_Some}
 use Rattle.mn_base.proofs.Bools.{none_below, no}
-use Rattle.mn_base.specs.declared.drops.Rule.{Rule}
-use Rattle.mn_base.specs.declared.drops.Rule.TheVariants as rule
-use Rattle.mn_base.specs.declared.links.Dir.{Dir}
-use Rattle.mn_base.specs.declared.links.Dir.TheVariants.{Forth, Back}
-use Rattle.mn_base.specs.Wiring.{sender, receiver}
+use Rattle.mn_drops.specs.declared.drops.Rule.{Rule}
+use Rattle.mn_drops.specs.declared.drops.Rule.TheVariants as rule
+use Rattle.mn_wiring.specs.declared.links.Dir.{Dir}
+use Rattle.mn_wiring.specs.declared.links.Dir.TheVariants.{Forth, Back}
+use Rattle.mn_wiring.specs.Wiring.{sender, receiver}
 use Rattle.mn_topo.specs.Network.{Network, wiring_of}
 use Rattle.mn_topo.specs.declared.steps.Step.{Step}
 use Rattle.mn_topo.specs.declared.steps.Step.TheVariants.{LinkDown, Inject, Carry, Lose}

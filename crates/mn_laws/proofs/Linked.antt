@@ -3,11 +3,11 @@ use Rattle.std.proofs.Common.{ℕ, zero, suc, ◌≡◌, ◌≢◌, ◌-◌, ◌
 use Rattle.std.specs.Prelude.{◌==◌, nat_le, nat_lt, slice_get}
 use Rattle.std.proofs.lemmas.Bool.{and_parts, ltb-true}
 use Rattle.mn_base.proofs.Bools.{other_numbers}
-use Rattle.mn_base.specs.declared.drops.Rule.{Rule}
-use Rattle.mn_base.specs.declared.drops.Rule.TheVariants as rule
-use Rattle.mn_base.specs.declared.links.Dir.{Dir}
-use Rattle.mn_base.specs.declared.links.Dir.TheVariants.{Forth, Back}
-use Rattle.mn_base.specs.Wiring.{sender, receiver}
+use Rattle.mn_drops.specs.declared.drops.Rule.{Rule}
+use Rattle.mn_drops.specs.declared.drops.Rule.TheVariants as rule
+use Rattle.mn_wiring.specs.declared.links.Dir.{Dir}
+use Rattle.mn_wiring.specs.declared.links.Dir.TheVariants.{Forth, Back}
+use Rattle.mn_wiring.specs.Wiring.{sender, receiver}
 use Rattle.mn_topo.specs.Lawful.{IsLawful}
 use Rattle.mn_topo.specs.Network.{Network, wiring_of}
 use Rattle.mn_topo.specs.Steps.{fits}

@@ -1,7 +1,7 @@
 -- What flies stands in the order in which it was made: no item was made before those in front of it.
 use Rattle.std.proofs.Common.{ℕ, zero, suc, ◌+◌, ◌≤◌, Bool, true, false, cond, not, List, [], ◌∷◌, ◌++◌, filter, arith}
 use Rattle.std.specs.List.{AllByRecursion}
-use Rattle.mn_base.specs.Wiring.{sender}
+use Rattle.mn_wiring.specs.Wiring.{sender}
 use Rattle.mn_topo.specs.Network.{Network, wiring_of}
 use Rattle.mn_topo.specs.declared.steps.Step.{Step}
 use Rattle.mn_topo.specs.declared.steps.Step.TheVariants.{LinkUp, LinkDown, Learn, LdpAdmin, HearLdp, BgpUp, BgpDown, HearBgp, Carry, Lose}

@@ -3,7 +3,7 @@ use Rattle.std.proofs.Common.{ℕ, zero, suc, ◌≡◌, ◌+◌, ◌<◌, inl, 
 use Rattle.std.specs.Prelude.{◌==◌, ◌&&◌, if◌then◌else◌, slice_index_or}
 use Rattle.std.specs.List.{flat_map, range_with_len}
 use Rattle.mn_base.proofs.Bools.{no, none_below, same_numbers, same_test}
-use Rattle.mn_base.specs.Wiring.{Wiring, nodes_of, links_of, links_at, joining, is_end, across}
+use Rattle.mn_wiring.specs.Wiring.{Wiring, nodes_of, links_of, links_at, joining, is_end, across}
 use Rattle.mn_base.proofs.Members.{flat_map_in, map_in, range_in}
 use Rattle.mn_node.specs.Ldp.{Message, Initialization, KeepAlive, Address, Mapping, Withdraw, Release, Said, said_on, Knowledge, is_operational, offers}
 use Rattle.mn_node.specs.Ldp.{offered, mention, by_neighbour, mentioned_on, mentioned_from, news}

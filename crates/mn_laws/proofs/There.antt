@@ -3,12 +3,12 @@ use Rattle.std.proofs.Common.{ℕ, ◌≡◌, ◌≢◌, ◌<◌, inl, inr, Bool
 use Rattle.std.specs.Prelude.{◌==◌, ◌&&◌, ◌||◌, nat_lt}
 use Rattle.std.proofs.lemmas.Bool.{and_parts, ltb-true}
 use Rattle.std.proofs.lemmas.Bool.Decides.{eqb_tells}
-use Rattle.mn_base.specs.declared.links.Dir.{Dir}
-use Rattle.mn_base.specs.declared.links.Dir.TheVariants.{Forth, Back}
+use Rattle.mn_wiring.specs.declared.links.Dir.{Dir}
+use Rattle.mn_wiring.specs.declared.links.Dir.TheVariants.{Forth, Back}
 use Rattle.mn_base.specs.Numbers.{has_rd_form}
-use Rattle.mn_base.specs.Wiring.{link, is_end, across, sender, receiver}
-use Rattle.mn_base.specs.Paths.{IsNext, next}
-use Rattle.mn_base.proofs.Next.{next_is}
+use Rattle.mn_wiring.specs.Wiring.{link, is_end, across, sender, receiver}
+use Rattle.mn_wiring.specs.Paths.{IsNext, next}
+use Rattle.mn_wiring.proofs.Next.{next_is}
 use Rattle.mn_base.proofs.Rules.{none_is}
 use Rattle.mn_topo.specs.declared.sites.SiteDef.{SiteDef}
 use Rattle.mn_topo.specs.Lawful.{IsLawful, is_vrf_of}

@@ -5,14 +5,15 @@ use Rattle.std.proofs.lemmas.Bool.Decides.{leb_tells}
 use Rattle.std.proofs.lemmas.Option.{same_Some}
 use Rattle.std.specs.List.{list_all}
 use Rattle.std.specs.Prelude.{◌≡◌, refl, List, [], ◌∷◌, ◌++◌, length, map, slice_index, nat_lt, Some, true}
-use Rattle.mn_base.specs.Paths.{next}
-use Rattle.mn_base.specs.Wiring.{is_end}
-use Rattle.mn_base.specs.declared.links.Dir.TheVariants.{Forth, Back}
+use Rattle.mn_wiring.specs.Paths.{next}
+use Rattle.mn_wiring.specs.Wiring.{is_end}
+use Rattle.mn_wiring.specs.declared.links.Dir.TheVariants.{Forth, Back}
 use Rattle.mn_ipv4.specs.Header.{is_not_ipv4, is_malformed, is_truncated, has_bad_checksum, good, checksum_for, with_ttl, aged}
 use Rattle.mn_topo.specs.Lawful.{IsLawful}
 use Rattle.mn_topo.specs.Network.{wiring_of}
 use Rattle.mn_topo.specs.declared.steps.Step.TheVariants.{Inject, Carry}
 use Rattle.mn_topo.specs.declared.steps.JournalEntry.{JournalEntry}
+use Rattle.mn_topo.specs.declared.steps.Damaged.TheVariants.{Undamaged}
 use Rattle.mn_node.specs.Ldp.{Initialization, KeepAlive, Address, Mapping, news}
 use Rattle.mn_ledger.specs.Lawful.{IsLawfulJournal}
 use Rattle.mn_ledger.specs.Packets.{packets_after}
@@ -77,8 +78,8 @@ one_delivery = refl
 
 -- each delivery bears the tick of its step
 abbrev carried_later : List JournalEntry
-carried_later = settling ++ record { tick = 5; step = Inject (site_no 0) 1 } ∷ record { tick = 7; step = Carry (link_no 0) Forth 0 } ∷
-    record { tick = 9; step = Carry (link_no 1) Forth 0 } ∷ []
+carried_later = settling ++ record { tick = 5; step = Inject (site_no 0) 1; damaged = Undamaged } ∷ record { tick = 7; step = Carry (link_no 0) Forth 0; damaged = Undamaged } ∷
+    record { tick = 9; step = Carry (link_no 1) Forth 0; damaged = Undamaged } ∷ []
 
 pub at_its_tick : deliveries_of two_links carried_later (packet ∷ []) ≡ record { tick = 9; bytes = aged packet 3 } ∷ []
 unfolding next knowledge_of news sessions_after peerings_after held packets_after is_not_ipv4 is_malformed is_truncated has_bad_checksum good

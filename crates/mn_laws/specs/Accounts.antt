@@ -4,13 +4,13 @@
 use Rattle.std.specs.Prelude.{◌≡◌, ◌≢◌, ◌≤◌, ◌<◌, ◌⊎◌, ℕ, ◌+◌, ◌-◌, ◌==◌, ◌&&◌, Bool, true, false, not, nat_lt, nat_le, IsTrue, List, [], ◌∷◌, ◌++◌, length}
 use Rattle.std.specs.Prelude.{take, slice_index, slice_index_or, slice_get, Option, Some, None, is_some, is_none}
 use Rattle.std.specs.List.{list_any}
-use Rattle.mn_base.specs.declared.drops.Rule.{Rule}
-use Rattle.mn_base.specs.declared.drops.Rule.TheVariants as rule
-use Rattle.mn_base.specs.declared.links.Dir.{Dir}
+use Rattle.mn_drops.specs.declared.drops.Rule.{Rule}
+use Rattle.mn_drops.specs.declared.drops.Rule.TheVariants as rule
+use Rattle.mn_wiring.specs.declared.links.Dir.{Dir}
 use Rattle.mn_base.specs.declared.numbers.LinkNo.{LinkNo}
 use Rattle.mn_base.specs.declared.numbers.NodeNo.{NodeNo}
 use Rattle.mn_base.specs.declared.numbers.SiteNo.{SiteNo}
-use Rattle.mn_base.specs.Wiring.{is_end, across, sender, receiver}
+use Rattle.mn_wiring.specs.Wiring.{is_end, across, sender, receiver}
 use Rattle.mn_ipv4.specs.Header.{is_not_ipv4, is_malformed, is_truncated, has_bad_checksum, good, total_length, ttl_of, destination_of}
 use Rattle.mn_prefix.specs.Prefix.{contains}
 use Rattle.mn_topo.specs.Network.{Network, wiring_of}

@@ -2,9 +2,9 @@
 use Rattle.std.specs.Prelude.{◌≡◌, ◌≢◌, ◌<◌, ◌≤◌, ℕ, suc, ◌+◌, Bool, true, false, not, nat_le, List, [], ◌∷◌, map, filter, length, sum, ⊤}
 use Rattle.std.specs.List.{Contains, AllByRecursion}
 use Rattle.mn_base.specs.Limits.{most_steps}
-use Rattle.mn_base.specs.declared.links.Dir.{Dir}
+use Rattle.mn_wiring.specs.declared.links.Dir.{Dir}
 use Rattle.mn_base.specs.declared.numbers.LinkNo.{LinkNo}
-use Rattle.mn_base.specs.Wiring.{is_end}
+use Rattle.mn_wiring.specs.Wiring.{is_end}
 use Rattle.mn_ipv4.specs.Header.{total_length}
 use Rattle.mn_topo.specs.Network.{Network, wiring_of}
 use Rattle.mn_topo.specs.Steps.{fits}

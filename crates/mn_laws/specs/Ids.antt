@@ -1,7 +1,7 @@
 -- The ids of LDP messages, and the frames sent in a direction, over all lives of a session and a whole journal.
 use Rattle.std.specs.Prelude.{◌≡◌, ℕ, ◌+◌, nat_le, List, [], ◌∷◌, ◌++◌, map, filter, length}
 use Rattle.std.specs.List.{range_with_len}
-use Rattle.mn_base.specs.declared.links.Dir.{Dir}
+use Rattle.mn_wiring.specs.declared.links.Dir.{Dir}
 use Rattle.mn_topo.specs.Network.{Network}
 use Rattle.mn_topo.specs.declared.steps.JournalEntry.{JournalEntry}
 use Rattle.mn_node.specs.Ldp.{Message, Initialization}

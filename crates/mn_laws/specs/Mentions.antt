@@ -1,7 +1,7 @@
 -- Who says a Mapping of which FEC on which link, in words: RFC 5036, sections 2.6.1 to 2.6.3, 3.5.7 and 3.5.10.
 use Rattle.std.specs.Prelude.{◌≡◌, ◌<◌, ℕ, ◌&&◌, Bool, true, false, length}
 use Rattle.std.specs.List.{Contains}
-use Rattle.mn_base.specs.Wiring.{Wiring, is_end, across}
+use Rattle.mn_wiring.specs.Wiring.{Wiring, is_end, across}
 use Rattle.mn_node.specs.Ldp.{Message, Mapping, Withdraw, Said, Knowledge, is_operational, offers, news}
 
 -- the node had offered the FEC to the other end of the link

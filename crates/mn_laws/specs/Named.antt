@@ -1,7 +1,7 @@
 -- What a message, a held route or a packet on its way names exists.
 use Rattle.std.specs.Prelude.{◌≡◌, ◌<◌, ◌≤◌, ℕ, suc, ◌+◌, true, IsTrue, List, [], ◌∷◌, length, slice_index, slice_get, Some, ⊤}
 use Rattle.std.specs.List.{Contains}
-use Rattle.mn_base.specs.declared.links.Dir.{Dir}
+use Rattle.mn_wiring.specs.declared.links.Dir.{Dir}
 use Rattle.mn_ipv4.specs.Header.{good, total_length, ttl_of}
 use Rattle.mn_prefix.specs.Prefix.{IsPrefix}
 use Rattle.mn_topo.specs.Network.{Network}

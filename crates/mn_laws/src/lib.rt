@@ -22,7 +22,7 @@
 #![tactic(auto)]
 
 ghost use Rattle.std.specs.Prelude.{ℕ, List, ◌≡◌, ◌<◌, true, length};
-ghost use Rattle.mn_base.specs.Wiring.{Wiring, is_end};
+ghost use Rattle.mn_wiring.specs.Wiring.{Wiring, is_end};
 ghost use Rattle.mn_topo.specs.Lawful.{IsLawful};
 ghost use Rattle.mn_topo.specs.Network.{Network, wiring_of};
 ghost use Rattle.mn_topo.specs.declared.steps.JournalEntry.{JournalEntry};

@@ -1,11 +1,11 @@
 -- Three routers in a row, with which the spelling of messages is tried.
 use Rattle.std.specs.Prelude.{ℕ, [], ◌∷◌}
-use Rattle.mn_base.specs.declared.links.LinkEnds.{LinkEnds}
-use Rattle.mn_base.specs.Wiring.{Wiring}
+use Rattle.mn_wiring.specs.declared.links.LinkEnds.{LinkEnds}
+use Rattle.mn_wiring.specs.Wiring.{Wiring}
 use Rattle.mn_ldp_session.specs.Spelling.{Pdu}
 
 abbrev pub hop : ℕ → ℕ → LinkEnds
-hop a b = record { a = record { 0 = a }; b = record { 0 = b }; cost = 10; delay = 2; loss = 0 }
+hop a b = record { a = record { 0 = a }; b = record { 0 = b }; cost = 10; delay = 2; loss = 0; life = 2000 }
 
 -- 192.0.2.1 --link 0-- 192.0.2.2 --link 1-- 192.0.2.3
 abbrev pub routers_in_a_row : Wiring

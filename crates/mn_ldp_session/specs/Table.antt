@@ -1,7 +1,7 @@
 -- RFC 5036, section 2.5.4: the states of an end of a session, and what it answers in each.
 use Rattle.std.specs.Prelude.{ℕ, ◌==◌, ◌&&◌, not, nat_lt, Bool, true, false, if◌then◌else◌, Option, Some, None, is_some}
-use Rattle.mn_base.specs.declared.states.LdpState.{LdpState}
-use Rattle.mn_base.specs.declared.states.LdpState.TheVariants.{Initialized, OpenSent, OpenRec, Operational}
+use Rattle.mn_states.specs.declared.states.LdpState.{LdpState}
+use Rattle.mn_states.specs.declared.states.LdpState.TheVariants.{Initialized, OpenSent, OpenRec, Operational}
 use Rattle.mn_ldp_wire.specs.declared.message.LdpId.{LdpId}
 use Rattle.mn_ldp_wire.specs.declared.message.LdpBody.{LdpBody}
 use Rattle.mn_ldp_wire.specs.declared.message.LdpBody.TheVariants as says
@@ -10,6 +10,7 @@ use Rattle.mn_ldp_session.specs.declared.kind.LdpKind.TheVariants.{Notification,
 use Rattle.mn_ldp_session.specs.declared.refusal.SessionBad.{SessionBad}
 use Rattle.mn_ldp_session.specs.declared.refusal.SessionBad.TheVariants.{Unexpected, BadParameters}
 use Rattle.mn_ldp_session.specs.declared.session.Reply.{Reply}
+use Rattle.mn_ldp_session.specs.declared.session.Reply.TheVariants as reply
 use Rattle.mn_ldp_session.specs.declared.session.Session.{Session}
 
 abbrev pub kind_of : LdpBody → LdpKind
@@ -23,28 +24,33 @@ kind_of (says.Release prefix label) = Release
 
 -- 1. The table
 
-abbrev pub says_both : Reply
-says_both = record { say_init = true; say_keep = true; became_operational = false }
+-- the Initialization is said
+abbrev pub says_initialization : Reply → Bool
+says_initialization reply.Initialization = true
+says_initialization reply.Both = true
+says_initialization _ = false
 
-abbrev pub says_keep : Reply
-says_keep = record { say_init = false; say_keep = true; became_operational = false }
+-- a KeepAlive is said
+abbrev pub says_keepalive : Reply → Bool
+says_keepalive reply.Both = true
+says_keepalive reply.KeepAlive = true
+says_keepalive _ = false
 
-abbrev pub begins : Reply
-begins = record { say_init = false; say_keep = false; became_operational = true }
-
-abbrev pub says_nothing : Reply
-says_nothing = record { say_init = false; say_keep = false; became_operational = false }
+-- the session became OPERATIONAL
+abbrev pub begins : Reply → Bool
+begins reply.Begins = true
+begins _ = false
 
 -- the state and what is heard in it; what is said, and the state then
 abbrev pub row : LdpState → LdpKind → Option (Reply × LdpState)
-row Initialized Initialization = Some (says_both, OpenRec)
-row OpenSent Initialization = Some (says_keep, OpenRec)
-row OpenRec KeepAlive = Some (begins, Operational)
-row Operational KeepAlive = Some (says_nothing, Operational)
-row Operational Address = Some (says_nothing, Operational)
-row Operational Mapping = Some (says_nothing, Operational)
-row Operational Withdraw = Some (says_nothing, Operational)
-row Operational Release = Some (says_nothing, Operational)
+row Initialized Initialization = Some (reply.Both, OpenRec)
+row OpenSent Initialization = Some (reply.KeepAlive, OpenRec)
+row OpenRec KeepAlive = Some (reply.Begins, Operational)
+row Operational KeepAlive = Some (reply.Nothing, Operational)
+row Operational Address = Some (reply.Nothing, Operational)
+row Operational Mapping = Some (reply.Nothing, Operational)
+row Operational Withdraw = Some (reply.Nothing, Operational)
+row Operational Release = Some (reply.Nothing, Operational)
 row state kind = None
 
 abbrev pub has_row : LdpState → LdpKind → Bool

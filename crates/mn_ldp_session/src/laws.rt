@@ -1,6 +1,6 @@
 //! Laws of the definitions, each the contract of a function that does nothing.
 ghost use Rattle.std.specs.Prelude.{ℕ, ◌≡◌, ◌<◌, ◌^◌, length};
-ghost use Rattle.mn_base.specs.Wiring.{Wiring};
+ghost use Rattle.mn_wiring.specs.Wiring.{Wiring};
 ghost use Rattle.mn_node.specs.Ldp.{Message, Mapping};
 ghost use Rattle.mn_ldp_session.specs.Spelling.{AreSpelled, SpeaksOfNode, IsHeardAsSaid, pdu_in_network};
 ghost use Rattle.mn_ldp_session.specs.Routers.{routers_in_a_row, own_mapping};

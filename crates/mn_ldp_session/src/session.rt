@@ -1,23 +1,50 @@
 ghost use Rattle.std.specs.Prelude.{◌≡◌, ◌≢◌, None, Some, true, false, IfSome, IfOk, IfErr, OnOk, OnErr};
-ghost use Rattle.mn_ldp_session.specs.Table.{kind_of, opened, refusal, is_from, is_acceptable, row, first_kind};
+ghost use Rattle.mn_ldp_session.specs.Table.{kind_of, opened, refusal, is_from, is_acceptable, row, first_kind, says_initialization, says_keepalive, begins};
 
 use crate::kind::{LdpKind, kind_of};
 use crate::refusal::SessionBad;
-use mn_base::LdpState;
 use mn_ldp_wire::{LdpBody, LdpId, LdpMessage};
+use mn_states::LdpState;
 
 /// The version of the protocol: RFC 5036, section 3.5.3.
 const VERSION: u16 = 1;
 
-/// What an end is to say to a message, in the order of the fields.
+/// What an end is to say as its session begins, and to a message.
 #[derive(Clone, Copy, Debug, PartialEq, Eq)]
-pub struct Reply {
-    /// Its Initialization.
-    pub say_init: bool,
+pub enum Reply {
+    /// Nothing.
+    Nothing,
+    /// Its Initialization: so the active end begins.
+    Initialization,
+    /// Its Initialization, and then a KeepAlive.
+    Both,
     /// A KeepAlive.
-    pub say_keep: bool,
-    /// An Address is to be said, and a Mapping of each FEC that is offered.
-    pub became_operational: bool,
+    KeepAlive,
+    /// The session is OPERATIONAL: an Address is to be said, and a Mapping of each FEC that is offered.
+    Begins,
+}
+
+impl Reply {
+    /// Whether its Initialization is said.
+    pub fn says_initialization(self) -> bool
+        ensures { result ≡ says_initialization self }
+    {
+        matches!(self, Reply::Initialization | Reply::Both)
+    }
+
+    /// Whether a KeepAlive is said.
+    pub fn says_keepalive(self) -> bool
+        ensures { result ≡ says_keepalive self }
+    {
+        matches!(self, Reply::Both | Reply::KeepAlive)
+    }
+
+    /// Whether the session became OPERATIONAL.
+    pub fn begins(self) -> bool
+        ensures { result ≡ begins self }
+    {
+        matches!(self, Reply::Begins)
+    }
 }
 
 /// One end of a session between two routers, each named by its loopback.
@@ -53,31 +80,6 @@ fn is_acceptable(me: u32, body: &LdpBody) -> bool
     }
 }
 
-/// What an end says to what it hears.
-const SAYS_BOTH: Reply = Reply {
-    say_init: true,
-    say_keep: true,
-    became_operational: false,
-};
-
-const SAYS_KEEP: Reply = Reply {
-    say_init: false,
-    say_keep: true,
-    became_operational: false,
-};
-
-const BEGINS: Reply = Reply {
-    say_init: false,
-    say_keep: false,
-    became_operational: true,
-};
-
-const SAYS_NOTHING: Reply = Reply {
-    say_init: false,
-    say_keep: false,
-    became_operational: false,
-};
-
 /// The table: what is said, and the state then; none where it has no row (RFC 5036, section 2.5.4).
 fn row(state: LdpState, kind: LdpKind) -> Option<(Reply, LdpState)>
     ensures { result ≡ row state kind }
@@ -85,14 +87,14 @@ fn row(state: LdpState, kind: LdpKind) -> Option<(Reply, LdpState)>
     use LdpState::{Initialized, OpenRec, OpenSent, Operational};
 
     match (state, kind) {
-        (Initialized, LdpKind::Initialization) => Some((SAYS_BOTH, OpenRec)),
-        (OpenSent, LdpKind::Initialization) => Some((SAYS_KEEP, OpenRec)),
-        (OpenRec, LdpKind::KeepAlive) => Some((BEGINS, Operational)),
-        (Operational, LdpKind::KeepAlive) => Some((SAYS_NOTHING, Operational)),
-        (Operational, LdpKind::Address) => Some((SAYS_NOTHING, Operational)),
-        (Operational, LdpKind::Mapping) => Some((SAYS_NOTHING, Operational)),
-        (Operational, LdpKind::Withdraw) => Some((SAYS_NOTHING, Operational)),
-        (Operational, LdpKind::Release) => Some((SAYS_NOTHING, Operational)),
+        (Initialized, LdpKind::Initialization) => Some((Reply::Both, OpenRec)),
+        (OpenSent, LdpKind::Initialization) => Some((Reply::KeepAlive, OpenRec)),
+        (OpenRec, LdpKind::KeepAlive) => Some((Reply::Begins, Operational)),
+        (Operational, LdpKind::KeepAlive) => Some((Reply::Nothing, Operational)),
+        (Operational, LdpKind::Address) => Some((Reply::Nothing, Operational)),
+        (Operational, LdpKind::Mapping) => Some((Reply::Nothing, Operational)),
+        (Operational, LdpKind::Withdraw) => Some((Reply::Nothing, Operational)),
+        (Operational, LdpKind::Release) => Some((Reply::Nothing, Operational)),
         _ => None,
     }
 }

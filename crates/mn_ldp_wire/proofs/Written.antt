@@ -1,4 +1,5 @@
 -- What is written piece by piece is the TLV.
+use Rattle.std.proofs.lemmas.List.{length-take-le}
 use Rattle.std.proofs.Common.{length-append, length-take, ◌<◌, ◌^◌, get_or, ◌≡◌, ◌≤◌, ◌+◌, ◌*◌, ℕ, suc, List, [], ◌∷◌, ◌++◌, length, take, refl, ap, ◌∙◌}
 use Rattle.std.proofs.Common.{arith, append_assoc, Result, Ok, Err, is_ok, OnOk, if◌then◌else◌}
 use Rattle.std.specs.List.{flat_map, AllByRecursion}
@@ -104,6 +105,17 @@ tlvs_small (Address addresses) h = (let most = h.1 in omega (arith, length-frame
 tlvs_small (Mapping prefix label) h = (let b = binding_small prefix label in omega arith)
 tlvs_small (Withdraw prefix label) h = (let b = binding_small prefix label in omega arith)
 tlvs_small (Release prefix label) h = (let b = binding_small prefix label in omega arith)
+
+pub length-binding : (prefix : AddressBlock) (label : ℕ) → prefix.length ≤ 32 → length (binding prefix label) ≡ 16 + octets prefix.length
+unfolding prefix_element
+length-binding prefix label short =
+    omega (
+      arith,
+      length-append (framed 0x0100 (prefix_element prefix)) (framed 0x0200 (big_bytes 4 label)),
+      length-framed 0x0100 (prefix_element prefix),
+      length-framed 0x0200 (big_bytes 4 label),
+      length-take-le (octets prefix.length) (big_bytes 4 prefix.address) (omega arith),
+    )
 
 -- ---- the whole
 

@@ -7,9 +7,9 @@ ghost use Rattle.mn_ldp_wire.specs.Grammar.{framed, prefix_element, address_list
 ghost use Rattle.mn_ldp_wire.specs.Reading.{pdu_of, cut_bad};
 
 use crate::message::{
-    ADDRESS_SIZE, ELEMENT_HEADER, FAMILY_SIZE, FRAME_HEADER, IPV4, LDP_ID, LdpBody, LdpId,
-    LdpMessage, MESSAGE_ID, PREFIX_ELEMENT, SESSION_PARAMETERS_SIZE, STATUS_SIZE, VERSION, tlvs,
-    types,
+    ADDRESS_SIZE, ELEMENT_HEADER, FAMILY_SIZE, FRAME_HEADER, IPV4, LABEL_SIZE, LDP_ID, LdpBody,
+    LdpId, LdpMessage, MESSAGE_ID, PDU_HEADER, PREFIX_ELEMENT, SESSION_PARAMETERS_SIZE,
+    STATUS_SIZE, VERSION, tlvs, types,
 };
 use byteorder::{BigEndian, ByteOrder};
 use mn_prefix::{Prefix, octets};
@@ -27,16 +27,15 @@ pub fn write_pdu(alloc: Global, from: LdpId, message: &LdpMessage) -> Result<Vec
     ensures cut { IfOk result (λ pdu. (k : ℕ) → k < length pdu.items →
         pdu_of (take k pdu.items) ≡ Err (cut_bad k)) }
 {
-    let tlvs = mandatory_tlvs(alloc, &message.body)?;
-    let contents = MESSAGE_ID + tlvs.len();
-    let mut pdu = Vec::new(alloc);
+    let contents = MESSAGE_ID + tlvs_size(&message.body);
+    let mut pdu = Vec::with_capacity(alloc, PDU_HEADER + FRAME_HEADER + contents)?;
     put_u16(&mut pdu, VERSION)?;
     put_u16(&mut pdu, (LDP_ID + FRAME_HEADER + contents) as u16)?;
     put_id(&mut pdu, from)?;
     put_u16(&mut pdu, type_of(&message.body))?;
     put_u16(&mut pdu, contents as u16)?;
     put_u32(&mut pdu, message.id)?;
-    pdu.extend_from_slice(&tlvs)?;
+    put_mandatory_tlvs(&mut pdu, &message.body)?;
     Ok(pdu)
 }
 
@@ -55,13 +54,36 @@ fn type_of(body: &LdpBody) -> u16
     }
 }
 
-/// The mandatory TLVs of the message that says this.
-fn mandatory_tlvs(alloc: Global, body: &LdpBody) -> Result<Vec<u8>, AllocError>
+/// The size of the mandatory TLVs of the message that says this, in bytes.
+fn tlvs_size(body: &LdpBody) -> usize
     requires { IsWritable body.now }
-    ensures tlvs { IfOk result (λ tlvs. tlvs.items ≡ mandatory_tlvs body.now) }
+    ensures { result ≡ length (mandatory_tlvs body.now) }
+{
+    match body {
+        LdpBody::Notification { .. } => FRAME_HEADER + STATUS_SIZE,
+        LdpBody::Initialization { .. } => FRAME_HEADER + SESSION_PARAMETERS_SIZE,
+        LdpBody::KeepAlive => 0,
+        LdpBody::Address(addresses) => {
+            FRAME_HEADER + FAMILY_SIZE + ADDRESS_SIZE * addresses.as_slice().len()
+        }
+        LdpBody::Mapping(prefix, _) | LdpBody::Withdraw(prefix, _) | LdpBody::Release(prefix, _) =>
+            binding_size(*prefix),
+    }
+}
+
+/// The size of the TLVs of a prefix and its label, in bytes.
+fn binding_size(prefix: Prefix) -> usize
+    ensures { (label : ℕ) → result ≡ length (binding prefix label) }
+{
+    2 * FRAME_HEADER + ELEMENT_HEADER + octets(prefix.length()) + LABEL_SIZE
+}
+
+/// Appends the mandatory TLVs of the message that says this.
+fn put_mandatory_tlvs(out: &mut Vec<u8>, body: &LdpBody) -> Result<(), AllocError>
+    requires { IsWritable body.now }
+    ensures tlvs { OnOk result (out.new.items ≡ out.old.items ++ mandatory_tlvs body.now) }
     ensures lawful { OnOk result (IsLawful body.now) }
 {
-    let mut out = Vec::new(alloc);
     match body {
         LdpBody::Notification {
             status,
@@ -69,7 +91,7 @@ fn mandatory_tlvs(alloc: Global, body: &LdpBody) -> Result<Vec<u8>, AllocError>
             kind,
         } => {
             let value = status_value(*status, *about, *kind);
-            put_tlv(&mut out, tlvs::STATUS, &value)?;
+            put_tlv(out, tlvs::STATUS, &value)?;
         }
         LdpBody::Initialization {
             version,
@@ -82,15 +104,15 @@ fn mandatory_tlvs(alloc: Global, body: &LdpBody) -> Result<Vec<u8>, AllocError>
             let value = session_parameters(
                 *version, *keepalive, *flags, *limit, *greatest, *receiver,
             );
-            put_tlv(&mut out, tlvs::SESSION_PARAMETERS, &value)?;
+            put_tlv(out, tlvs::SESSION_PARAMETERS, &value)?;
         }
         LdpBody::KeepAlive => {}
-        LdpBody::Address(addresses) => put_addresses(&mut out, addresses.as_slice())?,
+        LdpBody::Address(addresses) => put_addresses(out, addresses.as_slice())?,
         LdpBody::Mapping(prefix, label)
         | LdpBody::Withdraw(prefix, label)
-        | LdpBody::Release(prefix, label) => put_binding(&mut out, *prefix, *label)?,
+        | LdpBody::Release(prefix, label) => put_binding(out, *prefix, *label)?,
     }
-    Ok(out)
+    Ok(())
 }
 
 #[tactic(auto, unfolding(crate::specs::Grammar::status_value))]

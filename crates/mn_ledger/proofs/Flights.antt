@@ -2,12 +2,13 @@
 -- what one edge tells another 3.
 use Rattle.std.specs.Prelude.{◌≡◌, refl, false, ◌++◌, ℕ, List, [], ◌∷◌}
 use Rattle.std.proofs.Common.{rules}
-use Rattle.mn_base.specs.declared.links.Dir.TheVariants.{Forth, Back}
-use Rattle.mn_base.specs.Paths.{next}
+use Rattle.mn_wiring.specs.declared.links.Dir.TheVariants.{Forth, Back}
+use Rattle.mn_wiring.specs.Paths.{next}
 use Rattle.mn_ipv4.specs.Header.{is_not_ipv4, is_malformed, is_truncated, has_bad_checksum, good, checksum_for, with_ttl, aged}
 use Rattle.mn_topo.specs.declared.steps.Step.{Step}
 use Rattle.mn_topo.specs.declared.steps.Step.TheVariants.{LinkUp, LinkDown, Learn, LdpAdmin, HearLdp, BgpUp, BgpDown, HearBgp, AddRoute, Inject, Carry}
 use Rattle.mn_topo.specs.declared.steps.JournalEntry.{JournalEntry}
+use Rattle.mn_topo.specs.declared.steps.Damaged.TheVariants.{Undamaged}
 use Rattle.mn_ledger.specs.World.{Initialization, KeepAlive, Open, BgpKeepAlive}
 use Rattle.mn_ledger.specs.Transport.{knowledge_of, news, sessions_after}
 use Rattle.mn_ledger.specs.Bgp.{peerings_after}
@@ -20,7 +21,7 @@ use Rattle.mn_topo.specs.Steps.{fits}
 use Rattle.mn_ledger.proofs.TwoLinks.{node_no, link_no, site_no, two_links, settling, packet, across_both}
 
 abbrev at : ℕ → Step → JournalEntry
-at tick step = record { tick = tick; step = step }
+at tick step = record { tick = tick; step = step; damaged = Undamaged }
 
 abbrev item : ℕ → ℕ → Channel → Load → Item
 item number due on load = record { number = number; due = due; on = on; load = load }

@@ -2,9 +2,9 @@
 use Rattle.std.specs.Prelude.{◌≡◌, refl, ℕ, zero, suc, List, [], ◌∷◌, ◌++◌, map, length, Some, None, true, false}
 use Rattle.std.specs.List.{range_with_len}
 use Rattle.mn_base.specs.declared.numbers.Rt.{Rt}
-use Rattle.mn_base.specs.declared.links.Dir.TheVariants.{Forth, Back}
-use Rattle.mn_base.specs.declared.drops.Rule.TheVariants as rule
-use Rattle.mn_base.specs.Paths.{next}
+use Rattle.mn_wiring.specs.declared.links.Dir.TheVariants.{Forth, Back}
+use Rattle.mn_drops.specs.declared.drops.Rule.TheVariants as rule
+use Rattle.mn_wiring.specs.Paths.{next}
 use Rattle.mn_ipv4.specs.Header.{is_not_ipv4, is_malformed, is_truncated, has_bad_checksum, good, checksum_for, with_ttl, aged}
 use Rattle.mn_prefix.specs.Prefix.{AddressBlock}
 use Rattle.mn_topo.specs.Network.{Network, wiring_of}
@@ -85,6 +85,7 @@ wider = record two_links {
     prefixes =
         block 167968768 16 ∷ [];
   } ∷ record { vrf = vrf_no 0; prefixes = block 168034304 16 ∷ [] } ∷ [];
+  resolve = false;
 }
 
 -- 1. LDP, and where a node can send
@@ -148,13 +149,14 @@ ends_speak_first = refl
 pub neighbours_go_by_number : by_neighbour
     (wiring_of (record two_links {
       links =
-          record { a = node_no 1; b = node_no 2; cost = 10; delay = 2; loss = 0 } ∷ record {
+          record { a = node_no 1; b = node_no 2; cost = 10; delay = 2; loss = 0; life = 2000 } ∷ record {
             a = node_no 0;
             b = node_no 1;
             cost = 10;
             delay = 2;
             loss =
                 0;
+            life = 2000;
           } ∷ [];
     })) 1 ≡ 1 ∷ 0 ∷ []
 unfolding next knowledge_of news sessions_after peerings_after held packets_after is_not_ipv4 is_malformed is_truncated has_bad_checksum good checksum_for
@@ -511,14 +513,15 @@ packet_of_ttl_5 = 69 ∷ 0 ∷ 0 ∷ 28 ∷ 0 ∷ 0 ∷ 0 ∷ 0 ∷ 5 ∷ 17 ∷
 --       10 ---- p ---- 50
 abbrev triangle : Network
 triangle = record two_links {
-  links = record { a = node_no 0; b = node_no 1; cost = 10; delay = 2; loss = 0 } ∷ record {
+  links = record { a = node_no 0; b = node_no 1; cost = 10; delay = 2; loss = 0; life = 2000 } ∷ record {
     a = node_no 1;
     b = node_no 2;
     cost = 50;
     delay = 2;
     loss =
         0;
-  } ∷ record { a = node_no 0; b = node_no 2; cost = 10; delay = 2; loss = 0 } ∷ [];
+    life = 2000;
+  } ∷ record { a = node_no 0; b = node_no 2; cost = 10; delay = 2; loss = 0; life = 2000 } ∷ [];
 }
 
 -- all links come up, the edges open their session, and every notice and message is heard

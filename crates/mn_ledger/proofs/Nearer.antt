@@ -3,10 +3,10 @@ use Rattle.std.proofs.Common.{ℕ, zero, suc, ◌≡◌, ◌≢◌, ◌+◌, ◌
 use Rattle.std.specs.Prelude.{slice_index_or}
 use Rattle.std.specs.List.{list_all}
 use Rattle.mn_base.proofs.Bools.{and_left, and_right, at_most_tells}
-use Rattle.mn_base.specs.Wiring.{Wiring, View, link}
-use Rattle.mn_base.specs.Paths.{IsLeast, IsNext, next}
-use Rattle.mn_base.proofs.Next.{next_is}
-use Rattle.mn_base.specs.declared.links.LinkEnds.{LinkEnds}
+use Rattle.mn_wiring.specs.Wiring.{Wiring, View, link}
+use Rattle.mn_wiring.specs.Paths.{IsLeast, IsNext, next}
+use Rattle.mn_wiring.proofs.Next.{next_is}
+use Rattle.mn_wiring.specs.declared.links.LinkEnds.{LinkEnds}
 use Rattle.mn_topo.specs.Network.{Network, wiring_of}
 use Rattle.mn_topo.specs.Lawful.{IsLawful, has_figures}
 use Rattle.mn_ledger.specs.Nearer.{IsNearer}
@@ -16,7 +16,7 @@ positive [] l d all h = absurd (none l h)
   where
     none : (l : ℕ) → l < 0 → ⊥
     none l h = omega (arith, h)
-positive (x ∷ xs) zero d all h = at_most_tells 1 x.cost (and_left _ _ (and_left _ _ (and_left _ _ (and_left _ _ all))))
+positive (x ∷ xs) zero d all h = at_most_tells 1 x.cost (and_left _ _ (and_left _ _ (and_left _ _ (and_left _ _ (and_left _ _ all)))))
 positive (x ∷ xs) (suc l) d all h = positive xs l d (and_right _ _ all) (omega (arith, h))
 
 -- two least costs between the same nodes are one

@@ -8,12 +8,12 @@ use Rattle.mn_base.specs.declared.numbers.LinkNo.{LinkNo}
 use Rattle.mn_base.specs.declared.numbers.SiteNo.{SiteNo}
 use Rattle.mn_base.specs.declared.numbers.VrfNo.{VrfNo}
 use Rattle.mn_base.specs.declared.numbers.Rt.{Rt}
-use Rattle.mn_base.specs.declared.links.Dir.TheVariants.{Forth, Back}
-use Rattle.mn_base.specs.declared.drops.Rule.TheVariants as rule
-use Rattle.mn_base.specs.Paths.{next}
+use Rattle.mn_wiring.specs.declared.links.Dir.TheVariants.{Forth, Back}
+use Rattle.mn_drops.specs.declared.drops.Rule.TheVariants as rule
+use Rattle.mn_wiring.specs.Paths.{next}
 use Rattle.mn_ipv4.specs.Header.{is_not_ipv4, is_malformed, is_truncated, has_bad_checksum, good, checksum_for, with_ttl, aged}
 use Rattle.mn_topo.specs.Network.{Network, wiring_of}
-use Rattle.mn_base.specs.Wiring.{JoinsNodes, EndsDiffer, JoinsOnce}
+use Rattle.mn_wiring.specs.Wiring.{JoinsNodes, EndsDiffer, JoinsOnce}
 use Rattle.mn_topo.specs.Lawful.{IsLawful}
 use Rattle.std.specs.List.{IsDistinct}
 use Rattle.mn_base.proofs.Bools.{other_test, no as no_end}
@@ -21,6 +21,7 @@ use Rattle.mn_topo.specs.declared.steps.Step.{Step}
 use Rattle.mn_topo.specs.declared.steps.Step.TheVariants.{LinkUp, LinkDown, Learn, LdpAdmin, HearLdp, BgpUp, HearBgp, Import, Attach, Detach, Inject, Carry}
 use Rattle.mn_topo.specs.declared.steps.Step.TheVariants.{Lose}
 use Rattle.mn_topo.specs.declared.steps.JournalEntry.{JournalEntry}
+use Rattle.mn_topo.specs.declared.steps.Damaged.TheVariants.{Undamaged}
 use Rattle.mn_ledger.specs.declared.verdict.Verdict.TheVariants.{Delivered, Dropped}
 use Rattle.mn_ledger.specs.declared.refused.Refused.TheVariants.{Unchanged, Empty}
 use Rattle.mn_ledger.specs.Transport.{knowledge_of, news, sessions_after}
@@ -32,7 +33,7 @@ use Rattle.mn_ledger.specs.Refusal.{refusal, in_flight, bytes_flying}
 use Rattle.mn_ledger.specs.Lawful.{IsLawfulJournal}
 use Rattle.mn_ledger.specs.World.{World}
 use Rattle.mn_ledger.specs.Settled.{IsSettled}
-use Rattle.mn_base.specs.Wiring.{is_end, across}
+use Rattle.mn_wiring.specs.Wiring.{is_end, across}
 use Rattle.mn_topo.specs.VrfTable.{is_edge}
 use Rattle.mn_ledger.specs.Bgp.{peers_live}
 use Rattle.mn_ledger.specs.Items.{Item, flight_of}
@@ -60,13 +61,14 @@ two_links = record {
   bgp_delay = 3;
   node_names = (112 ∷ 101 ∷ 49 ∷ []) ∷ (112 ∷ []) ∷ (112 ∷ 101 ∷ 50 ∷ []) ∷ [];
   loopbacks = 3221225985 ∷ 3221225986 ∷ 3221225987 ∷ [];
-  links = record { a = node_no 0; b = node_no 1; cost = 10; delay = 2; loss = 0 } ∷ record {
+  links = record { a = node_no 0; b = node_no 1; cost = 10; delay = 2; loss = 0; life = 2000 } ∷ record {
     a = node_no 1;
     b = node_no 2;
     cost = 10;
     delay = 2;
     loss =
         0;
+    life = 2000;
   } ∷ [];
   vrf_names = (114 ∷ 49 ∷ []) ∷ (114 ∷ 50 ∷ []) ∷ [];
   vrfs = record { node = node_no 0; rd = record { 0 = 279172874240001 }; «import» = target ∷ []; export = target ∷ [] } ∷ record {
@@ -82,10 +84,11 @@ two_links = record {
     prefixes =
         record { address = 167903232; length = 16 } ∷ [];
   } ∷ [];
+  resolve = false;
 }
 
 abbrev pub at_start : Step → JournalEntry
-at_start step = record { tick = 0; step = step }
+at_start step = record { tick = 0; step = step; damaged = Undamaged }
 
 -- both links come up, the edges open their session, and every notice and message is heard
 abbrev pub settling : List JournalEntry
@@ -282,7 +285,7 @@ numbers_and_ticks [] = []
 numbers_and_ticks (item ∷ items) = (item.number, item.due) ∷ numbers_and_ticks items
 
 abbrev pub on_its_way : List JournalEntry
-on_its_way = settling ++ record { tick = 5; step = Inject (site_no 0) 1 } ∷ []
+on_its_way = settling ++ record { tick = 5; step = Inject (site_no 0) 1; damaged = Undamaged } ∷ []
 
 pub one_frame_flies : numbers_and_ticks (flight_of two_links on_its_way (packet ∷ [])).items ≡ (36, 7) ∷ []
 unfolding next knowledge_of news sessions_after peerings_after held packets_after is_not_ipv4 is_malformed is_truncated has_bad_checksum good checksum_for

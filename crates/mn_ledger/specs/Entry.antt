@@ -1,8 +1,8 @@
 -- What an edge looks at before it sends a site's packet on: destination and header.
 use Rattle.std.specs.Prelude.{ℕ, ◌/◌, Bool, not, ◌&&◌, ◌||◌, ◌==◌, nat_lt}
 pub use Rattle.mn_base.specs.Rules.{when, first_broken as first_rule}
-use Rattle.mn_base.specs.declared.drops.Rule.{Rule}
-use Rattle.mn_base.specs.declared.drops.Rule.TheVariants as rule
+use Rattle.mn_drops.specs.declared.drops.Rule.{Rule}
+use Rattle.mn_drops.specs.declared.drops.Rule.TheVariants as rule
 use Rattle.mn_ipv4.specs.declared.header.Bad.{Bad}
 use Rattle.mn_ipv4.specs.declared.header.Bad.TheVariants as bad
 

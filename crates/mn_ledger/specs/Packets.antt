@@ -4,11 +4,12 @@
 -- down by one at each node (3.23; RFC 3032, section 2.4, and RFC 3443, section 3.1).
 use Rattle.std.specs.Prelude.{ℕ, zero, suc, ◌+◌, ◌-◌, ◌*◌, ◌==◌, Bool, true, false, not, nat_lt, nat_le, if◌then◌else◌, List, [], ◌∷◌, ◌++◌, length}
 use Rattle.std.specs.Prelude.{slice_index_or, slice_get, slice_set, Option, Some, None, is_none}
-use Rattle.mn_base.specs.declared.drops.Rule.{Rule}
-use Rattle.mn_base.specs.declared.drops.Rule.TheVariants as rule
-use Rattle.mn_base.specs.declared.links.Dir.{Dir}
-use Rattle.mn_base.specs.declared.links.Dir.TheVariants.{Forth, Back}
-use Rattle.mn_base.specs.Wiring.{link, sender, receiver}
+use Rattle.mn_drops.specs.declared.drops.Rule.{Rule}
+use Rattle.mn_drops.specs.declared.drops.Rule.TheVariants as rule
+use Rattle.mn_wiring.specs.declared.links.Dir.{Dir}
+use Rattle.mn_wiring.specs.declared.links.Dir.TheVariants.{Forth, Back}
+pub use Rattle.mn_wiring.specs.Wiring.{channel}
+use Rattle.mn_wiring.specs.Wiring.{link, sender, receiver}
 use Rattle.mn_ipv4.specs.Header.{is_not_ipv4, is_malformed, is_truncated, has_bad_checksum, ttl_of, destination_of, aged}
 use Rattle.mn_topo.specs.Network.{Network, wiring_of}
 use Rattle.mn_topo.specs.declared.steps.Step.{Step}
@@ -38,11 +39,6 @@ pub record Packets : Type 0 where
   pub paths : List (List ℕ)  -- by packet, the nodes at which it was
   pub copies : ℕ  -- how many were delivered
   pub delivered : Option (List ℕ)  -- what the last step delivered
-
--- the number of a direction of a link
-abbrev pub channel : ℕ → Dir → ℕ
-channel l Forth = 2 * l
-channel l Back = 2 * l + 1
 
 abbrev pub flying_on : Packets → ℕ → Dir → List Token
 flying_on packets l dir = packets.flying (channel l dir)

@@ -7,6 +7,8 @@ pub enum Refused {
     Unchanged,
     /// Nothing is there to be learned, heard, carried or lost.
     Empty,
+    /// The damaged message can be read; the ledger says so of no step.
+    StillReads,
     /// The VRF has the prefix already, at this site.
     PrefixTaken { site: SiteNo },
     /// The VRF hasn't the prefix at the site.

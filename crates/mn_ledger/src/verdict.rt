@@ -1,4 +1,6 @@
-use mn_base::{Dir, LinkNo, NodeNo, Rule, SiteNo};
+use mn_base::{LinkNo, NodeNo, SiteNo};
+use mn_drops::Rule;
+use mn_wiring::Dir;
 
 /// What became of a packet.
 #[derive(Clone, Copy, Debug, PartialEq, Eq)]

@@ -2,7 +2,7 @@
 use Rattle.std.proofs.Common.{◌≡◌, ℕ, ◌+◌, ◌-◌, ◌<◌, ◌≤◌, true, false, cond, List, [], ◌∷◌, ap, ◌∙◌, arith, Option, Some, nat_le}
 use Rattle.std.specs.List.{slice_get}
 use Rattle.std.proofs.lemmas.Bool.Decides.{nat_tests}
-use Rattle.mn_base.specs.declared.drops.Rule.TheVariants.{TtlExpired, NoEntry}
+use Rattle.mn_drops.specs.declared.drops.Rule.TheVariants.{TtlExpired, NoEntry}
 use Rattle.mn_stack.specs.declared.message.Entry.{Entry}
 use Rattle.mn_stack.specs.Labelled.{Labelled}
 use Rattle.mn_lfib.specs.declared.answer.Forwarded.{Forwarded}

@@ -1,6 +1,6 @@
 -- What a node does with a frame: RFC 3031, sections 3.10, 3.11 and 3.16; RFC 3032, sections 2.1 and 2.4.
 use Rattle.std.specs.Prelude.{ℕ, ◌+◌, ◌-◌, ◌==◌, ◌&&◌, Bool, true, false, not, nat_le, List, [], ◌∷◌, Option, Some, None, if◌then◌else◌}
-use Rattle.mn_base.specs.declared.drops.Rule.TheVariants.{TtlExpired, SiteGone, NoEntry}
+use Rattle.mn_drops.specs.declared.drops.Rule.TheVariants.{TtlExpired, SiteGone, NoEntry}
 use Rattle.mn_ipv4.specs.Header.{with_ttl}
 use Rattle.mn_stack.specs.declared.message.Entry.{Entry}
 use Rattle.mn_stack.specs.Labelled.{Labelled, swapped, popped, with_top_ttl}

@@ -1,4 +1,5 @@
-use mn_base::{NodeNo, Rule, SiteNo};
+use mn_base::{NodeNo, SiteNo};
+use mn_drops::Rule;
 
 /// What becomes of a frame at a node.
 #[derive(Clone, Copy, Debug, PartialEq, Eq)]

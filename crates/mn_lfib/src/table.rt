@@ -4,7 +4,8 @@ ghost use Rattle.mn_lfib.specs.Forwarding.{by_use, forwarded};
 ghost use Rattle.mn_lfib.specs.Hop.{LeavesWith, IsOneHop};
 
 use crate::answer::{Forwarded, Use};
-use mn_base::{NodeNo, Rule, SiteNo};
+use mn_base::{NodeNo, SiteNo};
+use mn_drops::Rule;
 use mn_stack::Frame;
 use std::alloc::{AllocError, Global};
 use std::collections::BTreeMap;

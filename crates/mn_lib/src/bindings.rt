@@ -74,6 +74,14 @@ impl Lib {
         }
     }
 
+    /// The next hop towards a FEC.
+    pub fn hop(&self, fec: NodeNo) -> Option<NodeNo>
+        requires { fec.0 < nodes self.now }
+        ensures { result ≡ slice_index_or self.now.hops fec.0 None }
+    {
+        self.hops[fec.0 as usize]
+    }
+
     /// Whether the node is open to this neighbour.
     fn is_open(&self, to: NodeNo) -> bool
         ensures { result ≡ is_open self.now to.0 }

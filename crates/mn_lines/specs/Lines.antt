@@ -3,9 +3,9 @@ use Rattle.std.specs.Prelude.{ℕ, List, [], ◌∷◌, ◌++◌, map, codes}
 use Rattle.std.specs.Borrow.{Bor}
 use Rattle.std.specs.List.{flat_map}
 use Rattle.std.specs.Fmt.{decimal}
-use Rattle.mn_base.specs.declared.drops.Rule.{Rule}
-use Rattle.mn_base.specs.declared.drops.Rule.TheVariants.{SiteDown, NotIpv4, Malformed, Truncated, BadChecksum, TtlExpired, NotUnicast, NoRoute, NoLsp}
-use Rattle.mn_base.specs.declared.drops.Rule.TheVariants.{NoEntry, SiteGone, Lost, LinkCut}
+use Rattle.mn_drops.specs.declared.drops.Rule.{Rule}
+use Rattle.mn_drops.specs.declared.drops.Rule.TheVariants.{SiteDown, NotIpv4, Malformed, Truncated, BadChecksum, TtlExpired, NotUnicast, NoRoute, NoLsp}
+use Rattle.mn_drops.specs.declared.drops.Rule.TheVariants.{NoEntry, SiteGone, Lost, LinkCut, Overdue}
 use Rattle.mn_base.specs.declared.numbers.NodeNo.{NodeNo}
 use Rattle.mn_ledger.specs.declared.refused.Refused.{Refused}
 use Rattle.mn_ledger.specs.declared.refused.Refused.TheVariants as why
@@ -40,11 +40,13 @@ rule_name NoEntry = codes "NoEntry"
 rule_name SiteGone = codes "SiteGone"
 rule_name Lost = codes "Lost"
 rule_name LinkCut = codes "LinkCut"
+rule_name Overdue = codes "Overdue"
 
 -- a cause by its name
 abbrev pub cause_name : Refused → List ℕ
 cause_name why.Unchanged = codes "Unchanged"
 cause_name why.Empty = codes "Empty"
+cause_name why.StillReads = codes "StillReads"
 cause_name (why.PrefixTaken site) = codes "PrefixTaken"
 cause_name why.NoRouteThere = codes "NoRouteThere"
 cause_name why.RoutesFull = codes "RoutesFull"

@@ -1,7 +1,8 @@
 ghost use Rattle.std.specs.Prelude.{◌≡◌};
 ghost use Rattle.mn_lines.specs.Lines.{cause_name, rule_name};
 
-use mn_base::{Rule, SiteNo};
+use mn_base::SiteNo;
+use mn_drops::Rule;
 use mn_ledger::Refused;
 
 /// A packet that a line of the script sent.
@@ -45,6 +46,7 @@ pub fn rule_name(rule: Rule) -> &'static str
         Rule::SiteGone => "SiteGone",
         Rule::Lost => "Lost",
         Rule::LinkCut => "LinkCut",
+        Rule::Overdue => "Overdue",
     }
 }
 
@@ -55,6 +57,7 @@ pub fn cause_name(cause: Refused) -> &'static str
     match cause {
         Refused::Unchanged => "Unchanged",
         Refused::Empty => "Empty",
+        Refused::StillReads => "StillReads",
         Refused::PrefixTaken { .. } => "PrefixTaken",
         Refused::NoRouteThere => "NoRouteThere",
         Refused::RoutesFull => "RoutesFull",

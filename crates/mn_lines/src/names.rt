@@ -1,8 +1,9 @@
 ghost use Rattle.std.specs.Prelude.{◌≡◌};
 ghost use Rattle.mn_lines.specs.Names.{ends_at, hearer_of, name_at, pairs_of, sender_of};
 
-use mn_base::{Dir, LinkEnds, NodeNo, SiteNo};
+use mn_base::{NodeNo, SiteNo};
 use mn_topo::Topology;
+use mn_wiring::{Dir, LinkEnds};
 
 /// The name of a node, and the empty text where there is no such node.
 pub fn node_name(topology: &Topology, node: NodeNo) -> &[u8]

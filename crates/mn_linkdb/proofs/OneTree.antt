@@ -5,8 +5,8 @@ use Rattle.std.proofs.lemmas.Bool.Decides.{eqb_tells}
 use Rattle.std.proofs.lemmas.List.{same_lists, get_or_default}
 use Rattle.std.proofs.lemmas.List.FromFn.{get_or-map-range_with_len, length-map-range_with_len}
 use Rattle.mn_base.specs.declared.numbers.NodeNo.{NodeNo}
-use Rattle.mn_base.specs.Wiring.{Wiring, View}
-use Rattle.mn_base.specs.Paths.{IsDist, IsNext, dist_in, dists_to, next}
+use Rattle.mn_wiring.specs.Wiring.{Wiring, View}
+use Rattle.mn_wiring.specs.Paths.{IsDist, IsNext, dist_in, dists_to, next}
 use Rattle.mn_linkdb.specs.PathTable.{PathTable, dist_at, next_at}
 use Rattle.mn_linkdb.specs.Trees.{IsTree, IsNextHop, hop_alone, computed_tree}
 

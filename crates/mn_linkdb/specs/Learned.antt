@@ -1,7 +1,7 @@
 -- What a node has learned of the links.
 use Rattle.std.specs.Prelude.{ℕ, ◌≡◌, List, length, map, slice_index, slice_set, ◌+◌}
-use Rattle.mn_base.specs.declared.links.LinkEnds.{LinkEnds}
-use Rattle.mn_base.specs.Wiring.{Wiring, View}
+use Rattle.mn_wiring.specs.declared.links.LinkEnds.{LinkEnds}
+use Rattle.mn_wiring.specs.Wiring.{Wiring, View}
 use Rattle.mn_linkdb.specs.Changes.{is_odd}
 use Rattle.mn_linkdb.specs.Network.{IsNetwork}
 

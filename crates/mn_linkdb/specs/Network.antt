@@ -1,6 +1,6 @@
 -- The nodes and links with which paths can be computed.
 use Rattle.std.specs.Prelude.{ℕ, ◌<◌, ◌≤◌, List, length, All}
-use Rattle.mn_base.specs.declared.links.LinkEnds.{LinkEnds}
+use Rattle.mn_wiring.specs.declared.links.LinkEnds.{LinkEnds}
 
 -- a link between two of so many nodes, of a cost that counts
 pub record IsLink (nodes : ℕ) (ends : LinkEnds) : Type 0 where

@@ -1,8 +1,8 @@
 -- RFC 2328, section 16.1: from a root, the least walks over the links that are up in a view.
 use Rattle.std.specs.Prelude.{map, ℕ, ◌≡◌, ◌≢◌, ◌<◌, length, Option, Some, None}
 use Rattle.mn_base.specs.declared.numbers.NodeNo.{NodeNo}
-use Rattle.mn_base.specs.Wiring.{Wiring, View, nodes_of}
-use Rattle.mn_base.specs.Paths.{IsDist, IsNext, dist_in, dists_to, next}
+use Rattle.mn_wiring.specs.Wiring.{Wiring, View, nodes_of}
+use Rattle.mn_wiring.specs.Paths.{IsDist, IsNext, dist_in, dists_to, next}
 use Rattle.mn_linkdb.specs.PathTable.{PathTable, IsTable, dist_at, next_at}
 
 -- of the neighbours to which a least walk goes first, the one of least number; none where there is no walk

@@ -1,11 +1,11 @@
 ghost use Rattle.std.specs.Prelude.{◌≡◌, ◌<◌, ◌≤◌, ℕ, List, Bool, false, length, take};
-ghost use Rattle.mn_base.specs.Wiring.{Wiring, View, JoinsNodes};
-ghost use Rattle.mn_base.specs.Paths.{dist_in, dists_to, next};
+ghost use Rattle.mn_wiring.specs.Wiring.{Wiring, View, JoinsNodes};
+ghost use Rattle.mn_wiring.specs.Paths.{dist_in, dists_to, next};
 ghost use Rattle.mn_linkdb.specs.Changes.{is_odd, AllTurn, after_changes};
 ghost use Rattle.mn_linkdb.specs.PathTable.{PathTable, dist_at, next_at};
 ghost use Rattle.mn_linkdb.specs.Trees.{IsTree, hop_alone, computed_tree};
 
-use mn_base::{least_walk, next_hop};
+use mn_wiring::{least_walk, next_hop};
 
 /// Of a link that begins down and is turned by each of its changes, the number of changes that
 /// were learned tells whether it was up after the last of them.

@@ -1,11 +1,12 @@
 ghost use Rattle.std.specs.Prelude.{◌≡◌, ◌≤◌, ◌<◌, ◌↔◌, length, replicate, slice_index, IsErr, IfOk, OnOk, OnErr};
-ghost use Rattle.mn_base.specs.Wiring.{is_up};
+ghost use Rattle.mn_wiring.specs.Wiring.{is_up};
 ghost use Rattle.mn_linkdb.specs.Network.{IsNetwork};
 ghost use Rattle.mn_linkdb.specs.Learned.{IsView, links_up, after_learn};
 
 use crate::LinkDb;
 use crate::changes::is_odd;
-use mn_base::{LinkEnds, LinkNo};
+use mn_base::LinkNo;
+use mn_wiring::LinkEnds;
 use std::alloc::{AllocError, Global};
 use std::marker::Model;
 

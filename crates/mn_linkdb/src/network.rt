@@ -1,7 +1,7 @@
 ghost use Rattle.std.specs.Prelude.{◌↔◌, IsTrue, All};
 ghost use Rattle.mn_linkdb.specs.Network.{IsLink, IsNetwork};
 
-use mn_base::LinkEnds;
+use mn_wiring::LinkEnds;
 
 /// How many nodes a network has at most.
 const MAX_NODES: u32 = 256;

@@ -10,11 +10,10 @@ use Rattle.std.proofs.lemmas.List.FromFn.{get_or-map-range_with_len}
 use Rattle.std.proofs.lemmas.Grind.{flat_map-append}
 use Rattle.mn_base.specs.declared.numbers.NodeNo.{NodeNo}
 use Rattle.mn_base.specs.declared.numbers.SiteNo.{SiteNo}
-use Rattle.mn_base.specs.Wiring.{Wiring, joining}
+use Rattle.mn_wiring.specs.Wiring.{Wiring, joining}
 use Rattle.mn_linkdb.specs.Learned.{Learned}
 use Rattle.mn_linkdb.specs.Changes.{is_odd}
-use Rattle.mn_linkdb.specs.PathTable.{PathTable}
-use Rattle.mn_linkdb.specs.Trees.{IsTree}
+use Rattle.mn_spf_inc.specs.Mended.{Mended}
 use Rattle.mn_labels.specs.declared.meaning.Bind.{Bind}
 use Rattle.mn_labels.specs.declared.meaning.Bind.TheVariants as bind
 use Rattle.mn_labels.specs.Labels.{meaning_of}
@@ -39,13 +38,13 @@ use Rattle.mn_node.proofs.Opening.{hearing-in}
 use Rattle.mn_ldp_session.specs.Spelling.{pdus}
 use Rattle.mn_lsr.specs.declared.parts.Open.{Open}
 use Rattle.mn_lsr.specs.declared.parts.Parts.{Parts}
-use Rattle.mn_lsr.specs.Standing.{AreGiven, IsUseOf, IsSiteUse, session_in, session_label, way_to, state_in}
+use Rattle.mn_lsr.specs.Standing.{IsMendedFor, AreGiven, IsUseOf, IsSiteUse, session_in, session_label, way_to, state_in}
 use Rattle.mn_lsr.specs.Ties.{AreTied}
 use Rattle.mn_lsr.specs.Telling.{said_by_tell, message_of, MayTell}
 use Rattle.mn_lsr.specs.Parts.{FitsLabel, AreOwn, machines_of, wiring_in, node_in, Stands, MayFollow, bumped, pdus_by, ends_after}
 use Rattle.mn_lsr.proofs.Telling.{Agrees, telling, flat_map_below}
 use Rattle.std.proofs.lemmas.Bool.Decides.{eqb_tells}
-use Rattle.mn_base.specs.Paths.{next}
+use Rattle.mn_wiring.specs.Paths.{next}
 use Rattle.mn_linkdb.specs.Trees.{hop_alone}
 use Rattle.mn_node.specs.Ldp.{usable_over}
 use Rattle.mn_node.specs.Node.{view_in}
@@ -294,16 +293,16 @@ module _ (p : Parts) (st : Stands p) (e : Event) (counts : List ℕ) (es : List 
   tied-then = subst (λ m. AreTied w m b) (having-by w p.me.0 b counts ends words by-me) (tied-said w then_node b words tied-there)
 
   -- the parts stand again
-  pub stands-then : (v : Learned) (tree : PathTable) (sessions : Vec (Option Open) Global) (bindings : Bindings) (uses : List (ℕ × Use))
+  pub stands-then : (v : Learned) (mended : Mended) (sessions : Vec (Option Open) Global) (bindings : Bindings) (uses : List (ℕ × Use))
       → v ≡ record { nodes = p.view.nodes; ends = p.view.ends; counts = counts } → length counts ≡ length p.view.counts →
-      IsTree w (map is_odd counts) p.me.0 tree → bindings ≡ b → sessions.items ≡ ends_after ends words
+      IsMendedFor w (map is_odd counts) p.me.0 mended → bindings ≡ b → sessions.items ≡ ends_after ends words
       → ((fec : ℕ) → fec < length p.loopbacks.items → fec ≢ p.me.0 → use_of uses (label_of p.me.0 fec) ≡ fec_use (lib.usable b fec))
       → ((label : ℕ) → ((fec : ℕ) → fec < length p.loopbacks.items → fec ≢ p.me.0 → label ≢ label_of p.me.0 fec) → use_of uses label ≡ use_of p.lfib label)
       → Stands (record {
         me = p.me;
         loopbacks = p.loopbacks;
         view = v;
-        tree = tree;
+        mended = mended;
         sessions = sessions;
         lib = bindings;
         labels = p.labels;
@@ -311,13 +310,13 @@ module _ (p : Parts) (st : Stands p) (e : Event) (counts : List ℕ) (es : List 
             uses;
         attached = p.attached;
       })
-  stands-then v tree sessions bindings uses view_is as_many tree_is lib_is ends_is ways others =
+  stands-then v mended sessions bindings uses view_is as_many mended_is lib_is ends_is ways others =
       let of : Learned → Bindings → Parts =
       λ x y. record {
         me = p.me;
         loopbacks = p.loopbacks;
         view = x;
-        tree = tree;
+        mended = mended;
         sessions = sessions;
         lib = y;
         labels = p.labels;
@@ -331,7 +330,7 @@ module _ (p : Parts) (st : Stands p) (e : Event) (counts : List ℕ) (es : List 
         nodes = st.nodes;
         me = st.me;
         wired = st.wired;
-        tree = tree_is;
+        mended = mended_is;
         ends = subst (λ xs. AreOwn w p.me.0 (machines_of xs)) (sym ends_is) (subst (AreOwn w p.me.0) (sym (machines-after ends words)) h.own);
         rows = heard-after p.lib es ∙ st.rows;
         tied = subst (λ xs. AreTied w (with_ends w p.me.0 b counts xs) b) (sym ends_is) tied-then;
@@ -342,13 +341,13 @@ module _ (p : Parts) (st : Stands p) (e : Event) (counts : List ℕ) (es : List 
         table = table-then (length p.loopbacks.items) p.me.0 p.labels.given (lib.usable p.lib) (lib.usable b) p.lfib uses st.given st.table ways others;
       }))
 
-  pub node-of : (v : Learned) (tree : PathTable) (sessions : Vec (Option Open) Global) (bindings : Bindings) (uses : List (ℕ × Use))
+  pub node-of : (v : Learned) (mended : Mended) (sessions : Vec (Option Open) Global) (bindings : Bindings) (uses : List (ℕ × Use))
       → v ≡ record { nodes = p.view.nodes; ends = p.view.ends; counts = counts } → bindings ≡ b → sessions.items ≡ ends_after ends words
       → node_in (record {
         me = p.me;
         loopbacks = p.loopbacks;
         view = v;
-        tree = tree;
+        mended = mended;
         sessions = sessions;
         lib = bindings;
         labels = p.labels;
@@ -356,12 +355,12 @@ module _ (p : Parts) (st : Stands p) (e : Event) (counts : List ℕ) (es : List 
             uses;
         attached = p.attached;
       }) ≡ after w n e
-  node-of v tree sessions bindings uses view_is lib_is ends_is =
+  node-of v mended sessions bindings uses view_is lib_is ends_is =
       ap (λ x. node_in (record {
         me = p.me;
         loopbacks = p.loopbacks;
         view = x;
-        tree = tree;
+        mended = mended;
         sessions = sessions;
         lib = bindings;
         labels = p.labels;
@@ -372,14 +371,14 @@ module _ (p : Parts) (st : Stands p) (e : Event) (counts : List ℕ) (es : List 
       ∙ ap (λ y. with_ends w p.me.0 y counts sessions.items) lib_is ∙ ap (with_ends w p.me.0 b counts) ends_is ∙ node-then
 
   -- the events may be followed, whatever was said before
-  pub may-follow : (v : Learned) (tree : PathTable) (sessions : Vec (Option Open) Global) (withdrawn : ℕ)
+  pub may-follow : (v : Learned) (mended : Mended) (sessions : Vec (Option Open) Global) (withdrawn : ℕ)
       → v ≡ record { nodes = p.view.nodes; ends = p.view.ends; counts = counts } → length sessions.items ≡ length p.view.ends →
       MayTell (length p.loopbacks.items) withdrawn (releases es)
       → MayFollow (record {
         me = p.me;
         loopbacks = p.loopbacks;
         view = v;
-        tree = tree;
+        mended = mended;
         sessions = sessions;
         lib = p.lib;
         labels = p.labels;
@@ -387,12 +386,12 @@ module _ (p : Parts) (st : Stands p) (e : Event) (counts : List ℕ) (es : List 
             p.lfib;
         attached = p.attached;
       }) withdrawn es
-  may-follow v tree sessions withdrawn view_is as_many may =
+  may-follow v mended sessions withdrawn view_is as_many may =
       subst (λ x. MayFollow (record {
         me = p.me;
         loopbacks = p.loopbacks;
         view = x;
-        tree = tree;
+        mended = mended;
         sessions = sessions;
         lib = p.lib;
         labels = p.labels;

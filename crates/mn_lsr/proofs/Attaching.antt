@@ -114,7 +114,7 @@ module _ (p : Parts) (st : Stands p) where
         me = p.me;
         loopbacks = p.loopbacks;
         view = p.view;
-        tree = p.tree;
+        mended = p.mended;
         sessions = p.sessions;
         lib = p.lib;
         labels = labels;
@@ -127,7 +127,7 @@ module _ (p : Parts) (st : Stands p) where
     nodes = st.nodes;
     me = st.me;
     wired = st.wired;
-    tree = st.tree;
+    mended = st.mended;
     ends = st.ends;
     rows = st.rows;
     tied = st.tied;
@@ -165,7 +165,7 @@ module _ (p : Parts) (st : Stands p) where
         me = p.me;
         loopbacks = p.loopbacks;
         view = p.view;
-        tree = p.tree;
+        mended = p.mended;
         sessions = p.sessions;
         lib = p.lib;
         labels = p.labels;
@@ -178,7 +178,7 @@ module _ (p : Parts) (st : Stands p) where
     nodes = st.nodes;
     me = st.me;
     wired = st.wired;
-    tree = st.tree;
+    mended = st.mended;
     ends = st.ends;
     rows = st.rows;
     tied = st.tied;

@@ -5,9 +5,9 @@ use Rattle.std.specs.List.{flat_map}
 use Rattle.std.proofs.lemmas.Bool.Decides.{eqb_tells}
 use Rattle.std.proofs.lemmas.List.{get_or-set_same, get_or-set_other, set-get_or}
 use Rattle.mn_base.specs.declared.numbers.NodeNo.{NodeNo}
-use Rattle.mn_base.specs.declared.states.LdpState.{LdpState}
-use Rattle.mn_base.specs.declared.states.LdpState.TheVariants.{Initialized, OpenSent, OpenRec, Operational}
-use Rattle.mn_base.specs.Wiring.{Wiring, is_end, across, joining}
+use Rattle.mn_states.specs.declared.states.LdpState.{LdpState}
+use Rattle.mn_states.specs.declared.states.LdpState.TheVariants.{Initialized, OpenSent, OpenRec, Operational}
+use Rattle.mn_wiring.specs.Wiring.{Wiring, is_end, across, joining}
 use Rattle.mn_lib.specs.declared.event.LibEvent.{LibEvent}
 use Rattle.mn_lib.specs.declared.event.LibEvent.TheVariants as event
 use Rattle.mn_lib.specs.Bindings.{Bindings, nodes, row_of, is_open, EventsFit, after_events}

@@ -7,12 +7,12 @@ use Rattle.std.proofs.Math.ListN.{length-set}
 use Rattle.std.proofs.lemmas.Bool.Decides.{eqb_tells}
 use Rattle.std.proofs.lemmas.List.{get_or-set_same, get_or-set_other}
 use Rattle.std.proofs.lemmas.List.FromFn.{length-map-range_with_len, get_or-map-range_with_len, fill_by_all}
-use Rattle.mn_base.specs.Wiring.{Wiring, nodes_of, across, is_end, JoinsNodes, EndsDiffer, JoinsOnce}
-use Rattle.mn_base.specs.Paths.{IsNext, next, next_by, dists_to}
+use Rattle.mn_wiring.specs.Wiring.{Wiring, nodes_of, across, is_end, JoinsNodes, EndsDiffer, JoinsOnce}
+use Rattle.mn_wiring.specs.Paths.{IsNext, next, next_by, dists_to}
 use Rattle.mn_base.specs.declared.numbers.NodeNo.{NodeNo}
 use Rattle.mn_base.proofs.Bools.{two_ways, or_ways, or_left, same_test, same_numbers}
-use Rattle.mn_base.proofs.Next.{next_is}
-use Rattle.mn_base.proofs.Dist.{dists_are_least}
+use Rattle.mn_wiring.proofs.Next.{next_is}
+use Rattle.mn_wiring.proofs.Dist.{dists_are_least}
 use Rattle.mn_linkdb.proofs.OneTree.{next_computed}
 use Rattle.mn_linkdb.specs.Trees.{IsTree, hop_alone}
 use Rattle.mn_linkdb.specs.PathTable.{PathTable, next_at}
@@ -180,9 +180,9 @@ no_next w view me = by (me == me) (elim (eqb_tells me me) [ inl p ↦ p.0 | inr 
     by true e = refl
     by false e = cc
 
-module _ (w : Wiring) (n : Node) (b : Bindings) (l : ℕ) (before table : PathTable) (joins : JoinsNodes w) (differ : EndsDiffer w) (once : JoinsOnce w)
+module _ (w : Wiring) (n : Node) (b : Bindings) (l : ℕ) (table : PathTable) (joins : JoinsNodes w) (differ : EndsDiffer w) (once : JoinsOnce w)
     (below : n.me < length w.loopbacks)
-    (tied : AreTied w n b) (tree_before : IsTree w (view_in n) n.me before) (tree : IsTree w (view_in (changed w n (Learns l))) n.me table) where
+    (tied : AreTied w n b) (tree : IsTree w (view_in (changed w n (Learns l))) n.me table) where
   abbrev next_node : Node
   next_node = changed w n (Learns l)
 
@@ -190,7 +190,7 @@ module _ (w : Wiring) (n : Node) (b : Bindings) (l : ℕ) (before table : PathTa
   next_hop p = hop_alone (next w (view_in (changed w n (Learns l))) n.me p)
 
   abbrev events : List LibEvent
-  events = hop_events n.me before table (length w.loopbacks)
+  events = hop_events n.me b.hops table (length w.loopbacks)
 
   abbrev next_bindings : Bindings
   next_bindings = record b { hops = map (λ p. hop_alone (next w (view_in (changed w n (Learns l))) n.me p)) (nodes_of w) }
@@ -201,12 +201,7 @@ module _ (w : Wiring) (n : Node) (b : Bindings) (l : ℕ) (before table : PathTa
       (λ to. next_is w (view_in (changed w n (Learns l))) to joins n.me below) p table tree h
 
   abbrev same : ℕ → Bool
-  same = stays n.me before table
-
-  in_tree_before : (p : ℕ) → p < length w.loopbacks → next_at before p ≡ hop_alone (next w (view_in n) n.me p)
-  in_tree_before p h =
-      next_computed w (view_in n) n.me below (λ to. dists_are_least w (view_in n) to joins n.me below)
-      (λ to. next_is w (view_in n) to joins n.me below) p before tree_before h
+  same = stays n.me b.hops table
 
   same_is : (one other : Option NodeNo) → same_hop one other ≡ true → one ≡ other
   same_is None None e = refl
@@ -221,15 +216,15 @@ module _ (w : Wiring) (n : Node) (b : Bindings) (l : ℕ) (before table : PathTa
 
   -- what stays is the next hop that is due
   stays-is : (k : ℕ) → k < length w.loopbacks → same k ≡ true → get_or b.hops k None ≡ next_hop k
-  stays-is k h e = elim (or_ways (k == n.me) (same_hop (next_at before k) (next_at table k)) e) [
+  stays-is k h e = elim (or_ways (k == n.me) (same_hop (get_or b.hops k None) (next_at table k)) e) [
     | inl own ↦
         hop_before k h ∙ ap (λ j. hop_alone (next w (view_in n) n.me j)) (same_numbers k n.me own) ∙ ap hop_alone (no_next w (view_in n) n.me)
         ∙ sym (ap (λ j. next_hop j) (same_numbers k n.me own) ∙ ap hop_alone (no_next w (view_in (changed w n (Learns l))) n.me))
-    | inr alike ↦ hop_before k h ∙ sym (in_tree_before k h) ∙ same_is (next_at before k) (next_at table k) alike ∙ in_tree k h
+    | inr alike ↦ same_is (get_or b.hops k None) (next_at table k) alike ∙ in_tree k h
   ]
 
   own-stays : same n.me ≡ true
-  own-stays = or_left (n.me == n.me) (same_hop (next_at before n.me) (next_at table n.me)) (same_test n.me)
+  own-stays = or_left (n.me == n.me) (same_hop (get_or b.hops n.me None) (next_at table n.me)) (same_test n.me)
 
   hops-is : hops_from same table b.hops 0 (length w.loopbacks) ≡ map next_hop (nodes_of w)
   hops-is =

@@ -4,20 +4,20 @@ use Rattle.std.proofs.Common.{Some, None, Vec, Global}
 use Rattle.std.specs.Prelude.{◌==◌, ◌&&◌, ◌%◌, nat_le, is_some, slice_index_or, replicate}
 use Rattle.std.specs.List.{range_with_len}
 use Rattle.std.proofs.lemmas.Bool.Decides.{eqb_tells}
-use Rattle.mn_base.specs.Wiring.{Wiring, JoinsNodes}
-use Rattle.mn_base.specs.Paths.{IsNext, next}
+use Rattle.mn_wiring.specs.Wiring.{Wiring, JoinsNodes}
+use Rattle.mn_wiring.specs.Paths.{IsNext, next}
 use Rattle.mn_base.specs.declared.numbers.NodeNo.{NodeNo}
-use Rattle.mn_base.proofs.Next.{next_is}
+use Rattle.mn_wiring.proofs.Next.{next_is}
 use Rattle.mn_linkdb.specs.Trees.{hop_alone}
 use Rattle.mn_lib.specs.Bindings.{nothing_heard}
 use Rattle.mn_node.specs.Node.{view_in, hearing_in}
 use Rattle.mn_node.specs.Machine.{fresh_node}
 use Rattle.mn_node.proofs.Lists.{map_below}
 use Rattle.mn_node.proofs.Opening.{hearing-in}
-use Rattle.mn_base.specs.declared.links.LinkEnds.{LinkEnds}
-use Rattle.mn_linkdb.specs.Learned.{Learned, links_up, IsOf}
-use Rattle.mn_linkdb.specs.PathTable.{PathTable}
-use Rattle.mn_linkdb.specs.Trees.{IsTree}
+use Rattle.mn_wiring.specs.declared.links.LinkEnds.{LinkEnds}
+use Rattle.mn_linkdb.specs.Changes.{is_odd}
+use Rattle.mn_linkdb.specs.Learned.{Learned, links_up}
+use Rattle.mn_spf_inc.specs.Mended.{Mended}
 use Rattle.mn_labels.specs.declared.meaning.Bind.{Bind}
 use Rattle.mn_labels.specs.declared.meaning.Bind.TheVariants as bind
 use Rattle.mn_labels.specs.Labels.{LabelTable, meaning_of}
@@ -29,7 +29,7 @@ use Rattle.mn_node.specs.Node.{Session, Node}
 use Rattle.mn_ldp_session.specs.declared.session.Session.{Session as Machine}
 use Rattle.mn_lsr.specs.declared.parts.Open.{Open}
 use Rattle.mn_lsr.specs.declared.parts.Parts.{Parts}
-use Rattle.mn_lsr.specs.Standing.{IsWired, AreGiven, IsUseOf, fecs_given, attachments, sessions_from}
+use Rattle.mn_lsr.specs.Standing.{IsWired, IsMendedFor, AreGiven, IsUseOf, fecs_given, attachments, sessions_from}
 use Rattle.mn_lsr.specs.Parts.{FitsLabel, machines_of, node_in, Stands}
 use Rattle.mn_lsr.proofs.Given.{are_given, few_given, no_site, none_attached}
 use Rattle.mn_lsr.specs.Ties.{AreTied}
@@ -99,7 +99,7 @@ no_machines zero = refl
 no_machines (suc n) = ap (λ ss. let o : List (Option Machine) = None ∷ ss in o) (no_machines n)
 
 -- the parts of a node that has learned nothing stand
-module _ (me : NodeNo) (loopbacks : Vec ℕ Global) (ends : List LinkEnds) (tree : PathTable) (sessions : Vec (Option Open) Global) (labels : LabelTable)
+module _ (me : NodeNo) (loopbacks : Vec ℕ Global) (ends : List LinkEnds) (mended : Mended) (sessions : Vec (Option Open) Global) (labels : LabelTable)
     (attached : Vec ℕ Global)
     (below : me.0 < length loopbacks.items) (wired : IsWired (record { loopbacks = loopbacks.items; ends = ends }))
     (sessions_are : sessions.items ≡ replicate (length ends) None)
@@ -112,7 +112,7 @@ module _ (me : NodeNo) (loopbacks : Vec ℕ Global) (ends : List LinkEnds) (tree
     me = me;
     loopbacks = loopbacks;
     view = record { nodes = length loopbacks.items; ends = ends; counts = replicate (length ends) 0 };
-    tree = tree;
+    mended = mended;
     sessions = sessions;
     lib = nothing_heard me (length loopbacks.items);
     labels = labels;
@@ -128,13 +128,13 @@ module _ (me : NodeNo) (loopbacks : Vec ℕ Global) (ends : List LinkEnds) (tree
   machines : machines_of sessions.items ≡ replicate (length ends) None
   machines = ap machines_of sessions_are ∙ no_machines (length ends)
 
-  pub stands : IsTree w (links_up (record { nodes = length loopbacks.items; ends = ends; counts = replicate (length ends) 0 })) me.0 tree → Stands parts
-  stands tree_is = record {
+  pub stands : IsMendedFor w (links_up (record { nodes = length loopbacks.items; ends = ends; counts = replicate (length ends) 0 })) me.0 mended → Stands parts
+  stands mended_is = record {
     view = record { network = wired.network; one_each = so_many (length ends) 0 };
     nodes = refl;
     me = below;
     wired = wired;
-    tree = tree_is;
+    mended = mended_is;
     ends = record {
       one_each = ap length machines ∙ so_many (length ends) None;
       own =
@@ -169,7 +169,11 @@ pub record IsMade (root : NodeNo) (addresses : List ℕ) (links : List LinkEnds)
   pub me : p.me ≡ root
   pub loopbacks : p.loopbacks.items ≡ addresses
   pub view : p.view ≡ record { nodes = length addresses; ends = links; counts = replicate (length links) 0 }
-  pub tree : (w : Wiring) → IsOf w p.view → IsTree w (links_up p.view) root.0 p.tree
+  pub sound : p.mended.failed ≡ false
+  pub from : p.mended.root ≡ root.0
+  pub nodes : p.mended.nodes ≡ length addresses
+  pub ends : p.mended.ends ≡ links
+  pub up : p.mended.up ≡ replicate (length links) false
   pub sessions : p.sessions.items ≡ replicate (length links) None
   pub bindings : p.lib ≡ nothing_heard root (length addresses)
   pub given : p.labels.given ≡ fecs_given (length addresses) root.0
@@ -194,17 +198,21 @@ module _ (me : NodeNo) (loopbacks : List ℕ) (ends : List LinkEnds) (p : Parts)
   given-is : p.labels.given ≡ fecs_given (length p.loopbacks.items) me.0
   given-is = h.given ∙ ap (λ (xs : List ℕ). fecs_given (length xs) me.0) (sym h.loopbacks)
 
-  is_of : IsOf (record { loopbacks = p.loopbacks.items; ends = ends }) p.view
-  is_of = subst (IsOf (record { loopbacks = p.loopbacks.items; ends = ends })) (sym view-is) (record { nodes = refl; ends = refl })
-
-  tree-is : IsTree (record { loopbacks = p.loopbacks.items; ends = ends })
-      (links_up (record { nodes = length p.loopbacks.items; ends = ends; counts = replicate (length ends) 0 })) me.0 p.tree
-  tree-is =
-      subst (λ v. IsTree (record { loopbacks = p.loopbacks.items; ends = ends }) (links_up v) me.0 p.tree) view-is
-      (h.tree (record { loopbacks = p.loopbacks.items; ends = ends }) is_of)
+  mended-is : IsMendedFor (record { loopbacks = p.loopbacks.items; ends = ends })
+      (links_up (record { nodes = length p.loopbacks.items; ends = ends; counts = replicate (length ends) 0 })) me.0 p.mended
+  mended-is = record {
+    sound = h.sound;
+    root = h.from;
+    over = record { nodes = ap length h.loopbacks ∙ sym h.nodes; ends = sym h.ends };
+    up = h.up ∙ sym (none_odd (length ends));
+  }
+    where
+      none_odd : (n : ℕ) → map is_odd (replicate n 0) ≡ replicate n false
+      none_odd zero = refl
+      none_odd (suc n) = ap (λ ups. false ∷ ups) (none_odd n)
 
   abbrev as_made : Parts
-  as_made = parts me p.loopbacks ends p.tree p.sessions p.labels p.attached here wired-here h.sessions given-is h.attached
+  as_made = parts me p.loopbacks ends p.mended p.sessions p.labels p.attached here wired-here h.sessions given-is h.attached
 
   made-is : p ≡ as_made
   made-is =
@@ -213,7 +221,7 @@ module _ (me : NodeNo) (loopbacks : List ℕ) (ends : List LinkEnds) (p : Parts)
         me = m;
         loopbacks = p.loopbacks;
         view = p.view;
-        tree = p.tree;
+        mended = p.mended;
         sessions = p.sessions;
         lib = p.lib;
         labels = p.labels;
@@ -226,7 +234,7 @@ module _ (me : NodeNo) (loopbacks : List ℕ) (ends : List LinkEnds) (p : Parts)
         me = me;
         loopbacks = p.loopbacks;
         view = v;
-        tree = p.tree;
+        mended = p.mended;
         sessions = p.sessions;
         lib = p.lib;
         labels = p.labels;
@@ -239,9 +247,9 @@ module _ (me : NodeNo) (loopbacks : List ℕ) (ends : List LinkEnds) (p : Parts)
 
   pub made-stands : Stands p
   made-stands =
-      subst Stands (sym made-is) (stands me p.loopbacks ends p.tree p.sessions p.labels p.attached here wired-here h.sessions given-is h.attached tree-is)
+      subst Stands (sym made-is) (stands me p.loopbacks ends p.mended p.sessions p.labels p.attached here wired-here h.sessions given-is h.attached mended-is)
 
   pub made-node : node_in p ≡ fresh_node (record { loopbacks = loopbacks; ends = ends }) me.0
   made-node =
-      ap node_in made-is ∙ node-is me p.loopbacks ends p.tree p.sessions p.labels p.attached here wired-here h.sessions given-is h.attached
+      ap node_in made-is ∙ node-is me p.loopbacks ends p.mended p.sessions p.labels p.attached here wired-here h.sessions given-is h.attached
       ∙ ap (λ xs. fresh_node (record { loopbacks = xs; ends = ends }) me.0) h.loopbacks

@@ -9,9 +9,9 @@ use Rattle.std.proofs.lemmas.Bool.Decides.{leb_tells}
 use Rattle.std.proofs.Math.ListN.{length-set}
 use Rattle.std.proofs.lemmas.List.Quantifiers.{position-Some}
 use Rattle.mn_base.specs.declared.numbers.NodeNo.{NodeNo}
-use Rattle.mn_base.specs.declared.states.LdpState.{LdpState}
-use Rattle.mn_base.specs.declared.states.LdpState.TheVariants.{Initialized, OpenSent, OpenRec, Operational}
-use Rattle.mn_base.specs.Wiring.{Wiring, is_end, across}
+use Rattle.mn_states.specs.declared.states.LdpState.{LdpState}
+use Rattle.mn_states.specs.declared.states.LdpState.TheVariants.{Initialized, OpenSent, OpenRec, Operational}
+use Rattle.mn_wiring.specs.Wiring.{Wiring, is_end, across}
 use Rattle.mn_prefix.specs.Prefix.{AddressBlock}
 use Rattle.mn_ldp_wire.specs.declared.message.LdpBody.{LdpBody}
 use Rattle.mn_ldp_wire.specs.declared.message.LdpBody.TheVariants as says
@@ -29,7 +29,8 @@ use Rattle.mn_ldp_session.specs.declared.kind.LdpKind.{LdpKind}
 use Rattle.mn_ldp_session.specs.declared.kind.LdpKind.TheVariants as kind
 use Rattle.mn_ldp_session.specs.declared.session.Session.{Session as Machine}
 use Rattle.mn_ldp_session.specs.declared.session.Reply.{Reply}
-use Rattle.mn_ldp_session.specs.Table.{kind_of, row, state_after_row, says_both, says_keep, begins, says_nothing}
+use Rattle.mn_ldp_session.specs.declared.session.Reply.TheVariants as answer
+use Rattle.mn_ldp_session.specs.Table.{kind_of, row, state_after_row, begins}
 use Rattle.mn_ldp_session.specs.Spelling.{node_of, message_in, SpeaksOfNode}
 use Rattle.mn_lsr.specs.declared.parts.Open.{Open}
 use Rattle.mn_lsr.specs.declared.parts.Parts.{Parts}
@@ -247,11 +248,11 @@ module _ (p : Parts) (st : Stands p) (l : ℕ) (there : l < length p.view.ends) 
   -- the session begins
   began : (label : ℕ) → end.session.state ≡ OpenRec →
       Happens p (Hears l KeepAlive label) p.view.counts (event.Opened (record { 0 = across (wiring_in p) l p.me.0 }) ∷ [])
-      (slice_set p.sessions.items l (Some (heard_end Operational))) l (replied begins)
+      (slice_set p.sessions.items l (Some (heard_end Operational))) l (replied answer.Begins)
   began label e =
       let off : nat_le 2 (count_by end.session.state) ≡ false = ap (λ s. nat_le 2 (count_by s)) e in
       let row_none : old_row ≡ None = none old_row (open-is ∙ off) in
-      heard KeepAlive label Operational (event.Opened (record { 0 = across (wiring_in p) l p.me.0 }) ∷ []) (Some (replicate (nodes p.lib) None)) begins
+      heard KeepAlive label Operational (event.Opened (record { 0 = across (wiring_in p) l p.me.0 }) ∷ []) (Some (replicate (nodes p.lib) None)) answer.Begins
       (ap (λ s. state_after s KeepAlive) e) refl
       (ap (labels_in (length p.loopbacks.items)) row_none ∙ ap (λ k. let o : List (Option ℕ) = replicate k None in o) (sym st.tied.one_each)) refl
       (λ on. off ∙ sym (ap (λ b. not (b || false)) (test_same (across (wiring_in p) l p.me.0))))
@@ -273,18 +274,18 @@ module _ (p : Parts) (st : Stands p) (l : ℕ) (there : l < length p.view.ends) 
     -- a message that says nothing of labels
     idle : (m : Message) (label : ℕ) → state_after Operational m ≡ Operational →
         ((labels : List (Option ℕ)) → labels_after labels m label ≡ labels) → answer Operational m ≡ []
-        → Happens p (Hears l m label) p.view.counts [] (slice_set p.sessions.items l (Some (heard_end Operational))) l (replied says_nothing)
+        → Happens p (Hears l m label) p.view.counts [] (slice_set p.sessions.items l (Some (heard_end Operational))) l (replied answer.Nothing)
     idle m label stays same quiet =
-        heard m label Operational [] old_row says_nothing (ap (λ s. state_after s m) up ∙ stays) (same_row p st l there at_end)
+        heard m label Operational [] old_row answer.Nothing (ap (λ s. state_after s m) up ∙ stays) (same_row p st l there at_end)
         (same (labels_in (length p.loopbacks.items) old_row)) (open-is ∙ on) (λ f. on) (λ h d. refl)
         (ap (λ s. said_on l p.me.0 (answer s m)) up ∙ ap (said_on l p.me.0) quiet) (λ fec. st.fit (across (wiring_in p) l p.me.0) fec) tt
 
     mapped : (fec label : ℕ) → fec < length p.loopbacks.items → IsLabel label
         → Happens p (Hears l (Mapping fec) label) p.view.counts (event.Map (record { 0 = across (wiring_in p) l p.me.0 }) (record { 0 = fec }) label ∷ [])
-        (slice_set p.sessions.items l (Some (heard_end Operational))) l (replied says_nothing)
+        (slice_set p.sessions.items l (Some (heard_end Operational))) l (replied answer.Nothing)
     mapped fec label fec_below is_label =
         heard (Mapping fec) label Operational (event.Map (record { 0 = across (wiring_in p) l p.me.0 }) (record { 0 = fec }) label ∷ [])
-        (with_label old_row fec (Some label)) says_nothing (ap (λ s. state_after s (Mapping fec)) up) refl
+        (with_label old_row fec (Some label)) answer.Nothing (ap (λ s. state_after s (Mapping fec)) up) refl
         (labels-with (length p.loopbacks.items) old_row fec (Some label) (open-is ∙ on)) (some-with old_row fec (Some label) ∙ open-is ∙ on) (λ f. on)
         (λ h d. refl) (ap (λ s. said_on l p.me.0 (answer s (Mapping fec))) up)
         (fit-with old_row fec (Some label) (label-small label is_label) (λ k. st.fit (across (wiring_in p) l p.me.0) k))
@@ -292,10 +293,10 @@ module _ (p : Parts) (st : Stands p) (l : ℕ) (there : l < length p.view.ends) 
 
     withdrawn : (fec label : ℕ) → fec < length p.loopbacks.items
         → Happens p (Hears l (Withdraw fec) label) p.view.counts (event.Withdraw (record { 0 = across (wiring_in p) l p.me.0 }) (record { 0 = fec }) ∷ [])
-        (slice_set p.sessions.items l (Some (heard_end Operational))) l (replied says_nothing)
+        (slice_set p.sessions.items l (Some (heard_end Operational))) l (replied answer.Nothing)
     withdrawn fec label fec_below =
         heard (Withdraw fec) label Operational (event.Withdraw (record { 0 = across (wiring_in p) l p.me.0 }) (record { 0 = fec }) ∷ [])
-        (with_label old_row fec None) says_nothing (ap (λ s. state_after s (Withdraw fec)) up) refl
+        (with_label old_row fec None) answer.Nothing (ap (λ s. state_after s (Withdraw fec)) up) refl
         (labels-with (length p.loopbacks.items) old_row fec None (open-is ∙ on)) (some-with old_row fec None ∙ open-is ∙ on) (λ f. on) (λ h d. refl)
         (ap (λ s. said_on l p.me.0 (answer s (Withdraw fec))) up
         ∙ sym (ap (λ ls. flat_map (λ k. said_on k p.me.0 (Release fec ∷ [])) ls ++ []) (only p st l there at_end)))
@@ -304,7 +305,7 @@ module _ (p : Parts) (st : Stands p) (l : ℕ) (there : l < length p.view.ends) 
 
   abbrev IsHearing : Message → ℕ → Reply → LdpState → Type 0
   IsHearing m label reply next =
-      Happens p (Hears l m label) p.view.counts (heard_by (record { 0 = across (wiring_in p) l p.me.0 }) reply.became_operational m label)
+      Happens p (Hears l m label) p.view.counts (heard_by (record { 0 = across (wiring_in p) l p.me.0 }) (begins reply) m label)
       (slice_set p.sessions.items l (Some (heard_end next))) l (replied reply)
 
   by_table : (state : LdpState) (m : Message) (label : ℕ) → end.session.state ≡ state → SpeaksOfNode (wiring_in p) m → BringsLabel m label →
@@ -312,11 +313,11 @@ module _ (p : Parts) (st : Stands p) (l : ℕ) (there : l < length p.view.ends) 
       → o ≡ Some (reply, next) → IsHearing m label reply next
   by_table Initialized Initialization label e node fits o f reply next g =
       subst (λ (x : Reply × LdpState). IsHearing Initialization label x.0 x.1) (some_same (f ∙ g))
-      (before Initialization label OpenRec says_both (ap (λ s. state_after s Initialization) e) (ap (λ s. nat_le 2 (count_by s)) e) refl (λ ls. refl)
+      (before Initialization label OpenRec answer.Both (ap (λ s. state_after s Initialization) e) (ap (λ s. nat_le 2 (count_by s)) e) refl (λ ls. refl)
       (ap (λ s. said_on l p.me.0 (answer s Initialization)) e))
   by_table OpenSent Initialization label e node fits o f reply next g =
       subst (λ (x : Reply × LdpState). IsHearing Initialization label x.0 x.1) (some_same (f ∙ g))
-      (before Initialization label OpenRec says_keep (ap (λ s. state_after s Initialization) e) (ap (λ s. nat_le 2 (count_by s)) e) refl (λ ls. refl)
+      (before Initialization label OpenRec answer.KeepAlive (ap (λ s. state_after s Initialization) e) (ap (λ s. nat_le 2 (count_by s)) e) refl (λ ls. refl)
       (ap (λ s. said_on l p.me.0 (answer s Initialization)) e))
   by_table OpenRec KeepAlive label e node fits o f reply next g =
       subst (λ (x : Reply × LdpState). IsHearing KeepAlive label x.0 x.1) (some_same (f ∙ g)) (began label e)
@@ -357,20 +358,20 @@ module _ (p : Parts) (st : Stands p) (l : ℕ) (there : l < length p.view.ends) 
   pub hearing-as : (body : LdpBody) (m : Message) (label : ℕ) (reply : Reply) (machine : Machine) (to : NodeNo) (es : List LibEvent)
       (ends : List (Option Open)) → IsMeant (wiring_in p) body m label
       → row end.session.state (kind_of body) ≡ Some (reply, machine.state) → machine ≡ record end.session { state = machine.state } →
-      to.0 ≡ across (wiring_in p) l p.me.0 → es ≡ heard_by to reply.became_operational m label
+      to.0 ≡ across (wiring_in p) l p.me.0 → es ≡ heard_by to (begins reply) m label
       → ends ≡ slice_set p.sessions.items l (Some (record { session = machine; said = end.said }))
       → Happens p (Hears l m label) p.view.counts es ends l (replied reply) × MayTell (length p.loopbacks.items) label (releases es)
   hearing-as body m label reply machine to es ends meant f e g i j =
-      let es_are : es ≡ heard_by (record { 0 = across (wiring_in p) l p.me.0 }) reply.became_operational m label =
-      i ∙ ap (λ k. heard_by (let o : NodeNo = record { 0 = k } in o) reply.became_operational m label) g in
+      let es_are : es ≡ heard_by (record { 0 = across (wiring_in p) l p.me.0 }) (begins reply) m label =
+      i ∙ ap (λ k. heard_by (let o : NodeNo = record { 0 = k } in o) (begins reply) m label) g in
       let ends_are : ends ≡ slice_set p.sessions.items l (Some (heard_end machine.state)) =
       j ∙ ap (λ x. slice_set p.sessions.items l (let o : Option Open = Some (record { session = x; said = end.said }) in o)) e in (
         subst (λ xs. Happens p (Hears l m label) p.view.counts xs ends l (replied reply)) (sym es_are)
             (subst (λ xs. Happens p (Hears l m label) p.view.counts
-            (heard_by (record { 0 = across (wiring_in p) l p.me.0 }) reply.became_operational m label) xs l (replied reply)) (sym ends_are)
+            (heard_by (record { 0 = across (wiring_in p) l p.me.0 }) (begins reply) m label) xs l (replied reply)) (sym ends_are)
             (hearing body m label reply machine.state meant f)),
         subst (λ xs. MayTell (length p.loopbacks.items) label (releases xs)) (sym es_are)
-            (may_release m label reply.became_operational meant.node meant.label_fits),
+            (may_release m label (begins reply) meant.node meant.label_fits),
       )
 
   -- the state machine then

@@ -3,7 +3,7 @@ use Rattle.std.proofs.Common.{ℕ, suc, ◌≡◌, ◌+◌, ◌<◌, ◌≤◌, 
 use Rattle.std.specs.Prelude.{◌==◌, ◌&&◌, ◌-◌, slice_index_or}
 use Rattle.std.specs.List.{flat_map, range_with_len}
 use Rattle.std.proofs.lemmas.List.{append_assoc}
-use Rattle.mn_base.specs.Wiring.{Wiring, link, is_end, across}
+use Rattle.mn_wiring.specs.Wiring.{Wiring, link, is_end, across}
 use Rattle.mn_node.specs.Ldp.{Message, Said, said_on}
 use Rattle.mn_ldp_session.specs.Spelling.{Pdu, pdu}
 use Rattle.mn_lsr.specs.declared.parts.Open.{Open}

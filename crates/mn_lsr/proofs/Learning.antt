@@ -3,9 +3,9 @@ use Rattle.std.proofs.Common.{ℕ, ◌≡◌, ◌+◌, List, [], ◌∷◌, leng
 use Rattle.std.specs.Prelude.{not, option_map}
 use Rattle.std.specs.List.{flat_map}
 use Rattle.mn_base.specs.declared.numbers.NodeNo.{NodeNo}
-use Rattle.mn_base.specs.Wiring.{Wiring, nodes_of}
-use Rattle.mn_base.specs.Paths.{next}
-use Rattle.mn_linkdb.specs.Learned.{Learned, links_up, after_learn, IsOf}
+use Rattle.mn_wiring.specs.Wiring.{Wiring, nodes_of}
+use Rattle.mn_wiring.specs.Paths.{next}
+use Rattle.mn_linkdb.specs.Learned.{Learned, links_up, after_learn}
 use Rattle.mn_linkdb.specs.PathTable.{PathTable}
 use Rattle.mn_linkdb.specs.Trees.{IsTree, hop_alone}
 use Rattle.mn_lib.specs.declared.event.LibEvent.{LibEvent}
@@ -30,43 +30,36 @@ sessions-hops w me b hs q [] = refl
 sessions-hops w me b hs q (end ∷ ends) = ap (λ ss. option_map (session_in w me b q) end ∷ ss) (sessions-hops w me b hs (q + 1) ends)
 
 pub learning : (p : Parts) (st : Stands p) (l : ℕ) (tree : PathTable) → IsTree (wiring_in p) (links_up (after_learn p.view l)) p.me.0 tree
-    → Happens p (Learns l) (after_learn p.view l).counts (hop_events p.me.0 p.tree tree (length p.loopbacks.items)) p.sessions.items 0 []
+    → Happens p (Learns l) (after_learn p.view l).counts (hop_events p.me.0 p.lib.hops tree (length p.loopbacks.items)) p.sessions.items 0 []
 learning p st l tree tree_is =
     let w : Wiring = wiring_in p in
     let n : Node = node_in p in
-    let follow : after_events p.lib (hop_events p.me.0 p.tree tree (length p.loopbacks.items)) ≡ record p.lib {
+    let follow : after_events p.lib (hop_events p.me.0 p.lib.hops tree (length p.loopbacks.items)) ≡ record p.lib {
       hops =
           map (λ fec. hop_alone (next w (view_in (changed w n (Learns l))) p.me.0 fec)) (nodes_of w);
     } =
-    follows w n p.lib l p.tree tree st.wired.joins st.wired.differ st.wired.once st.me st.tied st.tree tree_is in
+    follows w n p.lib l tree st.wired.joins st.wired.differ st.wired.once st.me st.tied tree_is in
     record {
       is = ap (λ b. let o : Node =
           record { me = p.me.0; learned = (after_learn p.view l).counts; sessions = sessions_from w p.me.0 b 0 p.sessions.items } in o) follow
           ∙ ap (λ ss. let o : Node = record { me = p.me.0; learned = (after_learn p.view l).counts; sessions = ss } in o)
           (sessions-hops w p.me.0 p.lib (map (λ fec. hop_alone (next w (view_in (changed w n (Learns l))) p.me.0 fec)) (nodes_of w)) 0 p.sessions.items);
       tied = subst (AreTied w (changed w n (Learns l))) (sym follow)
-          (still_tied w n p.lib l p.tree tree st.wired.joins st.wired.differ st.wired.once st.me st.tied st.tree tree_is);
-      was = λ h k below j on. on ∙ sym (ap not (opens-none (stays p.me.0 p.tree tree) tree h (length p.loopbacks.items) 0));
-      answered = sym (ap (flat_map (said_by_tell w p.me.0)) (releases-none (stays p.me.0 p.tree tree) tree (length p.loopbacks.items) 0));
+          (still_tied w n p.lib l tree st.wired.joins st.wired.differ st.wired.once st.me st.tied tree_is);
+      was = λ h k below j on. on ∙ sym (ap not (opens-none (stays p.me.0 p.lib.hops tree) tree h (length p.loopbacks.items) 0));
+      answered = sym (ap (flat_map (said_by_tell w p.me.0)) (releases-none (stays p.me.0 p.lib.hops tree) tree (length p.loopbacks.items) 0));
       own = st.ends;
       fit = λ h fec. subst (λ b. FitsLabel (lib.label_learned (lib.row_of b h) fec)) (sym follow) (st.fit h fec);
-      fits = may_follow w n p.lib l p.tree tree st.wired.joins st.wired.differ st.wired.once st.me st.tied st.tree tree_is;
+      fits = may_follow w n p.lib l tree st.wired.joins st.wired.differ st.wired.once st.me st.tied tree_is;
     }
 
--- the tree is that of the view which has learned
-pub tree-of : (p : Parts) → Stands p → (l : ℕ) (v : Learned) (tree : PathTable) → v ≡ after_learn p.view l →
-    ((x : Wiring) → IsOf x v → IsTree x (links_up v) p.me.0 tree) → IsTree (wiring_in p) (links_up (after_learn p.view l)) p.me.0 tree
-tree-of p st l v tree e h =
-    subst (λ x. IsTree (wiring_in p) (links_up x) p.me.0 tree) e
-    (h (wiring_in p) (subst (IsOf (wiring_in p)) (sym e) (record { nodes = sym st.nodes; ends = refl })))
-
 pub events-of : (p : Parts) → Stands p → (l : ℕ) (v : Learned) (tree : PathTable) (k : ℕ) (es ds : List LibEvent) → v ≡ after_learn p.view l → k ≡ v.nodes →
-    es ≡ hop_events p.me.0 p.tree tree k → ds ≡ es → ds ≡ hop_events p.me.0 p.tree tree (length p.loopbacks.items)
-events-of p st l v tree k es ds e f g h = h ∙ g ∙ ap (hop_events p.me.0 p.tree tree) (f ∙ ap (λ x. x.nodes) e ∙ st.nodes)
+    es ≡ hop_events p.me.0 p.lib.hops tree k → ds ≡ es → ds ≡ hop_events p.me.0 p.lib.hops tree (length p.loopbacks.items)
+events-of p st l v tree k es ds e f g h = h ∙ g ∙ ap (hop_events p.me.0 p.lib.hops tree) (f ∙ ap (λ x. x.nodes) e ∙ st.nodes)
 
 -- they withdraw nothing
-pub releases-of : (p : Parts) (tree : PathTable) (withdrawn : ℕ) (es : List LibEvent) → es ≡ hop_events p.me.0 p.tree tree (length p.loopbacks.items) →
+pub releases-of : (p : Parts) (tree : PathTable) (withdrawn : ℕ) (es : List LibEvent) → es ≡ hop_events p.me.0 p.lib.hops tree (length p.loopbacks.items) →
     MayTell (length p.loopbacks.items) withdrawn (releases es)
 releases-of p tree withdrawn es e =
-    subst (MayTell (length p.loopbacks.items) withdrawn) (sym (ap releases e ∙ releases-none (stays p.me.0 p.tree tree) tree (length p.loopbacks.items) 0))
+    subst (MayTell (length p.loopbacks.items) withdrawn) (sym (ap releases e ∙ releases-none (stays p.me.0 p.lib.hops tree) tree (length p.loopbacks.items) 0))
     tt

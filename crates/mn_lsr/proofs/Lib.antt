@@ -19,3 +19,4 @@ pub mod Fresh
 pub mod Ids
 pub mod Inside
 pub mod Wired
+pub mod Mended

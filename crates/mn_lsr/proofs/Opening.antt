@@ -1,8 +1,8 @@
 -- A node whose session begins.
 use Rattle.std.proofs.Common.{ℕ, ◌≡◌, ◌<◌, Bool, true, false, List, [], ◌∷◌, ◌++◌, length, refl, sym, ◌∙◌, ap, subst, replicate, Option, Some, None}
 use Rattle.std.specs.Prelude.{nat_le, nat_lt, is_some, slice_set, if◌then◌else◌}
-use Rattle.mn_base.specs.declared.states.LdpState.TheVariants.{Initialized, OpenSent}
-use Rattle.mn_base.specs.Wiring.{is_end, across}
+use Rattle.mn_states.specs.declared.states.LdpState.TheVariants.{Initialized, OpenSent}
+use Rattle.mn_wiring.specs.Wiring.{is_end, across}
 use Rattle.mn_lib.specs.Bindings.{row_of}
 use Rattle.mn_lib.specs.Bindings as lib
 use Rattle.mn_node.specs.Ldp.{Initialization, said_on, state_by}

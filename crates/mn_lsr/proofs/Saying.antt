@@ -8,7 +8,7 @@ use Rattle.std.proofs.Common.{drop}
 use Rattle.std.proofs.lemmas.List.{append_assoc}
 use Rattle.std.proofs.Math.Seq.{drop-cons}
 use Rattle.std.proofs.Math.ListN.{length-set}
-use Rattle.mn_base.specs.Wiring.{Wiring}
+use Rattle.mn_wiring.specs.Wiring.{Wiring}
 use Rattle.mn_lib.specs.declared.event.Tell.{Tell}
 use Rattle.mn_ldp_session.specs.Spelling.{Pdu}
 use Rattle.mn_lib.specs.Bindings.{Bindings}

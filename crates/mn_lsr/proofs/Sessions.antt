@@ -4,7 +4,7 @@ use Rattle.std.specs.Prelude.{slice_index_or, slice_set, option_map}
 use Rattle.std.proofs.Math.ListN.{length-set}
 use Rattle.std.proofs.lemmas.Bool.Decides.{eqb_tells}
 use Rattle.std.proofs.lemmas.List.{get_or-set_same, get_or-set_other, set-set}
-use Rattle.mn_base.specs.Wiring.{Wiring, is_end, across, joining, JoinsNodes, JoinsOnce}
+use Rattle.mn_wiring.specs.Wiring.{Wiring, is_end, across, joining, JoinsNodes, JoinsOnce}
 use Rattle.mn_lib.specs.Bindings.{Bindings, row_of}
 use Rattle.mn_node.specs.Node.{Session}
 use Rattle.mn_ldp_session.specs.declared.session.Session.{Session as Machine}

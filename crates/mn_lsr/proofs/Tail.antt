@@ -10,8 +10,9 @@ use Rattle.mn_lib.specs.Tells.{tells, releases}
 use Rattle.mn_node.specs.Ldp.{Message, said_on}
 use Rattle.mn_node.specs.Node.{label_of}
 use Rattle.mn_node.specs.Machine.{Event, changed, said, after_event as after}
-use Rattle.mn_base.specs.Wiring.{Wiring}
+use Rattle.mn_wiring.specs.Wiring.{Wiring}
 use Rattle.mn_ldp_session.specs.declared.session.Reply.{Reply}
+use Rattle.mn_ldp_session.specs.declared.session.Reply.TheVariants as says
 use Rattle.mn_ldp_session.specs.Spelling.{Pdu, pdus}
 use Rattle.mn_lsr.specs.Replies.{replied}
 use Rattle.mn_lsr.specs.declared.parts.Open.{Open}
@@ -55,7 +56,7 @@ module _ (p : Parts) (st : Stands p) (e : Event) (es : List LibEvent) (ends : Li
       → MayFollow q withdrawn es
   may-follow-then q s withdrawn q_is s_is may =
       subst (λ x. MayFollow x withdrawn es) (sym q_is)
-      (may-follow p st e p.view.counts es ends l pre h p.view p.tree s withdrawn refl (ap length s_is ∙ length-ends_after ends (said_on l p.me.0 pre)
+      (may-follow p st e p.view.counts es ends l pre h p.view p.mended s withdrawn refl (ap length s_is ∙ length-ends_after ends (said_on l p.me.0 pre)
       ∙ ends-length) may)
 
   told : (s : Vec (Option Open) Global) (r : Parts) (withdrawn : ℕ) (before middle after_it : List Pdu) → s.items ≡ ends_after ends (said_on l p.me.0 pre)
@@ -70,7 +71,7 @@ module _ (p : Parts) (st : Stands p) (e : Event) (es : List LibEvent) (ends : Li
         me = x.me;
         loopbacks = x.loopbacks;
         view = x.view;
-        tree = x.tree;
+        mended = x.mended;
         sessions = r.sessions;
         lib = r.lib;
         labels =
@@ -80,8 +81,8 @@ module _ (p : Parts) (st : Stands p) (e : Event) (es : List LibEvent) (ends : Li
       } in
       record {
         stands = subst Stands (sym t.others)
-            (stands-then p st e p.view.counts es ends l pre h p.view p.tree r.sessions r.lib r.lfib refl refl st.tree t.bindings counted t.ways t.uses);
-        node = ap node_in t.others ∙ node-of p st e p.view.counts es ends l pre h p.view p.tree r.sessions r.lib r.lfib refl t.bindings counted;
+            (stands-then p st e p.view.counts es ends l pre h p.view p.mended r.sessions r.lib r.lfib refl refl st.mended t.bindings counted t.ways t.uses);
+        node = ap node_in t.others ∙ node-of p st e p.view.counts es ends l pre h p.view p.mended r.sessions r.lib r.lfib refl t.bindings counted;
         said = t.said ∙ ap (λ xs. xs ++ pdus_by (wiring_in p) p.me.0 withdrawn s.items (flat_map (said_by_tell (wiring_in p) p.me.0) (tells p.lib es))) m_is
             ∙ ap (λ xs. (before ++ pdus_by (wiring_in p) p.me.0 withdrawn ends (said_on l p.me.0 pre)) ++ pdus_by (wiring_in p) p.me.0 withdrawn xs
             (flat_map (said_by_tell (wiring_in p) p.me.0) (tells p.lib es))) s_is
@@ -139,19 +140,11 @@ after-said p st e ends l pre h q withdrawn before middle q_is s_is m_is =
 -- messages that bring no label are said alike, whatever label is withdrawn
 pub no_label : (w : Wiring) (l me withdrawn : ℕ) (ends : List (Option Open)) (reply : Reply) →
     pdus_by w me 0 ends (said_on l me (replied reply)) ≡ pdus_by w me withdrawn ends (said_on l me (replied reply))
-no_label w l me withdrawn ends reply = by reply.say_init reply.say_keep reply.became_operational
-  where
-    by : (a b c : Bool) →
-        pdus_by w me 0 ends (said_on l me (replied (record { say_init = a; say_keep = b; became_operational = c }))) ≡ pdus_by w me withdrawn ends
-        (said_on l me (replied (record { say_init = a; say_keep = b; became_operational = c })))
-    by true true true = refl
-    by true true false = refl
-    by true false true = refl
-    by true false false = refl
-    by false true true = refl
-    by false true false = refl
-    by false false true = refl
-    by false false false = refl
+no_label w l me withdrawn ends says.Nothing = refl
+no_label w l me withdrawn ends says.Initialization = refl
+no_label w l me withdrawn ends says.Both = refl
+no_label w l me withdrawn ends says.KeepAlive = refl
+no_label w l me withdrawn ends says.Begins = refl
 
 -- what a reply leaves
 pub record IsReplied (p q : Parts) (ends : List (Option Open)) (l withdrawn : ℕ) (reply : Reply) (before after_it : List Pdu) : Type 0 where

@@ -5,10 +5,10 @@ use Rattle.std.specs.Prelude.{◌==◌, ◌&&◌, ◌||◌, is_some, slice_index
 use Rattle.std.specs.List.{range_with_len}
 use Rattle.std.proofs.lemmas.Bool.Decides.{eqb_tells}
 use Rattle.std.proofs.lemmas.List.FromFn.{get_or-map-range_with_len}
-use Rattle.mn_base.specs.Wiring.{Wiring, links_of, links_at, link, is_end, across, joining, JoinsNodes, JoinsOnce}
-use Rattle.mn_base.specs.Paths.{IsNext, next}
+use Rattle.mn_wiring.specs.Wiring.{Wiring, links_of, links_at, link, is_end, across, joining, JoinsNodes, JoinsOnce}
+use Rattle.mn_wiring.specs.Paths.{IsNext, next}
 use Rattle.mn_base.specs.declared.numbers.NodeNo.{NodeNo}
-use Rattle.mn_base.proofs.Next.{next_is}
+use Rattle.mn_wiring.proofs.Next.{next_is}
 use Rattle.mn_linkdb.specs.Trees.{hop_alone}
 use Rattle.mn_lib.specs.Bindings.{Bindings, nodes, row_of, is_open}
 use Rattle.mn_lib.specs.Bindings as lib

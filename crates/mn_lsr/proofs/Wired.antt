@@ -1,7 +1,7 @@
 -- Three routers in a row are wired as a node asks for.
 use Rattle.std.proofs.Common.{zero, suc, arith}
 use Rattle.std.specs.Prelude.{All}
-use Rattle.mn_base.specs.Wiring.{JoinsNodes, EndsDiffer, JoinsOnce}
+use Rattle.mn_wiring.specs.Wiring.{JoinsNodes, EndsDiffer, JoinsOnce}
 use Rattle.mn_linkdb.specs.Network.{IsLink}
 use Rattle.mn_ldp_session.specs.Routers.{routers_in_a_row}
 use Rattle.mn_ldp_session.proofs.InARow.{spelled}

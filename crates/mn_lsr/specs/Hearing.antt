@@ -1,6 +1,6 @@
 -- What becomes of bytes that come in on a link.
 use Rattle.std.specs.Prelude.{ℕ, ◌≡◌, ◌++◌, List, [], ◌∷◌, Option, Some, None, Result, Ok, Err}
-use Rattle.mn_base.specs.Wiring.{Wiring, across}
+use Rattle.mn_wiring.specs.Wiring.{Wiring, across}
 use Rattle.mn_ldp_wire.specs.declared.message.LdpId.{LdpId}
 use Rattle.mn_ldp_wire.specs.declared.message.LdpMessage.{LdpMessage}
 use Rattle.mn_ldp_wire.specs.declared.refusal.WireBad.{WireBad}

@@ -1,7 +1,7 @@
 -- What a node says and hears inside the network, where the other end of a session is a node too.
 use Rattle.std.specs.Prelude.{ℕ, ◌+◌, ◌≡◌, ◌<◌, true, length, List, [], ◌∷◌, Ok, ⊤}
 use Rattle.std.specs.List.{AllByRecursion}
-use Rattle.mn_base.specs.Wiring.{Wiring, across}
+use Rattle.mn_wiring.specs.Wiring.{Wiring, across}
 use Rattle.mn_node.specs.Ldp.{Message, Said, has_ldp_row}
 use Rattle.mn_node.specs.Node.{Session, Node, session_at, label_brought}
 use Rattle.mn_node.specs.Machine.{Event, Hears, changed, said, after_event}

@@ -4,10 +4,9 @@ use Rattle.std.specs.Prelude.{slice_set, Option, Some, None, option_map, ⊤}
 use Rattle.std.specs.List.{flat_map, range_with_len}
 use Rattle.mn_base.specs.Limits.{most_labels}
 use Rattle.mn_base.specs.declared.numbers.NodeNo.{NodeNo}
-use Rattle.mn_base.specs.Wiring.{Wiring, is_end, across, JoinsNodes}
+use Rattle.mn_wiring.specs.Wiring.{Wiring, is_end, across, JoinsNodes}
 use Rattle.mn_linkdb.specs.Learned.{links_up, IsView}
 use Rattle.mn_linkdb.specs.PathTable.{PathTable, next_at}
-use Rattle.mn_linkdb.specs.Trees.{IsTree}
 use Rattle.mn_labels.specs.Labels.{meaning_of}
 use Rattle.mn_lfib.specs.Uses.{use_of, fec_use, IsNextHop}
 use Rattle.mn_lib.specs.declared.event.LibEvent.{LibEvent}
@@ -21,7 +20,7 @@ use Rattle.mn_ldp_session.specs.declared.session.Session.{Session}
 use Rattle.mn_ldp_session.specs.Spelling.{Pdu, pdu}
 use Rattle.mn_lsr.specs.declared.parts.Open.{Open}
 use Rattle.mn_lsr.specs.declared.parts.Parts.{Parts}
-use Rattle.mn_lsr.specs.Standing.{IsWired, AreGiven, IsUseOf, sessions_from, attachments}
+use Rattle.mn_lsr.specs.Standing.{IsWired, IsMendedFor, AreGiven, IsUseOf, sessions_from, attachments}
 use Rattle.mn_lsr.specs.Telling.{MayTell}
 use Rattle.mn_lsr.specs.Ties.{AreTied}
 
@@ -55,7 +54,7 @@ pub record Stands (p : Parts) : Type 0 where
   pub nodes : p.view.nodes ≡ length p.loopbacks.items
   pub me : p.me.0 < length p.loopbacks.items
   pub wired : IsWired (wiring_in p)
-  pub tree : IsTree (wiring_in p) (links_up p.view) p.me.0 p.tree
+  pub mended : IsMendedFor (wiring_in p) (links_up p.view) p.me.0 p.mended
   pub ends : AreOwn (wiring_in p) p.me.0 (machines_of p.sessions.items)
   pub rows : length p.lib.heard ≡ length p.loopbacks.items
   pub tied : AreTied (wiring_in p) (node_in p) p.lib
@@ -91,16 +90,16 @@ same_hop None None = true
 same_hop (Some one) (Some other) = one.0 == other.0
 same_hop _ _ = false
 
--- nothing happens to the node's own FEC, nor to one towards which the next hop is the same in both trees
-abbrev pub stays : ℕ → PathTable → PathTable → ℕ → Bool
-stays me before table fec = (fec == me) || same_hop (next_at before fec) (next_at table fec)
+-- nothing happens to the node's own FEC, nor to one towards which the next hop is that of the tree already
+abbrev pub stays : ℕ → List (Option NodeNo) → PathTable → ℕ → Bool
+stays me hops table fec = (fec == me) || same_hop (slice_index_or hops fec None) (next_at table fec)
 
 -- the next hop towards each other FEC, as it is in the tree
 abbrev pub hop_event : (ℕ → Bool) → PathTable → ℕ → List LibEvent
 hop_event same table fec = if same fec then [] else event.Next (record { 0 = fec }) (next_at table fec) ∷ []
 
-abbrev pub hop_events : ℕ → PathTable → PathTable → ℕ → List LibEvent
-hop_events me before table nodes = flat_map (hop_event (stays me before table) table) (range_with_len 0 nodes)
+abbrev pub hop_events : ℕ → List (Option NodeNo) → PathTable → ℕ → List LibEvent
+hop_events me hops table nodes = flat_map (hop_event (stays me hops table) table) (range_with_len 0 nodes)
 
 -- how much was said on a link, by its end
 abbrev pub said_in : Option Open → ℕ

@@ -1,9 +1,11 @@
 -- What a session replies, and what its end means to the bindings.
 use Rattle.std.specs.Prelude.{ℕ, Bool, true, false, ◌++◌, if◌then◌else◌, List, [], ◌∷◌, Option, Some, None}
 use Rattle.mn_base.specs.declared.numbers.NodeNo.{NodeNo}
-use Rattle.mn_base.specs.declared.states.LdpState.{LdpState}
-use Rattle.mn_base.specs.declared.states.LdpState.TheVariants.{OpenSent, Operational}
+use Rattle.mn_states.specs.declared.states.LdpState.{LdpState}
+use Rattle.mn_states.specs.declared.states.LdpState.TheVariants.{OpenSent, Operational}
 use Rattle.mn_ldp_session.specs.declared.session.Reply.{Reply}
+use Rattle.mn_ldp_session.specs.declared.session.Reply.TheVariants as says
+use Rattle.mn_ldp_session.specs.Table.{says_initialization, says_keepalive, begins}
 use Rattle.mn_lib.specs.declared.event.LibEvent.{LibEvent}
 use Rattle.mn_lib.specs.declared.event.LibEvent.TheVariants as event
 use Rattle.mn_node.specs.Ldp.{Message, Initialization, KeepAlive, Address, Mapping, Withdraw}
@@ -11,12 +13,12 @@ use Rattle.mn_lsr.specs.declared.parts.Open.{Open}
 
 abbrev pub replied : Reply → List Message
 replied reply =
-    (if reply.say_init then Initialization ∷ [] else []) ++
-    ((if reply.say_keep then KeepAlive ∷ [] else []) ++ (if reply.became_operational then Address ∷ [] else []))
+    (if says_initialization reply then Initialization ∷ [] else []) ++
+    ((if says_keepalive reply then KeepAlive ∷ [] else []) ++ (if begins reply then Address ∷ [] else []))
 
 abbrev pub first_reply : LdpState → Reply
-first_reply OpenSent = record { say_init = true; say_keep = false; became_operational = false }
-first_reply _ = record { say_init = false; say_keep = false; became_operational = false }
+first_reply OpenSent = says.Initialization
+first_reply _ = says.Nothing
 
 abbrev pub closing_by : LdpState → NodeNo → List LibEvent
 closing_by Operational far = event.Closed far ∷ []

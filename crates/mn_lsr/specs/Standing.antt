@@ -2,10 +2,10 @@
 use Rattle.std.specs.Prelude.{◌==◌, if◌then◌else◌, ◌≡◌, ◌≢◌, ◌<◌, ◌≤◌, ◌^◌, ℕ, ◌+◌, Bool, false, not, List, [], ◌∷◌, length, map, filter, replicate}
 use Rattle.std.specs.Prelude.{slice_index_or, Option, Some, None, option_map, ⊤}
 use Rattle.std.specs.List.{range_with_len}
-use Rattle.mn_base.specs.Wiring.{Wiring, across, JoinsNodes, EndsDiffer, JoinsOnce}
+use Rattle.mn_wiring.specs.Wiring.{Wiring, View, across, JoinsNodes, EndsDiffer, JoinsOnce}
 use Rattle.mn_base.specs.declared.numbers.NodeNo.{NodeNo}
 use Rattle.mn_base.specs.declared.numbers.SiteNo.{SiteNo}
-use Rattle.mn_base.specs.declared.states.LdpState.{LdpState}
+use Rattle.mn_states.specs.declared.states.LdpState.{LdpState}
 use Rattle.mn_linkdb.specs.Network.{IsNetwork}
 use Rattle.mn_labels.specs.declared.meaning.Bind.{Bind}
 use Rattle.mn_labels.specs.declared.meaning.Bind.TheVariants.{Fec, Site}
@@ -17,6 +17,7 @@ use Rattle.mn_lib.specs.Bindings.{Bindings, row_of}
 use Rattle.mn_node.specs.Ldp.{usable_by}
 use Rattle.mn_node.specs.Node.{Session, Node, session_at, knowledge_in, label_of}
 use Rattle.mn_ldp_session.specs.Spelling.{AreSpelled}
+use Rattle.mn_spf_inc.specs.Mended.{Mended, IsOver}
 use Rattle.mn_lsr.specs.declared.parts.Open.{Open}
 
 -- the network around it, what it keeps, the labels that it gave, what they are used for, and whether it has wanted memory
@@ -53,6 +54,13 @@ labelled node fec (Some hop) = option_map (λ label. (record { 0 = hop.0 }, labe
 -- the next hop towards an edge, and the label to be sent there
 abbrev pub way_to : Wiring → Node → ℕ → Option (NodeNo × ℕ)
 way_to wiring node fec = labelled node fec (usable_by wiring (knowledge_in node) node.me fec)
+
+-- A tree that is mended from a node is over the wiring's links, of which those are up that are so in the view.
+pub record IsMendedFor (wiring : Wiring) (view : View) (me : ℕ) (mended : Mended) : Type 0 where
+  pub sound : mended.failed ≡ false
+  pub root : mended.root ≡ me
+  pub over : IsOver wiring mended
+  pub up : mended.up ≡ view
 
 -- The network that a node's transport asks for: at most 256 nodes, whose loopbacks can be told apart, and 1,024 links, each of a
 -- cost from 1 to 65,535 between two different nodes, and at most one between any two.

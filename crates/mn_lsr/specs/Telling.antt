@@ -1,8 +1,8 @@
 -- What the bindings tell, said on the links that join the node with its neighbours.
 use Rattle.std.specs.Prelude.{ℕ, ◌<◌, ◌==◌, ◌&&◌, ◌||◌, Bool, if◌then◌else◌, List, [], ◌∷◌, ⊤}
 use Rattle.std.specs.List.{flat_map}
-use Rattle.mn_base.specs.Wiring.{Wiring, joining}
-use Rattle.mn_base.specs.declared.links.LinkEnds.{LinkEnds}
+use Rattle.mn_wiring.specs.Wiring.{Wiring, joining}
+use Rattle.mn_wiring.specs.declared.links.LinkEnds.{LinkEnds}
 use Rattle.mn_ldp_wire.specs.Grammar.{IsLabel}
 use Rattle.mn_node.specs.Ldp.{Message, Mapping, Withdraw, Release, Said, said_on}
 use Rattle.mn_lib.specs.declared.event.Tell.{Tell}

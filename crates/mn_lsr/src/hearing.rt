@@ -96,7 +96,7 @@ impl Parts {
             unreachable!()
         };
         let (said, label) = heard;
-        let event = event_of(self.far(link), reply.became_operational, said, label);
+        let event = event_of(self.far(link), reply.begins(), said, label);
         let now = Open {
             session,
             said: was.said,

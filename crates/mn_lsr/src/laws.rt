@@ -1,6 +1,6 @@
 //! Laws of the definitions, each the contract of a function that does nothing.
 ghost use Rattle.std.specs.Prelude.{ℕ};
-ghost use Rattle.mn_base.specs.Wiring.{Wiring};
+ghost use Rattle.mn_wiring.specs.Wiring.{Wiring};
 ghost use Rattle.mn_node.specs.Ldp.{Message};
 ghost use Rattle.mn_node.specs.Node.{Node, Session};
 ghost use Rattle.mn_node.specs.Machine.{Event};

@@ -1,6 +1,6 @@
 ghost use Rattle.std.specs.Prelude.{◌≡◌, ◌≢◌, ◌≤◌, ◌<◌, ◌+◌, ◌++◌, ◌∷◌, [], ◌↔◌, ℕ, true, false, None, Some, Ok, Err, length, map, slice_index, IfOk, IfErr, OnOk, OnErr, IsErr, IsErrOf, MatchResult, option_map};
 ghost use Rattle.mn_base.specs.Limits.{most_labels};
-ghost use Rattle.mn_base.specs.Wiring.{Wiring, is_end};
+ghost use Rattle.mn_wiring.specs.Wiring.{Wiring, is_end};
 ghost use Rattle.mn_node.specs.Node.{Session, session_at, view_in};
 ghost use Rattle.mn_labels.specs.declared.meaning.Bind.TheVariants as bind;
 ghost use Rattle.mn_labels.specs.Labels.{meaning_of};
@@ -10,7 +10,7 @@ ghost use Rattle.mn_node.specs.Machine.{fresh_node, Learns, Opens, Closes, chang
 ghost use Rattle.mn_linkdb.specs.Trees.{IsTree};
 ghost use Rattle.mn_lfib.specs.Forwarding.{forwarded};
 ghost use Rattle.mn_ldp_session.specs.Spelling.{pdus};
-ghost use Rattle.mn_lsr.specs.Standing.{IsWired, FitsOuter, TableStands, SitesKeep, AreGiven, IsAttachment, fecs_given, attachments, way_to, label_sent, sent_to, state_in};
+ghost use Rattle.mn_lsr.specs.Standing.{IsWired, IsMendedFor, FitsOuter, TableStands, SitesKeep, AreGiven, IsAttachment, fecs_given, attachments, way_to, label_sent, sent_to, state_in};
 ghost use Rattle.mn_lsr.specs.Hearing.{after_bytes};
 ghost use Rattle.mn_lsr.specs.Said.{pdu_of};
 
@@ -18,11 +18,14 @@ use crate::parts::Parts;
 use crate::refusal::LsrBad;
 use crate::said::Said;
 use crate::ways::IMPLICIT_NULL;
-use mn_base::{LdpState, LinkEnds, LinkNo, NodeNo, SiteNo};
+use mn_base::{LinkNo, NodeNo, SiteNo};
 use mn_labels::{LabelBad, Labels};
 use mn_lfib::{Forwarded, Lfib};
 use mn_linkdb::{LinkDb, Tree, View};
+use mn_spf_inc::MendTree;
 use mn_stack::Frame;
+use mn_states::LdpState;
+use mn_wiring::LinkEnds;
 use std::alloc::{AllocError, Global};
 use std::marker::Model;
 
@@ -292,6 +295,16 @@ impl Lsr {
     pub fn tree(&self) -> &Tree
         ensures { self.now.failed ≡ false → IsTree self.now.wiring (view_in self.now.node) self.now.node.me result.now }
     {
-        &self.parts.tree
+        self.parts.mended.tree()
+    }
+
+    /// The least walks from the node, mended at each change of a link: `tree` is its tree.
+    pub fn mended(&self) -> &MendTree
+        ensures of { self.now.failed ≡ false → IsMendedFor self.now.wiring (view_in self.now.node) self.now.node.me result.now }
+        ensures least { self.now.failed ≡ false → IsTree self.now.wiring (view_in self.now.node) self.now.node.me result.now.tree }
+    {
+        let mended = &self.parts.mended;
+        let _tree = mended.tree();
+        mended
     }
 }

@@ -4,12 +4,13 @@ ghost use Rattle.mn_lsr.specs.Standing.{IsWired, fecs_given};
 ghost use Rattle.mn_lsr.specs.Parts.{wiring_in, node_in, Stands};
 
 use crate::parts::{Open, Parts};
-use mn_base::{LinkEnds, NodeNo};
+use mn_base::NodeNo;
 use mn_labels::{Bind, LabelBad, Labels};
 use mn_lfib::Lfib;
 use mn_lib::Lib;
 use mn_linkdb::View;
-use mn_spf::tree;
+use mn_spf_inc::MendTree;
+use mn_wiring::LinkEnds;
 use std::alloc::{AllocError, Global};
 
 /// Gives a label to the FEC of each other node, in node order.
@@ -59,7 +60,7 @@ impl Parts {
     {
         let nodes = loopbacks.len() as u32;
         let view = View::new(alloc, nodes, ends)?;
-        let tree = tree(alloc, &view, me)?;
+        let mended = MendTree::new(alloc, me, nodes, ends)?;
         let lib = Lib::new(alloc, me, nodes)?;
         let mut labels = Labels::new(alloc);
         give_fecs(&mut labels, me, nodes)?;
@@ -69,7 +70,7 @@ impl Parts {
             me,
             loopbacks,
             view,
-            tree,
+            mended,
             sessions,
             lib,
             labels,

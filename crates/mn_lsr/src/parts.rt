@@ -1,7 +1,7 @@
 ghost use Rattle.std.specs.Prelude.{◌≡◌, ◌≢◌, ◌≤◌, ◌<◌, ◌↔◌, ◌++◌, ◌∷◌, [], ℕ, List, None, Some, Err, length, map, slice_index, slice_index_or, slice_set, OnOk, IfOk, true, if◌then◌else◌};
 ghost use Rattle.std.specs.Option.{option_to_list};
 ghost use Rattle.std.specs.List.{flat_map};
-ghost use Rattle.mn_base.specs.Wiring.{is_end, across};
+ghost use Rattle.mn_wiring.specs.Wiring.{is_end, across};
 ghost use Rattle.mn_node.specs.Ldp.{said_on};
 ghost use Rattle.mn_node.specs.Node.{label_of, session_at};
 ghost use Rattle.mn_node.specs.Machine.{loopback_of, Learns, Opens, Closes, changed, said, after_event};
@@ -22,13 +22,14 @@ use crate::refusal::LsrBad;
 use crate::said::Said;
 use crate::speaking::{across, say, say_all};
 use crate::ways::use_new_ways;
-use mn_base::{LdpState, LinkNo, NodeNo};
+use mn_base::{LinkNo, NodeNo};
 use mn_labels::Labels;
 use mn_ldp_session::{Reply, Session};
 use mn_lfib::Lfib;
 use mn_lib::{Lib, LibEvent};
 use mn_linkdb::{LinkDb, Tree, View};
-use mn_spf::tree;
+use mn_spf_inc::MendTree;
+use mn_states::LdpState;
 use std::alloc::{AllocError, Global};
 
 /// The node's end of a session, and how many messages it has said in it.
@@ -44,7 +45,8 @@ pub struct Parts {
     pub me: NodeNo,
     pub loopbacks: Vec<u32>,
     pub view: View,
-    pub tree: Tree,
+    /// The least walks from the node over the links that are up in its view.
+    pub mended: MendTree,
     /// By link.
     pub sessions: Vec<Option<Open>>,
     pub lib: Lib,
@@ -65,27 +67,27 @@ fn same_hop(one: Option<NodeNo>, other: Option<NodeNo>) -> bool
     }
 }
 
-/// Whether nothing happens to a FEC: it is the node's own, or the next hop towards it is the same in both trees.
-fn stays(me: NodeNo, before: &Tree, tree: &Tree, fec: NodeNo) -> bool
-    requires before { fec.0 < length before.now.dists }
+/// Whether nothing happens to a FEC: it is the node's own, or the next hop towards it is that of the tree already.
+fn stays(me: NodeNo, before: &Lib, tree: &Tree, fec: NodeNo) -> bool
+    requires before { fec.0 < lib.nodes before.now }
     requires table { fec.0 < length tree.now.dists }
-    ensures { result ≡ stays me.0 before.now tree.now fec.0 }
+    ensures { result ≡ stays me.0 before.now.hops tree.now fec.0 }
 {
-    fec.0 == me.0 || same_hop(before.next(fec), tree.next(fec))
+    fec.0 == me.0 || same_hop(before.hop(fec), tree.next(fec))
 }
 
 /// The next hop towards each other node, where it isn't as it was.
 fn next_hops(
     alloc: Global,
     me: NodeNo,
-    before: &Tree,
+    before: &Lib,
     tree: &Tree,
     nodes: u32,
 ) -> Result<Vec<LibEvent>, AllocError>
     requires few { nodes ≤ 256 }
-    requires before { IsTable nodes before.now }
+    requires before { lib.nodes before.now ≡ nodes }
     requires table { IsTable nodes tree.now }
-    ensures { IfOk result (λ events. events.items ≡ hop_events me.0 before.now tree.now nodes) }
+    ensures { IfOk result (λ events. events.items ≡ hop_events me.0 before.now.hops tree.now nodes) }
 {
     let mut events = Vec::new(alloc);
     for at in 0..nodes {
@@ -162,17 +164,18 @@ impl Parts {
         let Ok(()) = self.view.learn(db, link) else {
             return Err(LsrBad::Empty);
         };
-        let Ok(tree) = tree(alloc, &self.view, self.me) else {
+        let up = self.view.up(link);
+        let Ok(()) = self.mended.turn(link, up) else {
             return Err(LsrBad::NoMemory);
         };
-        let Ok(events) = next_hops(alloc, self.me, &self.tree, &tree, self.view.nodes()) else {
+        let tree = self.mended.tree();
+        let Ok(events) = next_hops(alloc, self.me, &self.lib, tree, self.view.nodes()) else {
             return Err(LsrBad::NoMemory);
         };
         let mut out = Vec::new(alloc);
         let Ok(()) = self.follow(alloc, &events, 0, &mut out) else {
             return Err(LsrBad::NoMemory);
         };
-        self.tree = tree;
         Ok(out)
     }
 
@@ -287,9 +290,15 @@ impl Parts {
         ensures counted { OnOk result (self.new.sessions.items ≡ ends_after self.old.sessions.items (said_on link.0 self.old.me.0 (replied reply))) }
         ensures others { OnOk result (self.new ≡ record self.old { sessions = self.new.sessions }) }
     {
-        self.say_if(alloc, reply.say_init, link, Message::Initialization, out)?;
-        self.say_if(alloc, reply.say_keep, link, Message::KeepAlive, out)?;
-        self.say_if(alloc, reply.became_operational, link, Message::Address, out)
+        self.say_if(
+            alloc,
+            reply.says_initialization(),
+            link,
+            Message::Initialization,
+            out,
+        )?;
+        self.say_if(alloc, reply.says_keepalive(), link, Message::KeepAlive, out)?;
+        self.say_if(alloc, reply.begins(), link, Message::Address, out)
     }
 
     /// Begins a session on a link. The active end says its Initialization.
@@ -337,10 +346,9 @@ impl Parts {
 fn first_reply(session: Session) -> Reply
     ensures { result ≡ first_reply session.state }
 {
-    Reply {
-        say_init: session.state == LdpState::OpenSent,
-        say_keep: false,
-        became_operational: false,
+    match session.state {
+        LdpState::OpenSent => Reply::Initialization,
+        _ => Reply::Nothing,
     }
 }
 

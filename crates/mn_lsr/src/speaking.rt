@@ -1,6 +1,6 @@
 ghost use Rattle.std.specs.Prelude.{◌≡◌, ◌≤◌, ◌<◌, ◌+◌, ◌∷◌, ◌++◌, [], ℕ, List, None, length, map, slice_index_or, OnOk};
 ghost use Rattle.std.specs.List.{flat_map};
-ghost use Rattle.mn_base.specs.Wiring.{joining, JoinsNodes};
+ghost use Rattle.mn_wiring.specs.Wiring.{joining, JoinsNodes};
 ghost use Rattle.mn_ldp_session.specs.Spelling.{pdu};
 ghost use Rattle.mn_node.specs.Ldp.{said_on};
 ghost use Rattle.mn_lsr.specs.Message.{meaning, NamesNode, HasLabel};
@@ -11,8 +11,9 @@ ghost use Rattle.mn_lsr.specs.Parts.{pdus_by, ends_after, said_in, bumped};
 use crate::message::{Message, pdu_bytes};
 use crate::parts::Open;
 use crate::said::Said;
-use mn_base::{LinkEnds, LinkNo, NodeNo};
+use mn_base::{LinkNo, NodeNo};
 use mn_lib::{Tell, TellKind};
+use mn_wiring::LinkEnds;
 use std::alloc::{AllocError, Global};
 
 /// The other end of a link.

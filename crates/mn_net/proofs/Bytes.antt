@@ -3,9 +3,9 @@ use Rattle.std.proofs.Common.{ℕ, zero, suc, ◌≡◌, ◌+◌, ◌*◌, ◌<�
 use Rattle.std.proofs.Common.{◌∙◌, subst, Some}
 use Rattle.std.specs.Prelude.{◌==◌, ◌&&◌, ◌/◌, ◌%◌, if◌then◌else◌}
 use Rattle.std.proofs.lemmas.Nat.{div-add-mod'}
-use Rattle.mn_base.specs.Wiring.{link, is_end, across, sender, receiver}
-use Rattle.mn_base.specs.declared.links.Dir.{Dir}
-use Rattle.mn_base.specs.declared.links.Dir.TheVariants.{Forth, Back}
+use Rattle.mn_wiring.specs.Wiring.{link, is_end, across, sender, receiver}
+use Rattle.mn_wiring.specs.declared.links.Dir.{Dir}
+use Rattle.mn_wiring.specs.declared.links.Dir.TheVariants.{Forth, Back}
 use Rattle.mn_base.proofs.Bools.{same_test, other_test, same_numbers, test_same}
 use Rattle.mn_base.proofs.Rules.{some_is}
 use Rattle.mn_flight.specs.declared.Item.{Item as ItemOf}

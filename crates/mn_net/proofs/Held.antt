@@ -1,11 +1,11 @@
 -- What edges hold in a network that works.
-use Rattle.std.proofs.Common.{ℕ, zero, suc, ◌≡◌, ◌<◌, Bool, true, false, List, [], ◌∷◌, length, map, refl, arith, sym, ap, ◌∙◌, subst, Option, Some, None, inl}
+use Rattle.std.proofs.Common.{ℕ, zero, suc, ◌≡◌, ◌+◌, ◌<◌, Bool, true, false, List, [], ◌∷◌, length, map, refl, arith, sym, ap, ◌∙◌, subst, Option, Some, None, inl}
 use Rattle.std.specs.Prelude.{◌==◌, ◌||◌, not, filter, if◌then◌else◌, slice_get, slice_index_or, option_map}
 use Rattle.std.specs.List.{Contains, list_any}
 use Rattle.std.proofs.lemmas.List.{length-map}
 use Rattle.std.proofs.lemmas.Option.{same_Some}
-use Rattle.mn_base.specs.Wiring.{nodes_of}
-use Rattle.mn_base.specs.declared.states.BgpState.TheVariants.{Idle}
+use Rattle.mn_wiring.specs.Wiring.{nodes_of}
+use Rattle.mn_states.specs.declared.states.BgpState.TheVariants.{Idle}
 use Rattle.mn_base.proofs.Bools.{same_test}
 use Rattle.mn_base.proofs.Members.{In, in_filter, contained_in}
 use Rattle.mn_prefix.specs.Prefix.{AddressBlock, same_prefix}
@@ -27,7 +27,7 @@ use Rattle.mn_frames.specs.Given.{given, label_at, attachment_of}
 use Rattle.mn_frames.specs.Numbers.{labels_of}
 use Rattle.mn_frames.proofs.Anew.{by_table, gives_to_no_other}
 use Rattle.mn_frames.proofs.Named.{all_have_labels}
-use Rattle.mn_vrf.specs.Vrf.{VrfState, heads}
+use Rattle.mn_vrf.specs.Vrf.{VrfState, heads, IsHeldAt}
 use Rattle.mn_vrf.specs.declared.source.Source.{Source}
 use Rattle.mn_pe.specs.Edge.{Edge}
 use Rattle.mn_pe.specs.Entries as entry
@@ -188,3 +188,14 @@ module _ (net : NetNow) (lawful : IsLawful net.topology) (is : IsNet net) (v : �
 
   pub some_edge : None ≡ slice_index_or net.routes.edges (edge_of t v) None → ⊥
   some_edge e = let none : None ≡ Some (working its) → ⊥ = (λ q. cc) in none (e ∙ edge_told)
+
+  -- and the one after a held one
+  pub after_told : (pe : PeNow) (last : AddressBlock) (result : Option (AddressBlock × Source)) → Some pe ≡ slice_index_or net.routes.edges (edge_of t v) None →
+      (pe.failed ≡ false → (k : ℕ) → IsHeldAt last (found_in v (λ (vrf : VrfState). slice_get (heads (held_by pe.edge vrf)) k) pe.edge.vrfs) →
+      result ≡ found_in v (λ (vrf : VrfState). slice_get (heads (held_by pe.edge vrf)) (k + 1)) pe.edge.vrfs) →
+      (k : ℕ) → IsHeldAt last (option_map (as_held l) (held_at routes k)) → result ≡ option_map (as_held l) (held_at routes (k + 1))
+  after_told pe last result at tells k is =
+      let works : pe.failed ≡ false = ap (λ (x : PeNow). x.failed) (same_Some pe (working its) (at ∙ edge_told)) in
+      let told : (n : ℕ) → found_in v (λ (vrf : VrfState). slice_get (heads (held_by pe.edge vrf)) n) pe.edge.vrfs ≡ option_map (as_held l) (held_at routes n) =
+      λ n. held_told n pe (found_in v (λ (vrf : VrfState). slice_get (heads (held_by pe.edge vrf)) n) pe.edge.vrfs) at (λ _. refl) in
+      tells works k (subst (IsHeldAt last) (sym (told k)) is) ∙ told (k + 1)

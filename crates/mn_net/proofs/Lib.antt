@@ -1,3 +1,4 @@
+pub mod OfTurns
 pub mod Held
 pub mod Asked
 pub mod Found

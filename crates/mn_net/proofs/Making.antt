@@ -5,7 +5,7 @@ use Rattle.std.specs.Prelude.{◌==◌, ◌&&◌, find, slice_get, option_map, i
 use Rattle.std.specs.List.{Contains}
 use Rattle.std.proofs.lemmas.List.{append_assoc, length-map, length-append, length-drop}
 use Rattle.std.proofs.lemmas.List.Elements.{Contains-append_right, filter-append}
-use Rattle.mn_base.specs.Wiring.{across}
+use Rattle.mn_wiring.specs.Wiring.{across}
 use Rattle.mn_base.proofs.Bools.{other_test, same_test}
 use Rattle.mn_topo.specs.Lawful.{IsLawful}
 use Rattle.mn_topo.specs.Network.{Network, wiring_of}

@@ -1,7 +1,7 @@
 -- What a settled network tells of next hops: what the links that are up give alone, whatever happened before.
 use Rattle.std.specs.Prelude.{◌≡◌, ℕ, true, List, ◌∷◌, Option, Some, is_some, option_map}
 use Rattle.mn_base.specs.declared.numbers.NodeNo.{NodeNo}
-use Rattle.mn_base.specs.Paths.{next}
+use Rattle.mn_wiring.specs.Paths.{next}
 use Rattle.mn_topo.specs.Network.{Network, wiring_of}
 use Rattle.mn_ledger.specs.World.{World}
 use Rattle.mn_settled.specs.Ways.{links_up, Reaches}

@@ -1,6 +1,6 @@
 -- What a network tells of an item in flight: its channel, when it is due, and its bytes.
 use Rattle.std.specs.Prelude.{◌≡◌, ℕ, ◌+◌, ◌-◌, ◌==◌, List, [], ◌∷◌, ◌++◌, length, filter, find, slice_get, Option, option_map}
-use Rattle.mn_base.specs.Wiring.{across, receiver}
+use Rattle.mn_wiring.specs.Wiring.{across, receiver}
 use Rattle.mn_stack.specs.Grammar.{stack_bytes}
 use Rattle.mn_topo.specs.Lawful.{IsLawful}
 use Rattle.mn_topo.specs.Network.{Network, wiring_of}

@@ -1,5 +1,5 @@
 //! What is told of edges: the states of their sessions, and the routes that their VRFs hold.
-ghost use Rattle.std.specs.Prelude.{◌≡◌, ◌<◌, false, length, option_map};
+ghost use Rattle.std.specs.Prelude.{◌≡◌, ◌+◌, ◌<◌, ℕ, false, length, option_map};
 ghost use Rattle.mn_ledger.specs.Ledger.{world_of};
 ghost use Rattle.mn_ledger.specs.Places.{edge_of};
 ghost use Rattle.mn_ledger.specs.Bgp.{bgp_state_of};
@@ -11,11 +11,12 @@ ghost use Rattle.mn_routing_model.specs.Sources.{as_held};
 ghost use Rattle.mn_ledger.specs.Settled.{IsSettled};
 ghost use Rattle.mn_settled.specs.Routes.{routes_of};
 ghost use Rattle.mn_net.specs.Tables.{held_at};
+ghost use Rattle.mn_vrf.specs.Vrf.{IsHeldAt};
 
-use crate::ends::edge_at;
 use crate::net::Net;
-use mn_base::{BgpState, NodeNo, VrfNo};
+use mn_base::{NodeNo, VrfNo};
 use mn_prefix::Prefix;
+use mn_states::BgpState;
 use mn_vrf::Source;
 
 impl Net {
@@ -55,9 +56,32 @@ impl Net {
             (held_at (held self.now.topology (world_of self.now.topology self.now.journal).config (world_of self.now.topology self.now.journal).peerings (edge_of self.now.topology vrf.0) vrf.0) place) }
     {
         self.topology.laws();
-        let node = edge_at(&self.topology, vrf);
+        let node = self.topology.edge_of(vrf);
         match self.routes.edge(node) {
             Some(edge) => edge.held(vrf, place),
+            None => None,
+        }
+    }
+
+    /// The prefix after one that a VRF holds, with the best of its routes.
+    pub fn held_after(&self, vrf: VrfNo, last: Prefix) -> Option<(Prefix, Source)>
+        requires works { self.now.failed ≡ false }
+        requires vrf { vrf.0 < length self.now.topology.vrfs }
+        ensures told { (place : ℕ) →
+            IsHeldAt last (option_map (as_held (labels_of self.now.topology self.now.journal))
+            (held_at (held self.now.topology (world_of self.now.topology self.now.journal).config (world_of self.now.topology self.now.journal).peerings (edge_of self.now.topology vrf.0) vrf.0) place)) →
+            result ≡ option_map (as_held (labels_of self.now.topology self.now.journal))
+            (held_at (held self.now.topology (world_of self.now.topology self.now.journal).config (world_of self.now.topology self.now.journal).peerings (edge_of self.now.topology vrf.0) vrf.0) (place + 1)) }
+        ensures labels { (place : ℕ) →
+            IsHeldAt last (option_map (given_held (given self.now.topology self.now.journal))
+            (held_at (held self.now.topology (world_of self.now.topology self.now.journal).config (world_of self.now.topology self.now.journal).peerings (edge_of self.now.topology vrf.0) vrf.0) place)) →
+            result ≡ option_map (given_held (given self.now.topology self.now.journal))
+            (held_at (held self.now.topology (world_of self.now.topology self.now.journal).config (world_of self.now.topology self.now.journal).peerings (edge_of self.now.topology vrf.0) vrf.0) (place + 1)) }
+    {
+        self.topology.laws();
+        let node = self.topology.edge_of(vrf);
+        match self.routes.edge(node) {
+            Some(edge) => edge.held_after(vrf, last),
             None => None,
         }
     }

@@ -9,14 +9,14 @@ ghost use Rattle.mn_net.specs.declared.flight.Channel.TheVariants as channel;
 ghost use Rattle.mn_net.specs.Told.{told_at};
 ghost use Rattle.mn_net.specs.Tables.{count_of};
 
-use crate::ends::direction;
 use crate::net::Net;
-use mn_base::{Dir, LinkNo, ListOf, NodeNo};
+use mn_base::{LinkNo, ListOf, NodeNo};
 use mn_course::Kind;
 use mn_flight::{Flight, Item};
 use mn_net_look::pending;
 use mn_transit::Flown;
 use mn_transport_model::Notice;
+use mn_wiring::{Dir, direction_of};
 
 /// From where an item flies to where.
 #[derive(Clone, Copy, Debug, PartialEq, Eq)]
@@ -73,7 +73,7 @@ fn pdu(item: &Item<ListOf<u8>>) -> Flying<'_>
     let link = LinkNo((item.channel / 2) as u16);
     Flying {
         kind: Kind::Message,
-        channel: Channel::Ldp(link, direction(item.channel)),
+        channel: Channel::Ldp(link, direction_of(item.channel)),
         due: item.due,
         bytes: item.item.as_slice(),
     }
@@ -109,7 +109,7 @@ fn frame(item: &Item<Flown>) -> Flying<'_>
     let link = LinkNo((item.channel / 2) as u16);
     Flying {
         kind: Kind::Frame,
-        channel: Channel::Frame(link, direction(item.channel)),
+        channel: Channel::Frame(link, direction_of(item.channel)),
         due: item.due,
         bytes: item.item.frame.bytes(),
     }

@@ -18,13 +18,12 @@
 //! - `nodes`: what is told of links and of the transport of nodes
 //! - `edges`: what is told of sessions and routes
 //! - `flight`: what is told of items in flight
-//! - `ends`: ends of links, edges of sites and VRFs
+//! - `numbers`: the numbers of items
 //! - `made`: a law: the items of a step are told by their numbers
 //! - `tell`: what became of packets
 #![tactic(auto)]
 
 mod edges;
-mod ends;
 mod flight;
 mod links;
 mod made;
@@ -32,9 +31,11 @@ mod moving;
 mod net;
 mod next;
 mod nodes;
+mod numbers;
 mod sessions;
 mod sites;
 mod tell;
+mod turns;
 
 pub use flight::{Channel, Flying};
 pub use made::what_a_step_made_is_told;

@@ -8,19 +8,19 @@ ghost use Rattle.mn_frames.specs.Given.{given};
 ghost use Rattle.mn_pe.specs.Entries.{IsItsFate};
 ghost use Rattle.mn_transit.specs.Entering.{IsWayOut, OuterFits};
 ghost use Rattle.mn_transport_model.specs.Stands.{IsTransport};
-ghost use Rattle.mn_net_now.specs.Done.{MayBeDone, IsDone, HasFailed};
+ghost use Rattle.mn_net_now.specs.Done.{MayBeDone, IsDone, HasFailed, TakesRoom};
 ghost use Rattle.mn_net_moves.specs.Bound.{IsBoundBelow};
 
-use crate::ends::{home, receiver};
 use crate::net::Net;
-use mn_base::{Dir, LinkNo, NodeNo, SiteNo};
+use mn_base::{LinkNo, NodeNo, SiteNo};
+use mn_flight::Clock;
 use mn_net_tally::count_frame;
 use mn_pe::Entered;
 use mn_routing_model::routes_stay_as_they_were;
-use mn_topo::{JournalEntry, Step, Topology};
-use mn_transit::Clock;
+use mn_topo::{Damaged, JournalEntry, Step, Topology};
 use mn_transport::Transport;
 use mn_transport_model::a_transport_goes_on_as_it_was;
+use mn_wiring::Dir;
 use std::alloc::AllocError;
 
 /// What a node knows of the way out for a packet that enters there.
@@ -51,6 +51,7 @@ impl Net {
         requires may { MayBeDone self.old (step.Carry link dir place) [] }
         ensures done { OnOk result (IsDone self.old self.new (step.Carry link dir place) []) }
         ensures failed { OnErr result (HasFailed self.old self.new) }
+        ensures room { TakesRoom self.old self.new result }
     {
         a_transport_goes_on_as_it_was();
         routes_stay_as_they_were();
@@ -60,12 +61,12 @@ impl Net {
             return Err(AllocError);
         }
         self.journal.reserve(1)?;
-        self.tally.reserve()?;
+        self.tally.reserve(1)?;
         let clock = Clock {
             tick: self.tick,
             number: self.made,
         };
-        let node = receiver(&self.topology, link, dir);
+        let node = self.topology.receiver(link, dir);
         let table = self.transport.node(node).table();
         let flies = self
             .transit
@@ -76,6 +77,7 @@ impl Net {
         self.journal.push_reserved(JournalEntry {
             tick: self.tick,
             step: Step::Carry(link, dir, place),
+            damaged: Damaged::Undamaged,
         });
         self.failed = false;
         Ok(())
@@ -86,6 +88,7 @@ impl Net {
         requires may { MayBeDone self.old (step.Lose link dir place) [] }
         ensures done { OnOk result (IsDone self.old self.new (step.Lose link dir place) []) }
         ensures failed { OnErr result (HasFailed self.old self.new) }
+        ensures room { TakesRoom self.old self.new result }
     {
         a_transport_goes_on_as_it_was();
         routes_stay_as_they_were();
@@ -96,6 +99,7 @@ impl Net {
         self.journal.push_reserved(JournalEntry {
             tick: self.tick,
             step: Step::Lose(link, dir, place),
+            damaged: Damaged::Undamaged,
         });
         self.failed = false;
         Ok(())
@@ -121,13 +125,13 @@ impl Net {
             return Err(AllocError);
         }
         self.journal.reserve(1)?;
-        self.tally.reserve()?;
+        self.tally.reserve(1)?;
         let entered = self.routes.enter(&self.topology, site, packet)?;
         let clock = Clock {
             tick: self.tick,
             number: self.made,
         };
-        let node = home(&self.topology, site);
+        let node = self.topology.home_of(site);
         let outer = way_out(&self.transport, &self.topology, node, &entered);
         let flies = self
             .transit
@@ -138,6 +142,7 @@ impl Net {
         self.journal.push_reserved(JournalEntry {
             tick: self.tick,
             step: Step::Inject(site, number),
+            damaged: Damaged::Undamaged,
         });
         self.failed = false;
         Ok(())

@@ -1,14 +1,15 @@
 //! What is kept, and the clock.
-ghost use Rattle.std.specs.Prelude.{◌≡◌, ◌≤◌, ◌^◌, ℕ, List, [], true, false, IfOk, OnOk, OnErr, IsErrOf};
+ghost use Rattle.std.specs.Prelude.{◌≡◌, ◌≤◌, ◌^◌, ℕ, List, [], true, false, IfOk, OnOk, OnErr, IsErr, IsErrOf};
 ghost use Rattle.mn_topo.specs.Steps.{fits};
 ghost use Rattle.mn_topo.specs.declared.steps.Step.TheVariants as step;
 ghost use Rattle.mn_ledger.specs.Refusal.{refusal};
 ghost use Rattle.mn_ledger.specs.OneMore.{with_packet};
 ghost use Rattle.mn_ledger.specs.declared.refused.Refused.TheVariants as why;
-ghost use Rattle.mn_net_now.specs.Now.{StandsFor};
+ghost use Rattle.mn_net_now.specs.Now.{StandsFor, HasRoom, but_spare};
 ghost use Rattle.mn_net_now.specs.Labels.{LabelsMean};
-ghost use Rattle.mn_net_now.specs.Done.{Answers, Refuses, IsLonger, HasFailed, Leaves, MayBeDone, IsDone};
+ghost use Rattle.mn_net_now.specs.Done.{Answers, Refuses, IsLonger, HasFailed, Leaves, MayBeDone, IsDone, is_of_frames, TakesOne, TakesRoom};
 
+use crate::turns::{LinkTurn, RouteTurn};
 use mn_ledger::Refused;
 use mn_net_look::refusal;
 use mn_net_tally::Tally;
@@ -42,6 +43,7 @@ pub struct Net {
 }
 
 impl Model for Net {
+    ghost use Rattle.std.specs.Prelude.{◌-◌, vec_len, vec_capacity};
     ghost use Rattle.mn_net_now.specs.Now.{NetNow, WorksAsNet};
 
     ghost Value = { NetNow };
@@ -56,6 +58,7 @@ impl Model for Net {
       routes = a.routes;
       moving = a.transit;
       tally = a.tally;
+      spare = vec_capacity a.journal - vec_len a.journal;
     } };
 
     ghost invariant = { λ a. WorksAsNet (record {
@@ -68,6 +71,7 @@ impl Model for Net {
       routes = a.routes;
       moving = a.transit;
       tally = a.tally;
+      spare = vec_capacity a.journal - vec_len a.journal;
     }) };
 }
 
@@ -147,6 +151,22 @@ impl Net {
         self.tick = tick;
     }
 
+    /// Makes room for so many more steps that carry or lose a frame: as long as there is room, none of them wants memory. Nothing
+    /// else changes. After want of memory in a step there is none.
+    pub fn reserve(&mut self, more: u32) -> Result<(), AllocError>
+        ensures room { OnOk result (HasRoom self.new more) }
+        ensures kept { self.new ≡ but_spare self.old self.new.spare self.new.tally.spare }
+        ensures no_less { (less : ℕ) → HasRoom self.old less → HasRoom self.new less }
+        ensures stands { (inputs : List (List ℕ)) → StandsFor self.old inputs → StandsFor self.new inputs }
+        ensures for_good { self.old.failed ≡ true → (IsErr result) × (self.new ≡ self.old) }
+    {
+        if self.failed || u64::MAX - self.made < u64::from(more) {
+            return Err(AllocError);
+        }
+        self.journal.reserve(more as usize)?;
+        self.tally.reserve(more)
+    }
+
     /// Does a step, or refuses it by the first cause that holds. Only an injection looks at the packet.
     ///
     /// After want of memory the journal, verdicts and paths are as before, and each later step answers it too.
@@ -160,6 +180,8 @@ impl Net {
         ensures end { IfOk result (λ done. done.end ≡ self.new.made) }
         ensures left { self.old.failed ≡ false → Leaves self.old self.new result }
         ensures for_good { self.old.failed ≡ true → (IsErrOf result why.NoMemory) × (self.new ≡ self.old) }
+        // A step that carries or loses a frame wants no memory where there is room.
+        ensures room { is_of_frames step ≡ true → TakesOne self.old self.new result }
     {
         if self.failed {
             return Err(Refused::NoMemory);
@@ -178,20 +200,21 @@ impl Net {
         requires may { MayBeDone self.old step packet.now }
         ensures done { OnOk result (IsDone self.old self.new step packet.now) }
         ensures failed { OnErr result (HasFailed self.old self.new) }
+        ensures room { is_of_frames step ≡ true → TakesRoom self.old self.new result }
     {
         match step {
-            Step::LinkUp(_) => self.turn_link(step),
-            Step::LdpAdmin(_, _) => self.turn_link(step),
-            Step::Learn(_, _) => self.turn_link(step),
-            Step::HearLdp(_, _) => self.turn_link(step),
+            Step::LinkUp(link) => self.turn_link(LinkTurn::Up(link)),
             Step::LinkDown(link) => self.link_down(link),
-            Step::BgpUp(_, _) => self.turn_route(step),
-            Step::BgpDown(_, _) => self.turn_route(step),
-            Step::HearBgp(_, _) => self.turn_route(step),
-            Step::AddRoute(_, _) => self.turn_route(step),
-            Step::DelRoute(_, _) => self.turn_route(step),
-            Step::Import(_, _, _) => self.turn_route(step),
-            Step::Export(_, _, _) => self.turn_route(step),
+            Step::Learn(node, link) => self.turn_link(LinkTurn::Learn(node, link)),
+            Step::LdpAdmin(link, on) => self.turn_link(LinkTurn::LdpAdmin(link, on)),
+            Step::HearLdp(link, dir) => self.turn_link(LinkTurn::HearLdp(link, dir)),
+            Step::BgpUp(a, b) => self.turn_route(RouteTurn::BgpUp(a, b)),
+            Step::BgpDown(a, b) => self.turn_route(RouteTurn::BgpDown(a, b)),
+            Step::HearBgp(a, b) => self.turn_route(RouteTurn::HearBgp(a, b)),
+            Step::AddRoute(site, prefix) => self.turn_route(RouteTurn::AddRoute(site, prefix)),
+            Step::DelRoute(site, prefix) => self.turn_route(RouteTurn::DelRoute(site, prefix)),
+            Step::Import(vrf, target, on) => self.turn_route(RouteTurn::Import(vrf, target, on)),
+            Step::Export(vrf, target, on) => self.turn_route(RouteTurn::Export(vrf, target, on)),
             Step::Attach(site) => self.attach(site),
             Step::Detach(site) => self.detach(site),
             Step::Inject(site, number) => self.inject(site, number, packet),

@@ -1,7 +1,7 @@
 //! What is told of links, and of the transport of nodes.
 ghost use Rattle.std.specs.Prelude.{◌≡◌, ◌≢◌, ◌<◌, ◌≤◌, false, not, length, map, option_map};
 ghost use Rattle.mn_base.specs.Limits.{most_steps};
-ghost use Rattle.mn_base.specs.Wiring.{links_of, sender};
+ghost use Rattle.mn_wiring.specs.Wiring.{links_of, sender};
 ghost use Rattle.mn_linkdb.specs.Trees.{IsTree};
 ghost use Rattle.mn_topo.specs.Network.{wiring_of};
 ghost use Rattle.mn_ledger.specs.Ledger.{world_of};
@@ -13,12 +13,13 @@ ghost use Rattle.mn_ledger.specs.OneMore.{tick_from};
 ghost use Rattle.mn_ledger.specs.Settled.{IsSettled};
 ghost use Rattle.mn_net.specs.Settled.{IsByLinks};
 
-use crate::ends::sender;
 use crate::net::Net;
-use mn_base::{Dir, LdpState, LinkNo, NodeNo};
+use mn_base::{LinkNo, NodeNo};
 use mn_labels::Bind;
 use mn_linkdb::{Tree, View};
 use mn_lsr::Lsr;
+use mn_states::LdpState;
+use mn_wiring::Dir;
 
 /// The node that a way leads to next.
 fn next_hop(way: Option<(NodeNo, Option<u32>)>) -> Option<NodeNo>
@@ -124,7 +125,7 @@ impl Net {
         requires link { link.0 < length self.now.topology.links }
         ensures told { result ≡ state_at self.now.topology (world_of self.now.topology self.now.journal) link.0 (sender (wiring_of self.now.topology) link.0 dir) }
     {
-        let end = sender(&self.topology, link, dir);
+        let end = self.topology.sender(link, dir);
         self.transport.node(end).session_state(link)
     }
 }

@@ -1,16 +1,17 @@
 //! The steps of BGP, and of routes and targets.
 ghost use Rattle.std.specs.Prelude.{◌≡◌, ◌<◌, ◌≤◌, ◌^◌, [], true, false, IfOk, OnOk, OnErr};
 ghost use Rattle.std.specs.List.{All};
-ghost use Rattle.mn_ledger.specs.Bgp.{is_routing};
-ghost use Rattle.mn_transport_model.specs.Steps.{touches};
 ghost use Rattle.mn_routing_model.specs.Steps.{MayDo, Did};
 ghost use Rattle.mn_net_now.specs.Done.{MayBeDone, IsDone, HasFailed};
+ghost use Rattle.mn_net.specs.Turns.{route_step};
 
-use crate::ends::number_after;
 use crate::net::Net;
+use crate::numbers::number_after;
+use crate::turns::RouteTurn;
+use mn_flight::Clock;
 use mn_net_tally::count_static;
-use mn_routing::{Clock, Routes};
-use mn_topo::{JournalEntry, Step, Topology};
+use mn_routing::Routes;
+use mn_topo::{Damaged, JournalEntry, Topology};
 use mn_transport_model::a_transport_goes_on_as_it_was;
 use std::alloc::AllocError;
 
@@ -18,35 +19,30 @@ use std::alloc::AllocError;
 fn act(
     routes: &mut Routes,
     topology: &Topology,
-    step: &Step,
+    turn: &RouteTurn,
     clock: Clock,
 ) -> Result<u64, AllocError>
-    requires its { is_routing step.now ≡ true }
-    requires alone { touches step.now ≡ false }
     requires tick { clock.tick ≤ 2 ^ 62 }
     requires messages { All (λ item. item.number < clock.number) routes.old.messages }
-    requires may { routes.old.failed ≡ false → MayDo topology.now step.now routes.old }
-    ensures did { IfOk result (λ made. Did topology.now clock.tick clock.number step.now routes.old routes.new made) }
+    requires may { routes.old.failed ≡ false → MayDo topology.now (route_step turn.now) routes.old }
+    ensures did { IfOk result (λ made. Did topology.now clock.tick clock.number (route_step turn.now) routes.old routes.new made) }
 {
-    match *step {
-        Step::BgpUp(a, b) => routes.bgp_up(topology, a, b, clock),
-        Step::BgpDown(a, b) => routes.bgp_down(topology, a, b, clock),
-        Step::HearBgp(a, b) => routes.hear_bgp(topology, a, b, clock),
-        Step::AddRoute(site, prefix) => routes.add_route(topology, site, prefix, clock),
-        Step::DelRoute(site, prefix) => routes.del_route(topology, site, prefix, clock),
-        Step::Import(vrf, target, on) => routes.import(topology, vrf, target, on, clock),
-        Step::Export(vrf, target, on) => routes.export(topology, vrf, target, on, clock),
-        _ => unreachable!(),
+    match *turn {
+        RouteTurn::BgpUp(a, b) => routes.bgp_up(topology, a, b, clock),
+        RouteTurn::BgpDown(a, b) => routes.bgp_down(topology, a, b, clock),
+        RouteTurn::HearBgp(a, b) => routes.hear_bgp(topology, a, b, clock),
+        RouteTurn::AddRoute(site, prefix) => routes.add_route(topology, site, prefix, clock),
+        RouteTurn::DelRoute(site, prefix) => routes.del_route(topology, site, prefix, clock),
+        RouteTurn::Import(vrf, target, on) => routes.import(topology, vrf, target, on, clock),
+        RouteTurn::Export(vrf, target, on) => routes.export(topology, vrf, target, on, clock),
     }
 }
 
 impl Net {
     /// A step of BGP, routes or targets.
-    pub(crate) fn turn_route(&mut self, step: Step) -> Result<(), AllocError>
-        requires its { is_routing step ≡ true }
-        requires alone { touches step ≡ false }
-        requires may { MayBeDone self.old step [] }
-        ensures done { OnOk result (IsDone self.old self.new step []) }
+    pub(crate) fn turn_route(&mut self, turn: RouteTurn) -> Result<(), AllocError>
+        requires may { MayBeDone self.old (route_step turn) [] }
+        ensures done { OnOk result (IsDone self.old self.new (route_step turn) []) }
         ensures failed { OnErr result (HasFailed self.old self.new) }
     {
         a_transport_goes_on_as_it_was();
@@ -57,13 +53,15 @@ impl Net {
         };
         self.failed = true;
         self.journal.reserve(1)?;
-        let more = act(&mut self.routes, &self.topology, &step, clock)?;
+        let more = act(&mut self.routes, &self.topology, &turn, clock)?;
         self.made = number_after(self.made, more)?;
         self.transit.begin();
+        let step = turn.step();
         count_static(&mut self.tally, &step);
         self.journal.push_reserved(JournalEntry {
             tick: self.tick,
             step,
+            damaged: Damaged::Undamaged,
         });
         self.failed = false;
         Ok(())

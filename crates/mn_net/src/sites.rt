@@ -3,11 +3,11 @@ ghost use Rattle.std.specs.Prelude.{[], OnOk, OnErr};
 ghost use Rattle.mn_topo.specs.declared.steps.Step.TheVariants as step;
 ghost use Rattle.mn_net_now.specs.Done.{MayBeDone, IsDone, HasFailed};
 
-use crate::ends::number_after;
 use crate::net::Net;
+use crate::numbers::number_after;
 use mn_base::SiteNo;
-use mn_routing::Clock;
-use mn_topo::{JournalEntry, Step};
+use mn_flight::Clock;
+use mn_topo::{Damaged, JournalEntry, Step};
 use std::alloc::AllocError;
 
 impl Net {
@@ -33,6 +33,7 @@ impl Net {
         self.journal.push_reserved(JournalEntry {
             tick: self.tick,
             step: Step::Attach(site),
+            damaged: Damaged::Undamaged,
         });
         self.failed = false;
         Ok(())
@@ -58,6 +59,7 @@ impl Net {
         self.journal.push_reserved(JournalEntry {
             tick: self.tick,
             step: Step::Detach(site),
+            damaged: Damaged::Undamaged,
         });
         self.failed = false;
         Ok(())

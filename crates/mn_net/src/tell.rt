@@ -8,8 +8,9 @@ ghost use Rattle.mn_transit.specs.Visits.{path_of};
 ghost use Rattle.mn_net_now.specs.Now.{StandsFor};
 
 use crate::net::Net;
-use mn_base::{Dir, LinkNo, NodeNo};
+use mn_base::{LinkNo, NodeNo};
 use mn_ledger::Verdict;
+use mn_wiring::Dir;
 
 impl Net {
     /// How many packets were injected.

@@ -3,7 +3,7 @@ use Rattle.std.proofs.Common.{ℕ, ◌≡◌, ◌<◌, List, [], ◌∷◌, leng
 use Rattle.std.specs.Prelude.{option_map, slice_get, slice_index, slice_index_or, true}
 use Rattle.std.proofs.lemmas.List.{length-map}
 use Rattle.std.proofs.lemmas.List.FromFn.{length-map-range_with_len}
-use Rattle.mn_base.specs.Wiring.{nodes_of, links_of}
+use Rattle.mn_wiring.specs.Wiring.{nodes_of, links_of}
 use Rattle.mn_topo.specs.Lawful.{IsLawful}
 use Rattle.mn_topo.specs.Network.{Network, wiring_of}
 use Rattle.mn_topo.specs.Steps.{fits}

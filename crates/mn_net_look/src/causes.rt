@@ -3,7 +3,6 @@ ghost use Rattle.std.specs.Prelude.{◌≡◌, ◌<◌, ◌≤◌, ◌+◌, ◌*
 ghost use Rattle.mn_base.specs.Limits.{most_targets};
 ghost use Rattle.mn_topo.specs.Steps.{fits};
 ghost use Rattle.mn_transit.specs.Moving.{Moving};
-ghost use Rattle.mn_ledger.specs.Packets.{channel};
 ghost use Rattle.mn_ledger.specs.Refusal.{agree, takes_out};
 ghost use Rattle.mn_lsr.specs.Standing.{Standing};
 ghost use Rattle.mn_routing_model.specs.Routed.{Routed};
@@ -13,8 +12,10 @@ ghost use Rattle.mn_net_look.specs.Parts.{HaveSizes, shown, packed_of, seen_in};
 ghost use Rattle.mn_vrf.specs.Vrf.{VrfState};
 ghost use Rattle.mn_net_refusal.specs.Refusal.{of_vrf, is_so, has_nothing, of_static, has_all_targets, has_given_all, has_no_room, has_too_much};
 
-use crate::sites::{exports, home_of, imports, is_attached, site_with, vrf_at, vrf_of};
-use mn_base::{Dir, LinkNo, VrfNo};
+use crate::sites::{exports, imports, is_attached, site_with, vrf_at};
+use mn_base::{
+    LinkNo, MOST_FLYING_BYTES, MOST_IN_FLIGHT, MOST_LABELS, MOST_STATIC_ROUTES, MOST_TARGETS, VrfNo,
+};
 use mn_flight::Flight;
 use mn_ledger::Refused;
 use mn_net_tally::Tally;
@@ -22,21 +23,7 @@ use mn_routing::Routes;
 use mn_topo::{Step, Topology};
 use mn_transit::Transit;
 use mn_transport::Transport;
-
-/// The most notices and messages that may be in flight before a step that takes none out.
-const NEWS: u64 = 2_000_000;
-
-/// The most bytes of packets that may fly.
-const BYTES: u64 = 268_435_456;
-
-/// The most static routes.
-const STATICS: u32 = 65_536;
-
-/// The most targets of a set.
-const TARGETS: usize = 16;
-
-/// The labels that a node can give: those from 16 to 1,048,575.
-const LABELS: usize = 1_048_560;
+use mn_wiring::channel_of;
 
 /// It is as it is to be.
 fn agree(on: bool, is: bool) -> bool
@@ -86,16 +73,6 @@ fn pair(one: u16, of: usize, other: u16) -> u32
     u32::from(one) * of as u32 + u32::from(other)
 }
 
-/// The channel of a direction.
-fn direction(link: LinkNo, dir: Dir) -> u32
-    ensures { result ≡ channel link.0 dir }
-{
-    match dir {
-        Dir::Forth => 2 * u32::from(link.0),
-        Dir::Back => 2 * u32::from(link.0) + 1,
-    }
-}
-
 /// Nothing flies on the channel, or no frame at the place.
 pub(crate) fn has_nothing(
     topology: &Topology,
@@ -110,7 +87,7 @@ pub(crate) fn has_nothing(
     let nodes = topology.nodes().len();
     match *step {
         Step::Learn(node, link) => transport.notices().count(pair(link.0, nodes, node.0)) == 0,
-        Step::HearLdp(link, dir) => transport.messages().count(direction(link, dir)) == 0,
+        Step::HearLdp(link, dir) => transport.messages().count(channel_of(link, dir)) == 0,
         Step::HearBgp(a, b) => routes.messages().count(pair(a.0, nodes, b.0)) == 0,
         Step::Carry(link, dir, place) => transit.flying(link, dir) <= u64::from(place),
         Step::Lose(link, dir, place) => transit.flying(link, dir) <= u64::from(place),
@@ -142,16 +119,16 @@ pub(crate) fn of_static(
 {
     match *step {
         Step::AddRoute(site, prefix) => {
-            if let Some(site) = site_with(topology, routes, vrf_of(topology, site), prefix) {
+            if let Some(site) = site_with(topology, routes, topology.vrf_of(site), prefix) {
                 return Some(Refused::PrefixTaken { site });
             }
-            if tally.statics() >= STATICS {
+            if tally.statics() >= MOST_STATIC_ROUTES {
                 return Some(Refused::RoutesFull);
             }
             None
         }
         Step::DelRoute(site, prefix) => {
-            if let Some(there) = site_with(topology, routes, vrf_of(topology, site), prefix) {
+            if let Some(there) = site_with(topology, routes, topology.vrf_of(site), prefix) {
                 if there.0 == site.0 {
                     return None;
                 }
@@ -169,7 +146,7 @@ fn imports_all(topology: &Topology, routes: &Routes, vrf: VrfNo) -> bool
     ensures { result ≡ nat_le most_targets (unwrap_or (of_vrf topology.now (shown routes.now) vrf.0 (λ (state : VrfState). Some (length state.imports))) 0) }
 {
     match vrf_at(topology, routes, vrf) {
-        Some(held) => held.imports().as_slice().len() >= TARGETS,
+        Some(held) => held.imports().as_slice().len() >= MOST_TARGETS,
         None => false,
     }
 }
@@ -181,7 +158,7 @@ fn exports_all(topology: &Topology, routes: &Routes, vrf: VrfNo) -> bool
     ensures { result ≡ nat_le most_targets (unwrap_or (of_vrf topology.now (shown routes.now) vrf.0 (λ (state : VrfState). Some (length state.exports))) 0) }
 {
     match vrf_at(topology, routes, vrf) {
-        Some(held) => held.exports().as_slice().len() >= TARGETS,
+        Some(held) => held.exports().as_slice().len() >= MOST_TARGETS,
         None => false,
     }
 }
@@ -217,8 +194,8 @@ pub(crate) fn has_given_all(topology: &Topology, transport: &Transport, step: &S
 {
     match *step {
         Step::Attach(site) => {
-            let node = home_of(topology, site);
-            transport.node(node).labels().table().len() >= LABELS
+            let node = topology.home_of(site);
+            transport.node(node).labels().table().len() >= MOST_LABELS
         }
         _ => false,
     }
@@ -243,7 +220,8 @@ fn has_no_room(transit: &Transit, step: &Step, packet: &[u8]) -> bool
     ensures { (transport : Carried) (routes : Routed) (made : ℕ) → result ≡ has_no_room (packed_of transport routes transit.now made) step.now packet.now }
 {
     match *step {
-        Step::Inject(_, _) => transit.flying_bytes().saturating_add(packet.len() as u64) > BYTES,
+        Step::Inject(_, _) => transit.flying_bytes().saturating_add(packet.len() as u64)
+            > MOST_FLYING_BYTES,
         _ => false,
     }
 }
@@ -264,7 +242,7 @@ pub(crate) fn has_too_much(
         .saturating_add(routes.messages().len());
     let news = transport.notices().len().saturating_add(messages);
     if !takes_out(step) {
-        if news >= NEWS {
+        if news >= MOST_IN_FLIGHT {
             return true;
         }
     }

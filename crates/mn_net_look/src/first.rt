@@ -8,6 +8,7 @@ ghost use Rattle.mn_net_tally.specs.Tallies.{Tally as Counts};
 ghost use Rattle.mn_net_refusal.specs.Refusal.{refusal_seen};
 
 use crate::causes::{has_all_targets, has_given_all, has_nothing, has_too_much, is_so, of_static};
+use mn_base::MOST_STEPS;
 use mn_ledger::Refused;
 use mn_net_tally::Tally;
 use mn_routing::Routes;
@@ -16,7 +17,7 @@ use mn_transit::Transit;
 use mn_transport::Transport;
 
 /// The most steps of a journal.
-const STEPS: usize = 4_000_000;
+const STEPS: usize = MOST_STEPS as usize;
 
 /// The first of the last four causes that holds.
 fn first_limit(

@@ -8,9 +8,9 @@ ghost use Rattle.mn_timetable.specs.Keys.{key_of, keys_in};
 ghost use Rattle.mn_net_tally.specs.Rising.{AreRising};
 ghost use Rattle.mn_net_tally.specs.Tallies.{is_one};
 ghost use Rattle.mn_net_look.specs.Parts.{PartsStand, OnChannels, packed_of};
-ghost use Rattle.mn_net_refusal.specs.Coming.{first_key, dir_of, learns_on, hears_on, tells_on, carries_on, as_coming, news_coming, coming_seen, pending_seen};
+ghost use Rattle.mn_net_refusal.specs.Coming.{first_key, learns_on, hears_on, tells_on, carries_on, as_coming, news_coming, coming_seen, pending_seen};
 
-use mn_base::{Dir, LinkNo, ListOf, NodeNo};
+use mn_base::{LinkNo, ListOf, NodeNo};
 use mn_course::{Coming, Kind};
 use mn_flight::{Flight, Item};
 use mn_net_tally::Tally;
@@ -18,17 +18,7 @@ use mn_routing::Routes;
 use mn_topo::{Step, Topology};
 use mn_transit::Transit;
 use mn_transport::Transport;
-
-/// The direction of a channel.
-fn direction(channel: u32) -> Dir
-    ensures { result ≡ dir_of channel }
-{
-    if channel % 2 == 0 {
-        Dir::Forth
-    } else {
-        Dir::Back
-    }
-}
+use mn_wiring::direction_of;
 
 /// An item is due before another, or was made before it where both are due at one tick.
 fn is_due_before(due: u64, number: u64, other_due: u64, other: u64) -> bool
@@ -67,7 +57,7 @@ fn pdu_coming(item: &Item<ListOf<u8>>) -> Coming
     Coming {
         due: item.due,
         number: item.number,
-        step: Step::HearLdp(link, direction(item.channel)),
+        step: Step::HearLdp(link, direction_of(item.channel)),
         lossy: false,
     }
 }
@@ -126,7 +116,7 @@ fn frame_coming(topology: &Topology, transit: &Transit, tally: &Tally, limit: u6
     Some(Coming {
         due: item.due,
         number: item.number,
-        step: Step::Carry(link, direction(item.channel), 0),
+        step: Step::Carry(link, direction_of(item.channel), 0),
         lossy: tally.loses(item.number),
     })
 }

@@ -10,43 +10,13 @@ use mn_routing::Routes;
 use mn_topo::Topology;
 use mn_vrf::Vrf;
 
-/// The edge of a VRF.
-fn edge_of(topology: &Topology, vrf: VrfNo) -> NodeNo
-    requires { vrf.0 < length topology.now.vrfs }
-    ensures edge { result.0 ≡ edge_of topology.now vrf.0 }
-    ensures there { result.0 < length topology.now.loopbacks }
-{
-    topology.laws();
-    topology.vrfs()[usize::from(vrf.0)].node
-}
-
-/// The VRF of a site.
-pub(crate) fn vrf_of(topology: &Topology, site: SiteNo) -> VrfNo
-    requires { site.0 < length topology.now.sites }
-    ensures vrf { result.0 ≡ vrf_of topology.now site.0 }
-    ensures there { result.0 < length topology.now.vrfs }
-{
-    topology.laws();
-    topology.sites()[usize::from(site.0)].vrf
-}
-
-/// The edge of a site.
-pub(crate) fn home_of(topology: &Topology, site: SiteNo) -> NodeNo
-    requires { site.0 < length topology.now.sites }
-    ensures home { result.0 ≡ home_of topology.now site.0 }
-    ensures there { result.0 < length topology.now.loopbacks }
-{
-    let vrf = vrf_of(topology, site);
-    edge_of(topology, vrf)
-}
-
 /// A VRF, at its edge.
 pub(crate) fn vrf_at<'a>(topology: &Topology, routes: &'a Routes, vrf: VrfNo) -> Option<&'a Vrf>
     requires edges { length routes.now.edges ≡ length topology.now.loopbacks }
     requires there { vrf.0 < length topology.now.vrfs }
     ensures { option_map (λ held. held.now.vrf) result ≡ of_vrf topology.now (shown routes.now) vrf.0 Some }
 {
-    let edge = routes.edge(edge_of(topology, vrf))?;
+    let edge = routes.edge(topology.edge_of(vrf))?;
     edge.vrf(vrf)
 }
 
@@ -98,7 +68,7 @@ pub(crate) fn is_attached(topology: &Topology, routes: &Routes, site: SiteNo) ->
     requires there { site.0 < length topology.now.sites }
     ensures { result ≡ is_some (site_label topology.now (shown routes.now) site.0) }
 {
-    match routes.edge(home_of(topology, site)) {
+    match routes.edge(topology.home_of(site)) {
         Some(edge) => edge.attached(site).is_some(),
         None => false,
     }

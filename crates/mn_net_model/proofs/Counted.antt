@@ -1,8 +1,8 @@
 -- The frame that a step makes, by how many fly on each channel.
 use Rattle.std.proofs.Common.{ℕ, suc, ◌≡◌, ◌+◌, Bool, true, false, cond, List, [], ◌∷◌, ◌++◌, length, refl, arith, sym, ap, ◌∙◌, inl, inr, append-nil, eqb-true}
 use Rattle.std.specs.Prelude.{◌==◌}
-use Rattle.mn_base.specs.Wiring.{link}
-use Rattle.mn_base.specs.declared.links.Dir.{Dir}
+use Rattle.mn_wiring.specs.Wiring.{link}
+use Rattle.mn_wiring.specs.declared.links.Dir.{Dir}
 use Rattle.mn_flight.specs.declared.Item.{Item as ItemOf}
 use Rattle.mn_flight.specs.Flying.{on_channel}
 use Rattle.mn_topo.specs.Network.{Network, wiring_of}

@@ -7,6 +7,7 @@ use Rattle.mn_topo.specs.Steps.{fits}
 use Rattle.mn_topo.specs.declared.steps.Step.{Step}
 use Rattle.mn_topo.specs.declared.steps.Step.TheVariants.{BgpUp, BgpDown, HearBgp}
 use Rattle.mn_topo.specs.declared.steps.JournalEntry.{JournalEntry}
+use Rattle.mn_topo.specs.declared.steps.Damaged.TheVariants.{Undamaged}
 use Rattle.mn_ledger.specs.Packets.{Packets}
 use Rattle.mn_ledger.specs.Verdicts.{injections, one_if}
 use Rattle.mn_ledger.specs.Ledger.{world_of, packets_of, start, no_packets, injects}
@@ -57,15 +58,15 @@ pub flight_more : (t : Network) (es : List JournalEntry) (tick : ℕ) (s : Step)
       items =
           left_in_flight t s (flight_of t es ps).items ++ numbered t tick (flight_of t es ps).made (made_now t es ps s b);
     }
-flight_more t es tick s b ps h = flight_from-push t es (record { tick = tick; step = s }) b (start t) no_packets (record { made = 0; items = [] }) ps h
+flight_more t es tick s b ps h = flight_from-push t es (record { tick = tick; step = s; damaged = Undamaged }) b (start t) no_packets (record { made = 0; items = [] }) ps h
 
 pub packets_more : (t : Network) (es : List JournalEntry) (tick : ℕ) (s : Step) (b : List ℕ) (ps : List (List ℕ)) → length ps ≡ injections es →
     packets_of t (pushed es tick s) (with_packet s b ps) ≡ later_packets t es ps s b
-packets_more t es tick s b ps h = packets_from-push t es (record { tick = tick; step = s }) b (start t) no_packets ps h
+packets_more t es tick s b ps h = packets_from-push t es (record { tick = tick; step = s; damaged = Undamaged }) b (start t) no_packets ps h
 
 pub lawful_more : (t : Network) (es : List JournalEntry) (tick : ℕ) (s : Step) (b : List ℕ) (ps : List (List ℕ)) → length ps ≡ injections es →
     IsLawfulJournal t es ps → MayStep t es tick s b ps → IsLawfulJournal t (pushed es tick s) (with_packet s b ps)
-lawful_more t es tick s b ps h lawful may = lawful_from-push t es (record { tick = tick; step = s }) b 0 (start t) no_packets 0 ps h lawful may.fitting may.late
+lawful_more t es tick s b ps h lawful may = lawful_from-push t es (record { tick = tick; step = s; damaged = Undamaged }) b 0 (start t) no_packets 0 ps h lawful may.fitting may.late
     (subst (λ m. refusal_at t (world_of t es) (packets_of t es ps) m s b ≡ None) (omega arith) may.unrefused)
 
 -- nodes give more labels
@@ -73,7 +74,7 @@ pub labelled_more : (t : Network) (es : List JournalEntry) (tick : ℕ) (s : Ste
     transit.StandsFor t (given t (pushed es tick s)) m k
 labelled_more t es tick s m k h =
     stands_later t (given t es) (given t (pushed es tick s)) m k (has_fecs t es)
-    (λ node. (given_in t node (world_of t es).config s, gives_more t es (record { tick = tick; step = s }) node)) h
+    (λ node. (given_in t node (world_of t es).config s, gives_more t es (record { tick = tick; step = s; damaged = Undamaged }) node)) h
 
 -- 3. Each clause
 
@@ -109,7 +110,7 @@ goes_on t es tick s b ps old new h may done =
     let n : ℕ = length t.loopbacks in
     let there = all_there t es ps may.topology_lawful h.lawful in
     record {
-      each = each_more es (record { tick = tick; step = s }) b ps h.each;
+      each = each_more es (record { tick = tick; step = s; damaged = Undamaged }) b ps h.each;
       lawful = lawful_more t es tick s b ps h.each h.lawful may;
       packets = subst (λ p. transit.StandsFor t (given t (pushed es tick s)) new.moving p) (sym (packets_more t es tick s b ps h.each)) done.packets;
       made = done.made ∙ ap (λ m. m + length (made_now t es ps s b)) h.made ∙ sym (ap (λ (flight : Flight). flight.made) (flight_more t es tick s b ps h.each));

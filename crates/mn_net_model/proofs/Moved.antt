@@ -4,8 +4,8 @@ use Rattle.std.proofs.Common.{ℕ, zero, suc, ◌≡◌, ◌+◌, ◌<◌, Bool,
 use Rattle.std.proofs.Common.{None, inl, inr, append-nil}
 use Rattle.std.specs.Prelude.{slice_get}
 use Rattle.std.proofs.lemmas.List.{length-map, length-append}
-use Rattle.mn_base.specs.Wiring.{receiver}
-use Rattle.mn_base.specs.declared.links.Dir.{Dir}
+use Rattle.mn_wiring.specs.Wiring.{receiver}
+use Rattle.mn_wiring.specs.declared.links.Dir.{Dir}
 use Rattle.mn_flight.specs.declared.Item.{Item as ItemOf}
 use Rattle.mn_flight.proofs.OnChannels.{Ascends}
 use Rattle.mn_flight.specs.Flying.{on_channel, without}

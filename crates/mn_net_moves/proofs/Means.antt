@@ -1,7 +1,7 @@
 -- In a network that stands for the ledger labels mean what the ledger's world says.
 use Rattle.std.proofs.Common.{ℕ, ◌≡◌, ◌<◌, Bool, true, false, List, length, map, sym, ap, ◌∙◌, Option, Some, None}
 use Rattle.std.specs.Prelude.{◌&&◌, if◌then◌else◌, slice_get, slice_index_or}
-use Rattle.mn_base.specs.Wiring.{across, is_end, nodes_of}
+use Rattle.mn_wiring.specs.Wiring.{across, is_end, nodes_of}
 use Rattle.mn_topo.specs.Network.{Network, wiring_of}
 use Rattle.mn_topo.specs.declared.steps.JournalEntry.{JournalEntry}
 use Rattle.mn_ledger.specs.World.{World, Message}

@@ -6,8 +6,8 @@ use Rattle.std.specs.Prelude.{◌≢◌, slice_index, slice_get, nat_le, nat_lt,
 use Rattle.std.specs.List.{All}
 use Rattle.std.proofs.lemmas.Bool.Decides.{nat_tests}
 use Rattle.mn_base.proofs.Bools.{no, less_tells}
-use Rattle.mn_base.specs.Wiring.{receiver}
-use Rattle.mn_base.specs.declared.links.Dir.{Dir}
+use Rattle.mn_wiring.specs.Wiring.{receiver}
+use Rattle.mn_wiring.specs.declared.links.Dir.{Dir}
 use Rattle.mn_base.specs.declared.numbers.LinkNo.{LinkNo}
 use Rattle.mn_base.specs.declared.numbers.NodeNo.{NodeNo}
 use Rattle.mn_base.specs.declared.numbers.SiteNo.{SiteNo}
@@ -18,6 +18,7 @@ use Rattle.mn_topo.specs.Lawful.{IsLawful}
 use Rattle.mn_topo.specs.declared.steps.Step.{Step}
 use Rattle.mn_topo.specs.declared.steps.Step.TheVariants.{Carry, Lose, Inject}
 use Rattle.mn_topo.specs.declared.steps.JournalEntry.{JournalEntry}
+use Rattle.mn_topo.specs.declared.steps.Damaged.TheVariants.{Undamaged}
 use Rattle.mn_ledger.specs.World.{World}
 use Rattle.mn_ledger.specs.Places.{home_of}
 use Rattle.mn_ledger.specs.Refusal.{in_flight, bytes_flying}
@@ -33,7 +34,7 @@ use Rattle.mn_lsr.specs.Standing.{Standing, FitsOuter}
 use Rattle.mn_stack.specs.Labelled.{Labelled}
 use Rattle.mn_transit.specs.Moving.{Moving, CountsOn, bytes_in}
 use Rattle.mn_prefix.specs.Prefix.{AddressBlock}
-use Rattle.mn_base.specs.declared.drops.Rule.{Rule}
+use Rattle.mn_drops.specs.declared.drops.Rule.{Rule}
 use Rattle.mn_ipv4.specs.Header.{aged, total_length, destination_of}
 use Rattle.mn_ipv4.proofs.Laws.{IsGood, IsGood-from_good, length-aged}
 use Rattle.mn_vrf.specs.declared.source.Source.{Source}
@@ -182,7 +183,7 @@ table_then : (t : Network) (es : List JournalEntry) (tick : ℕ) (s : Step) (old
     IsTransport t (pushed es tick s) old.transport → slice_get old.transport.nodes node ≡ Some standing →
     TableStands t (given t (pushed es tick s)) (later_world t es s) node standing.uses
 table_then t es tick s old node standing h there =
-    subst (λ w. TableStands t (given t (pushed es tick s)) w node standing.uses) (world_from-push t es (start t) (record { tick = tick; step = s }))
+    subst (λ w. TableStands t (given t (pushed es tick s)) w node standing.uses) (world_from-push t es (start t) (record { tick = tick; step = s; damaged = Undamaged }))
     (h.nodes node standing there).table
 
 pub carry_done : (old : NetNow) (moving : Moving) (tally : Tally) (l : LinkNo) (d : Dir) (place : ℕ) (made : Bool) (made_now node : ℕ) (standing : Standing)
@@ -344,7 +345,7 @@ inject_done old moving tally site number b node entered outer made made_now stay
     (let room = room_for old is site number b may (told is.inputs is.stands) in omega (arith, room, small)) (λ ps h.
     let still : IsTransport t (pushed es old.tick s) old.transport = stays t es old.tick s old.transport lawful refl h.transport in
     let routes : IsRoutes t (pushed es old.tick s) old.routes = stay t es old.tick s old.routes lawful refl h.routes in
-    let same : world_of t (pushed es old.tick s) ≡ later_world t es s = world_from-push t es (start t) (record { tick = old.tick; step = s }) in
+    let same : world_of t (pushed es old.tick s) ≡ later_world t es s = world_from-push t es (start t) (record { tick = old.tick; step = s; damaged = Undamaged }) in
     let step = may_step old s b lawful is may ps h in
     let is_fate = fate (pushed es old.tick s) (ps ++ b ∷ []) (lawful_more t es old.tick s b ps h.stands.each h.stands.lawful step) routes in
     let on = injected t es old.tick site number b ps (packed_in old) moving made h.stands step
@@ -368,12 +369,34 @@ pub net_may : (view now : NetNow) (s : Step) (b : List ℕ) → view ≡ now →
 net_may view now s b same may = subst (λ (n : NetNow). MayBeDone n s b) (sym same) may
 
 -- the part of a step that ends it: the entry is in the journal, and the step no longer under way
-pub as_it_is : (old new : NetNow) (s : Step) (b : List ℕ) (kept journal : List JournalEntry) → Goes old new s b → new.failed ≡ false → kept ≡ old.journal →
-    journal ≡ kept ++ record { tick = old.tick; step = s } ∷ [] → Goes old (record new { journal = journal; failed = false }) s b
-as_it_is old new s b kept journal done works same is =
+-- and memory to spare changes nothing of it
+with_spare : (old new : NetNow) (s : Step) (b : List ℕ) (spare : ℕ) → Goes old new s b → Goes old (record new { spare = spare }) s b
+with_spare old new s b spare done = record {
+  done = record {
+    longer = let l = done.done.longer in record { topology = l.topology; journal = l.journal; tick = l.tick; room = l.room; made = l.made };
+    stands = λ ps h. let n = done.done.stands ps h in
+        record { works = n.works; transport = n.transport; routes = n.routes; stands = n.stands; tally = n.tally };
+  };
+  is = record {
+    inputs = done.is.inputs;
+    stands = let n = done.is.stands in record { works = n.works; transport = n.transport; routes = n.routes; stands = n.stands; tally = n.tally };
+    channels = done.is.channels;
+    late = done.is.late;
+    within = done.is.within;
+    bytes = done.is.bytes;
+    copies = done.is.copies;
+    verdicts = done.is.verdicts;
+  };
+}
+
+pub as_it_is : (old new : NetNow) (s : Step) (b : List ℕ) (kept journal : List JournalEntry) (spare : ℕ) → Goes old new s b → new.failed ≡ false →
+    kept ≡ old.journal → journal ≡ kept ++ record { tick = old.tick; step = s; damaged = Undamaged } ∷ [] →
+    Goes old (record new { journal = journal; failed = false; spare = spare }) s b
+as_it_is old new s b kept journal spare done works same is =
     let e : journal ≡ new.journal = is ∙ ap (λ es. pushed es old.tick s) same ∙ sym done.done.longer.journal in
-    subst (λ f. Goes old (record new { journal = journal; failed = f }) s b) works
-    (subst (λ es. Goes old (record new { journal = es }) s b) (sym e) done)
+    with_spare old (record new { journal = journal; failed = false }) s b spare
+    (subst (λ f. Goes old (record new { journal = journal; failed = f }) s b) works
+    (subst (λ es. Goes old (record new { journal = es }) s b) (sym e) done))
 
 pub one_more : (flies : Bool) → bool_byte flies ≡ one_if flies
 one_more true = refl

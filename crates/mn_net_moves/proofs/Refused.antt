@@ -2,7 +2,7 @@
 use Rattle.std.proofs.Common.{◌≡◌, Option, Some, refl}
 use Rattle.std.specs.Prelude.{◌≢◌, Err}
 use Rattle.mn_ledger.specs.declared.refused.Refused.{Refused}
-use Rattle.mn_ledger.specs.declared.refused.Refused.TheVariants.{NoMemory, Unchanged, Empty, PrefixTaken, NoRouteThere, RoutesFull, TargetsFull}
+use Rattle.mn_ledger.specs.declared.refused.Refused.TheVariants.{NoMemory, Unchanged, Empty, StillReads, PrefixTaken, NoRouteThere, RoutesFull, TargetsFull}
 use Rattle.mn_ledger.specs.declared.refused.Refused.TheVariants.{LabelsSpent, NetFull, TooManySteps}
 use Rattle.mn_net_now.specs.Now.{NetNow}
 use Rattle.mn_net_now.specs.Done.{Answers, Leaves}
@@ -11,6 +11,7 @@ pub refused_so : (T : Type 0) (cause : Option Refused) (why : Refused) → cause
 refused_so T cause NoMemory h = tt
 refused_so T cause Unchanged h = h
 refused_so T cause Empty h = h
+refused_so T cause StillReads h = h
 refused_so T cause (PrefixTaken s) h = h
 refused_so T cause NoRouteThere h = h
 refused_so T cause RoutesFull h = h
@@ -24,6 +25,7 @@ pub left_so : (T : Type 0) (old new : NetNow) (why : Refused) → Some why ≢ S
 left_so T old new NoMemory other same = absurd (other refl)
 left_so T old new Unchanged other same = same
 left_so T old new Empty other same = same
+left_so T old new StillReads other same = same
 left_so T old new (PrefixTaken s) other same = same
 left_so T old new NoRouteThere other same = same
 left_so T old new RoutesFull other same = same

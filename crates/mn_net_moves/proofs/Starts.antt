@@ -20,15 +20,26 @@ pub record IsStart (moving : Moving) (channels : ℕ) : Type 0 where
   pub copies : moving.copies ≡ 0
   pub verdicts : moving.verdicts ≡ []
 
-abbrev pub start_of : Network → Carried → Routed → Moving → Tally → NetNow
-start_of t carried routed moving tally =
-    record { topology = t; journal = []; tick = 0; made = 0; failed = false; transport = carried; routes = routed; moving = moving; tally = tally }
+abbrev pub start_of : Network → Carried → Routed → Moving → Tally → ℕ → NetNow
+start_of t carried routed moving tally spare =
+    record {
+      topology = t;
+      journal = [];
+      tick = 0;
+      made = 0;
+      failed = false;
+      transport = carried;
+      routes = routed;
+      moving = moving;
+      tally = tally;
+      spare = spare;
+    }
 
-pub start_stands : (t : Network) (carried : Carried) (routed : Routed) (moving : Moving) (tally : Tally) →
+pub start_stands : (t : Network) (carried : Carried) (routed : Routed) (moving : Moving) (tally : Tally) (spare : ℕ) →
     IsTransport t [] carried → IsRoutes t [] routed → carried.notices ≡ [] → carried.messages ≡ [] → routed.messages ≡ [] →
     IsStart moving (2 * length t.links) →
-    ((g : Labelling) → transit.StandsFor t g moving no_packets) → Tallies t [] [] tally → StandsFor (start_of t carried routed moving tally) []
-start_stands t carried routed moving tally transport routes no_notices no_messages no_routes start packets tallied = record {
+    ((g : Labelling) → transit.StandsFor t g moving no_packets) → Tallies t [] [] tally → StandsFor (start_of t carried routed moving tally spare) []
+start_stands t carried routed moving tally spare transport routes no_notices no_messages no_routes start packets tallied = record {
   works = refl;
   transport = transport;
   routes = routes;
@@ -48,13 +59,13 @@ start_stands t carried routed moving tally transport routes no_notices no_messag
 few : (n m : ℕ) → n ≡ 0 → n ≤ m
 few n m e = omega (arith, e)
 
-pub starts : (t : Network) (carried : Carried) (routed : Routed) (moving : Moving) (tally : Tally) →
+pub starts : (t : Network) (carried : Carried) (routed : Routed) (moving : Moving) (tally : Tally) (spare : ℕ) →
     IsTransport t [] carried → IsRoutes t [] routed → carried.notices ≡ [] → carried.messages ≡ [] → routed.messages ≡ [] →
     IsStart moving (2 * length t.links) →
-    ((g : Labelling) → transit.StandsFor t g moving no_packets) → Tallies t [] [] tally → IsNet (start_of t carried routed moving tally)
-starts t carried routed moving tally transport routes no_notices no_messages no_routes start packets tallied = record {
+    ((g : Labelling) → transit.StandsFor t g moving no_packets) → Tallies t [] [] tally → IsNet (start_of t carried routed moving tally spare)
+starts t carried routed moving tally spare transport routes no_notices no_messages no_routes start packets tallied = record {
   inputs = [];
-  stands = start_stands t carried routed moving tally transport routes no_notices no_messages no_routes start packets tallied;
+  stands = start_stands t carried routed moving tally spare transport routes no_notices no_messages no_routes start packets tallied;
   channels = start.channels_are;
   late = few 0 0 refl;
   within = few 0 (2 ^ 62) refl;
@@ -64,14 +75,14 @@ starts t carried routed moving tally transport routes no_notices no_messages no_
 }
 
 -- as a call's proof has it, where the journal is an empty vector
-pub starts_with : (es : List JournalEntry) (t : Network) (carried : Carried) (routed : Routed) (moving : Moving) (tally : Tally) → es ≡ [] →
+pub starts_with : (es : List JournalEntry) (t : Network) (carried : Carried) (routed : Routed) (moving : Moving) (tally : Tally) (spare : ℕ) → es ≡ [] →
     IsTransport t [] carried → IsRoutes t [] routed → carried.notices ≡ [] → carried.messages ≡ [] → routed.messages ≡ [] →
     IsStart moving (2 * length t.links) →
     ((g : Labelling) → transit.StandsFor t g moving no_packets) → Tallies t [] [] tally →
-    IsNet (record (start_of t carried routed moving tally) { journal = es }) × StandsFor (record (start_of t carried routed moving tally) { journal = es }) []
-starts_with es t carried routed moving tally none transport routes no_notices no_messages no_routes start packets tallied =
-    subst (λ js. IsNet (record (start_of t carried routed moving tally) { journal = js })
-    × StandsFor (record (start_of t carried routed moving tally) { journal = js }) []) (sym none) (
-      starts t carried routed moving tally transport routes no_notices no_messages no_routes start packets tallied,
-      start_stands t carried routed moving tally transport routes no_notices no_messages no_routes start packets tallied,
+    IsNet (record (start_of t carried routed moving tally spare) { journal = es }) × StandsFor (record (start_of t carried routed moving tally spare) { journal = es }) []
+starts_with es t carried routed moving tally spare none transport routes no_notices no_messages no_routes start packets tallied =
+    subst (λ js. IsNet (record (start_of t carried routed moving tally spare) { journal = js })
+    × StandsFor (record (start_of t carried routed moving tally spare) { journal = js }) []) (sym none) (
+      starts t carried routed moving tally spare transport routes no_notices no_messages no_routes start packets tallied,
+      start_stands t carried routed moving tally spare transport routes no_notices no_messages no_routes start packets tallied,
     )

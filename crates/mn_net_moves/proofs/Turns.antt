@@ -2,7 +2,7 @@
 use Rattle.std.proofs.Common.{ℕ, ◌≡◌, ◌+◌, ◌<◌, true, false, List, [], ◌++◌, length, refl, arith, sym, ap, ◌∙◌, subst, None}
 use Rattle.std.specs.List.{All}
 use Rattle.mn_base.proofs.Bools.{no}
-use Rattle.mn_base.specs.declared.links.Dir.TheVariants.{Forth, Back}
+use Rattle.mn_wiring.specs.declared.links.Dir.TheVariants.{Forth, Back}
 use Rattle.mn_base.specs.declared.numbers.LinkNo.{LinkNo}
 use Rattle.mn_flight.specs.Flying.{off_channel}
 use Rattle.mn_topo.specs.Network.{Network}

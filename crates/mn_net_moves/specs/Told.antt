@@ -1,7 +1,7 @@
 -- What a network tells of nodes, in the ledger's words.
 use Rattle.std.specs.Prelude.{ℕ, if◌then◌else◌, Option, Some, None, option_map}
 use Rattle.mn_base.specs.declared.numbers.NodeNo.{NodeNo}
-use Rattle.mn_base.specs.declared.states.LdpState.{LdpState}
+use Rattle.mn_states.specs.declared.states.LdpState.{LdpState}
 use Rattle.mn_topo.specs.Network.{Network}
 use Rattle.mn_ledger.specs.World.{World}
 use Rattle.mn_ledger.specs.Transport.{lives, ldp_state_of, usable}

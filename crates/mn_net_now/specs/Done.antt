@@ -1,14 +1,15 @@
 -- A step of a network.
-use Rattle.std.specs.Prelude.{◌≡◌, ◌≤◌, ◌<◌, ℕ, true, false, List, length, Option, Some, None, Result, Ok, Err, ⊤}
+use Rattle.std.specs.Prelude.{◌≡◌, ◌≤◌, ◌<◌, ◌+◌, ℕ, Bool, true, false, List, length, Option, Some, None, Result, Ok, Err, ⊤}
 use Rattle.mn_base.specs.Limits.{most_steps}
 use Rattle.mn_topo.specs.Steps.{fits}
 use Rattle.mn_topo.specs.declared.steps.Step.{Step}
+use Rattle.mn_topo.specs.declared.steps.Step.TheVariants.{Carry, Lose}
 use Rattle.mn_ledger.specs.declared.refused.Refused.{Refused}
 use Rattle.mn_ledger.specs.declared.refused.Refused.TheVariants.{NoMemory}
 use Rattle.mn_ledger.specs.OneMore.{with_packet}
 use Rattle.mn_ledger.specs.Refusal.{refusal}
 use Rattle.mn_timetable.specs.Steps.{pushed}
-use Rattle.mn_net_now.specs.Now.{NetNow, StandsFor}
+use Rattle.mn_net_now.specs.Now.{NetNow, StandsFor, HasRoom}
 
 -- done exactly where nothing refuses the step, and else the first cause; want of memory is free
 abbrev pub Answers : {T : Type 0} → Option Refused → Result T Refused → Type 0
@@ -53,3 +54,20 @@ pub record MayBeDone (net : NetNow) (step : Step) (bytes : List ℕ) : Type 0 wh
 pub record IsDone (old new : NetNow) (step : Step) (bytes : List ℕ) : Type 0 where
   pub longer : IsLonger old new step
   pub stands : (inputs : List (List ℕ)) → StandsFor old inputs → StandsFor new (with_packet step bytes inputs)
+
+-- the step carries or loses a frame
+abbrev pub is_of_frames : Step → Bool
+is_of_frames (Carry l dir place) = true
+is_of_frames (Lose l dir place) = true
+is_of_frames _ = false
+
+-- Memory isn't wanted where there is room, and a step that is done takes at most one of it.
+abbrev pub TakesOne : {T : Type 0} → NetNow → NetNow → Result T Refused → Type 0
+TakesOne old new (Ok done) = (more : ℕ) → HasRoom old (more + 1) → HasRoom new more
+TakesOne old new (Err NoMemory) = HasRoom old 1 → ⊥
+TakesOne old new (Err why) = ⊤
+
+-- the same of the part of a step that does it, which nothing but memory stops
+abbrev pub TakesRoom : {T E : Type 0} → NetNow → NetNow → Result T E → Type 0
+TakesRoom old new (Ok done) = (more : ℕ) → HasRoom old (more + 1) → HasRoom new more
+TakesRoom old new (Err why) = HasRoom old 1 → ⊥

@@ -1,7 +1,7 @@
 -- What labels mean between any two steps of a network: RFC 3031, sections 3.1 and 3.14; RFC 5036, section 2.6; RFC 4364, sections 3.2 and 5.
 use Rattle.std.specs.Prelude.{◌≡◌, ◌<◌, ℕ, List, length, map, drop, slice_get, Some}
-use Rattle.mn_base.specs.Wiring.{across, sender, receiver}
-use Rattle.mn_base.specs.declared.links.Dir.{Dir}
+use Rattle.mn_wiring.specs.Wiring.{across, sender, receiver}
+use Rattle.mn_wiring.specs.declared.links.Dir.{Dir}
 use Rattle.mn_flight.specs.Flying.{on_channel}
 use Rattle.mn_topo.specs.Network.{wiring_of}
 use Rattle.mn_node.specs.Node.{session_at}

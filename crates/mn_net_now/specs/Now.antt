@@ -1,5 +1,5 @@
 -- What contracts see of a network, what holds of it, and when it stands for the ledger.
-use Rattle.std.specs.Prelude.{◌≡◌, ◌≤◌, ◌*◌, ◌^◌, ℕ, Bool, false, List, length}
+use Rattle.std.specs.Prelude.{◌≡◌, ◌≤◌, ◌<◌, ◌+◌, ◌*◌, ◌^◌, ℕ, Bool, false, List, length}
 use Rattle.mn_base.specs.Limits.{most_flying_bytes}
 use Rattle.mn_topo.specs.Network.{Network}
 use Rattle.mn_topo.specs.declared.steps.JournalEntry.{JournalEntry}
@@ -23,6 +23,7 @@ pub record NetNow : Type 0 where
   pub routes : Routed
   pub moving : Moving
   pub tally : Tally  -- what is counted beside the parts
+  pub spare : ℕ  -- how many more steps the journal has memory for
 
 -- what of it depends on the packets that were injected
 abbrev pub packed_in : NetNow → Packed
@@ -55,3 +56,15 @@ pub record IsNet (net : NetNow) : Type 0 where
 
 abbrev pub WorksAsNet : NetNow → Type 0
 WorksAsNet net = net.failed ≡ false → IsNet net
+
+-- It works, and has memory for so many more steps that carry or lose a frame, and numbers for what they make. The room of a network
+-- is the greatest such number; a network that has wanted memory has none.
+pub record HasRoom (net : NetNow) (more : ℕ) : Type 0 where
+  pub works : net.failed ≡ false
+  pub journal : more ≤ net.spare
+  pub counts : more ≤ net.tally.spare
+  pub numbers : net.made + more < 2 ^ 64
+
+-- another network with all the same but for memory to spare
+abbrev pub but_spare : NetNow → ℕ → ℕ → NetNow
+but_spare net journal counts = record net { spare = journal; tally = record net.tally { spare = counts } }

@@ -5,7 +5,7 @@ use Rattle.std.specs.Prelude.{◌==◌, ◌&&◌, ◌||◌, not, nat_lt, slice_i
 use Rattle.std.specs.List.{list_any, range_with_len}
 use Rattle.std.proofs.lemmas.List.{length-map}
 use Rattle.mn_base.specs.declared.numbers.Rt.{Rt}
-use Rattle.mn_base.specs.Wiring.{nodes_of}
+use Rattle.mn_wiring.specs.Wiring.{nodes_of}
 use Rattle.mn_base.proofs.Bools.{same_numbers, same_test, less_is}
 use Rattle.mn_base.proofs.Members.{In, range_in, filter_in}
 use Rattle.mn_topo.specs.Lawful.{IsLawful}

@@ -1,8 +1,9 @@
 -- What comes next of each kind, by what four flights show.
 use Rattle.std.specs.Prelude.{ℕ, ◌+◌, ◌/◌, ◌%◌, ◌==◌, ◌&&◌, ◌||◌, Bool, false, nat_lt, nat_le, if◌then◌else◌, List, length, filter, find, Option, option_map}
 use Rattle.std.specs.List.{list_all}
-use Rattle.mn_base.specs.declared.links.Dir.{Dir}
-use Rattle.mn_base.specs.declared.links.Dir.TheVariants.{Forth, Back}
+pub use Rattle.mn_wiring.specs.Wiring.{dir_of}
+use Rattle.mn_wiring.specs.declared.links.Dir.{Dir}
+use Rattle.mn_wiring.specs.declared.links.Dir.TheVariants.{Forth, Back}
 use Rattle.mn_topo.specs.Network.{Network}
 use Rattle.mn_topo.specs.declared.steps.Step.{Step}
 use Rattle.mn_topo.specs.declared.steps.Step.TheVariants.{Learn, HearLdp, HearBgp, Carry}
@@ -26,9 +27,6 @@ abbrev pub first_key : ℕ → List Key → Option Key
 first_key limit keys = find (λ key. list_all (goes_first key) (keys_due limit keys)) (keys_due limit keys)
 
 -- 2. The step that delivers the first on a channel of a flight
-
-abbrev pub dir_of : ℕ → Dir
-dir_of c = if c % 2 == 0 then Forth else Back
 
 abbrev pub learns_on : ℕ → ℕ → Step
 learns_on nodes c = Learn (record { 0 = c % nodes }) (record { 0 = c / nodes })

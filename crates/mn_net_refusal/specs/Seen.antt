@@ -1,6 +1,6 @@
 -- What a network's parts show, by which it refuses steps; and when that is what the ledger says.
 use Rattle.std.specs.Prelude.{◌≡◌, ◌<◌, ◌*◌, ℕ, Bool, List, length, map, slice_index}
-use Rattle.mn_base.specs.Wiring.{links_of}
+use Rattle.mn_wiring.specs.Wiring.{links_of}
 use Rattle.mn_linkdb.specs.Changes.{is_odd}
 use Rattle.mn_topo.specs.Network.{Network, wiring_of}
 use Rattle.mn_topo.specs.declared.steps.JournalEntry.{JournalEntry}

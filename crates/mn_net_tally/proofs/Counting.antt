@@ -4,9 +4,9 @@ use Rattle.std.proofs.Common.{refl, arith, sym, ap, ◌∙◌, subst, Option, So
 use Rattle.std.specs.Prelude.{◌==◌, ◌/◌, slice_get, slice_index, slice_set, find, option_map, if◌then◌else◌}
 use Rattle.std.specs.List.{Contains, AllByRecursion}
 use Rattle.std.proofs.lemmas.Bool.Decides.{nat_tests}
-use Rattle.mn_base.specs.Wiring.{link}
-use Rattle.mn_base.specs.declared.links.Dir.{Dir}
-use Rattle.mn_base.specs.declared.links.Dir.TheVariants.{Forth, Back}
+use Rattle.mn_wiring.specs.Wiring.{link}
+use Rattle.mn_wiring.specs.declared.links.Dir.{Dir}
+use Rattle.mn_wiring.specs.declared.links.Dir.TheVariants.{Forth, Back}
 use Rattle.mn_base.proofs.Bools.{no, clash, two_ways, test_same, same_test, same_numbers, other_test, none_below}
 use Rattle.mn_base.proofs.Members.{In, in_contained, contained_in, in_rest, in_map, map_in, in_filter, filter_in, none_passes, passes_none}
 use Rattle.mn_base.proofs.Rules.{some_is, none_is}
@@ -17,6 +17,7 @@ use Rattle.mn_topo.specs.declared.steps.Step.{Step}
 use Rattle.mn_topo.specs.declared.steps.Step.TheVariants.{LinkUp, AddRoute, DelRoute}
 use Rattle.mn_topo.specs.declared.steps.Step.TheVariants.{Inject, Carry}
 use Rattle.mn_topo.specs.declared.steps.JournalEntry.{JournalEntry}
+use Rattle.mn_topo.specs.declared.steps.Damaged.TheVariants.{Undamaged}
 use Rattle.mn_ledger.specs.World.{World, Config}
 use Rattle.mn_ledger.specs.Lawful.{IsLawfulJournal}
 use Rattle.mn_ledger.specs.Verdicts.{injections}
@@ -68,7 +69,7 @@ quiet_keys t es tick n s b ps h =
 
 statics_then : (t : Network) (es : List JournalEntry) (tick : ℕ) (s : Step) (b : List ℕ) (ps : List (List ℕ)) → length ps ≡ injections es →
     (world_of t (pushed es tick s)).config ≡ config_after (world_of t es).config s
-statics_then t es tick s b ps each = ap (λ (w : World). w.config) (goes_on t es ps (record { tick = tick; step = s }) b each).world
+statics_then t es tick s b ps each = ap (λ (w : World). w.config) (goes_on t es ps (record { tick = tick; step = s; damaged = Undamaged }) b each).world
 
 -- the counts of frames go on as they are
 quietly : (t : Network) (es : List JournalEntry) (tick : ℕ) (s : Step) (b : List ℕ) (ps : List (List ℕ)) (tally : Tally) (statics : ℕ) →

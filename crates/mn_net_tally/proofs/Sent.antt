@@ -4,8 +4,8 @@ use Rattle.std.proofs.Common.{arith, sym, ap, ◌∙◌, subst, append-nil, Some
 use Rattle.std.specs.Prelude.{◌==◌, nat_le, slice_get, slice_index_or, if◌then◌else◌}
 use Rattle.std.proofs.lemmas.List.{map-append, length-append}
 use Rattle.std.proofs.lemmas.List.Elements.{filter-append}
-use Rattle.mn_base.specs.Wiring.{link}
-use Rattle.mn_base.specs.declared.links.Dir.{Dir}
+use Rattle.mn_wiring.specs.Wiring.{link}
+use Rattle.mn_wiring.specs.declared.links.Dir.{Dir}
 use Rattle.mn_base.proofs.Bools.{at_most_is, not_at_most, none_below, test_same}
 use Rattle.mn_base.proofs.Members.{In, contained_in, in_append, in_filter}
 use Rattle.mn_base.proofs.Rules.{some_is, none_is}
@@ -13,6 +13,7 @@ use Rattle.mn_topo.specs.Lawful.{IsLawful}
 use Rattle.mn_topo.specs.Network.{Network, wiring_of}
 use Rattle.mn_topo.specs.declared.steps.Step.{Step}
 use Rattle.mn_topo.specs.declared.steps.JournalEntry.{JournalEntry}
+use Rattle.mn_topo.specs.declared.steps.Damaged.TheVariants.{Undamaged}
 use Rattle.mn_ledger.specs.Lawful.{IsLawfulJournal}
 use Rattle.mn_ledger.specs.Verdicts.{injections}
 use Rattle.mn_ledger.specs.Ledger.{world_of, packets_of}
@@ -161,7 +162,7 @@ module _ (t : Network) (es : List JournalEntry) (tick : ℕ) (s : Step) (b : Lis
   new = numbered t tick (length (made_by t es ps)) (made_then t (world_of t es) (packets_of t es ps) s b)
 
   pub made_more : made_by t (pushed es tick s) (with_packet s b ps) ≡ made ++ new
-  made_more = (goes_on t es ps (record { tick = tick; step = s }) b each).made
+  made_more = (goes_on t es ps (record { tick = tick; step = s; damaged = Undamaged }) b each).made
 
   below : (x : Item) → In (made_by t es ps) x → x.number < length (made_by t es ps)
   below x i =

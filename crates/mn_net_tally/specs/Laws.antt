@@ -2,7 +2,7 @@
 use Rattle.std.specs.Prelude.{◌≡◌, ◌<◌, ◌≤◌, ◌+◌, ◌-◌, ◌*◌, ℕ, Bool, true, false, List, [], length, slice_index}
 use Rattle.std.specs.List.{Contains}
 use Rattle.mn_base.specs.Limits.{most_static_routes}
-use Rattle.mn_base.specs.declared.links.Dir.{Dir}
+use Rattle.mn_wiring.specs.declared.links.Dir.{Dir}
 use Rattle.mn_base.specs.declared.numbers.SiteNo.{SiteNo}
 use Rattle.mn_prefix.specs.Prefix.{AddressBlock}
 use Rattle.mn_topo.specs.Lawful.{IsLawful}

@@ -1,5 +1,5 @@
 //! What a step changes of the counts.
-ghost use Rattle.std.specs.Prelude.{◌≡◌, ◌<◌, ◌*◌, ℕ, length, slice_index};
+ghost use Rattle.std.specs.Prelude.{◌≡◌, ◌<◌, ◌≤◌, ◌+◌, ◌*◌, ℕ, length, slice_index};
 ghost use Rattle.mn_base.specs.Limits.{most_steps};
 ghost use Rattle.mn_flight.specs.Flying.{IsFlight};
 ghost use Rattle.mn_net_tally.specs.Tallies.{frame_of, after_frame, after_static, HasStatic};
@@ -14,7 +14,8 @@ pub fn count_frame(tally: &mut Tally, topology: &Topology, transit: &Transit, nu
     requires each { length tally.old.sent ≡ 2 * length topology.now.links }
     requires few { (c : ℕ) → c < 2 * length topology.now.links → slice_index tally.old.sent c < most_steps }
     requires room { 0 < tally.old.spare }
-    ensures { tally.new ≡ record (after_frame topology.now (frame_of number transit.now.flying) tally.old) { spare = tally.new.spare } }
+    ensures counted { tally.new ≡ record (after_frame topology.now (frame_of number transit.now.flying) tally.old) { spare = tally.new.spare } }
+    ensures spare { tally.old.spare ≤ tally.new.spare + 1 }
 {
     let Some(item) = transit.frame(number) else {
         return;

@@ -1,5 +1,5 @@
 //! The counts, and what changes them.
-ghost use Rattle.std.specs.Prelude.{◌≡◌, ◌<◌, ◌≤◌, ◌+◌, ◌-◌, ◌*◌, ◌^◌, [], length, slice_index, true, IfOk, OnOk};
+ghost use Rattle.std.specs.Prelude.{◌≡◌, ◌<◌, ◌≤◌, ◌+◌, ◌-◌, ◌*◌, ◌^◌, [], length, slice_index, true, IfOk, OnOk, OnErr};
 ghost use Rattle.mn_base.specs.Limits.{most_static_routes, most_steps};
 ghost use Rattle.mn_net_tally.specs.Rising.{AreRising, IsSplit};
 ghost use Rattle.mn_net_tally.specs.Tallies.{Tallies, is_one, with_frame};
@@ -96,12 +96,14 @@ impl Tally {
         self.statics -= 1;
     }
 
-    /// Makes room for one more frame, so that `send` needs no memory.
-    pub fn reserve(&mut self) -> Result<(), AllocError>
-        ensures room { OnOk result (0 < self.new.spare) }
+    /// Makes room for so many more frames, so that `send` needs no memory for them.
+    pub fn reserve(&mut self, more: u32) -> Result<(), AllocError>
+        ensures room { OnOk result (more ≤ self.new.spare) }
         ensures kept { self.new ≡ record self.old { spare = self.new.spare } }
+        ensures no_less { self.old.spare ≤ self.new.spare }
+        ensures full { OnErr result (self.old.spare < more) }
     {
-        self.lossy.reserve(1)
+        self.lossy.reserve(more as usize)
     }
 
     /// A frame of this number was sent in a direction of a link, by the direction's number and the link's loss.
@@ -109,7 +111,8 @@ impl Tally {
         requires room { 0 < self.old.spare }
         requires there { channel < length self.old.sent }
         requires few { slice_index self.old.sent channel < most_steps }
-        ensures { self.new ≡ record (with_frame loss channel number self.old) { spare = self.new.spare } }
+        ensures counted { self.new ≡ record (with_frame loss channel number self.old) { spare = self.new.spare } }
+        ensures spare { self.old.spare ≤ self.new.spare + 1 }
     {
         let count = self.sent[channel as usize] + 1;
         self.sent[channel as usize] = count;

@@ -1,6 +1,10 @@
-//! Tests of one node: its links, trees, labels, transport, VRFs and edge, over the public calls of their crates.
+//! Tests of one node that no row of `mn_node_rows` or `mn_vpn_rows` can say, over the public calls of their crates.
 //!
-//! Expected values were worked by hand from RFC 3031, RFC 3032, RFC 5036 and RFC 4364.
+//! - `base`: steps that are counted over a ledger, and numbers and kinds that are told apart
+//! - `bindings`: what is offered to neighbours; no public call tells which of them are open, which `Lib::apply` asks for
+//! - `laws`: laws, which answer nothing
+//!
+//! Expected values were worked by hand from RFC 5036.
 #![tactic(auto)]
 
 #[cfg(test)]
@@ -8,26 +12,4 @@ mod base;
 #[cfg(test)]
 mod bindings;
 #[cfg(test)]
-mod labels;
-#[cfg(test)]
-mod lfib;
-#[cfg(test)]
-mod linkdb;
-#[cfg(test)]
-mod lpm;
-#[cfg(test)]
-mod lsr;
-#[cfg(test)]
-mod pe;
-#[cfg(test)]
-mod plain;
-#[cfg(test)]
-mod rib_in;
-#[cfg(test)]
-mod spf;
-#[cfg(test)]
-mod spf_inc;
-#[cfg(test)]
-mod targets;
-#[cfg(test)]
-mod vrf;
+mod laws;

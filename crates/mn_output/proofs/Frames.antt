@@ -4,8 +4,8 @@ use Rattle.std.proofs.Common.{append_assoc, append-nil, Some}
 use Rattle.std.specs.Prelude.{◌==◌, slice_get, if◌then◌else◌}
 use Rattle.std.specs.List.{flat_map}
 use Rattle.std.proofs.lemmas.List.Concat.{flat_map-append}
-use Rattle.mn_base.specs.Wiring.{receiver}
-use Rattle.mn_base.specs.declared.links.Dir.{Dir}
+use Rattle.mn_wiring.specs.Wiring.{receiver}
+use Rattle.mn_wiring.specs.declared.links.Dir.{Dir}
 use Rattle.mn_base.proofs.Members.{In, contained_in, in_append, in_rest, in_map, map_in, filter_in}
 use Rattle.mn_pcap.specs.Format.{header, record_of}
 use Rattle.mn_stack.specs.Grammar.{stack_bytes}

@@ -3,8 +3,8 @@
 --     site a --- pe1 --- p --- pe2 --- site b
 use Rattle.std.specs.Prelude.{◌≡◌, refl, ℕ, ◌+◌, List, [], ◌∷◌, ◌++◌, drop, take, codes, None}
 use Rattle.std.specs.Fmt.{digits}
-use Rattle.mn_base.specs.declared.links.Dir.TheVariants.{Forth, Back}
-use Rattle.mn_base.specs.Paths.{next}
+use Rattle.mn_wiring.specs.declared.links.Dir.TheVariants.{Forth, Back}
+use Rattle.mn_wiring.specs.Paths.{next}
 use Rattle.mn_ipv4.specs.Header.{is_not_ipv4, is_malformed, is_truncated, has_bad_checksum, good, checksum_for, with_ttl, aged}
 use Rattle.mn_text.specs.Addresses.{address_text, prefix_text}
 use Rattle.mn_stack.specs.Entry.{entry_bytes}
@@ -13,6 +13,7 @@ use Rattle.mn_vpn_nlri.specs.Grammar.{nlri_of}
 use Rattle.mn_topo.specs.declared.steps.Step.{Step}
 use Rattle.mn_topo.specs.declared.steps.Step.TheVariants.{LinkUp, LinkDown, Learn, BgpUp, BgpDown, HearBgp, Attach, Detach, Inject, Carry}
 use Rattle.mn_topo.specs.declared.steps.JournalEntry.{JournalEntry}
+use Rattle.mn_topo.specs.declared.steps.Damaged.TheVariants.{Undamaged}
 use Rattle.mn_script.specs.declared.command.Command.{Command}
 use Rattle.mn_script.specs.declared.command.Command.TheVariants.{Do, Drain, Flush, Show}
 use Rattle.mn_script.specs.declared.command.Show.TheVariants.{Links, Tree, Ldp, Bgp, Vrf, Flight}
@@ -34,7 +35,7 @@ use Rattle.mn_output.specs.Tables.{table_text}
 use Rattle.mn_output.specs.Report.{report}
 
 abbrev pub at : ℕ → Step → JournalEntry
-at tick step = record { tick = tick; step = step }
+at tick step = record { tick = tick; step = step; damaged = Undamaged }
 
 abbrev pub capture : List (List ℕ)
 capture = packet ∷ []

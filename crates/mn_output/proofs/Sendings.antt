@@ -11,6 +11,7 @@ use Rattle.mn_topo.specs.Network.{Network}
 use Rattle.mn_topo.specs.declared.steps.Step.{Step}
 use Rattle.mn_topo.specs.declared.steps.Step.TheVariants.{Inject}
 use Rattle.mn_topo.specs.declared.steps.JournalEntry.{JournalEntry}
+use Rattle.mn_topo.specs.declared.steps.Damaged.TheVariants.{Undamaged}
 use Rattle.mn_script.specs.declared.command.Command.{Command}
 use Rattle.mn_script.specs.declared.command.Command.TheVariants.{Do, Run, Drain, Flush, Show}
 use Rattle.mn_script.specs.declared.command.Line.{Line}
@@ -64,8 +65,9 @@ counted (x ∷ es) = by x.step (counted es)
 -- the entry that injects the packet with so many before it
 record IsThere (es : List JournalEntry) (before : ℕ) (x : Asking) : Type 0 where
   pub place : ℕ
-  pub tick : ℕ
-  pub done : slice_get es place ≡ Some (record { tick = tick; step = Inject x.0 x.1 })
+  pub entry : JournalEntry
+  pub done : slice_get es place ≡ Some entry
+  pub injects : entry.step ≡ Inject x.0 x.1
   pub earlier : injections (take place es) ≡ before
 
 found : (es : List JournalEntry) (k : ℕ) (x : Asking) → slice_get (injected_by es) k ≡ Some x → IsThere es k x
@@ -73,15 +75,16 @@ found [] k x h = cc
 found (e ∷ es) k x h = by e.step k refl h (found es)
   where
     further : (i j : ℕ) → one_if (injects e.step) + i ≡ j → IsThere es i x → IsThere (e ∷ es) j x
-    further i j n f = record { place = suc f.place; tick = f.tick; done = f.done; earlier = omega (arith, n, f.earlier) }
+    further i j n f = record { place = suc f.place; entry = f.entry; done = f.done; injects = f.injects; earlier = omega (arith, n, f.earlier) }
 
     by : (s : Step) (j : ℕ) → e.step ≡ s → slice_get (asked_by s ++ injected_by es) j ≡ Some x
         → ((i : ℕ) (y : Asking) → slice_get (injected_by es) i ≡ Some y → IsThere es i y) → IsThere (e ∷ es) j x
     by (Inject site number) zero q g rest =
         record {
           place = 0;
-          tick = e.tick;
-          done = ap (λ (s : Step). Some (record { tick = e.tick; step = s })) (q ∙ ap (λ (y : Asking). Inject y.0 y.1) (some_is (site, number) x g));
+          entry = e;
+          done = refl;
+          injects = q ∙ ap (λ (y : Asking). Inject y.0 y.1) (some_is (site, number) x g);
           earlier = refl;
         }
     by (Inject site number) (suc j) q g rest = further j (suc j) (ap (λ s. one_if (injects s) + j) q ∙ omega arith) (rest j x g)
@@ -154,7 +157,7 @@ module _ (t : Network) (capture : List (List ℕ)) where
 
   quiet_step : (past : Past) (s : Step) → asked_by s ≡ [] → injected_by (with_step past s).entries ≡ injected_by past.entries
   quiet_step past s q =
-      one_more past.entries (record { tick = past.clock; step = s }) ∙ ap (λ r. injected_by past.entries ++ r) q ∙ append-nil (injected_by past.entries)
+      one_more past.entries (record { tick = past.clock; step = s; damaged = Undamaged }) ∙ ap (λ r. injected_by past.entries ++ r) q ∙ append-nil (injected_by past.entries)
 
   arrives : (arrivals : Arrivals) (past : Past) (item : Coming) → IsQuiet item → injected_by (arrived arrivals past item).entries ≡ injected_by past.entries
   arrives News past item q = quiet_step past (delivery item) q
@@ -176,7 +179,7 @@ module _ (t : Network) (capture : List (List ℕ)) where
   -- 3. A line
 
   tries : (past : Past) (s : Step) (n : ℕ) (o : Option Refused) → Sends past (tried past s o) n (Do s)
-  tries past s n None = one_more past.entries (record { tick = past.clock; step = s }) ∙ ap (λ r. injected_by past.entries ++ r) (same s n)
+  tries past s n None = one_more past.entries (record { tick = past.clock; step = s; damaged = Undamaged }) ∙ ap (λ r. injected_by past.entries ++ r) (same s n)
   tries past s n (Some cause.TooManySteps) = none (injected_by past.entries)
   tries past s n (Some _) = none (injected_by past.entries)
 
@@ -307,7 +310,7 @@ one_by_one_injected : (run : Expansion) → InjectsItsSendings run → (k : ℕ)
 one_by_one_injected run h k sent g =
     let f = found run.past.entries k (packet_of sent)
     (ap (λ xs. slice_get xs k) h ∙ slice_get-map packet_of run.sendings k ∙ ap (option_map packet_of) g) in
-    record { place = f.place; tick = f.tick; done = f.done; earlier = f.earlier }
+    record { place = f.place; entry = f.entry; done = f.done; injects = f.injects; earlier = f.earlier }
 
 pub each_packet_has_its_line : (t : Network) (capture : List (List ℕ)) (lines : List Line) → AreSentBy lines (expanded t capture lines)
 each_packet_has_its_line t capture lines =

@@ -2,7 +2,7 @@
 use Rattle.std.specs.Prelude.{ℕ, ◌+◌, ◌-◌, ◌==◌, ◌&&◌, List, [], ◌∷◌, ◌++◌, map, length, slice_index_or, Option, Some, None, codes, if◌then◌else◌}
 use Rattle.std.specs.List.{flat_map}
 use Rattle.std.specs.Fmt.{decimal}
-use Rattle.mn_base.specs.Wiring.{nodes_of, sender, receiver}
+use Rattle.mn_wiring.specs.Wiring.{nodes_of, sender, receiver}
 use Rattle.mn_text.specs.Addresses.{prefix_text}
 use Rattle.mn_pcap.specs.Format.{header, record_of}
 use Rattle.mn_stack.specs.Grammar.{stack_bytes}

@@ -21,8 +21,9 @@ AreSomeOf (asked ∷ others) (line ∷ lines) = ((asked ≡ line) × AreSomeOf o
 -- it is the injection of the journal that has so many before it
 pub record IsSentBy (entries : List JournalEntry) (before : ℕ) (sent : SentLine) : Type 0 where
   pub place : ℕ
-  pub tick : ℕ
-  pub done : slice_get entries place ≡ Some (record { tick = tick; step = Inject sent.site sent.number })
+  pub entry : JournalEntry
+  pub done : slice_get entries place ≡ Some entry
+  pub injects : entry.step ≡ Inject sent.site sent.number
   pub earlier : injections (take place entries) ≡ before
 
 -- the sendings of a run are the injections of its journal, one by one, and each has a line of its own that asks for it

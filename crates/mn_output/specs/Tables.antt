@@ -4,14 +4,14 @@ use Rattle.std.specs.Prelude.{filter, fold, length, slice_index_or, Option, Some
 use Rattle.std.specs.List.{flat_map}
 use Rattle.std.specs.Fmt.{decimal}
 use Rattle.mn_base.specs.Ordered.{with_one}
-use Rattle.mn_base.specs.Wiring.{View, nodes_of, links_of, link, sender, receiver}
-use Rattle.mn_base.specs.Paths.{dist_in, dists_to, next}
-use Rattle.mn_base.specs.declared.links.Dir.{Dir}
-use Rattle.mn_base.specs.declared.links.Dir.TheVariants.{Forth, Back}
-use Rattle.mn_base.specs.declared.states.LdpState.{LdpState}
-use Rattle.mn_base.specs.declared.states.LdpState.TheVariants as ldp
-use Rattle.mn_base.specs.declared.states.BgpState.{BgpState}
-use Rattle.mn_base.specs.declared.states.BgpState.TheVariants as bgp
+use Rattle.mn_wiring.specs.Wiring.{View, nodes_of, links_of, link, sender, receiver}
+use Rattle.mn_wiring.specs.Paths.{dist_in, dists_to, next}
+use Rattle.mn_wiring.specs.declared.links.Dir.{Dir}
+use Rattle.mn_wiring.specs.declared.links.Dir.TheVariants.{Forth, Back}
+use Rattle.mn_states.specs.declared.states.LdpState.{LdpState}
+use Rattle.mn_states.specs.declared.states.LdpState.TheVariants as ldp
+use Rattle.mn_states.specs.declared.states.BgpState.{BgpState}
+use Rattle.mn_states.specs.declared.states.BgpState.TheVariants as bgp
 use Rattle.mn_prefix.specs.Prefix.{AddressBlock, same_prefix}
 use Rattle.mn_text.specs.Addresses.{prefix_text}
 use Rattle.mn_topo.specs.Network.{Network, wiring_of}

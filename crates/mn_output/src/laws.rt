@@ -1,8 +1,8 @@
 //! Laws of the definitions, each the contract of a function that does nothing.
 ghost use Rattle.std.specs.Prelude.{◌≡◌, ◌≢◌, ◌<◌, ◌∷◌, ◌++◌, [], List, ℕ, length};
 ghost use Rattle.std.specs.List.{flat_map};
-ghost use Rattle.mn_base.specs.Wiring.{sender};
-ghost use Rattle.mn_base.specs.declared.links.Dir.{Dir};
+ghost use Rattle.mn_wiring.specs.Wiring.{sender};
+ghost use Rattle.mn_wiring.specs.declared.links.Dir.{Dir};
 ghost use Rattle.mn_topo.specs.Lawful.{IsLawful};
 ghost use Rattle.mn_topo.specs.Network.{Network, wiring_of};
 ghost use Rattle.mn_topo.specs.declared.steps.JournalEntry.{JournalEntry};

@@ -5,8 +5,8 @@ use Rattle.std.specs.Prelude.{◌==◌, IsTrue, is_none, if◌then◌else◌}
 use Rattle.std.specs.Option.{option_map_or}
 use Rattle.std.proofs.lemmas.List.{length-take, get_or-take}
 use Rattle.mn_base.proofs.Bools.{less_is, not_less}
-use Rattle.mn_base.specs.declared.drops.Rule.{Rule}
-use Rattle.mn_base.specs.declared.drops.Rule.TheVariants as rule
+use Rattle.mn_drops.specs.declared.drops.Rule.{Rule}
+use Rattle.mn_drops.specs.declared.drops.Rule.TheVariants as rule
 use Rattle.mn_ipv4.specs.declared.header.Bad.{Bad}
 use Rattle.mn_ipv4.specs.declared.header.Bad.TheVariants as bad
 use Rattle.mn_ipv4.specs.declared.header.Head.{Head}

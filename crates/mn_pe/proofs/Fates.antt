@@ -3,8 +3,8 @@ use Rattle.std.proofs.Common.{ℕ, ◌≡◌, ◌<◌, inl, inr, false, List, []
 use Rattle.std.specs.Prelude.{◌==◌, not, nat_lt, is_none, option_map, slice_index, if◌then◌else◌}
 use Rattle.mn_base.proofs.Bools.{test_same, not_true}
 use Rattle.mn_base.proofs.Members.{In, in_append, in_contained, in_map, in_filter, in_flat_map}
-use Rattle.mn_base.specs.declared.drops.Rule.{Rule}
-use Rattle.mn_base.specs.declared.drops.Rule.TheVariants as rule
+use Rattle.mn_drops.specs.declared.drops.Rule.{Rule}
+use Rattle.mn_drops.specs.declared.drops.Rule.TheVariants as rule
 use Rattle.mn_ipv4.specs.Header.{is_not_ipv4, is_malformed, is_truncated, has_bad_checksum, ttl_of, destination_of}
 use Rattle.mn_topo.specs.Network.{Network}
 use Rattle.mn_ledger.specs.Entry.{when, first_rule, is_unicast}

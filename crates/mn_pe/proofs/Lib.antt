@@ -1,3 +1,4 @@
+pub mod Unheard
 pub mod Ranges
 pub mod Walks
 pub mod Present
@@ -23,3 +24,4 @@ pub mod Importing
 pub mod Exporting
 pub mod Attaching
 pub mod AtStart
+pub mod After

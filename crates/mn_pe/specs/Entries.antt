@@ -1,7 +1,7 @@
 -- What an edge says of a packet that a site sends: RFC 1812, sections 4.2.2 and 5.2; RFC 4364, section 5; RFC 3032, section 2.4.
 use Rattle.std.specs.Prelude.{◌≡◌, ◌≤◌, ◌<◌, ◌^◌, ◌-◌, ℕ, ⊤, IsTrue, true, is_none, List, [], ◌∷◌, Option, Some, None, option_map, Result, Ok, Err}
-use Rattle.mn_base.specs.declared.drops.Rule.{Rule}
-use Rattle.mn_base.specs.declared.drops.Rule.TheVariants as rule
+use Rattle.mn_drops.specs.declared.drops.Rule.{Rule}
+use Rattle.mn_drops.specs.declared.drops.Rule.TheVariants as rule
 use Rattle.mn_prefix.specs.Prefix.{AddressBlock}
 use Rattle.mn_prefix.specs.Table.{longest_match}
 use Rattle.mn_ipv4.specs.declared.header.Head.{Head}

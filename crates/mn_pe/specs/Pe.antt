@@ -15,7 +15,7 @@ use Rattle.mn_vrf.specs.Routes.{route_before}
 use Rattle.mn_vrf.specs.Vrf.{Static, VrfState, Holding, static_before}
 use Rattle.mn_vrf.specs.declared.refusal.VrfBad.{VrfBad}
 use Rattle.mn_vrf.specs.declared.refusal.VrfBad.TheVariants.{NoMemory}
-use Rattle.mn_pe.specs.Edge.{Edge}
+use Rattle.mn_pe.specs.Edge.{Edge, heard_of_peer}
 use Rattle.mn_pe.specs.Held.{held_by, far_over}
 
 -- an edge, and whether it ran out of memory
@@ -66,6 +66,10 @@ taking route targets holding =
           cond (meet targets holding.vrf.imports) (with_one route_before route holding.held) (without_one route_before route holding.held);
     }
 
+-- the same where it holds nothing in the place of the route
+abbrev pub offering : AddressBlock × Source → List Rt → Holding → Holding
+offering route targets holding = record holding { held = cond (meet targets holding.vrf.imports) (with_one route_before route holding.held) holding.held }
+
 -- it holds nothing in the place of a route
 abbrev pub giving : AddressBlock × Source → Holding → Holding
 giving route holding = record holding { held = without_one route_before route holding.held }
@@ -73,6 +77,15 @@ giving route holding = record holding { held = without_one route_before route ho
 -- a peer's route, as VRFs hold it
 abbrev pub far_route : ℕ → ℕ → Rd → AddressBlock → ℕ → AddressBlock × Source
 far_route loopback peer rd prefix label = (prefix, far_over loopback rd.0 peer label)
+
+-- these are an edge's holdings, and what it heard of a peer of this loopback
+pub record AreOfEdge (holdings : List Holding) (heard : List Heard) (loopback peer : ℕ) : Type 0 where
+  pub edge : Edge
+  pub below : peer < length edge.heard
+  pub same : map (λ (holding : Holding). holding.vrf) holdings ≡ edge.vrfs
+  pub sound : IsSound edge holdings
+  pub heard_is : heard_of_peer edge peer ≡ heard
+  pub loopback_is : loopback ≡ slice_index_or edge.loopbacks peer 0
 
 -- as a peer's routes are withdrawn, one after another
 abbrev pub after_giving : ℕ → ℕ → List Holding → List VpnRoute → List Holding

@@ -6,7 +6,8 @@ ghost use Rattle.mn_stack.specs.Grammar.{is_packet};
 ghost use Rattle.mn_ledger.specs.Entry.{is_unicast, header_rule};
 ghost use Rattle.mn_pe.specs.Entries.{Passes, IsFit, alone, behind, entered_over, HasLabel};
 
-use mn_base::{NodeNo, Rule, SiteNo};
+use mn_base::{NodeNo, SiteNo};
+use mn_drops::Rule;
 use mn_ipv4::{Bad, Head, check};
 use mn_stack::Frame;
 use mn_vrf::Source;

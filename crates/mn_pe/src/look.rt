@@ -1,7 +1,7 @@
 // What the VRF of a number holds, a site's label, and a node's loopback.
-ghost use Rattle.std.specs.Prelude.{◌≡◌, drop, slice_get, slice_index_or, None, Some, option_map};
+ghost use Rattle.std.specs.Prelude.{◌≡◌, ◌+◌, ℕ, drop, slice_get, slice_index_or, None, Some, option_map};
 ghost use Rattle.mn_prefix.specs.Table.{longest_match};
-ghost use Rattle.mn_vrf.specs.Vrf.{Holding, heads};
+ghost use Rattle.mn_vrf.specs.Vrf.{Holding, heads, IsHeldAt};
 ghost use Rattle.mn_pe.specs.Pe.{numbered};
 
 use mn_base::{NodeNo, SiteNo, VrfNo};
@@ -27,6 +27,19 @@ pub(crate) fn held_in(vrfs: &[Vrf], number: VrfNo, k: u32) -> Option<(Prefix, So
     for vrf in vrfs {
         if vrf.number().0 == number.0 {
             return vrf.held(k);
+        }
+    }
+    None
+}
+
+/// The held prefix after a held one in the VRF of this number, with the best of its routes.
+pub(crate) fn after_in(vrfs: &[Vrf], number: VrfNo, last: Prefix) -> Option<(Prefix, Source)>
+    ensures { (k : ℕ) → IsHeldAt last (numbered number.0 (λ (holding : Holding). slice_get (heads holding.held) k) vrfs.now) →
+        result ≡ numbered number.0 (λ (holding : Holding). slice_get (heads holding.held) (k + 1)) vrfs.now }
+{
+    for vrf in vrfs {
+        if vrf.number().0 == number.0 {
+            return vrf.after(last);
         }
     }
     None

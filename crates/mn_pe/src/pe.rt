@@ -1,8 +1,8 @@
 // One edge, whole.
-ghost use Rattle.std.specs.Prelude.{◌≡◌, ◌↔◌, ◌<◌, ℕ, true, false, None, Some, option_map, Err, length, OnOk, OnErr, IfOk, IfErr, IsErr, slice_index, slice_index_or, slice_get};
+ghost use Rattle.std.specs.Prelude.{◌≡◌, ◌+◌, ◌↔◌, ◌<◌, ℕ, true, false, None, Some, option_map, Err, length, OnOk, OnErr, IfOk, IfErr, IsErr, slice_index, slice_index_or, slice_get};
 ghost use Rattle.mn_prefix.specs.Table.{longest_match};
 ghost use Rattle.mn_targets.specs.Targets.{target_set};
-ghost use Rattle.mn_vrf.specs.Vrf.{VrfState, heads, with_static, without_static, with_imports, with_exports, add_refused, del_refused, set_refused, refusal_of};
+ghost use Rattle.mn_vrf.specs.Vrf.{VrfState, heads, IsHeldAt, with_static, without_static, with_imports, with_exports, add_refused, del_refused, set_refused, refusal_of};
 ghost use Rattle.mn_pe.specs.Edge.{Edge, after_update, after_forget, after_attach, after_detach, after_vrf, vrf_of_site};
 ghost use Rattle.mn_pe.specs.Held.{held_by, exports_of};
 ghost use Rattle.mn_pe.specs.Exports.{exports_at, exports_over, export_of};
@@ -17,13 +17,14 @@ use crate::changes::{add_in, del_in, export_in, import_in, is_want, set_label};
 use crate::entering::{entered_over, head_at_entry};
 use crate::export::{export_of_in, exports_at_in, exports_in, exports_over_in};
 use crate::hearing::{forget_in_all, hear_reached, hear_withdrawn};
-use crate::look::{held_in, label_at, lookup_in, loopback_at, vrf_in};
+use crate::look::{after_in, held_in, label_at, lookup_in, loopback_at, vrf_in};
 use crate::spreading::spread_present;
 use crate::start::{loopbacks_of, no_labels, nothing_heard, sites_of, vrfs_of};
 use crate::switching::{switch_export, switch_import, switch_site};
 use crate::{Entered, Export, NoMemory};
-use mn_base::{NodeNo, Rt, Rule, SiteNo, VrfNo};
+use mn_base::{NodeNo, Rt, SiteNo, VrfNo};
 use mn_bgp_wire::Update;
+use mn_drops::Rule;
 use mn_prefix::Prefix;
 use mn_rib_in::RibIn;
 use mn_topo::Topology;
@@ -353,6 +354,14 @@ impl Pe {
         ensures { self.now.failed ≡ false → result ≡ found_in vrf.0 (λ (state : VrfState). slice_get (heads (held_by self.now.edge state)) k) self.now.edge.vrfs }
     {
         held_in(&self.vrfs, vrf, k)
+    }
+
+    /// The held prefix after a held one in a VRF, with the best of its routes, while the edge hasn't failed. It takes no memory.
+    pub fn held_after(&self, vrf: VrfNo, last: Prefix) -> Option<(Prefix, Source)>
+        ensures { self.now.failed ≡ false → (k : ℕ) → IsHeldAt last (found_in vrf.0 (λ (state : VrfState). slice_get (heads (held_by self.now.edge state)) k) self.now.edge.vrfs) →
+            result ≡ found_in vrf.0 (λ (state : VrfState). slice_get (heads (held_by self.now.edge state)) (k + 1)) self.now.edge.vrfs }
+    {
+        after_in(&self.vrfs, vrf, last)
     }
 
     /// A VRF of the edge, with what it was told. It takes no memory.

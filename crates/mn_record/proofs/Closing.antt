@@ -2,7 +2,7 @@
 use Rattle.std.proofs.Common.{◌≡◌, ℕ, zero, suc, ◌<◌, List, [], ◌∷◌, ◌++◌, map, length, replicate, Option, Some, None, refl, sym, ◌∙◌, ap, subst, append_assoc}
 use Rattle.std.specs.Option.{ForSome}
 use Rattle.std.specs.List.{flat_map}
-use Rattle.mn_base.specs.Wiring.{nodes_of}
+use Rattle.mn_wiring.specs.Wiring.{nodes_of}
 use Rattle.mn_edge.specs.Files.{Files}
 use Rattle.mn_edge.specs.Kept.{HoldsOn, BeginsOn, Framed, held_for, none_held}
 use Rattle.mn_edge.specs.KeptLaws.{begins_on_more, framed_both, begun-holds, begun-framed}

@@ -2,7 +2,7 @@
 ghost use Rattle.std.specs.Prelude.{◌≡◌, ◌<◌, ◌++◌, ◌∷◌, ◌+◌, ℕ, List, [], IfOk, OnOk, OnErr, Some, false, length, map};
 ghost use Rattle.std.specs.Option.{ForSome};
 ghost use Rattle.std.specs.List.{flat_map, range_with_len};
-ghost use Rattle.mn_base.specs.Wiring.{nodes_of};
+ghost use Rattle.mn_wiring.specs.Wiring.{nodes_of};
 ghost use Rattle.mn_edge.specs.Faults.{Counted};
 ghost use Rattle.mn_edge.specs.Files.{Files};
 ghost use Rattle.mn_edge.specs.Kept.{Framed};

@@ -1,7 +1,7 @@
 -- The least walks that a network's tree tells.
 use Rattle.std.proofs.Common.{◌≡◌, ◌<◌, ℕ, length, Option, ◌∙◌, subst}
-use Rattle.mn_base.specs.Wiring.{Wiring, View, JoinsNodes}
-use Rattle.mn_base.specs.Paths.{dist_in, dists_to, next}
+use Rattle.mn_wiring.specs.Wiring.{Wiring, View, JoinsNodes}
+use Rattle.mn_wiring.specs.Paths.{dist_in, dists_to, next}
 use Rattle.mn_base.specs.declared.numbers.NodeNo.{NodeNo}
 use Rattle.mn_linkdb.specs.PathTable.{PathTable, dist_at, next_at}
 use Rattle.mn_linkdb.specs.Trees.{IsTree, hop_alone}

@@ -1,7 +1,7 @@
 //! The table of what is in flight.
 ghost use Rattle.std.specs.Prelude.{◌≡◌, ◌<◌, false, length, List, ℕ};
 ghost use Rattle.std.specs.List.{flat_map};
-ghost use Rattle.mn_base.specs.Wiring.{links_of};
+ghost use Rattle.mn_wiring.specs.Wiring.{links_of};
 ghost use Rattle.mn_edge.specs.Faults.{Counted};
 ghost use Rattle.mn_topo.specs.Network.{wiring_of};
 ghost use Rattle.mn_ledger.specs.Items.{flight_of};
@@ -10,12 +10,13 @@ ghost use Rattle.mn_output.specs.Tables.{frames_lines, flight_lines};
 ghost use Rattle.mn_tables.specs.Telling.{standing, Tells};
 
 use crate::counts::link_count;
-use mn_base::{Dir, LinkNo};
+use mn_base::LinkNo;
 use mn_course::Kind;
 use mn_edge::{DeviceBad, Sink};
 use mn_lines::Page;
 use mn_net::Net;
 use mn_tables::{put_counts, put_frames};
+use mn_wiring::Dir;
 
 /// Puts the lines that count the frames of a link, Forth first.
 fn put_frames_of<O: Sink>(

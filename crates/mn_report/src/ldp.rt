@@ -1,18 +1,19 @@
 //! The table of LDP sessions.
 ghost use Rattle.std.specs.Prelude.{◌≡◌, ◌<◌, false, length};
 ghost use Rattle.std.specs.List.{flat_map};
-ghost use Rattle.mn_base.specs.Wiring.{links_of};
+ghost use Rattle.mn_wiring.specs.Wiring.{links_of};
 ghost use Rattle.mn_topo.specs.Network.{wiring_of};
 ghost use Rattle.mn_ledger.specs.Ledger.{world_of};
 ghost use Rattle.mn_output.specs.Tables.{ldp_line};
 ghost use Rattle.mn_tables.specs.Telling.{standing, Tells};
 
 use crate::counts::link_count;
-use mn_base::{Dir, LinkNo};
+use mn_base::LinkNo;
 use mn_edge::{DeviceBad, Sink};
 use mn_lines::Page;
 use mn_net::Net;
 use mn_tables::put_ldp;
+use mn_wiring::Dir;
 
 /// Puts the line of a link's session.
 fn put_session_of<O: Sink>(

@@ -74,11 +74,13 @@ pub(crate) fn put_routes<O: Sink>(
     ensures { Tells (route_lines net.now.topology (given net.now.topology net.now.journal) vrf.0 (held_in net.now.topology (world_of net.now.topology net.now.journal) vrf.0))
         (standing page.old (O.written out.old) (O.faults out.old)) (standing page.new (O.written out.new) (O.faults out.new)) result }
 {
-    for place in 0..u32::MAX {
-        match net.held(vrf, place) {
+    let mut route = net.held(vrf, 0);
+    for _ in 0..u32::MAX {
+        match route {
             None => return Ok(()),
             Some(found) => {
                 put_route(out, page, line, net.topology(), vrf, found.0, found.1)?;
+                route = net.held_after(vrf, found.0);
             }
         }
     }

@@ -79,6 +79,13 @@ impl RibIn {
         true
     }
 
+    /// Whether a route of this distinguisher and prefix is among them.
+    pub fn has(&self, rd: Rd, prefix: Prefix) -> bool
+        ensures { result ≡ has_heard rd prefix self.now }
+    {
+        self.is_taken(self.place(rd, prefix), rd, prefix)
+    }
+
     /// Forgets all routes.
     pub fn clear(&mut self)
         ensures { self.new ≡ [] }

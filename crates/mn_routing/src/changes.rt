@@ -10,34 +10,15 @@ ghost use Rattle.mn_routing_model.specs.Routed.{working};
 ghost use Rattle.mn_routing_model.specs.Sending.{news_in};
 ghost use Rattle.mn_routing_model.specs.Doing.{HasEdge, AreSayable, Puts, AreNews, edge_at, with_edge, those_of, export_set, static_added, static_deleted, MaySetImport, SetsImport, MaySetExport, SetsExport, MayAdd, Adds, MayDel, Dels, MayAttach, Attaches, MayDetach, Detaches};
 
-use crate::flying::{Clock, steady_peers, tell};
+use crate::flying::{steady_peers, tell};
 use crate::routes::Routes;
 use mn_base::{NodeNo, Rt, SiteNo, VrfNo};
+use mn_flight::Clock;
 use mn_pe::{Export, NoMemory};
 use mn_prefix::Prefix;
 use mn_topo::Topology;
 use mn_vrf::VrfBad;
 use std::alloc::{AllocError, Global};
-
-/// The edge of a VRF.
-pub(crate) fn edge_of(topology: &Topology, vrf: VrfNo) -> NodeNo
-    requires { vrf.0 < length topology.now.vrfs }
-    ensures edge { result.0 ≡ edge_of topology.now vrf.0 }
-    ensures there { result.0 < length topology.now.loopbacks }
-{
-    topology.laws();
-    topology.vrfs()[usize::from(vrf.0)].node
-}
-
-/// The edge of a site.
-pub(crate) fn home_of(topology: &Topology, site: SiteNo) -> NodeNo
-    requires { site.0 < length topology.now.sites }
-    ensures home { result.0 ≡ home_of topology.now site.0 }
-    ensures there { result.0 < length topology.now.loopbacks }
-{
-    topology.laws();
-    edge_of(topology, topology.sites()[usize::from(site.0)].vrf)
-}
 
 /// An answer of an edge that can only be for want of memory.
 fn done(answer: Result<(), VrfBad>) -> Result<(), AllocError>
@@ -145,7 +126,7 @@ impl Routes {
         requires may { MaySetImport topology.now self.old vrf target on }
         ensures { OnOk result (SetsImport topology.now vrf target on self.old self.new) }
     {
-        let edge = edge_of(topology, vrf);
+        let edge = topology.edge_of(vrf);
         let Some(pe) = &mut self.edges[usize::from(edge.0)] else {
             unreachable!()
         };
@@ -191,7 +172,7 @@ impl Routes {
         requires may { MaySetExport topology.now self.old vrf target on }
         ensures { IfOk result (λ next. SetsExport topology.now clock.tick clock.number vrf target on self.old self.new next) }
     {
-        let edge = edge_of(topology, vrf);
+        let edge = topology.edge_of(vrf);
         let news = self.export_on_edge(edge, vrf, target, on)?;
         self.tell_peers(topology, edge, &news.exports, news.comes, clock)
     }
@@ -230,7 +211,7 @@ impl Routes {
         requires may { MayAdd topology.now self.old site prefix }
         ensures { IfOk result (λ next. Adds topology.now clock.tick clock.number site prefix self.old self.new next) }
     {
-        let edge = home_of(topology, site);
+        let edge = topology.home_of(site);
         let come = self.add_on_edge(edge, site, prefix)?;
         self.tell_peers(topology, edge, &come, true, clock)
     }
@@ -270,7 +251,7 @@ impl Routes {
         requires may { MayDel topology.now self.old site prefix }
         ensures { IfOk result (λ next. Dels topology.now clock.tick clock.number site prefix self.old self.new next) }
     {
-        let edge = home_of(topology, site);
+        let edge = topology.home_of(site);
         let gone = self.del_on_edge(edge, site, prefix)?;
         self.tell_peers(topology, edge, &gone, false, clock)
     }
@@ -310,7 +291,7 @@ impl Routes {
         requires may { MayAttach topology.now self.old site label }
         ensures { IfOk result (λ next. Attaches topology.now clock.tick clock.number site label self.old self.new next) }
     {
-        let edge = home_of(topology, site);
+        let edge = topology.home_of(site);
         let come = self.attach_on_edge(edge, site, label)?;
         self.tell_peers(topology, edge, &come, true, clock)
     }
@@ -345,7 +326,7 @@ impl Routes {
         requires may { MayDetach topology.now self.old site }
         ensures { IfOk result (λ next. Detaches topology.now clock.tick clock.number site self.old self.new next) }
     {
-        let edge = home_of(topology, site);
+        let edge = topology.home_of(site);
         let gone = self.detach_on_edge(edge, site)?;
         self.tell_peers(topology, edge, &gone, false, clock)
     }

@@ -7,25 +7,19 @@ ghost use Rattle.mn_ledger.specs.Places.{loopback};
 ghost use Rattle.mn_routing_model.specs.Sending.{put_all, to_each, news_to, spelled_in, is_steady, is_established, peers_from};
 ghost use Rattle.mn_routing_model.specs.Doing.{IsSayable, AreSayable};
 
-use mn_base::{BgpState, ListOf, NodeNo};
+use mn_base::{ListOf, NodeNo};
 use mn_bgp_session::BgpSession;
 use mn_bgp_wire::{write_reach, write_unreach};
-use mn_flight::Flight;
+use mn_flight::{Clock, Flight, next_number};
 use mn_flight_pool::PoolFlight;
 use mn_pe::Export;
+use mn_states::BgpState;
 use mn_topo::Topology;
 use mn_vpn_nlri::VpnRoute;
 use std::alloc::{AllocError, Global};
 
 /// The flight of BGP's messages, with a channel for each two nodes. Any `Flight` takes its place here.
 pub type Messages = PoolFlight<ListOf<u8>>;
-
-/// When a step is done, and the number of the first message that it makes.
-#[derive(Clone, Copy, Debug, PartialEq, Eq)]
-pub struct Clock {
-    pub tick: u64,
-    pub number: u64,
-}
 
 /// The address of a node.
 pub(crate) fn loopback_of(topology: &Topology, node: NodeNo) -> u32
@@ -43,16 +37,6 @@ pub(crate) fn channel_to(topology: &Topology, edge: NodeNo, peer: NodeNo) -> u32
 {
     topology.laws();
     u32::from(edge.0) * topology.nodes().len() as u32 + u32::from(peer.0)
-}
-
-/// The number after this one. There are never so many messages.
-fn next_number(number: u64) -> Result<u64, AllocError>
-    ensures { IfOk result (λ next. next ≡ number + 1) }
-{
-    match number.checked_add(1) {
-        Some(next) => Ok(next),
-        None => Err(AllocError),
-    }
 }
 
 /// Puts a message of an edge to a peer into flight. It answers the number after it.

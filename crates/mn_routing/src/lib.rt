@@ -26,5 +26,5 @@ mod sessions;
 mod start;
 mod steps;
 
-pub use flying::{Clock, Messages};
+pub use flying::Messages;
 pub use routes::Routes;

@@ -15,12 +15,12 @@ ghost use Rattle.mn_routing_model.specs.Sources.{as_held};
 ghost use Rattle.mn_routing_model.specs.Routed.{IsRoutes};
 ghost use Rattle.mn_routing_model.specs.Sending.{bgp_state_by};
 
-use crate::changes::{edge_of, home_of};
 use crate::flying::Messages;
-use mn_base::{BgpState, NodeNo, SiteNo, VrfNo};
+use mn_base::{NodeNo, SiteNo, VrfNo};
 use mn_bgp_session::BgpSession;
 use mn_pe::{Entered, Pe};
 use mn_prefix::Prefix;
+use mn_states::BgpState;
 use mn_topo::Topology;
 use mn_vrf::Source;
 use std::alloc::{AllocError, Global};
@@ -123,7 +123,7 @@ impl Routes {
             result ≡ option_map (as_held (labels_of topology.now journal)) (best (held topology.now (world_of topology.now journal).config (world_of topology.now journal).peerings (edge_of topology.now vrf.0) vrf.0) address) }
     {
         topology.laws();
-        let edge = edge_of(topology, vrf);
+        let edge = topology.edge_of(vrf);
         let Some(pe) = self.edge(edge) else {
             unreachable!()
         };
@@ -144,7 +144,7 @@ impl Routes {
         ensures answer { IfOk result (λ entered. (edge : Edge) × (entered ≡ entered_at edge site.0 packet.now)) }
     {
         topology.laws();
-        let home = home_of(topology, site);
+        let home = topology.home_of(site);
         let Some(pe) = self.edge(home) else {
             unreachable!()
         };

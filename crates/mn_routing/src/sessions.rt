@@ -15,12 +15,12 @@ ghost use Rattle.mn_routing_model.specs.Whole.{opened, update_of};
 ghost use Rattle.mn_routing_model.specs.Routed.{working};
 ghost use Rattle.mn_routing_model.specs.Doing.{HasEdge, AreSayable, AreLabelledIn, Puts, edge_at, with_edge, with_end, cut as between_cut, open_to, forgotten, next_on, taken, channel_from, MayTurn, Opens, Ends, IsAnswered, MayHear, CanHear, Hears, answers_in};
 
-use crate::flying::{Clock, channel_to, cut, loopback_of, send, tell};
+use crate::flying::{channel_to, cut, loopback_of, send, tell};
 use crate::routes::Routes;
 use mn_base::{ListOf, NodeNo};
 use mn_bgp_session::{BgpReply, BgpSession};
 use mn_bgp_wire::{BgpMessage, BgpWireBad, read_bgp, write_keep, write_open};
-use mn_flight::Flight;
+use mn_flight::{Clock, Flight};
 use mn_topo::Topology;
 use std::alloc::{AllocError, Global};
 

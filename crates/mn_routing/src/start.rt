@@ -7,7 +7,6 @@ ghost use Rattle.mn_routing_model.specs.Routed.{IsRoutes, working};
 ghost use Rattle.mn_routing_model.specs.Standing.{edge_in};
 ghost use Rattle.mn_routing_model.specs.Whole.{edge_or_none, routes_in};
 
-use crate::changes::home_of;
 use crate::flying::Messages;
 use crate::routes::Routes;
 use mn_base::{NodeNo, SiteNo};
@@ -29,7 +28,7 @@ fn first_edge(alloc: Global, topology: &Topology, node: NodeNo) -> Result<Pe, Al
     let mut label = 15 + topology.nodes().len() as u32;
     for number in 0..topology.sites().len() {
         let site = SiteNo(number as u16);
-        if home_of(topology, site).0 == node.0 {
+        if topology.home_of(site).0 == node.0 {
             let Ok(()) = pe.attach(site, label) else {
                 return Err(AllocError);
             };

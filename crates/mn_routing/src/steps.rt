@@ -4,9 +4,9 @@ ghost use Rattle.std.specs.List.{All};
 ghost use Rattle.mn_topo.specs.declared.steps.Step.TheVariants as step;
 ghost use Rattle.mn_routing_model.specs.Steps.{MayDo, Did, MayGive, DidAttach};
 
-use crate::flying::Clock;
 use crate::routes::Routes;
 use mn_base::{NodeNo, Rt, SiteNo, VrfNo};
+use mn_flight::Clock;
 use mn_prefix::Prefix;
 use mn_topo::Topology;
 use std::alloc::AllocError;

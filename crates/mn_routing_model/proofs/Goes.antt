@@ -4,7 +4,7 @@ use Rattle.std.proofs.Common.{sym, ◌∙◌, ap, subst, Option, Some, None, app
 use Rattle.std.specs.Prelude.{slice_get, slice_set, slice_index_or, option_map}
 use Rattle.std.specs.List.{flat_map}
 use Rattle.mn_base.proofs.Members.{In, in_flat_map}
-use Rattle.mn_base.specs.Wiring.{nodes_of}
+use Rattle.mn_wiring.specs.Wiring.{nodes_of}
 use Rattle.mn_flight.specs.declared.Item.{Item}
 use Rattle.mn_topo.specs.Network.{Network, wiring_of}
 use Rattle.mn_topo.specs.Lawful.{IsLawful}
@@ -12,6 +12,7 @@ use Rattle.mn_topo.specs.VrfTable.{is_edge}
 use Rattle.mn_topo.specs.declared.steps.Step.{Step}
 use Rattle.mn_topo.specs.declared.steps.Step.TheVariants as step
 use Rattle.mn_topo.specs.declared.steps.JournalEntry.{JournalEntry}
+use Rattle.mn_topo.specs.declared.steps.Damaged.TheVariants.{Undamaged}
 use Rattle.mn_bgp_wire.specs.Written.{update_bytes, announced}
 use Rattle.mn_ledger.specs.Places.{edges, loopback, vrf_at, edge_of}
 use Rattle.mn_ledger.specs.World.{Config, Peerings, World, Telling, Open, BgpKeepAlive, Announcement, Withdrawal}
@@ -170,7 +171,7 @@ module _ (t : Network) (lawful : IsLawful t) (es : List JournalEntry) (s : Step)
     parcels_are comes exports spelled =
         ap (map (parcel_of t later)) (one.no_replies
         ∙ news_at_home t w.config (config_after w.config s) w.peerings (bgp_counted w.peerings s) s one.among
-        (λ e. tells_what_is_touched t es turn.inputs (record { tick = tick; step = s }) turn.bytes e lawful turn.lawful turn.fitting turn.allowed))
+        (λ e. tells_what_is_touched t es turn.inputs (record { tick = tick; step = s; damaged = Undamaged }) turn.bytes e lawful turn.lawful turn.fitting turn.allowed))
         ∙ to_all_peers t later (home_in t s) (steady_peers t w.config w.peerings (config_after w.config s) (bgp_counted w.peerings s) (home_in t s))
         (told_of t w.config s (home_in t s))
         ∙ ap (λ ps. to_all (home_in t s * length t.loopbacks) ps (map (bytes_in t later (home_in t s)) (told_of t w.config s (home_in t s))))

@@ -7,10 +7,10 @@ use Rattle.std.proofs.lemmas.Bool.Decides.{eqb_tells}
 use Rattle.std.proofs.lemmas.List.{map-append}
 use Rattle.mn_base.proofs.Bools.{no, and_left, and_right, or_off, not_false, other_test, same_numbers}
 use Rattle.mn_base.proofs.Members.{In, in_map, contained_in}
-use Rattle.mn_base.specs.Wiring.{nodes_of}
+use Rattle.mn_wiring.specs.Wiring.{nodes_of}
 use Rattle.mn_base.specs.declared.numbers.NodeNo.{NodeNo}
-use Rattle.mn_base.specs.declared.states.BgpState.{BgpState}
-use Rattle.mn_base.specs.declared.states.BgpState.TheVariants.{Idle, OpenSent, OpenConfirm, Established}
+use Rattle.mn_states.specs.declared.states.BgpState.{BgpState}
+use Rattle.mn_states.specs.declared.states.BgpState.TheVariants.{Idle, OpenSent, OpenConfirm, Established}
 use Rattle.mn_flight.specs.declared.Item.{Item}
 use Rattle.mn_flight.specs.Flying.{IsFlight, on_channel, without}
 use Rattle.mn_topo.specs.Network.{Network, wiring_of}

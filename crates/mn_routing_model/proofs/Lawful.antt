@@ -5,8 +5,8 @@ use Rattle.std.proofs.Common.{subst, Option, Some, None}
 use Rattle.std.specs.Prelude.{◌==◌, ◌&&◌, ◌||◌, not, nat_lt, unwrap_or, option_map, if◌then◌else◌}
 use Rattle.std.specs.List.{flat_map, list_any, list_all, range_with_len}
 use Rattle.std.proofs.lemmas.Bool.Decides.{eqb_tells}
-use Rattle.mn_base.specs.declared.states.BgpState.{BgpState}
-use Rattle.mn_base.specs.declared.states.BgpState.TheVariants.{OpenSent, OpenConfirm}
+use Rattle.mn_states.specs.declared.states.BgpState.{BgpState}
+use Rattle.mn_states.specs.declared.states.BgpState.TheVariants.{OpenSent, OpenConfirm}
 use Rattle.mn_topo.specs.Network.{Network}
 use Rattle.mn_topo.specs.VrfTable.{is_edge}
 use Rattle.mn_topo.specs.Steps.{fits}

@@ -4,6 +4,7 @@ use Rattle.mn_topo.specs.Network.{Network}
 use Rattle.mn_topo.specs.declared.steps.Step.{Step}
 use Rattle.mn_topo.specs.declared.steps.Step.TheVariants as step
 use Rattle.mn_topo.specs.declared.steps.JournalEntry.{JournalEntry}
+use Rattle.mn_topo.specs.declared.steps.Damaged.TheVariants.{Undamaged}
 use Rattle.mn_ledger.specs.World.{World}
 use Rattle.mn_ledger.specs.Bgp.{peerings_after}
 use Rattle.mn_ledger.specs.Ledger.{after, start, world_of}
@@ -17,11 +18,11 @@ use Rattle.mn_routing_model.specs.Steps.{is_its, StayAsTheyWere}
 
 -- the world and the labels after one entry more
 pub world_then : (t : Network) (es : List JournalEntry) (tick : ℕ) (s : Step) → world_of t (pushed es tick s) ≡ after t (world_of t es) s
-world_then t es tick s = world_from-push t es (start t) (record { tick = tick; step = s })
+world_then t es tick s = world_from-push t es (start t) (record { tick = tick; step = s; damaged = Undamaged })
 
 pub labels_then : (t : Network) (es : List JournalEntry) (tick : ℕ) (s : Step) →
     labels_of t (pushed es tick s) ≡ labels_after t (world_of t es).config (labels_of t es) s
-labels_then t es tick s = table_grows t es (record { tick = tick; step = s })
+labels_then t es tick s = table_grows t es (record { tick = tick; step = s; damaged = Undamaged })
 
 pub then_stands : (t : Network) (es : List JournalEntry) (tick : ℕ) (s : Step) (routed : Routed) →
     StandsFor t (labels_after t (world_of t es).config (labels_of t es) s) (after t (world_of t es) s) routed → IsRoutes t (pushed es tick s) routed

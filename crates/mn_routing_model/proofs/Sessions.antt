@@ -4,7 +4,7 @@ use Rattle.std.specs.Prelude.{◌==◌, nat_lt, if◌then◌else◌}
 use Rattle.std.specs.List.{range_with_len}
 use Rattle.std.proofs.lemmas.Bool.Decides.{leb_tells}
 use Rattle.mn_base.specs.declared.numbers.NodeNo.{NodeNo}
-use Rattle.mn_base.specs.Wiring.{nodes_of}
+use Rattle.mn_wiring.specs.Wiring.{nodes_of}
 use Rattle.mn_topo.specs.declared.sites.SiteDef.{SiteDef}
 use Rattle.mn_topo.specs.Network.{Network, wiring_of}
 use Rattle.mn_topo.specs.declared.steps.Step.{Step}

@@ -6,8 +6,8 @@ use Rattle.std.specs.List.{flat_map, range_with_len}
 use Rattle.std.proofs.lemmas.List.{map-append}
 use Rattle.std.proofs.lemmas.Bool.Decides.{eqb_tells}
 use Rattle.mn_base.specs.declared.numbers.NodeNo.{NodeNo}
-use Rattle.mn_base.specs.declared.states.BgpState.TheVariants.{Idle}
-use Rattle.mn_base.specs.Wiring.{nodes_of}
+use Rattle.mn_states.specs.declared.states.BgpState.TheVariants.{Idle}
+use Rattle.mn_wiring.specs.Wiring.{nodes_of}
 use Rattle.mn_base.proofs.Bools.{at_most_is}
 use Rattle.mn_base.proofs.Members.{In, in_map, in_filter, in_flat_map, in_range}
 use Rattle.mn_topo.specs.Network.{Network, wiring_of}

@@ -3,8 +3,8 @@ use Rattle.std.proofs.Common.{ℕ, ◌≡◌, ◌≢◌, ◌+◌, ◌<◌, ◌�
 use Rattle.std.specs.Prelude.{if◌then◌else◌, slice_set, slice_index_or, option_map}
 use Rattle.std.specs.List.{range_with_len}
 use Rattle.mn_base.specs.declared.numbers.NodeNo.{NodeNo}
-use Rattle.mn_base.specs.declared.states.BgpState.TheVariants.{Idle}
-use Rattle.mn_base.specs.Wiring.{nodes_of}
+use Rattle.mn_states.specs.declared.states.BgpState.TheVariants.{Idle}
+use Rattle.mn_wiring.specs.Wiring.{nodes_of}
 use Rattle.mn_topo.specs.Network.{Network, wiring_of}
 use Rattle.mn_topo.specs.VrfTable.{is_edge}
 use Rattle.mn_topo.specs.declared.steps.Step.TheVariants as step

@@ -2,8 +2,8 @@
 use Rattle.std.specs.Prelude.{◌+◌, ◌*◌, ℕ, Bool, true, false, if◌then◌else◌, List, [], ◌∷◌, map, length, slice_index_or, Option, Some, None}
 use Rattle.std.specs.List.{flat_map}
 use Rattle.mn_base.specs.declared.numbers.NodeNo.{NodeNo}
-use Rattle.mn_base.specs.declared.states.BgpState.{BgpState}
-use Rattle.mn_base.specs.declared.states.BgpState.TheVariants.{Idle, Established}
+use Rattle.mn_states.specs.declared.states.BgpState.{BgpState}
+use Rattle.mn_states.specs.declared.states.BgpState.TheVariants.{Idle, Established}
 use Rattle.mn_flight.specs.declared.Item.{Item}
 use Rattle.mn_topo.specs.Network.{Network}
 use Rattle.mn_bgp_wire.specs.Written.{update_bytes, announced, withdrawn}

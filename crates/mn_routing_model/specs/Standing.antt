@@ -2,7 +2,7 @@
 use Rattle.std.specs.Prelude.{ℕ, ◌==◌, if◌then◌else◌, List, [], map, filter, fold, length, Option, Some, None, option_map}
 use Rattle.std.specs.List.{range_with_len}
 use Rattle.mn_base.specs.Ordered.{with_one}
-use Rattle.mn_base.specs.Wiring.{nodes_of}
+use Rattle.mn_wiring.specs.Wiring.{nodes_of}
 use Rattle.mn_topo.specs.Network.{Network, wiring_of}
 use Rattle.mn_topo.specs.declared.sites.SiteDef.{SiteDef}
 use Rattle.mn_bgp_wire.specs.Says.{Says}

@@ -1,6 +1,6 @@
 -- The routes of a network: its edges, and the sessions between them.
 use Rattle.std.specs.Prelude.{ℕ, if◌then◌else◌, List, [], map, slice_index_or, slice_set, Option, Some, None, option_map}
-use Rattle.mn_base.specs.Wiring.{nodes_of}
+use Rattle.mn_wiring.specs.Wiring.{nodes_of}
 use Rattle.mn_topo.specs.Network.{Network, wiring_of}
 use Rattle.mn_topo.specs.VrfTable.{is_edge}
 use Rattle.mn_bgp_wire.specs.Says.{Says}
@@ -10,7 +10,7 @@ use Rattle.mn_bgp_session.specs.declared.session.BgpSession.{BgpSession}
 use Rattle.mn_bgp_session.specs.Table as table
 use Rattle.mn_ledger.specs.World.{Config, Peerings}
 use Rattle.mn_ledger.specs.Bgp.{peers_live}
-use Rattle.mn_base.specs.declared.states.BgpState.TheVariants.{OpenSent}
+use Rattle.mn_states.specs.declared.states.BgpState.TheVariants.{OpenSent}
 use Rattle.mn_ledger.specs.Places.{loopback}
 use Rattle.mn_pe.specs.Edge.{Edge, after_message, after_forget}
 use Rattle.mn_bgp_spelling.specs.Spelling.{Labels}

@@ -18,10 +18,10 @@ use Rattle.mn_edge.specs.Files.{Files, file}
 use Rattle.mn_edge.specs.Written.{laid}
 use Rattle.mn_pcap.specs.Reading as pcap
 use Rattle.mn_topo.specs.Lawful.{IsLawful}
-use Rattle.mn_topo.specs.declared.refusal.TopoRule.{TopoRule}
-use Rattle.mn_topo.specs.declared.refusal.Place.{Place}
+use Rattle.mn_topo_toml.specs.declared.refusal.TopoRule.{TopoRule}
+use Rattle.mn_topo_toml.specs.declared.refusal.Place.{Place}
 use Rattle.mn_topo.specs.Network.{Network}
-use Rattle.mn_topo.specs.Topology.{topology_of}
+use Rattle.mn_topo_toml.specs.Topology.{topology_of}
 use Rattle.mn_script.specs.Script.{AllFit}
 use Rattle.mn_course.specs.Course.{inputs_of}
 use Rattle.mn_course.specs.Expansion.{Expansion, expanded}

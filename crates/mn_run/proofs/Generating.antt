@@ -5,9 +5,9 @@ use Rattle.std.specs.Prelude.{is_some, option_map, ⊤}
 use Rattle.std.specs.Str.Lines.{lines}
 use Rattle.mn_edge.specs.Files.{Files}
 use Rattle.mn_topo.specs.Network.{Network}
-use Rattle.mn_topo.specs.Topology.{topology_of}
-use Rattle.mn_topo.specs.declared.refusal.TopoRule.{TopoRule}
-use Rattle.mn_topo.specs.declared.refusal.Place.{Place}
+use Rattle.mn_topo_toml.specs.Topology.{topology_of}
+use Rattle.mn_topo_toml.specs.declared.refusal.TopoRule.{TopoRule}
+use Rattle.mn_topo_toml.specs.declared.refusal.Place.{Place}
 use Rattle.mn_script.specs.declared.command.Line.{Line}
 use Rattle.mn_script.specs.declared.refusal.ScriptRule.{ScriptRule}
 use Rattle.mn_script.specs.Script.{script_of}

@@ -21,11 +21,11 @@ use Rattle.mn_perform.specs.Total.{total_text}
 use Rattle.mn_script.specs.declared.refusal.ScriptRule.{ScriptRule}
 use Rattle.mn_script.specs.declared.command.Line.{Line}
 use Rattle.mn_script.specs.Script.{script_of}
-use Rattle.mn_topo.specs.declared.refusal.TopoRule.{TopoRule}
-use Rattle.mn_topo.specs.declared.refusal.Place.{Place}
+use Rattle.mn_topo_toml.specs.declared.refusal.TopoRule.{TopoRule}
+use Rattle.mn_topo_toml.specs.declared.refusal.Place.{Place}
 use Rattle.mn_topo.specs.Network.{Network}
 use Rattle.mn_topo.specs.SiteTable.{statics_of}
-use Rattle.mn_topo.specs.Topology.{topology_of}
+use Rattle.mn_topo_toml.specs.Topology.{topology_of}
 use Rattle.mn_run.specs.declared.outcome.Limit.TheVariants.{TopologyBytes, ScriptBytes, ScriptLines, CaptureBytes, CaptureRecords, Steps}
 use Rattle.mn_run.specs.declared.outcome.Outcome.{Outcome}
 use Rattle.mn_run.specs.declared.outcome.Outcome.TheVariants.{Done, Usage, NoMemory, BadTopology, BadScript, BadCapture, TooLarge}

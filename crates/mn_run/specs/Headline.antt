@@ -6,7 +6,7 @@ use Rattle.mn_pcap.specs.Reading as pcap
 use Rattle.mn_script.specs.declared.command.Line.{Line}
 use Rattle.mn_script.specs.Script.{script_of}
 use Rattle.mn_topo.specs.Network.{Network}
-use Rattle.mn_topo.specs.Topology.{topology_of}
+use Rattle.mn_topo_toml.specs.Topology.{topology_of}
 use Rattle.mn_laws.specs.Accounts.{Accounts}
 use Rattle.mn_arrival.specs.Arrival.{ItArrives}
 use Rattle.mn_course.specs.Course.{inputs_of}

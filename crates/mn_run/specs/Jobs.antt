@@ -13,7 +13,7 @@ use Rattle.mn_script.specs.declared.command.Line.{Line}
 use Rattle.mn_script.specs.Script.{script_of, AllFit}
 use Rattle.mn_pcap.specs.Reading as pcap
 use Rattle.mn_topo.specs.Network.{Network}
-use Rattle.mn_topo.specs.Topology.{topology_of}
+use Rattle.mn_topo_toml.specs.Topology.{topology_of}
 use Rattle.mn_run.specs.declared.load.Inputs.{Inputs}
 use Rattle.mn_run.specs.declared.outcome.Limit.TheVariants.{Steps}
 use Rattle.mn_run.specs.declared.outcome.Outcome.{Outcome}

@@ -3,11 +3,11 @@ use Rattle.std.specs.Prelude.{ℕ, List, [], ◌∷◌, codes}
 use Rattle.std.specs.Fmt.{decimal}
 use Rattle.mn_pcap.specs.declared.refusal.PcapRule.{PcapRule}
 use Rattle.mn_pcap.specs.declared.refusal.PcapRule.TheVariants.{CutShort, IsPcapng, BadMagic, BadVersion, BadLinkType, BadRecord}
-use Rattle.mn_topo.specs.declared.refusal.TopoRule.{TopoRule}
-use Rattle.mn_topo.specs.declared.refusal.TopoRule.TheVariants.{NotToml, UnknownKey, MissingKey, WrongKind, BadName, TwiceNamed, NoSuchName, SelfLink}
-use Rattle.mn_topo.specs.declared.refusal.TopoRule.TheVariants.{TwiceLinked, TwiceLoopback, BadCost, BadDelay, TwiceRd, BadTarget, PrefixTaken, TooMany}
-use Rattle.mn_topo.specs.declared.refusal.Place.{Place}
-use Rattle.mn_topo.specs.declared.refusal.Place.TheVariants.{Top, Node, Link, Vrf, Site}
+use Rattle.mn_topo_toml.specs.declared.refusal.TopoRule.{TopoRule}
+use Rattle.mn_topo_toml.specs.declared.refusal.TopoRule.TheVariants.{NotToml, UnknownKey, MissingKey, WrongKind, BadName, TwiceNamed, NoSuchName, SelfLink}
+use Rattle.mn_topo_toml.specs.declared.refusal.TopoRule.TheVariants.{TwiceLinked, TwiceLoopback, BadCost, BadDelay, TwiceRd, BadTarget, PrefixTaken, TooMany}
+use Rattle.mn_topo_toml.specs.declared.refusal.Place.{Place}
+use Rattle.mn_topo_toml.specs.declared.refusal.Place.TheVariants.{Top, Node, Link, Vrf, Site}
 use Rattle.mn_script.specs.declared.refusal.ScriptRule.{ScriptRule}
 use Rattle.mn_script.specs.declared.refusal.ScriptRule.TheVariants as script
 use Rattle.mn_lines.specs.Lines.{text}

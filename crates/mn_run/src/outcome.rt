@@ -3,7 +3,7 @@ ghost use Rattle.std.specs.Prelude.{◌≡◌};
 
 use mn_pcap::PcapRule;
 use mn_script::ScriptRule;
-use mn_topo::{Place, TopoRule};
+use mn_topo_toml::{Place, TopoRule};
 
 /// What an input, or a run, may not pass.
 #[derive(Clone, Copy, Debug, PartialEq, Eq)]

@@ -3,10 +3,12 @@ ghost use Rattle.std.specs.Prelude.{◌≡◌, IfOk, Some};
 ghost use Rattle.mn_run.specs.Jobs.{IsSound, TopologyIs, ScriptIs, ScriptFits, HeldIs};
 
 use crate::outcome::{Limit, Outcome};
+use mn_base::MOST_SCRIPT_LINES;
 use mn_pcap::{PcapBad, count_records};
 use mn_perform::MemoryCapture;
 use mn_script::{Line, ScriptBad, count_lines, read_script};
-use mn_topo::{TopoBad, Topology, read_topology};
+use mn_topo::Topology;
+use mn_topo_toml::{TopoBad, read_topology};
 use std::alloc::{AllocError, Global};
 
 /// The most bytes of a topology: 1 MiB.
@@ -14,9 +16,6 @@ pub(crate) const MOST_TOPOLOGY_BYTES: u64 = 1 << 20;
 
 /// The most bytes of a script: 64 MiB.
 pub(crate) const MOST_SCRIPT_BYTES: u64 = 1 << 26;
-
-/// The most lines of a script.
-const MOST_SCRIPT_LINES: u64 = 3_000_000;
 
 /// The most bytes of a capture: 64 MiB.
 pub(crate) const MOST_CAPTURE_BYTES: u64 = 1 << 26;

@@ -6,7 +6,7 @@ ghost use Rattle.mn_run.specs.Jobs.{HasPlainLine};
 use crate::outcome::{Limit, Outcome};
 use mn_pcap::PcapRule;
 use mn_script::ScriptRule;
-use mn_topo::{Place, TopoRule};
+use mn_topo_toml::{Place, TopoRule};
 use std::alloc::{AllocError, Global};
 
 /// A rule of topologies by its number and name.

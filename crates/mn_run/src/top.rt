@@ -20,6 +20,7 @@ use crate::load::{Inputs, load, load_topology};
 use crate::outcome::{Limit, Outcome};
 use crate::refusals::refusal_line;
 use crate::words::{generator_number, is_check, is_run};
+use mn_base::MOST_STEPS;
 use mn_edge::{DeviceBad, Shelf, Sink};
 use mn_perform::{Ended, Fault, perform};
 use mn_topo::Topology;
@@ -189,7 +190,7 @@ pub(crate) fn outcome_of(ended: Result<Ended, Fault>) -> Outcome
         Ok(Ended::All) => Outcome::Done,
         Ok(Ended::TooManySteps) => Outcome::TooLarge {
             which: Limit::Steps,
-            limit: 4_000_000,
+            limit: u64::from(MOST_STEPS),
         },
         Err(Fault::Read) => Outcome::ReadFault,
         Err(Fault::Write) => Outcome::WriteFault,

@@ -1,5 +1,5 @@
 -- What items that arrive one after another come to.
-use Rattle.std.proofs.Common.{◌≡◌, ℕ, zero, suc, ◌+◌, ◌-◌, ◌<◌, arith, Bool, true, false, List, [], ◌++◌, Option, Some, None, Ok, Err, refl, sym, ◌∙◌, ap}
+use Rattle.std.proofs.Common.{◌≡◌, ℕ, zero, suc, ◌+◌, ◌-◌, ◌<◌, arith, Bool, true, false, List, [], ◌++◌, Option, Some, None, Ok, Err, refl, sym, ◌∙◌, ap, subst}
 use Rattle.std.proofs.Common.{append_assoc}
 use Rattle.std.proofs.lemmas.List.{append-nil}
 use Rattle.mn_topo.specs.Network.{Network}
@@ -8,8 +8,9 @@ use Rattle.mn_course.specs.declared.coming.Arrivals.{Arrivals}
 use Rattle.mn_course.specs.declared.coming.Arrivals.TheVariants.{DueBy, News, AllFrames}
 use Rattle.mn_course.specs.declared.coming.Coming.{Coming}
 use Rattle.mn_course.specs.declared.coming.Ending.TheVariants as ending
-use Rattle.mn_course.specs.Course.{Past, Course, ends, arrived, one_by_one, is_journal_full, next_now, deliver}
-use Rattle.mn_net_now.specs.Now.{NetNow}
+use Rattle.mn_course.specs.Coming.{next_arrival}
+use Rattle.mn_course.specs.Course.{Past, Course, ends, arrived, one_by_one, is_journal_full, inputs_of, next_now, deliver}
+use Rattle.mn_net_now.specs.Now.{NetNow, StandsFor}
 use Rattle.mn_sched.specs.declared.line.Stopped.{Stopped}
 use Rattle.mn_sched.specs.declared.line.Stopped.TheVariants.{TooManySteps, Read, Write, NoMemory}
 use Rattle.mn_sched.specs.Playing.{past_of, IsFirstPart, Arrives}
@@ -67,3 +68,20 @@ pub next_turn : (topology : Network) (capture : List (List ℕ)) (arrivals : Arr
 next_turn topology capture arrivals most turn past item lt is =
     ap (λ n. deliver topology capture arrivals n past) (let e : most - turn ≡ suc (most - (turn + 1)) = omega arith in e)
     ∙ ap (λ o. one_by_one arrivals (λ later. deliver topology capture arrivals (most - (turn + 1)) later) past (is_journal_full past) o) is
+
+-- Where room was made nothing else changed: what comes next is what came next before, and net and watch stand together.
+pub told_now : (topology : Network) (all : List (List ℕ)) (arrivals : Arrivals) (kept was : NetNow) (item : Option Coming) →
+    past_of kept ≡ past_of was → kept.topology ≡ topology →
+    next_arrival kept.topology kept.journal (inputs_of all kept.journal) arrivals ≡ item → next_now topology all arrivals (past_of was) ≡ item
+told_now topology all arrivals kept was item past same e =
+    ap (λ p. next_now topology all arrivals p) (sym past) ∙ ap (λ t. next_arrival t kept.journal (inputs_of all kept.journal) arrivals) (sym same) ∙ e
+
+pub keeps : (kept was : NetNow) (stands : Network → List JournalEntry → List (List ℕ) → Type 0) (all : List (List ℕ)) → past_of kept ≡ past_of was →
+    kept.topology ≡ was.topology → ((inputs : List (List ℕ)) → StandsFor was inputs → StandsFor kept inputs) →
+    StandsFor was (inputs_of all was.journal) × stands was.topology was.journal (inputs_of all was.journal) →
+    StandsFor kept (inputs_of all kept.journal) × stands kept.topology kept.journal (inputs_of all kept.journal)
+keeps kept was stands all past same on h = (
+  subst (λ (p : Past). StandsFor kept (inputs_of all p.entries)) (sym past) (on _ h.0),
+  subst (λ t. stands t kept.journal (inputs_of all kept.journal)) (sym same)
+      (subst (λ (p : Past). stands was.topology p.entries (inputs_of all p.entries)) (sym past) h.1),
+)

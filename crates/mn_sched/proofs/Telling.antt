@@ -9,6 +9,7 @@ use Rattle.mn_topo.specs.Steps.{fits}
 use Rattle.mn_topo.specs.declared.steps.Step.{Step}
 use Rattle.mn_topo.specs.declared.steps.Step.TheVariants.{Inject}
 use Rattle.mn_topo.specs.declared.steps.JournalEntry.{JournalEntry}
+use Rattle.mn_topo.specs.declared.steps.Damaged.TheVariants.{Undamaged}
 use Rattle.mn_ledger.specs.declared.refused.Refused.{Refused}
 use Rattle.mn_ledger.specs.declared.refused.Refused.TheVariants as cause
 use Rattle.mn_ledger.specs.Refusal.{refusal, where_holds}
@@ -85,10 +86,10 @@ same_inputs step bytes inputs h = ap (λ t. added t bytes inputs) h
 
 -- a step that injects nothing takes no packet
 pub takes_no_input : (capture : List (List ℕ)) (entries : List JournalEntry) (tick : ℕ) (step : Step) (bytes : List ℕ) → injects step ≡ false →
-    with_packet step bytes (inputs_of capture entries) ≡ inputs_of capture (entries ++ record { tick = tick; step = step } ∷ [])
+    with_packet step bytes (inputs_of capture entries) ≡ inputs_of capture (entries ++ record { tick = tick; step = step; damaged = Undamaged } ∷ [])
 takes_no_input capture entries tick step bytes h =
     same_inputs step bytes (inputs_of capture entries) h
-    ∙ sym (inputs_of-push capture entries (record { tick = tick; step = step }) ∙ ap (λ l. inputs_of capture entries ++ l) (no_input capture step h)
+    ∙ sym (inputs_of-push capture entries (record { tick = tick; step = step; damaged = Undamaged }) ∙ ap (λ l. inputs_of capture entries ++ l) (no_input capture step h)
     ∙ append-nil (inputs_of capture entries))
 
 pub but_last-push : (entries : List JournalEntry) (entry : JournalEntry) → but_last (entries ++ entry ∷ []) ≡ entries
@@ -113,13 +114,13 @@ set_on old mid packets stands journal topology moves together = λ all told.
 pub stood : (stepped : Result Done Refused) (mid new : NetNow) (step : Step) (bytes : List ℕ) (packets : Option (List (List ℕ))) (stands : Network →
     List JournalEntry → List (List ℕ) → Type 0) → Together mid packets stands →
     ((all : List (List ℕ)) → packets ≡ Some all →
-    with_packet step bytes (inputs_of all mid.journal) ≡ inputs_of all (mid.journal ++ record { tick = mid.tick; step = step } ∷ [])) →
+    with_packet step bytes (inputs_of all mid.journal) ≡ inputs_of all (mid.journal ++ record { tick = mid.tick; step = step; damaged = Undamaged } ∷ [])) →
     OnOk stepped (IsLonger mid new step) → OnOk stepped ((inputs : List (List ℕ)) → StandsFor mid inputs → StandsFor new (with_packet step bytes inputs)) →
     OnOk stepped (Stood new packets stands)
 stood (Err why) mid new step bytes packets stands together named long moves = tt
 stood (Ok made) mid new step bytes packets stands together named long moves = λ all told.
     let both = together all told in
-    let before : but_last new.journal ≡ mid.journal = ap but_last long.journal ∙ but_last-push mid.journal (record { tick = mid.tick; step = step }) in (
+    let before : but_last new.journal ≡ mid.journal = ap but_last long.journal ∙ but_last-push mid.journal (record { tick = mid.tick; step = step; damaged = Undamaged }) in (
       subst (StandsFor new) (named all told ∙ ap (inputs_of all) (sym long.journal)) (moves (inputs_of all mid.journal) both.0),
       subst (λ t. stands t (but_last new.journal) (inputs_of all (but_last new.journal))) (sym long.topology)
           (subst (λ j. stands mid.topology j (inputs_of all j)) (sym before) both.1),
@@ -127,7 +128,7 @@ stood (Ok made) mid new step bytes packets stands together named long moves = λ
 
 -- the net stands for the packets that its journal's steps name, once a step is done
 standing_then : (mid new : NetNow) (step : Step) (bytes : List ℕ) (all : List (List ℕ)) →
-    with_packet step bytes (inputs_of all mid.journal) ≡ inputs_of all (mid.journal ++ record { tick = mid.tick; step = step } ∷ []) →
+    with_packet step bytes (inputs_of all mid.journal) ≡ inputs_of all (mid.journal ++ record { tick = mid.tick; step = step; damaged = Undamaged } ∷ []) →
     IsLonger mid new step → ((inputs : List (List ℕ)) → StandsFor mid inputs → StandsFor new (with_packet step bytes inputs)) →
     StandsFor mid (inputs_of all mid.journal) → StandsFor new (inputs_of all new.journal)
 standing_then mid new step bytes all named long moves before =
@@ -137,13 +138,13 @@ standing_then mid new step bytes all named long moves before =
 pub made_last : (stepped : Result Done Refused) (mid new : NetNow) (step : Step) (bytes : List ℕ) (packets : Option (List (List ℕ))) (stands : Network →
     List JournalEntry → List (List ℕ) → Type 0) → Together mid packets stands →
     ((all : List (List ℕ)) → packets ≡ Some all →
-    with_packet step bytes (inputs_of all mid.journal) ≡ inputs_of all (mid.journal ++ record { tick = mid.tick; step = step } ∷ [])) →
+    with_packet step bytes (inputs_of all mid.journal) ≡ inputs_of all (mid.journal ++ record { tick = mid.tick; step = step; damaged = Undamaged } ∷ [])) →
     OnOk stepped (IsLonger mid new step) → OnOk stepped ((inputs : List (List ℕ)) → StandsFor mid inputs → StandsFor new (with_packet step bytes inputs)) →
     IfOk stepped (λ made. made.first ≡ mid.made) → IfOk stepped (λ made. made.end ≡ new.made) → IfOk stepped (λ made. MadeLast new packets made)
 made_last (Err why) mid new step bytes packets stands together named long moves first end = tt
 made_last (Ok made) mid new step bytes packets stands together named long moves first end = λ all told.
     let before = (together all told).0 in
-    let was : but_last new.journal ≡ mid.journal = ap but_last long.journal ∙ but_last-push mid.journal (record { tick = mid.tick; step = step }) in (
+    let was : but_last new.journal ≡ mid.journal = ap but_last long.journal ∙ but_last-push mid.journal (record { tick = mid.tick; step = step; damaged = Undamaged }) in (
       first ∙ before.stands.made ∙ sym (ap (λ t. made_over t all (but_last new.journal)) long.topology ∙ ap (made_over mid.topology all) was),
       end ∙ (standing_then mid new step bytes all (named all told) long moves before).stands.made,
     )
@@ -165,7 +166,7 @@ last_fits (Err why) mid new step fit long = tt
 last_fits (Ok made) mid new step fit long =
     subst (λ t. IfSome (slice_get new.journal (length new.journal - 1)) (λ entry. fits t entry.step ≡ true)) (sym long.topology)
     (subst (λ o. IfSome o (λ entry. fits mid.topology entry.step ≡ true))
-    (sym (ap (λ j. slice_get j (length j - 1)) long.journal ∙ pushed_last mid.journal (record { tick = mid.tick; step = step }))) fit)
+    (sym (ap (λ j. slice_get j (length j - 1)) long.journal ∙ pushed_last mid.journal (record { tick = mid.tick; step = step; damaged = Undamaged }))) fit)
 
 pub after_fault : (fault : WatchBad) (net : NetNow) (packets : Option (List (List ℕ))) (stands begins : Network → List JournalEntry → List (List ℕ) →
     Type 0) → ForSome packets (λ all. StandsFor net (inputs_of all net.journal)) → Begun net packets begins →
@@ -405,10 +406,10 @@ run_stops end course net NoMemory h = subst (λ l. IsFirstPart net.journal l) (s
 
 pub takes_input : (capture : List (List ℕ)) (entries : List JournalEntry) (tick : ℕ) (step : Step) (s : SiteNo) (number : ℕ) (bytes : List ℕ) →
     step ≡ Inject s number → record_of capture number ≡ Some bytes →
-    with_packet step bytes (inputs_of capture entries) ≡ inputs_of capture (entries ++ record { tick = tick; step = step } ∷ [])
+    with_packet step bytes (inputs_of capture entries) ≡ inputs_of capture (entries ++ record { tick = tick; step = step; damaged = Undamaged } ∷ [])
 takes_input capture entries tick step s number bytes is found =
-    subst (λ x. with_packet x bytes (inputs_of capture entries) ≡ inputs_of capture (entries ++ record { tick = tick; step = x } ∷ [])) (sym is)
-    (sym (inputs_of-push capture entries (record { tick = tick; step = Inject s number }) ∙ ap (λ o. inputs_of capture entries ++ bytes_of o ∷ []) found))
+    subst (λ x. with_packet x bytes (inputs_of capture entries) ≡ inputs_of capture (entries ++ record { tick = tick; step = x; damaged = Undamaged } ∷ [])) (sym is)
+    (sym (inputs_of-push capture entries (record { tick = tick; step = Inject s number; damaged = Undamaged }) ∙ ap (λ o. inputs_of capture entries ++ bytes_of o ∷ []) found))
 
 pub stepped_inject : (topology : Network) (capture : List (List ℕ)) (past : Past) (step : Step) (s : SiteNo) (number : ℕ) (bytes : List ℕ) →
     step ≡ Inject s number → record_of capture number ≡ Some bytes →
@@ -441,7 +442,7 @@ fault_missing missing bad.NoMemory = tt
 
 one_more_entry : (old mid new : NetNow) (step : Step) → mid.journal ≡ old.journal → IsLonger mid new step → length new.journal ≡ length old.journal + 1
 one_more_entry old mid new step journal long =
-    ap length long.journal ∙ length-append mid.journal (record { tick = mid.tick; step = step } ∷ []) ∙ ap (λ j. length j + 1) journal
+    ap length long.journal ∙ length-append mid.journal (record { tick = mid.tick; step = step; damaged = Undamaged } ∷ []) ∙ ap (λ j. length j + 1) journal
 
 pub one_paced : (stepped : Result Done Refused) (ended : Result Played Stopped) (old mid new : NetNow) (step : Step) (due : ℕ) →
     mid.tick ≤ max old.tick due → due ≤ old.tick + 1000 → mid.journal ≡ old.journal → OnOk stepped (IsLonger mid new step) → Finished stepped ended →
@@ -498,7 +499,7 @@ leaves result old new left for_good = by_failed old.failed result old new refl l
 
 pub step_grown : (stepped : Result Done Refused) (old new : NetNow) (step : Step) → OnOk stepped (IsLonger old new step) → Leaves old new stepped →
     IsFirstPart old.journal new.journal
-step_grown (Ok made) old new step long left = (record { tick = old.tick; step = step } ∷ [], sym long.journal)
+step_grown (Ok made) old new step long left = (record { tick = old.tick; step = step; damaged = Undamaged } ∷ [], sym long.journal)
 step_grown (Err cause.NoMemory) old new step long left = subst (λ j. IsFirstPart old.journal j) (sym left.journal) (first_part_refl old.journal)
 step_grown (Err why) old new step long left = subst (λ n. IsFirstPart old.journal n.journal) (sym left) (first_part_refl old.journal)
 

@@ -1,4 +1,4 @@
-ghost use Rattle.std.specs.Prelude.{◌≡◌, ◌≢◌, ◌≤◌, ◌+◌, ◌^◌, ℕ, List, [], true, false, Some, IfOk, OnOk, OnErr};
+ghost use Rattle.std.specs.Prelude.{◌≡◌, ◌≢◌, ◌≤◌, ◌+◌, ◌^◌, ℕ, List, [], true, false, Some, IfOk, IfErr, OnOk, OnErr};
 ghost use Rattle.std.specs.Option.{ForSome};
 ghost use Rattle.mn_script.specs.Lines.{command_fits};
 ghost use Rattle.mn_course.specs.Coming.{delivery, next_arrival};
@@ -11,10 +11,11 @@ ghost use Rattle.mn_net_now.specs.Now.{StandsFor};
 ghost use Rattle.mn_sched.specs.Draining.{DrainsBy};
 ghost use Rattle.mn_sched.specs.Watching.{Together, Stood, MadeLast, LastFits};
 ghost use Rattle.mn_base.specs.declared.numbers.SiteNo.{SiteNo};
+ghost use Rattle.mn_sched.specs.declared.line.Stopped.TheVariants as stopped;
 
 use crate::arrivals::{delivery, next_arrival, set_clock};
 use crate::watch::{Watch, WatchBad};
-use mn_course::{Arrivals, Coming};
+use mn_course::{Arrivals, Coming, Kind};
 use mn_ledger::Refused;
 use mn_net::{Done, Net};
 use mn_script::Command;
@@ -126,6 +127,30 @@ fn deliver_one<W: Watch>(
     arrived_by(played)
 }
 
+/// How many steps of this round are left. Where none is a new one begins: by `flush` there is memory for as many steps as frames fly.
+/// Other lines make room step by step.
+fn keep_room(net: &mut Net, arrivals: Arrivals, left: u32) -> Result<u32, Stopped>
+    ensures past { past_of net.new ≡ past_of net.old }
+    ensures topology { net.new.topology ≡ net.old.topology }
+    ensures stands { (inputs : List (List ℕ)) → StandsFor net.old inputs → StandsFor net.new inputs }
+    ensures memory { IfErr result (λ why. why ≡ stopped.NoMemory) }
+{
+    if left > 0 {
+        return Ok(left - 1);
+    }
+    let Arrivals::AllFrames = arrivals else {
+        return Ok(0);
+    };
+    if !net.works() {
+        return Ok(0);
+    }
+    let steps = net.pending(Kind::Frame).min(u64::from(all_items())) as u32;
+    match net.reserve(steps) {
+        Ok(()) => Ok(steps.saturating_sub(1)),
+        Err(_) => Err(Stopped::NoMemory),
+    }
+}
+
 /// At most so many items arrive, one after another.
 fn deliver<W: Watch>(
     net: &mut Net,
@@ -147,7 +172,12 @@ fn deliver<W: Watch>(
     ensures goes_on { W.goes_on watch.old watch.new }
     ensures cause { Caused (W.reads watch.old, W.writes watch.old) (W.reads watch.new, W.writes watch.new) result }
 {
+    let mut left = 0;
     for turn in 0..most {
+        match keep_room(net, arrivals, left) {
+            Ok(steps) => left = steps,
+            Err(stopped) => return Err(stopped),
+        }
         let Some(item) = next_arrival(net, arrivals) else {
             return Ok(());
         };

@@ -1,8 +1,8 @@
 -- The words that ask for a command.
 use Rattle.std.specs.Prelude.{◌≡◌, ◌<◌, ◌^◌, ◌⊎◌, ℕ, if◌then◌else◌, List, [], ◌∷◌, slice_index_or, Some, None, codes, ⊤}
-use Rattle.mn_base.specs.Wiring.{sender, receiver}
-use Rattle.mn_base.specs.declared.links.Dir.{Dir}
-use Rattle.mn_base.specs.declared.links.Dir.TheVariants.{Forth, Back}
+use Rattle.mn_wiring.specs.Wiring.{sender, receiver}
+use Rattle.mn_wiring.specs.declared.links.Dir.{Dir}
+use Rattle.mn_wiring.specs.declared.links.Dir.TheVariants.{Forth, Back}
 use Rattle.mn_base.specs.declared.numbers.NodeNo.{NodeNo}
 use Rattle.mn_base.specs.declared.numbers.LinkNo.{LinkNo}
 use Rattle.mn_base.specs.declared.numbers.VrfNo.{VrfNo}

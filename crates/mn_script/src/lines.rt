@@ -8,13 +8,11 @@ use crate::operands::{node_in, number_in, vrf_in};
 use crate::steps::step_line;
 use crate::words::{counted, is_word, word_at};
 use crate::{Command, ScriptRule, Show};
+use mn_base::MOST_STEPS;
 use mn_topo::Topology;
 
 /// Ticks of one line.
 const MOST_TICKS: u32 = 1_000_000;
-
-/// Steps of one line.
-const MOST_STEPS: u32 = 4_000_000;
 
 /// `run T`.
 #[tactic(auto, unfolding(crate::specs::Lines::run_line))]

@@ -6,10 +6,11 @@ ghost use Rattle.mn_script.specs.Words.{texts};
 ghost use Rattle.mn_script.specs.Operands.{number_in, prefix_in, target_in, node_in, vrf_in, site_in, link_in, edges_in};
 
 use crate::ScriptRule;
-use mn_base::{Dir, LinkNo, NodeNo, Rt, SiteNo, VrfNo};
+use mn_base::{LinkNo, NodeNo, Rt, SiteNo, VrfNo};
 use mn_prefix::Prefix;
 use mn_text::{number_up_to, prefix, rt};
 use mn_topo::Topology;
+use mn_wiring::Dir;
 
 /// A number from `least` to `most`.
 pub(crate) fn number_in(word: &[u8], least: u32, most: u32) -> Result<u32, ScriptRule>

@@ -11,8 +11,9 @@ use crate::operands::{
     edges_in, link_in, node_in, number_in, prefix_in, site_in, target_in, vrf_in,
 };
 use crate::words::{choice, counted, is_word, word_at};
-use mn_base::{Dir, LinkNo, NodeNo, Rt, VrfNo};
+use mn_base::{LinkNo, NodeNo, Rt, VrfNo};
 use mn_topo::{Step, Topology};
+use mn_wiring::Dir;
 
 /// `link up A B`, `link down A B`.
 #[tactic(auto, unfolding(crate::specs::Steps::link_line))]

@@ -1,4 +1,5 @@
 -- A packet that is sent in a settled network, and carried on, arrives.
+use Rattle.mn_topo.specs.declared.steps.Damaged.{Damaged}
 use Rattle.std.proofs.Common.{ℕ, zero, suc, ◌≡◌, ◌≢◌, ◌+◌, ◌-◌, ◌*◌, ◌<◌, ◌≤◌, ◌⊎◌, inl, inr, Bool, true, false, List, [], ◌∷◌, ◌++◌, length, get_or, refl}
 use Rattle.std.proofs.Common.{arith, sym, ◌∙◌, ap, subst, Option, None, Some}
 use Rattle.std.specs.Prelude.{◌==◌, ◌&&◌, ◌||◌, nat_lt, nat_le, slice_get, slice_index_or, slice_set, if◌then◌else◌}
@@ -6,11 +7,11 @@ use Rattle.std.specs.List.{list_all, range_with_len}
 use Rattle.std.proofs.lemmas.Bool.Decides.{eqb_tells, leb_tells}
 use Rattle.std.proofs.lemmas.List.{length_push, length-append, get_or-set_same, get_or-set_other, append_assoc}
 use Rattle.std.proofs.lemmas.Grind.{common_steps}
-use Rattle.mn_base.specs.declared.drops.Rule.{Rule}
-use Rattle.mn_base.specs.declared.drops.Rule.TheVariants as rule
-use Rattle.mn_base.specs.declared.links.Dir.{Dir}
-use Rattle.mn_base.specs.declared.links.Dir.TheVariants.{Forth, Back}
-use Rattle.mn_base.specs.Wiring.{link, across, receiver}
+use Rattle.mn_drops.specs.declared.drops.Rule.{Rule}
+use Rattle.mn_drops.specs.declared.drops.Rule.TheVariants as rule
+use Rattle.mn_wiring.specs.declared.links.Dir.{Dir}
+use Rattle.mn_wiring.specs.declared.links.Dir.TheVariants.{Forth, Back}
+use Rattle.mn_wiring.specs.Wiring.{link, across, receiver}
 use Rattle.mn_ipv4.specs.Header.{ttl_of, destination_of}
 use Rattle.mn_topo.specs.Network.{Network, wiring_of}
 use Rattle.mn_topo.specs.declared.steps.Step.{Step}
@@ -608,18 +609,18 @@ home-is-edge t lawful s below =
         or_true true = refl
         or_true false = refl
 
-pub has_arrived : (t : Network) (before earlier later : List JournalEntry) (tick number : ℕ) (site : SiteNo) (ps : List (List ℕ)) (to : HeldRoute) → IsLawful t
+pub has_arrived : (t : Network) (before earlier later : List JournalEntry) (tick number : ℕ) (mark : Damaged) (site : SiteNo) (ps : List (List ℕ)) (to : HeldRoute) → IsLawful t
     → IsLawfulJournal t before ps
-    → IsSteady t before (earlier ++ record { tick = tick; step = Inject site number } ∷ later)
+    → IsSteady t before (earlier ++ record { tick = tick; step = Inject site number; damaged = mark } ∷ later)
     → site.0 < length t.sites
     → IsAddressed t (world_of t before) site.0 (next_of (left_after (before ++ earlier) ps)) to
     → Reaches t (world_of t before) (home_of t site.0) to.edge
     → length (route_to t (world_of t before) site.0 to) + 1 ≤ ttl_of (next_of (left_after (before ++ earlier) ps))
-    → ((at : ℕ) → (packets_of t ((before ++ earlier) ++ record { tick = tick; step = Inject site number } ∷ later) ps).flying at ≡ [])
-    → HasArrived t (world_of t before) (packets_of t ((before ++ earlier) ++ record { tick = tick; step = Inject site number } ∷ later) ps)
+    → ((at : ℕ) → (packets_of t ((before ++ earlier) ++ record { tick = tick; step = Inject site number; damaged = mark } ∷ later) ps).flying at ≡ [])
+    → HasArrived t (world_of t before) (packets_of t ((before ++ earlier) ++ record { tick = tick; step = Inject site number; damaged = mark } ∷ later) ps)
     (injections (before ++ earlier)) site.0 (next_of (left_after (before ++ earlier) ps)) to
 unfolding packets_after
-has_arrived t before earlier later tick number site ps to lawful journal steady site_there addressed reaches long none =
+has_arrived t before earlier later tick number mark site ps to lawful journal steady site_there addressed reaches long none =
     let w : World = world_of t before in
     let home_edge : In (edges t) (home_of t site.0) = home-is-edge t lawful site.0 site_there in
     let behind = best-attached t w (in_turn t before ps lawful journal) steady.settled (all-tell t before ps lawful journal) (home_of t site.0)
@@ -627,7 +628,7 @@ has_arrived t before earlier later tick number site ps to lawful journal steady 
     let attached : w.config.attached to.site ≡ Some to.attachment = behind.0 in
     let home_below : home_of t site.0 < length t.loopbacks = edge-below t (home_of t site.0) home_edge in
     let edge_below : to.edge < length t.loopbacks = edge-below t to.edge behind.1 in
-    let entry : JournalEntry = record { tick = tick; step = Inject site number } in
+    let entry : JournalEntry = record { tick = tick; step = Inject site number; damaged = mark } in
     let done : List JournalEntry = before ++ earlier in
     let k : Packets = packets_of t done ps in
     let bytes : List ℕ = next_of (left_after done ps) in

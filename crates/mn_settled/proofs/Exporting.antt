@@ -5,8 +5,8 @@ use Rattle.std.specs.Prelude.{◌==◌, ◌&&◌, nat_le, slice_index_or}
 use Rattle.std.specs.List.{flat_map, range_with_len}
 use Rattle.std.proofs.lemmas.Bool.Decides.{eqb_tells, leb_tells}
 use Rattle.mn_base.proofs.Bools.{and_off_left, and_off_right, and_on, clash, swap}
-use Rattle.mn_base.specs.Wiring.{nodes_of}
-use Rattle.mn_base.specs.declared.states.BgpState.TheVariants.{OpenSent, OpenConfirm, Established}
+use Rattle.mn_wiring.specs.Wiring.{nodes_of}
+use Rattle.mn_states.specs.declared.states.BgpState.TheVariants.{OpenSent, OpenConfirm, Established}
 use Rattle.mn_topo.specs.VrfTable.{is_edge}
 use Rattle.mn_topo.specs.Network.{Network, wiring_of}
 use Rattle.mn_topo.specs.declared.steps.Step.{Step}

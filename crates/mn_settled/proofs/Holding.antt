@@ -8,7 +8,7 @@ use Rattle.std.proofs.lemmas.List.{take_all}
 use Rattle.mn_topo.specs.VrfTable.{is_edge}
 use Rattle.mn_topo.specs.Network.{Network, wiring_of}
 use Rattle.mn_topo.specs.Lawful.{IsLawful}
-use Rattle.mn_base.specs.Wiring.{JoinsNodes, EndsDiffer}
+use Rattle.mn_wiring.specs.Wiring.{JoinsNodes, EndsDiffer}
 use Rattle.mn_base.proofs.Bools.{clash}
 use Rattle.mn_topo.specs.declared.steps.JournalEntry.{JournalEntry}
 use Rattle.mn_ledger.specs.Places.{loopback, vrf_at, edges}

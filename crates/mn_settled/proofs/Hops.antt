@@ -1,9 +1,9 @@
 -- What a next hop is: the nearer end of a link of the node.
 use Rattle.std.proofs.Common.{ℕ, ◌≡◌, ◌≢◌, ◌<◌, inl, inr, true, false, length, sym, ◌∙◌, ap, subst, Option, None, Some}
 use Rattle.std.proofs.lemmas.Bool.Decides.{eqb_tells}
-use Rattle.mn_base.specs.Wiring.{View, across}
-use Rattle.mn_base.specs.Paths.{IsNext, next, next_by, dists_to}
-use Rattle.mn_base.proofs.Next.{next_is}
+use Rattle.mn_wiring.specs.Wiring.{View, across}
+use Rattle.mn_wiring.specs.Paths.{IsNext, next, next_by, dists_to}
+use Rattle.mn_wiring.proofs.Next.{next_is}
 use Rattle.mn_base.proofs.Rules.{none_is}
 use Rattle.mn_topo.specs.Network.{Network, wiring_of}
 use Rattle.mn_topo.specs.Lawful.{IsLawful}

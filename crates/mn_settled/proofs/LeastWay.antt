@@ -1,8 +1,8 @@
 -- In a settled world the route is a least walk.
 use Rattle.std.proofs.Common.{ℕ, ◌≡◌, ◌+◌, ◌<◌, ◌≤◌, true, cond, List, [], ◌∷◌, length, refl, arith, sym, ◌∙◌, ap, subst, None, Some}
 use Rattle.std.specs.Prelude.{◌&&◌, nat_lt}
-use Rattle.mn_base.specs.Wiring.{View, link, is_up, is_end, across}
-use Rattle.mn_base.specs.Paths.{IsLeast, may_go, walk_end, cost_of}
+use Rattle.mn_wiring.specs.Wiring.{View, link, is_up, is_end, across}
+use Rattle.mn_wiring.specs.Paths.{IsLeast, may_go, walk_end, cost_of}
 use Rattle.mn_base.proofs.Bools.{less_is}
 use Rattle.mn_topo.specs.Network.{Network, wiring_of}
 use Rattle.mn_topo.specs.Lawful.{IsLawful}

@@ -6,11 +6,11 @@ use Rattle.std.specs.List.{flat_map}
 use Rattle.std.proofs.lemmas.Bool.Decides.{eqb_tells, leb_tells}
 use Rattle.std.proofs.lemmas.List.{take-append-le}
 use Rattle.mn_base.proofs.Bools.{two_ways, and_off_left, not_on, clash}
-use Rattle.mn_base.specs.Wiring.{Wiring, View, nodes_of, is_end, across, receiver, JoinsNodes, EndsDiffer}
-use Rattle.mn_base.specs.Paths.{IsNext, next}
-use Rattle.mn_base.proofs.Next.{next_is}
-use Rattle.mn_base.specs.declared.states.LdpState.{LdpState}
-use Rattle.mn_base.specs.declared.states.LdpState.TheVariants.{Initialized, OpenSent, OpenRec}
+use Rattle.mn_wiring.specs.Wiring.{Wiring, View, nodes_of, is_end, across, receiver, JoinsNodes, EndsDiffer}
+use Rattle.mn_wiring.specs.Paths.{IsNext, next}
+use Rattle.mn_wiring.proofs.Next.{next_is}
+use Rattle.mn_states.specs.declared.states.LdpState.{LdpState}
+use Rattle.mn_states.specs.declared.states.LdpState.TheVariants.{Initialized, OpenSent, OpenRec}
 use Rattle.mn_topo.specs.Network.{Network, wiring_of}
 use Rattle.mn_topo.specs.Lawful.{IsLawful}
 use Rattle.mn_topo.specs.declared.steps.Step.{Step}

@@ -5,10 +5,10 @@ use Rattle.std.specs.Prelude.{◌||◌, eqb}
 use Rattle.std.specs.List.{IsDistinct, list_any, AllByRecursion}
 use Rattle.std.proofs.lemmas.Bool.Decides.{eqb_tells}
 use Rattle.std.proofs.lemmas.Map.Steps.{length-le_from_distinct_below}
-use Rattle.mn_base.specs.Wiring.{across}
-use Rattle.mn_base.specs.Paths.{IsLeast, IsNext, IsDist, next, next_by, dists_to}
-use Rattle.mn_base.proofs.Next.{next_is}
-use Rattle.mn_base.proofs.Dist.{dists_are_least}
+use Rattle.mn_wiring.specs.Wiring.{across}
+use Rattle.mn_wiring.specs.Paths.{IsLeast, IsNext, IsDist, next, next_by, dists_to}
+use Rattle.mn_wiring.proofs.Next.{next_is}
+use Rattle.mn_wiring.proofs.Dist.{dists_are_least}
 use Rattle.mn_base.proofs.Bools.{clash}
 use Rattle.mn_topo.specs.Network.{Network, wiring_of}
 use Rattle.mn_topo.specs.Lawful.{IsLawful}

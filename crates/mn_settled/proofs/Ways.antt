@@ -6,9 +6,9 @@ use Rattle.std.specs.List.{range_with_len}
 use Rattle.std.proofs.lemmas.Bool.Decides.{eqb_tells, leb_tells, nat_tests}
 use Rattle.std.proofs.lemmas.List.{take_all}
 use Rattle.std.proofs.lemmas.List.FromFn.{get_or-map-range_with_len}
-use Rattle.mn_base.specs.Wiring.{link, is_end, is_up, across, JoinsNodes}
-use Rattle.mn_base.specs.Paths.{IsLeast, IsNext, next, next_by, dists_to}
-use Rattle.mn_base.proofs.Next.{next_is}
+use Rattle.mn_wiring.specs.Wiring.{link, is_end, is_up, across, JoinsNodes}
+use Rattle.mn_wiring.specs.Paths.{IsLeast, IsNext, next, next_by, dists_to}
+use Rattle.mn_wiring.proofs.Next.{next_is}
 use Rattle.mn_base.proofs.Bools.{clash}
 use Rattle.mn_topo.specs.Network.{Network, wiring_of}
 use Rattle.mn_topo.specs.Lawful.{IsLawful}

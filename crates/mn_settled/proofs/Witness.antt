@@ -1,7 +1,7 @@
 -- The network of two links meets what the laws of settled worlds and of arrival ask, and a packet goes there.
 use Rattle.std.proofs.Common.{rules, ℕ, zero, suc, ◌≡◌, [], ◌∷◌, ◌++◌, refl, arith}
-use Rattle.mn_base.specs.Paths.{next}
-use Rattle.mn_base.specs.declared.links.Dir.{Dir}
+use Rattle.mn_wiring.specs.Paths.{next}
+use Rattle.mn_wiring.specs.declared.links.Dir.{Dir}
 use Rattle.mn_ipv4.specs.Header.{is_not_ipv4, is_malformed, is_truncated, has_bad_checksum, good, checksum_for, with_ttl, aged}
 use Rattle.mn_ledger.specs.Transport.{knowledge_of, news, sessions_after}
 use Rattle.mn_ledger.specs.Bgp.{peerings_after}

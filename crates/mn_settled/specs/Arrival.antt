@@ -1,6 +1,6 @@
 -- What becomes of a packet that is sent in a settled network and then carried on: it goes along the route and arrives.
 use Rattle.std.specs.Prelude.{◌≡◌, ◌≢◌, ℕ, ◌-◌, List, [], ◌∷◌, length, slice_index_or, Some, None}
-use Rattle.mn_base.specs.Wiring.{across}
+use Rattle.mn_wiring.specs.Wiring.{across}
 use Rattle.mn_topo.specs.Network.{Network, wiring_of}
 use Rattle.mn_topo.specs.declared.steps.JournalEntry.{JournalEntry}
 use Rattle.mn_ledger.specs.declared.verdict.Verdict.TheVariants.{Delivered}
@@ -13,7 +13,7 @@ use Rattle.mn_ledger.specs.Packets.{Packets, entry_rules}
 use Rattle.mn_ledger.specs.Verdicts.{verdict_on}
 use Rattle.mn_ledger.specs.Ledger.{left_by}
 use Rattle.mn_ledger.specs.Settled.{route}
-use Rattle.mn_base.specs.Paths.{walk_end, cost_of, IsLeast}
+use Rattle.mn_wiring.specs.Paths.{walk_end, cost_of, IsLeast}
 use Rattle.mn_settled.specs.Ways.{links_up, way}
 
 -- the packets that are left once these entries have taken theirs

@@ -2,7 +2,7 @@
 --
 --     site a --- pe1 --- p --- pe2 --- site b
 use Rattle.std.specs.Prelude.{◌≡◌, ◌≤◌, ◌+◌, ℕ, List, [], ◌∷◌, ◌++◌, length}
-use Rattle.mn_base.specs.declared.links.Dir.TheVariants.{Forth}
+use Rattle.mn_wiring.specs.declared.links.Dir.TheVariants.{Forth}
 use Rattle.mn_topo.specs.Lawful.{IsLawful}
 use Rattle.mn_topo.specs.declared.steps.Step.TheVariants.{Inject, Carry}
 use Rattle.mn_topo.specs.declared.steps.JournalEntry.{JournalEntry}

@@ -21,6 +21,8 @@
 //! The crate `mn_drain` says how a network settles, and how soon.
 #![tactic(auto)]
 
+ghost use Rattle.std.specs.Prelude.{Option};
+ghost use Rattle.mn_topo.specs.declared.steps.Damaged.{Damaged};
 ghost use Rattle.std.specs.Prelude.{ℕ, List, ◌≡◌, ◌<◌, ◌≤◌, ◌+◌, [], ◌∷◌, ◌++◌, length};
 ghost use Rattle.mn_topo.specs.Network.{Network};
 ghost use Rattle.mn_topo.specs.Lawful.{IsLawful};
@@ -103,17 +105,17 @@ pub fn settled_edges_look_up_their_routes()
 /// A packet that is sent in a settled network, in a stretch that only moves packets and after which none flies, arrives: it
 /// was at each node of its route, and its TTL is less by the number of these nodes. Frames may overtake each other.
 pub fn what_is_sent_arrives()
-    ensures { (topology : Network) (before earlier later : List JournalEntry) (tick number : ℕ) (site : SiteNo) (inputs : List (List ℕ))
-        (to : HeldRoute) →
+    ensures { (topology : Network) (before earlier later : List JournalEntry) (tick number : ℕ) (mark : Damaged) (site : SiteNo)
+        (inputs : List (List ℕ)) (to : HeldRoute) →
         IsLawful topology → IsLawfulJournal topology before inputs →
-        IsSteady topology before (earlier ++ record { tick = tick; step = Inject site number } ∷ later) →
+        IsSteady topology before (earlier ++ record { tick = tick; step = Inject site number; damaged = mark } ∷ later) →
         site.0 < length topology.sites →
         IsAddressed topology (world_of topology before) site.0 (next_of (left_after (before ++ earlier) inputs)) to →
         Reaches topology (world_of topology before) (home_of topology site.0) to.edge →
         length (route_to topology (world_of topology before) site.0 to) + 1 ≤ ttl_of (next_of (left_after (before ++ earlier) inputs)) →
-        ((at : ℕ) → (packets_of topology ((before ++ earlier) ++ record { tick = tick; step = Inject site number } ∷ later) inputs).flying at ≡ []) →
+        ((at : ℕ) → (packets_of topology ((before ++ earlier) ++ record { tick = tick; step = Inject site number; damaged = mark } ∷ later) inputs).flying at ≡ []) →
         HasArrived topology (world_of topology before)
-        (packets_of topology ((before ++ earlier) ++ record { tick = tick; step = Inject site number } ∷ later) inputs)
+        (packets_of topology ((before ++ earlier) ++ record { tick = tick; step = Inject site number; damaged = mark } ∷ later) inputs)
         (injections (before ++ earlier)) site.0 (next_of (left_after (before ++ earlier) inputs)) to }
 {}
 

@@ -6,7 +6,7 @@ use Rattle.std.specs.List.{flat_map}
 use Rattle.std.proofs.lemmas.Bool.Decides.{eqb_tells}
 use Rattle.std.proofs.lemmas.List.Elements.{filter-append}
 use Rattle.mn_base.proofs.Bools.{and_left, and_off_left, and_right, less_tells, other_test, clash}
-use Rattle.mn_base.specs.Wiring.{nodes_of, link, is_end, across, sender, receiver}
+use Rattle.mn_wiring.specs.Wiring.{nodes_of, link, is_end, across, sender, receiver}
 use Rattle.mn_topo.specs.Network.{Network, wiring_of}
 use Rattle.mn_topo.specs.Lawful.{IsLawful}
 use Rattle.mn_topo.specs.Steps.{fits}

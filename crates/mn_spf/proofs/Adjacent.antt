@@ -8,7 +8,7 @@ use Rattle.std.proofs.lemmas.List.{get_or-replicate, length-set, length-replicat
 use Rattle.std.proofs.lemmas.List.Elements.{All-nil, All-push, Contains-append_left, Contains-push}
 use Rattle.mn_base.proofs.Bools.{or_left, or_right, or_ways, same_test}
 use Rattle.mn_base.specs.declared.numbers.LinkNo.{LinkNo}
-use Rattle.mn_base.specs.Wiring.{link, is_up}
+use Rattle.mn_wiring.specs.Wiring.{link, is_up}
 use Rattle.mn_linkdb.specs.Learned.{Learned, links_up}
 use Rattle.mn_spf.specs.Ways.{wiring_of, goes, AreLinks}
 use Rattle.mn_spf.proofs.Walks.{all_true, goes_at}

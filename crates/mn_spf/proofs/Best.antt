@@ -2,8 +2,8 @@
 use Rattle.std.proofs.Common.{ℕ, ◌≡◌, ◌≢◌, ◌+◌, ◌*◌, ◌<◌, ◌≤◌, ◌==◌, Bool, true, false, List, [], ◌∷◌, length, refl, arith, sym, ◌∙◌, ap, subst}
 use Rattle.std.specs.Prelude.{Option, Some, None, if◌then◌else◌}
 use Rattle.mn_base.specs.declared.numbers.NodeNo.{NodeNo}
-use Rattle.mn_base.specs.Wiring.{Wiring, link}
-use Rattle.mn_base.specs.Paths.{walk_end, cost_of, IsLeast, IsDist, IsOnLeast}
+use Rattle.mn_wiring.specs.Wiring.{Wiring, link}
+use Rattle.mn_wiring.specs.Paths.{walk_end, cost_of, IsLeast, IsDist, IsOnLeast}
 use Rattle.mn_linkdb.specs.Network.{IsNetwork}
 use Rattle.mn_linkdb.specs.Learned.{Learned, IsOf, links_up}
 use Rattle.mn_linkdb.specs.PathTable.{PathTable, dist_at, next_at}

@@ -2,9 +2,9 @@
 use Rattle.std.proofs.Common.{ℕ, ◌≡◌, ◌+◌, ◌<◌, Bool, true, false, cond, List, [], ◌∷◌, ◌++◌, length, refl, arith, sym, ◌∙◌, ap, subst}
 use Rattle.std.specs.Prelude.{◌&&◌, Option, Some, None, nat_lt}
 use Rattle.std.proofs.lemmas.Bool.{and_parts, ltb-true}
-use Rattle.mn_base.specs.Wiring.{is_up, link, is_end}
-use Rattle.mn_base.specs.Paths.{walk_end, cost_of}
-use Rattle.mn_base.proofs.Dist.{cond_below}
+use Rattle.mn_wiring.specs.Wiring.{is_up, link, is_end}
+use Rattle.mn_wiring.specs.Paths.{walk_end, cost_of}
+use Rattle.mn_wiring.proofs.Dist.{cond_below}
 use Rattle.mn_linkdb.specs.Network.{IsLink, IsNetwork}
 use Rattle.mn_linkdb.specs.Learned.{Learned, links_up}
 use Rattle.mn_spf.specs.Ways.{wiring_of, goes, beyond, IsWalked}

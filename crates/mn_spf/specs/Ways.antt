@@ -3,11 +3,11 @@ use Rattle.std.specs.Prelude.{ℕ, ◌≡◌, ◌+◌, ◌*◌, ◌≤◌, ◌<�
 use Rattle.std.specs.declared.cmp.Ordering.{Ordering}
 use Rattle.std.specs.declared.cmp.Reverse.{Reverse}
 use Rattle.std.specs.Ordering.{nat_cmp, ordering_then}
-use Rattle.mn_base.specs.declared.links.LinkEnds.{LinkEnds}
+use Rattle.mn_wiring.specs.declared.links.LinkEnds.{LinkEnds}
 use Rattle.mn_base.specs.declared.numbers.LinkNo.{LinkNo}
 use Rattle.mn_base.specs.declared.numbers.NodeNo.{NodeNo}
-use Rattle.mn_base.specs.Wiring.{Wiring, link, across}
-use Rattle.mn_base.specs.Paths.{may_go, walk_end, cost_of}
+use Rattle.mn_wiring.specs.Wiring.{Wiring, link, across}
+use Rattle.mn_wiring.specs.Paths.{may_go, walk_end, cost_of}
 use Rattle.mn_linkdb.specs.Learned.{Learned, links_up}
 use Rattle.mn_linkdb.specs.PathTable.{PathTable, dist_at, next_at}
 use Rattle.mn_spf.specs.declared.way.Way.{Way}

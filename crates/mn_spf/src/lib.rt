@@ -22,7 +22,7 @@
 #![tactic(auto)]
 
 ghost use Rattle.std.specs.Prelude.{◌<◌, IfOk};
-ghost use Rattle.mn_base.specs.Wiring.{Wiring};
+ghost use Rattle.mn_wiring.specs.Wiring.{Wiring};
 ghost use Rattle.mn_linkdb.specs.Learned.{IsOf, links_up};
 ghost use Rattle.mn_linkdb.specs.PathTable.{IsTable};
 ghost use Rattle.mn_linkdb.specs.Trees.{IsTree};

@@ -9,7 +9,7 @@ use Rattle.std.proofs.lemmas.List.Elements.{All-cons, Contains-append_cases}
 use Rattle.std.proofs.lemmas.List.Sorted.{All-permutation, Contains-permutation, length_permutation}
 use Rattle.std.proofs.lemmas.List.Sums.{sum_by-set}
 use Rattle.mn_base.specs.declared.numbers.NodeNo.{NodeNo}
-use Rattle.mn_base.specs.Wiring.{link}
+use Rattle.mn_wiring.specs.Wiring.{link}
 use Rattle.mn_linkdb.specs.Network.{IsNetwork}
 use Rattle.mn_linkdb.specs.Learned.{Learned}
 use Rattle.mn_linkdb.specs.PathTable.{PathTable, dist_at, next_at, with_entries}

@@ -6,7 +6,7 @@ use Rattle.std.specs.declared.cmp.Reverse.{Reverse}
 use Rattle.std.proofs.lemmas.Bool.Decides.{eqb_tells}
 use Rattle.mn_base.proofs.Bools.{none_below, other_test}
 use Rattle.mn_base.specs.declared.numbers.NodeNo.{NodeNo}
-use Rattle.mn_base.specs.Wiring.{Wiring, link}
+use Rattle.mn_wiring.specs.Wiring.{Wiring, link}
 use Rattle.mn_linkdb.specs.Network.{IsNetwork}
 use Rattle.mn_linkdb.specs.Learned.{Learned, links_up}
 use Rattle.mn_linkdb.specs.PathTable.{PathTable, dist_at, next_at}

@@ -6,14 +6,14 @@ use Rattle.std.proofs.lemmas.Bool.{eqb-true, lt-ltb}
 use Rattle.std.proofs.lemmas.Bool.Decides.{eqb_tells}
 use Rattle.std.proofs.lemmas.List.Elements.{All-nil}
 use Rattle.mn_base.proofs.Bools.{clash, or_ways}
-use Rattle.mn_base.specs.declared.links.LinkEnds.{LinkEnds}
+use Rattle.mn_wiring.specs.declared.links.LinkEnds.{LinkEnds}
 use Rattle.mn_base.specs.declared.numbers.LinkNo.{LinkNo}
 use Rattle.mn_base.specs.declared.numbers.NodeNo.{NodeNo}
-use Rattle.mn_base.specs.Wiring.{link, is_up}
+use Rattle.mn_wiring.specs.Wiring.{link, is_up}
 use Rattle.mn_linkdb.specs.Network.{IsNetwork, IsLink}
 use Rattle.mn_linkdb.specs.Learned.{Learned, links_up}
 use Rattle.mn_linkdb.specs.PathTable.{PathTable, dist_at}
-use Rattle.mn_base.proofs.Dist.{cond_below}
+use Rattle.mn_wiring.proofs.Dist.{cond_below}
 use Rattle.mn_spf.specs.Ways.{wiring_of, goes, beyond, rank_at, rank_over, AreLinksAt}
 use Rattle.mn_spf.proofs.Walks.{goes_at, all_true, beyond_below}
 use Rattle.mn_spf.proofs.Best.{at_most_is}

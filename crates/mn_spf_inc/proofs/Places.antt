@@ -10,7 +10,7 @@ use Rattle.std.proofs.lemmas.List.Sorted.{All-permutation, Contains-permutation,
 use Rattle.mn_base.proofs.Bools.{none_below, clash, or_ways, or_left, or_right, same_test}
 use Rattle.mn_base.specs.declared.numbers.LinkNo.{LinkNo}
 use Rattle.mn_base.specs.declared.numbers.NodeNo.{NodeNo}
-use Rattle.mn_base.specs.Wiring.{link, is_up, is_end}
+use Rattle.mn_wiring.specs.Wiring.{link, is_up, is_end}
 use Rattle.mn_linkdb.specs.Network.{IsNetwork}
 use Rattle.mn_linkdb.specs.Learned.{Learned, links_up}
 use Rattle.mn_linkdb.specs.PathTable.{IsTable, dist_at, next_at}
@@ -308,7 +308,7 @@ module _ (v : Learned) (root : ℕ) (net : IsNetwork v.nodes v.ends) (here : roo
       omega (
         arith,
         h.bounded node cost p e,
-        (net.links l (record { a = record { 0 = 0 }; b = record { 0 = 0 }; cost = 0; delay = 0; loss = 0 }) q).bounded,
+        (net.links l (record { a = record { 0 = 0 }; b = record { 0 = 0 }; cost = 0; delay = 0; loss = 0; life = 0 }) q).bounded,
         net.few_nodes,
       )
 
@@ -318,6 +318,6 @@ module _ (v : Learned) (root : ℕ) (net : IsNetwork v.nodes v.ends) (here : roo
       omega (
         arith,
         h.small node cost p e,
-        (net.links l (record { a = record { 0 = 0 }; b = record { 0 = 0 }; cost = 0; delay = 0; loss = 0 }) q).bounded,
+        (net.links l (record { a = record { 0 = 0 }; b = record { 0 = 0 }; cost = 0; delay = 0; loss = 0; life = 0 }) q).bounded,
         net.few_nodes,
       )

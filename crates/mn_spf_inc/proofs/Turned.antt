@@ -4,8 +4,8 @@ use Rattle.std.proofs.lemmas.Bool.{lt-ltb}
 use Rattle.std.proofs.lemmas.Bool.Decides.{eqb_tells}
 use Rattle.std.proofs.lemmas.List.{length-set}
 use Rattle.mn_base.proofs.Bools.{or_left, or_right, same_test, other_test}
-use Rattle.mn_base.specs.declared.links.LinkEnds.{LinkEnds}
-use Rattle.mn_base.specs.Wiring.{link, is_up}
+use Rattle.mn_wiring.specs.declared.links.LinkEnds.{LinkEnds}
+use Rattle.mn_wiring.specs.Wiring.{link, is_up}
 use Rattle.mn_linkdb.specs.Network.{IsNetwork}
 use Rattle.mn_linkdb.specs.Learned.{Learned, IsView, links_up}
 use Rattle.mn_spf.specs.Ways.{wiring_of, beyond}
@@ -55,7 +55,7 @@ module _ (v : Learned) (root : ℕ) (view : IsView v) (here : root < v.nodes) (s
   it = view.network
 
   zero : LinkEnds
-  zero = record { a = record { 0 = 0 }; b = record { 0 = 0 }; cost = 0; delay = 0; loss = 0 }
+  zero = record { a = record { 0 = 0 }; b = record { 0 = 0 }; cost = 0; delay = 0; loss = 0; life = 0 }
 
   pub idle_both : (Makes s.table a (link (wiring_of v) l).cost b → ⊥) →
       (Makes s.table b (link (wiring_of v) l).cost a → ⊥) →

@@ -1,7 +1,7 @@
 -- A tree that follows the changes of the links.
 use Rattle.std.specs.Prelude.{ℕ, ◌≡◌, ◌+◌, ◌<◌, Bool, false, List, length, slice_index_or, Some}
-use Rattle.mn_base.specs.declared.links.LinkEnds.{LinkEnds}
-use Rattle.mn_base.specs.Wiring.{Wiring}
+use Rattle.mn_wiring.specs.declared.links.LinkEnds.{LinkEnds}
+use Rattle.mn_wiring.specs.Wiring.{Wiring}
 use Rattle.mn_linkdb.specs.Learned.{Learned, IsView}
 use Rattle.mn_linkdb.specs.PathTable.{PathTable, dist_at}
 use Rattle.mn_spf_inc.specs.Mending.{State, IsMended}
@@ -21,7 +21,7 @@ pub record IsOver (wiring : Wiring) (mended : Mended) : Type 0 where
   pub ends : wiring.ends ≡ mended.ends
 
 abbrev pub ends_at : Mended → ℕ → LinkEnds
-ends_at mended l = slice_index_or mended.ends l (record { a = record { 0 = 0 }; b = record { 0 = 0 }; cost = 0; delay = 0; loss = 0 })
+ends_at mended l = slice_index_or mended.ends l (record { a = record { 0 = 0 }; b = record { 0 = 0 }; cost = 0; delay = 0; loss = 0; life = 0 })
 
 -- the cost of the one node and of the link make the cost of the other
 abbrev pub Makes : PathTable → ℕ → ℕ → ℕ → Type 0

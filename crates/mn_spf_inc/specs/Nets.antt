@@ -1,6 +1,6 @@
 -- Which links are up, as mn_spf's definitions see it: as counts of their changes.
 use Rattle.std.specs.Prelude.{ℕ, ◌≡◌, Bool, true, false, List, length, map, replicate, slice_set}
-use Rattle.mn_base.specs.declared.links.LinkEnds.{LinkEnds}
+use Rattle.mn_wiring.specs.declared.links.LinkEnds.{LinkEnds}
 use Rattle.mn_base.specs.declared.numbers.LinkNo.{LinkNo}
 use Rattle.mn_linkdb.specs.Network.{IsNetwork}
 use Rattle.mn_linkdb.specs.Learned.{Learned}

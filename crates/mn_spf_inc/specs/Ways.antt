@@ -1,7 +1,7 @@
 -- Ways from a root, known by their cost and by the neighbour to which they go first.
 use Rattle.std.specs.Prelude.{ℕ, ◌+◌, ◌==◌, if◌then◌else◌, Option, Some, None}
 use Rattle.std.specs.declared.cmp.Reverse.{Reverse}
-use Rattle.mn_base.specs.declared.links.LinkEnds.{LinkEnds}
+use Rattle.mn_wiring.specs.declared.links.LinkEnds.{LinkEnds}
 use Rattle.mn_base.specs.declared.numbers.NodeNo.{NodeNo}
 use Rattle.mn_linkdb.specs.PathTable.{PathTable, dist_at, next_at}
 use Rattle.mn_spf.specs.Ways.{rank, other_end}

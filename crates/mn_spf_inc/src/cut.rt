@@ -5,13 +5,14 @@ ghost use Rattle.mn_linkdb.specs.PathTable.{dist_at};
 use crate::mend::Mend;
 use crate::net::Net;
 use crate::way::{Way, other_end};
-use mn_base::{LinkEnds, LinkNo, NodeNo, Steps};
+use mn_base::{LinkNo, NodeNo, Steps};
+use mn_wiring::LinkEnds;
 use std::alloc::AllocError;
 use std::cmp::Reverse;
 use std::sync::ledger::Ledger;
 
 impl Mend {
-    ghost use Rattle.mn_base.specs.Wiring.{link};
+    ghost use Rattle.mn_wiring.specs.Wiring.{link};
     ghost use Rattle.mn_spf.specs.Ways.{wiring_of};
     ghost use Rattle.mn_spf_inc.specs.Ways.{rank_of, way_at, way_over};
     ghost use Rattle.mn_spf_inc.specs.Mending.{state_of, left, IsCutting, IsHeld, IsKnown, IsMended, NoneLate, OneLate, HeldOverEither, IsPassedOver};

@@ -1,5 +1,5 @@
 ghost use Rattle.std.specs.Prelude.{◌≡◌, ◌≤◌, ◌<◌, [], true, length, All, OnOk};
-ghost use Rattle.mn_base.specs.Wiring.{is_up};
+ghost use Rattle.mn_wiring.specs.Wiring.{is_up};
 ghost use Rattle.mn_linkdb.specs.Learned.{links_up};
 
 use crate::mend::Mend;

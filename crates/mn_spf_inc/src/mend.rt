@@ -2,8 +2,9 @@ ghost use Rattle.std.specs.Prelude.{◌≡◌, ◌+◌, ◌^◌, ◌<◌, ℕ, [
 ghost use Rattle.mn_linkdb.specs.PathTable.{dist_at, nothing_known, with_entries};
 
 use crate::way::Way;
-use mn_base::{LinkEnds, NodeNo};
+use mn_base::NodeNo;
 use mn_linkdb::Tree;
+use mn_wiring::LinkEnds;
 use std::alloc::{AllocError, Global};
 use std::cmp::Reverse;
 use std::collections::BinaryHeap;

@@ -1,11 +1,12 @@
 ghost use Rattle.std.specs.Prelude.{◌≡◌, ◌+◌, ◌<◌, ◌++◌, ◌∷◌, [], length, replicate, slice_set, slice_index_or, IfOk, OnOk};
-ghost use Rattle.mn_base.specs.Wiring.{link, is_up};
+ghost use Rattle.mn_wiring.specs.Wiring.{link, is_up};
 ghost use Rattle.mn_linkdb.specs.Network.{IsNetwork};
 ghost use Rattle.mn_linkdb.specs.Learned.{IsView, links_up};
 ghost use Rattle.mn_spf.specs.Ways.{wiring_of, AreLinks, AreLinksAt};
 ghost use Rattle.mn_spf_inc.specs.Nets.{all_up, all_down, with_link};
 
-use mn_base::{LinkEnds, LinkNo, ListOf, NodeNo};
+use mn_base::{LinkNo, ListOf, NodeNo};
+use mn_wiring::LinkEnds;
 use std::alloc::{AllocError, Global};
 use std::marker::Model;
 

@@ -1,5 +1,5 @@
 ghost use Rattle.std.specs.Prelude.{◌≡◌, ◌≢◌, ◌+◌, ◌<◌, [], length, replicate, slice_set, true, false, IsErr, IsOk, IfOk, OnOk, OnErr};
-ghost use Rattle.mn_base.specs.Wiring.{Wiring, is_up};
+ghost use Rattle.mn_wiring.specs.Wiring.{Wiring, is_up};
 ghost use Rattle.mn_linkdb.specs.Network.{IsNetwork};
 ghost use Rattle.mn_linkdb.specs.PathTable.{IsTable};
 ghost use Rattle.mn_linkdb.specs.Trees.{IsTree};
@@ -7,11 +7,12 @@ ghost use Rattle.mn_spf_inc.specs.Mended.{Mended, IsOver, IsIdle};
 
 use crate::mend::Mend;
 use crate::net::Net;
-use mn_base::{LinkEnds, LinkNo, NodeNo, Steps};
+use mn_base::{LinkNo, NodeNo, Steps};
 use mn_linkdb::Tree;
+use mn_wiring::LinkEnds;
 use std::alloc::{AllocError, Global};
-use std::marker::Model;
-use std::sync::ledger::Ledger;
+use std::marker::{Brand, Model};
+use std::sync::ledger::{Blank, Ledger};
 
 /// The least walks from a root over the links that are up, mended at each change of a link.
 #[derive(Drop)]
@@ -88,6 +89,39 @@ impl MendTree {
         }
         self.failed = false;
         Ok(())
+    }
+
+    /// The same over a ledger that is opened on the blank.
+    fn change_over<L: Ledger>(
+        &mut self,
+        number: LinkNo,
+        up: bool,
+        blank: Blank,
+    ) -> Result<(), AllocError>
+        requires name { blank.name ≡ L.name }
+        requires parts { blank.parts ≡ L.parts }
+        requires some { 0 < blank.parts }
+        requires there { number.0 < length self.old.ends }
+        requires turns { is_up self.old.up number.0 ≢ up }
+        ensures of { (self.new.root ≡ self.old.root) × (self.new.nodes ≡ self.old.nodes) × (self.new.ends ≡ self.old.ends) }
+        ensures turned { OnOk result (self.new.up ≡ slice_set self.old.up number.0 up) }
+        ensures ok { OnOk result ((self.old.failed ≡ false) × (self.new.failed ≡ false)) }
+        ensures err { OnErr result (self.new.failed ≡ true) }
+    {
+        let mut steps = Steps::<L>::new(blank);
+        self.change(number, up, &mut steps)
+    }
+
+    /// The same where nobody asks how many steps it takes.
+    pub fn turn(&mut self, number: LinkNo, up: bool) -> Result<(), AllocError>
+        requires there { number.0 < length self.old.ends }
+        requires turns { is_up self.old.up number.0 ≢ up }
+        ensures of { (self.new.root ≡ self.old.root) × (self.new.nodes ≡ self.old.nodes) × (self.new.ends ≡ self.old.ends) }
+        ensures turned { OnOk result (self.new.up ≡ slice_set self.old.up number.0 up) }
+        ensures ok { OnOk result ((self.old.failed ≡ false) × (self.new.failed ≡ false)) }
+        ensures err { OnErr result (self.new.failed ≡ true) }
+    {
+        self.change_over::<Brand>(number, up, Blank::new(1))
     }
 
     /// The least walks from the root, over the links that are up: for each node the least cost,

@@ -1,6 +1,7 @@
 ghost use Rattle.std.specs.Prelude.{◌≡◌, ◌+◌, ◌^◌, ◌<◌, nat_lt};
 
-use mn_base::{LinkEnds, NodeNo};
+use mn_base::NodeNo;
+use mn_wiring::LinkEnds;
 
 /// A way from the root to a node. Ways are ordered by cost, and those of one cost by hop.
 #[derive(Clone, Copy, PartialEq, Eq, PartialOrd, Ord)]

@@ -6,9 +6,10 @@ ghost use Rattle.mn_output.specs.Tables.{bgp_line, bgp_name};
 ghost use Rattle.mn_tables.specs.Telling.{standing, Tells};
 
 use crate::pieces::put_pieces;
-use mn_base::{BgpState, NodeNo};
+use mn_base::NodeNo;
 use mn_edge::{DeviceBad, Sink};
 use mn_lines::{Page, node_name};
+use mn_states::BgpState;
 use mn_topo::Topology;
 
 /// The state of a session's end by its name.

@@ -10,10 +10,11 @@ ghost use Rattle.mn_tables.specs.Telling.{standing, Tells};
 use crate::names::{digits, end_names};
 use crate::pieces::put_pieces;
 use itoa::Buffer;
-use mn_base::{Dir, LinkNo};
+use mn_base::LinkNo;
 use mn_edge::{DeviceBad, Sink};
 use mn_lines::Page;
 use mn_topo::Topology;
+use mn_wiring::Dir;
 
 /// Puts the lines that count notices, and messages of sessions.
 pub fn put_counts<O: Sink>(

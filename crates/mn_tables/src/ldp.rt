@@ -1,7 +1,7 @@
 //! The LDP sessions of links (RFC 5036, section 2.5.4).
 ghost use Rattle.std.specs.Prelude.{◌≡◌, ◌<◌, length};
-ghost use Rattle.mn_base.specs.Wiring.{sender};
-ghost use Rattle.mn_base.specs.declared.links.Dir.TheVariants.{Forth, Back};
+ghost use Rattle.mn_wiring.specs.Wiring.{sender};
+ghost use Rattle.mn_wiring.specs.declared.links.Dir.TheVariants.{Forth, Back};
 ghost use Rattle.mn_topo.specs.Network.{wiring_of};
 ghost use Rattle.mn_ledger.specs.World.{World};
 ghost use Rattle.mn_output.specs.Tables.{ldp_line};
@@ -10,10 +10,12 @@ ghost use Rattle.mn_tables.specs.States.{state_at, state_name};
 
 use crate::names::end_names;
 use crate::pieces::put_pieces;
-use mn_base::{Dir, LdpState, LinkNo};
+use mn_base::LinkNo;
 use mn_edge::{DeviceBad, Sink};
 use mn_lines::Page;
+use mn_states::LdpState;
 use mn_topo::Topology;
+use mn_wiring::Dir;
 
 /// The state of a session's end by its name, and `none` where no session lives.
 fn state_name(state: Option<LdpState>) -> &'static str

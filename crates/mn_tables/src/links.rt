@@ -1,6 +1,6 @@
 //! The links, up or down.
 ghost use Rattle.std.specs.Prelude.{◌≡◌, ◌<◌, length};
-ghost use Rattle.mn_base.specs.Wiring.{link as link_at};
+ghost use Rattle.mn_wiring.specs.Wiring.{link as link_at};
 ghost use Rattle.mn_topo.specs.Network.{wiring_of};
 ghost use Rattle.mn_ledger.specs.World.{World};
 ghost use Rattle.mn_output.specs.Tables.{link_line, up_or_down};
@@ -9,10 +9,11 @@ ghost use Rattle.mn_tables.specs.Telling.{standing, Tells};
 use crate::names::{digits, end_names};
 use crate::pieces::put_pieces;
 use itoa::Buffer;
-use mn_base::{Dir, LinkNo};
+use mn_base::LinkNo;
 use mn_edge::{DeviceBad, Sink};
 use mn_lines::Page;
 use mn_topo::Topology;
+use mn_wiring::Dir;
 
 fn up_or_down(up: bool) -> &'static str
     ensures { result.now ≡ up_or_down up }

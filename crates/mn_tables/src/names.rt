@@ -1,14 +1,15 @@
 //! The ends of a link and VRFs by their names, and numbers by their digits.
 ghost use Rattle.std.specs.Prelude.{◌≡◌, ◌<◌, length};
-ghost use Rattle.mn_base.specs.Wiring.{receiver, sender};
+ghost use Rattle.mn_wiring.specs.Wiring.{receiver, sender};
 ghost use Rattle.mn_topo.specs.Network.{wiring_of};
 ghost use Rattle.mn_output.specs.Files.{node_name};
 ghost use Rattle.mn_output.specs.Tables.{vrf_name};
 
 use itoa::{Buffer, Integer};
-use mn_base::{Dir, LinkNo, NodeNo, VrfNo};
+use mn_base::{LinkNo, NodeNo, VrfNo};
 use mn_lines::node_name;
 use mn_topo::Topology;
+use mn_wiring::Dir;
 
 /// The node that sends in a direction of a link, and the one that receives.
 fn ends(topology: &Topology, link: LinkNo, dir: Dir) -> (NodeNo, NodeNo)

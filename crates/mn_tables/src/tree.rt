@@ -1,7 +1,7 @@
 //! The least walks from a node to the others.
 ghost use Rattle.std.specs.Prelude.{◌≡◌, ◌⊎◌};
-ghost use Rattle.mn_base.specs.Paths.{dist_in, dists_to, next};
-ghost use Rattle.mn_base.specs.Wiring.{View};
+ghost use Rattle.mn_wiring.specs.Paths.{dist_in, dists_to, next};
+ghost use Rattle.mn_wiring.specs.Wiring.{View};
 ghost use Rattle.mn_linkdb.specs.Trees.{hop_alone};
 ghost use Rattle.mn_topo.specs.Network.{wiring_of};
 ghost use Rattle.mn_output.specs.Tables.{tree_line};

@@ -1,10 +1,9 @@
-// Three nodes in a row: a packet that two labels carry from the site at one end to the site at the other.
+// Three nodes in a row: what a run leaves in which two labels carry a packet from the site at one end to the site at the other.
 ghost use Rattle.std.specs.Prelude.{◌<◌};
 
-use crate::one_node::{Ran, reports, runs};
+use crate::one_node::{Ran, runs};
 use mn_edge::MemShelf;
 use std::alloc::{AllocError, Global};
-use std::test::Fail;
 
 /// Sites a (10.1.0.0/16) at pe1 and b (10.2.0.0/16) at pe2, whose VRFs share a route target.
 pub(crate) const TOPOLOGY: &str = r#"
@@ -373,15 +372,4 @@ pub(crate) fn are_whole(shelf: &MemShelf, files: &[File]) -> bool {
 pub(crate) fn sent(alloc: Global, failing: Vec<u64>) -> Result<Ran, AllocError> {
     let capture = Vec::from_slice(alloc, &CAPTURE)?;
     runs(alloc, TOPOLOGY, SCRIPT, capture, failing)
-}
-
-#[test]
-fn two_labels_carry_a_packet(rt: HostRuntime) -> Result<(), Fail> {
-    let alloc = rt.alloc();
-    let ran = sent(alloc, Vec::new(alloc))?;
-    reports(&rt, &ran, REPORT);
-    let files = packet_files(alloc)?;
-    assert_eq!(rt; files.len(), 11);
-    assert!(rt; are_whole(&ran.shelf, &files));
-    Ok(())
 }

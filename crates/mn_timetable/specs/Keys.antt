@@ -1,8 +1,8 @@
 -- Numbers and due ticks: which items of the ledger's flight one of the network's four flights holds.
 use Rattle.std.specs.Prelude.{◌≡◌, ◌+◌, ◌*◌, ◌<◌, ◌==◌, ℕ, zero, suc, Bool, true, false, length, not, cond, List, [], ◌∷◌, map, filter, Option, None, Some, if◌then◌else◌, ⊤}
-use Rattle.mn_base.specs.Wiring.{Wiring, link, is_end}
+use Rattle.mn_wiring.specs.Wiring.{Wiring, link, is_end}
 use Rattle.mn_flight.specs.declared.Item.{Item as ItemOf}
-use Rattle.mn_base.specs.declared.links.Dir.TheVariants.{Forth, Back}
+use Rattle.mn_wiring.specs.declared.links.Dir.TheVariants.{Forth, Back}
 use Rattle.mn_topo.specs.Network.{Network, wiring_of}
 use Rattle.mn_topo.specs.declared.steps.Step.{Step}
 use Rattle.mn_topo.specs.declared.steps.Step.TheVariants.{LinkUp, LinkDown, Learn, LdpAdmin, HearLdp, BgpUp, BgpDown, HearBgp, Carry, Lose}

@@ -3,13 +3,14 @@ use Rattle.std.specs.Prelude.{ℕ, List, [], ◌∷◌, ◌++◌}
 use Rattle.mn_topo.specs.Network.{Network}
 use Rattle.mn_topo.specs.declared.steps.Step.{Step}
 use Rattle.mn_topo.specs.declared.steps.JournalEntry.{JournalEntry}
+use Rattle.mn_topo.specs.declared.steps.Damaged.TheVariants.{Undamaged}
 use Rattle.mn_ledger.specs.World.{World}
 use Rattle.mn_ledger.specs.Ledger.{world_of, after}
 use Rattle.mn_ledger.specs.Items.{Channel, Load, messages_in, routes_in}
 
 -- the journal with one entry more
 abbrev pub pushed : List JournalEntry → ℕ → Step → List JournalEntry
-pushed journal tick step = journal ++ record { tick = tick; step = step } ∷ []
+pushed journal tick step = journal ++ record { tick = tick; step = step; damaged = Undamaged } ∷ []
 
 -- the world once the step is done
 abbrev pub later_world : Network → List JournalEntry → Step → World

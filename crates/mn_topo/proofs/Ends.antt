@@ -6,16 +6,16 @@ use Rattle.std.proofs.lemmas.Bool.{cases_lt, eqb-true, eqb-false, eq-eqb, ne_eqb
 use Rattle.std.proofs.lemmas.Map.Keys.{apart_from_distinct}
 use Rattle.std.specs.List.{position_or_len}
 use Rattle.std.specs.Str.{bytes_eq}
+use Rattle.std.specs.Cmp.{nat_eq_equiv}
 use Rattle.std.specs.Cmp.Lexicographic.{nat_list_eq_equiv}
 use Rattle.mn_topo.specs.Names.{number_of}
 use Rattle.mn_topo.specs.Lawful.{AreNames, IsLawful}
-use Rattle.mn_topo.proofs.LawfulLinks.{joins-flip}
 use Rattle.mn_topo.proofs.Wirings.{ends_differ}
 use Rattle.std.proofs.lemmas.List.Quantifiers.{position-Some}
-use Rattle.mn_base.specs.declared.links.LinkEnds.{LinkEnds}
-use Rattle.mn_base.specs.declared.links.Dir.{Dir}
-use Rattle.mn_base.specs.declared.links.Dir.TheVariants.{Forth, Back}
-use Rattle.mn_base.specs.Wiring.{sender, receiver}
+use Rattle.mn_wiring.specs.declared.links.LinkEnds.{LinkEnds}
+use Rattle.mn_wiring.specs.declared.links.Dir.{Dir}
+use Rattle.mn_wiring.specs.declared.links.Dir.TheVariants.{Forth, Back}
+use Rattle.mn_wiring.specs.Wiring.{sender, receiver}
 use Rattle.mn_topo.specs.Links.{joins}
 use Rattle.mn_topo.specs.Network.{Network, wiring_of, direction_from, link_numbered, link_of, Leads}
 
@@ -71,7 +71,7 @@ turned network m n l same =
 -- the link that is found leads from the one node to the other
 pub leads : (network : Network) (m n l : ℕ) → position (joins m n) network.links ≡ Some l → Leads network m n l (direction_from m (link_numbered network l))
 leads network m n l h =
-    let found = position-Some (joins m n) network.links l (record { a = record { 0 = 0 }; b = record { 0 = 0 }; cost = 0; delay = 0; loss = 0 }) h in
+    let found = position-Some (joins m n) network.links l (record { a = record { 0 = 0 }; b = record { 0 = 0 }; cost = 0; delay = 0; loss = 0; life = 0 }) h in
     let parts = and_parts _ _ found.1 in
     let ends = turned network m n l (same_pair m n _ _ (eqb-true _ _ parts.0) (eqb-true _ _ parts.1)) in
     record { within = found.0; from = ends.0; to = ends.1 }
@@ -95,8 +95,12 @@ name_again names n d h below =
     (λ k before. nat_list_eq_equiv.symm (slice_index_or names n d) (slice_index_or names k d)
     ∙ apart_from_distinct bytes_eq names k n d h.distinct before below)
 
+pub joins-flip : (one other : LinkEnds) → joins one.a.0 one.b.0 other ≡ joins other.a.0 other.b.0 one
+joins-flip one other =
+    rw (nat_eq_equiv.symm (min one.a.0 one.b.0) (min other.a.0 other.b.0), nat_eq_equiv.symm (max one.a.0 one.b.0) (max other.a.0 other.b.0)) refl
+
 abbrev no_link : LinkEnds
-no_link = record { a = record { 0 = 0 }; b = record { 0 = 0 }; cost = 0; delay = 0; loss = 0 }
+no_link = record { a = record { 0 = 0 }; b = record { 0 = 0 }; cost = 0; delay = 0; loss = 0; life = 0 }
 
 joined_at : (network : Network) (l : ℕ) → IsLawful network → l < length network.links
     → position (joins (link_numbered network l).a.0 (link_numbered network l).b.0) network.links ≡ Some l

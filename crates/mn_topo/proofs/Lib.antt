@@ -1,16 +1,8 @@
-pub mod Keys
 pub mod NameKeys
 pub mod NodeList
-pub mod Arrays
 pub mod LinkKeys
 pub mod VrfKeys
-pub mod StaticKeys
-pub mod LawfulEntries
-pub mod LawfulLinks
-pub mod LawfulVrfs
 pub mod Prefixes
-pub mod LawfulSites
+pub mod Targets
 pub mod Wirings
-pub mod LawfulNetwork
-pub mod Chain
 pub mod Ends

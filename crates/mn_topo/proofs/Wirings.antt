@@ -5,7 +5,7 @@ use Rattle.std.specs.List.{list_all, AllByRecursion, range_with_len}
 use Rattle.std.proofs.Math.Nat.{min_comm, max_comm}
 use Rattle.std.proofs.lemmas.Bool.{ltb-true, eqb-true, eqb-false, eq-eqb, and_parts, and_from, not-true, both_ways}
 use Rattle.std.proofs.lemmas.Map.Keys.{apart_from_distinct}
-use Rattle.mn_base.specs.Wiring.{Wiring, link, is_end, across, JoinsNodes, EndsDiffer, JoinsOnce}
+use Rattle.mn_wiring.specs.Wiring.{Wiring, link, is_end, across, JoinsNodes, EndsDiffer, JoinsOnce}
 use Rattle.mn_topo.specs.Links.{joins}
 use Rattle.mn_topo.specs.Lawful.{AreLinks, joins_two_of}
 use Rattle.mn_base.proofs.Bools.{never as false_here}

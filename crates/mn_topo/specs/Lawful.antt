@@ -4,8 +4,8 @@ use Rattle.std.specs.List.{list_all, IsDistinct, AllByRecursion}
 use Rattle.std.specs.Str.{bytes_eq}
 use Rattle.mn_base.specs.Limits.{most_static_routes, most_targets}
 use Rattle.mn_base.specs.Numbers.{has_rd_form, has_rt_form}
-use Rattle.mn_base.specs.Wiring.{JoinsNodes, EndsDiffer, JoinsOnce}
-use Rattle.mn_base.specs.declared.links.LinkEnds.{LinkEnds}
+use Rattle.mn_wiring.specs.Wiring.{JoinsNodes, EndsDiffer, JoinsOnce}
+use Rattle.mn_wiring.specs.declared.links.LinkEnds.{LinkEnds}
 use Rattle.mn_base.specs.declared.numbers.Rt.{Rt}
 use Rattle.mn_prefix.specs.Prefix.{same_prefix}
 use Rattle.mn_topo.specs.declared.vrfs.VrfDef.{VrfDef}
@@ -32,10 +32,11 @@ pub record AreNodes (nodes : NodeTable) : Type 0 where
 abbrev pub joins_two_of : ℕ → LinkEnds → Bool
 joins_two_of nodes link = (nat_lt link.a.0 nodes && nat_lt link.b.0 nodes) && not (link.a.0 == link.b.0)
 
--- a cost of 1 to 65535, a delay of 1 to 1000 and a loss of at most 65535
+-- a cost of 1 to 65535, a delay of 1 to 1000, a loss of at most 65535, and a life of at most 1000000 that isn't less than the delay
 abbrev pub has_figures : LinkEnds → Bool
 has_figures link =
-    ((nat_le 1 link.cost && nat_le link.cost 65535) && (nat_le 1 link.delay && nat_le link.delay 1000)) && (nat_le 0 link.loss && nat_le link.loss 65535)
+    (((nat_le 1 link.cost && nat_le link.cost 65535) && (nat_le 1 link.delay && nat_le link.delay 1000)) && (nat_le 0 link.loss && nat_le link.loss 65535))
+    && ((nat_le 1 link.life && nat_le link.life 1000000) && not (nat_lt link.life link.delay))
 
 -- links between different nodes, of which no two join the same nodes
 pub record AreLinks (nodes : ℕ) (links : List LinkEnds) : Type 0 where

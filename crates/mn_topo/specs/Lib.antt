@@ -1,13 +1,11 @@
 pub mod Tables
 pub mod Names
-pub mod Rules
 pub mod Nodes
 pub mod Links
 pub mod VrfTable
-pub mod Vrfs
 pub mod SiteTable
-pub mod Sites
 pub mod Network
-pub mod Topology
+pub mod Parts
+pub mod Homes
 pub mod Steps
 pub mod Lawful

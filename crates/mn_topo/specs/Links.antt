@@ -1,28 +1,7 @@
--- The links, and the rules of an entry that is one.
-use Rattle.std.specs.Prelude.{◌≡◌, ℕ, min, max, Bool, false, not, ◌&&◌, ◌||◌, ◌==◌, List, [], ◌∷◌, ◌++◌, length, Option, Some, None, is_none, unwrap_or}
-use Rattle.std.specs.Prelude.{codes, Result, Ok, Err}
+-- Which nodes a link joins.
+use Rattle.std.specs.Prelude.{ℕ, min, max, Bool, ◌&&◌, ◌==◌, List}
 use Rattle.std.specs.List.{list_any}
-use Rattle.toml.specs.Data.{Members}
-use Rattle.mn_base.specs.declared.links.LinkEnds.{LinkEnds}
-use Rattle.mn_topo.specs.declared.refusal.TopoRule.{TopoRule}
-use Rattle.mn_topo.specs.declared.refusal.TopoRule.TheVariants.{UnknownKey, MissingKey, WrongKind, NoSuchName, SelfLink, TwiceLinked, BadCost, BadDelay}
-use Rattle.mn_topo.specs.declared.refusal.Place.{Place}
-use Rattle.mn_topo.specs.declared.refusal.Place.TheVariants.{Link}
-use Rattle.mn_topo.specs.Tables.{has_unknown_key, lacks, text_at, number_at, is_integer_at}
-use Rattle.mn_topo.specs.Names.{named_at, number_named}
-use Rattle.mn_topo.specs.Rules.{broken, first_broken, unless_broken}
-
-abbrev pub link_keys : List (List ℕ)
-link_keys = codes "a" ∷ codes "b" ∷ codes "cost" ∷ codes "delay" ∷ codes "loss" ∷ []
-
-abbrev pub cost_at : Members → Option ℕ
-cost_at entry = number_at (codes "cost") 1 65535 10 entry
-
-abbrev pub delay_at : Members → Option ℕ
-delay_at entry = number_at (codes "delay") 1 1000 1 entry
-
-abbrev pub loss_at : Members → Option ℕ
-loss_at entry = number_at (codes "loss") 0 65535 0 entry
+use Rattle.mn_wiring.specs.declared.links.LinkEnds.{LinkEnds}
 
 -- the link joins the two nodes, in whichever order
 abbrev pub joins : ℕ → ℕ → LinkEnds → Bool
@@ -31,46 +10,3 @@ joins m n link = min m n == min link.a.0 link.b.0 && max m n == max link.a.0 lin
 -- one of the links joins the two nodes
 abbrev pub are_joined : List LinkEnds → ℕ → ℕ → Bool
 are_joined links m n = list_any (joins m n) links
-
--- the rules of an entry after the earlier ones, over the names of the nodes
-abbrev pub link_rules : List (List ℕ) → List LinkEnds → Members → List (Option TopoRule)
-link_rules nodes earlier entry =
-    broken (has_unknown_key link_keys entry) UnknownKey
-    ∷ broken (lacks (codes "a") entry || lacks (codes "b") entry) MissingKey
-    ∷ broken ((is_none (text_at (codes "a") entry) || is_none (text_at (codes "b") entry)) ||
-    ((not (is_integer_at (codes "cost") entry) || not (is_integer_at (codes "delay") entry)) || not (is_integer_at (codes "loss") entry))) WrongKind
-    ∷ broken (is_none (named_at nodes (codes "a") entry) || is_none (named_at nodes (codes "b") entry)) NoSuchName
-    ∷ broken (number_named nodes (codes "a") entry == number_named nodes (codes "b") entry) SelfLink
-    ∷ broken (are_joined earlier (number_named nodes (codes "a") entry) (number_named nodes (codes "b") entry)) TwiceLinked
-    ∷ broken (is_none (cost_at entry)) BadCost
-    ∷ broken (is_none (delay_at entry) || is_none (loss_at entry)) BadDelay
-    ∷ []
-
-unfoldable pub link_rule : List (List ℕ) → List LinkEnds → Members → Option TopoRule
-link_rule nodes earlier entry = first_broken (link_rules nodes earlier entry)
-
--- the link that an entry is
-abbrev pub link_in : List (List ℕ) → Members → LinkEnds
-link_in nodes entry = record {
-  a = record { 0 = number_named nodes (codes "a") entry };
-  b = record { 0 = number_named nodes (codes "b") entry };
-  cost = unwrap_or (cost_at entry) 0;
-  delay = unwrap_or (delay_at entry) 0;
-  loss = unwrap_or (loss_at entry) 0;
-}
-
--- the links of the entries after the earlier ones, or the first rule that is broken and its place
-abbrev pub links_from : List (List ℕ) → List Members → List LinkEnds → Result (List LinkEnds) (TopoRule × Place)
-links_from nodes [] earlier = Ok earlier
-links_from nodes (entry ∷ entries) earlier =
-    unless_broken (link_rule nodes earlier entry) (Link (length earlier)) (links_from nodes entries (earlier ++ link_in nodes entry ∷ []))
-
--- the link of an entry that breaks no rule, and no earlier link joins its ends
-pub record IsLink (nodes : List (List ℕ)) (earlier : List LinkEnds) (entry : Members) (link : LinkEnds) : Type 0 where
-  pub lawful : link_rule nodes earlier entry ≡ None
-  pub link_is : link ≡ link_in nodes entry
-  pub fresh : are_joined earlier link.a.0 link.b.0 ≡ false
-
-abbrev pub ReadsLink : List (List ℕ) → List LinkEnds → Members → Result LinkEnds TopoRule → Type 0
-ReadsLink nodes earlier entry (Ok link) = IsLink nodes earlier entry link
-ReadsLink nodes earlier entry (Err rule) = link_rule nodes earlier entry ≡ Some rule

@@ -1,9 +1,9 @@
 -- A topology, as contracts see it, and what its readers answer.
-use Rattle.std.specs.Prelude.{◌≡◌, ◌<◌, ℕ, ◌==◌, if◌then◌else◌, List, length, map, position, Option, option_map, slice_index_or}
-use Rattle.mn_base.specs.Wiring.{Wiring, sender, receiver}
-use Rattle.mn_base.specs.declared.links.LinkEnds.{LinkEnds}
-use Rattle.mn_base.specs.declared.links.Dir.{Dir}
-use Rattle.mn_base.specs.declared.links.Dir.TheVariants.{Forth, Back}
+use Rattle.std.specs.Prelude.{◌≡◌, ◌<◌, ℕ, Bool, ◌==◌, if◌then◌else◌, List, length, map, position, Option, option_map, slice_index_or}
+use Rattle.mn_wiring.specs.Wiring.{Wiring, sender, receiver}
+use Rattle.mn_wiring.specs.declared.links.LinkEnds.{LinkEnds}
+use Rattle.mn_wiring.specs.declared.links.Dir.{Dir}
+use Rattle.mn_wiring.specs.declared.links.Dir.TheVariants.{Forth, Back}
 use Rattle.mn_base.specs.declared.numbers.NodeNo.{NodeNo}
 use Rattle.mn_base.specs.declared.numbers.LinkNo.{LinkNo}
 use Rattle.mn_base.specs.declared.numbers.VrfNo.{VrfNo}
@@ -14,7 +14,7 @@ use Rattle.mn_topo.specs.declared.sites.SiteDef.{SiteDef}
 use Rattle.mn_topo.specs.Names.{number_of}
 use Rattle.mn_topo.specs.Links.{joins}
 
--- the numbers of the top table, and nodes, links, VRFs and sites in order
+-- the numbers of the top table, nodes, links, VRFs and sites in order, and whether a route is left out whose next hop has no label path
 pub record Network : Type 0 where
   pub asn : ℕ
   pub notice_delay : ℕ
@@ -26,6 +26,7 @@ pub record Network : Type 0 where
   pub vrfs : List VrfDef
   pub site_names : List (List ℕ)
   pub sites : List SiteDef
+  pub resolve : Bool
 
 -- the nodes of these loopbacks, in their order
 abbrev pub nodes_with : List ℕ → List Node
@@ -50,7 +51,7 @@ direction_from node link = if link.a.0 == node then Forth else Back
 
 -- the link of a number
 abbrev pub link_numbered : Network → ℕ → LinkEnds
-link_numbered network l = slice_index_or network.links l (record { a = record { 0 = 0 }; b = record { 0 = 0 }; cost = 0; delay = 0; loss = 0 })
+link_numbered network l = slice_index_or network.links l (record { a = record { 0 = 0 }; b = record { 0 = 0 }; cost = 0; delay = 0; loss = 0; life = 0 })
 
 -- the link that joins the two nodes, and the direction from `m` to `n`
 abbrev pub link_of : Network → ℕ → ℕ → Option (LinkNo × Dir)

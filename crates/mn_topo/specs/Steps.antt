@@ -33,7 +33,7 @@ abbrev pub are_edges_in_order : Network → NodeNo → NodeNo → Bool
 are_edges_in_order network a b = (is_edge network.vrfs a.0 && is_edge network.vrfs b.0) && nat_lt a.0 b.0
 
 -- the numbers are those of links, nodes, VRFs and sites of the topology, a prefix has no bit past its length, a record is from 1, a target
--- is of one of its two forms, and a BGP step names two different edges, the lesser first where a session opens or ends
+-- is of one of its two forms, and a BGP step names two different edges, which BgpUp and BgpDown do in their order
 abbrev pub fits : Network → Step → Bool
 fits network (LinkUp link) = has_link network link
 fits network (LinkDown link) = has_link network link

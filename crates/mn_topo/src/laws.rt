@@ -1,7 +1,7 @@
 //! What follows from the definitions.
 ghost use Rattle.std.specs.Prelude.{◌≡◌, ◌<◌, ◌↔◌, ℕ, List, length, slice_index_or, Some, true};
-ghost use Rattle.mn_base.specs.declared.links.Dir.{Dir};
-ghost use Rattle.mn_base.specs.Wiring.{sender, receiver};
+ghost use Rattle.mn_wiring.specs.declared.links.Dir.{Dir};
+ghost use Rattle.mn_wiring.specs.Wiring.{sender, receiver};
 ghost use Rattle.mn_prefix.specs.Prefix.{AddressBlock, IsPrefix};
 ghost use Rattle.mn_topo.specs.Names.{number_of};
 ghost use Rattle.mn_topo.specs.SiteTable.{is_lawful_prefix};

@@ -1,17 +1,14 @@
 //! Names, numbered from 0 in their order.
 ghost use Rattle.std.specs.Prelude.{◌≡◌, ◌≤◌, ◌<◌, ◌^◌, ◌++◌, ◌∷◌, [], false, Some, IfSome, OnOk, length, slice_get};
-ghost use Rattle.mn_topo.specs.Names.{number_of, has_name, named_at};
-ghost use Rattle.toml.specs.View.{table_view};
+ghost use Rattle.mn_topo.specs.Names.{number_of, has_name};
 
-use crate::tables::text_at;
 use indexmap::IndexSet;
 use std::alloc::{AllocError, Global};
 use std::marker::Model;
-use toml::Table;
 
 /// At most 2^16 names, in the order in which they came.
 #[derive(Drop)]
-pub(crate) struct Names {
+pub struct Names {
     names: IndexSet<Vec<u8>>,
 }
 
@@ -26,7 +23,8 @@ impl Model for Names {
 }
 
 impl Names {
-    pub(crate) fn new(alloc: Global) -> Names
+    /// No names.
+    pub fn new(alloc: Global) -> Names
         ensures { result ≡ [] }
     {
         Names {
@@ -34,7 +32,8 @@ impl Names {
         }
     }
 
-    pub(crate) fn len(&self) -> usize
+    /// How many there are.
+    pub fn len(&self) -> usize
         ensures value { result ≡ length self.now }
         ensures most { result ≤ 2 ^ 16 }
     {
@@ -42,7 +41,7 @@ impl Names {
     }
 
     /// The number of the name.
-    pub(crate) fn number_of(&self, name: &[u8]) -> Option<u16>
+    pub fn number_of(&self, name: &[u8]) -> Option<u16>
         ensures value { result ≡ number_of self.now name.now }
         ensures within { IfSome result (λ n. n < length self.now) }
     {
@@ -52,14 +51,15 @@ impl Names {
         }
     }
 
-    pub(crate) fn has(&self, name: &[u8]) -> bool
+    /// Whether the name is among them.
+    pub fn has(&self, name: &[u8]) -> bool
         ensures { result ≡ has_name self.now name.now }
     {
         self.names.contains(name)
     }
 
     /// The name of the number.
-    pub(crate) fn name_of(&self, number: u16) -> &[u8]
+    pub fn name_of(&self, number: u16) -> &[u8]
         requires { number < length self.now }
         ensures { slice_get self.now number ≡ Some result.now }
     {
@@ -70,7 +70,7 @@ impl Names {
     }
 
     /// Adds a name.
-    pub(crate) fn put(&mut self, alloc: Global, name: &[u8]) -> Result<(), AllocError>
+    pub fn put(&mut self, alloc: Global, name: &[u8]) -> Result<(), AllocError>
         requires room { length self.old < 2 ^ 16 }
         requires fresh { has_name self.old name.now ≡ false }
         ensures { OnOk result (self.new ≡ self.old ++ name.now ∷ []) }
@@ -78,16 +78,5 @@ impl Names {
         let copy = Vec::from_slice(alloc, name)?;
         self.names.insert(copy)?;
         Ok(())
-    }
-}
-
-/// The number of the name at a key.
-pub(crate) fn named_at(names: &Names, key: &str, entry: &Table) -> Option<u16>
-    ensures value { result ≡ named_at names.now key.now (table_view entry.now) }
-    ensures within { IfSome result (λ n. n < length names.now) }
-{
-    match text_at(key, entry) {
-        Some(name) => names.number_of(name.as_bytes()),
-        None => None,
     }
 }

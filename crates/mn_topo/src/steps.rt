@@ -1,7 +1,8 @@
 //! The steps that a network is moved by.
 
-use mn_base::{Dir, LinkNo, NodeNo, Rt, SiteNo, VrfNo};
+use mn_base::{LinkNo, NodeNo, Rt, SiteNo, VrfNo};
 use mn_prefix::Prefix;
+use mn_wiring::Dir;
 
 /// A step of the network.
 #[derive(Clone, Copy, Debug, PartialEq, Eq)]
@@ -42,9 +43,32 @@ pub enum Step {
     Lose(LinkNo, Dir, u32),
 }
 
-/// A step that was done, and when.
+/// A message of a session that was damaged on its way: the packet of a record of the capture, numbered from 1, came in its place,
+/// and its reader refused that. The session ended at both ends.
+#[derive(Clone, Copy, Debug, PartialEq, Eq)]
+pub enum Damage {
+    /// The first LDP message of the direction.
+    Ldp(LinkNo, Dir, u32),
+    /// The first BGP message that the first edge said to the second one.
+    Bgp(NodeNo, NodeNo, u32),
+}
+
+/// Whether a damaged message made the step, which ends its session: the packet of the record of this number came in the message's
+/// place. One enum and no `Option`, so that a journal's entry takes 40 bytes.
+#[derive(Clone, Copy, Debug, PartialEq, Eq)]
+pub enum Damaged {
+    /// No message was damaged.
+    Undamaged,
+    /// One that came from the link's end `a`, or from the edge of lesser number.
+    Forth(u32),
+    /// One that came from the link's end `b`, or from the edge of greater number.
+    Back(u32),
+}
+
+/// A step that was done, and when; and where a damaged message made it, which one.
 #[derive(Clone, Copy, Debug, PartialEq, Eq)]
 pub struct JournalEntry {
     pub tick: u64,
     pub step: Step,
+    pub damaged: Damaged,
 }

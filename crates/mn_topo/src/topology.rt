@@ -1,75 +1,57 @@
 //! The topology, and what it answers.
 ghost use Rattle.std.specs.Prelude.{◌≡◌, ◌<◌, Some, IfSome, is_some, length, map, slice_get};
+ghost use Rattle.mn_wiring.specs.Wiring.{sender, receiver};
 
 use crate::links::Links;
 use crate::nodes::{Node, Nodes};
 use crate::sites::{SiteDef, Sites};
 use crate::steps::Step;
 use crate::vrfs::{VrfDef, Vrfs};
-use mn_base::{Dir, LinkEnds, LinkNo, NodeNo, SiteNo, VrfNo};
+use mn_base::{LinkNo, NodeNo, SiteNo, VrfNo};
 use mn_prefix::Prefix;
+use mn_wiring::{Dir, LinkEnds};
 use std::marker::Model;
+
+/// What a topology is made of.
+#[derive(Drop)]
+pub struct Parts {
+    pub asn: u16,
+    pub notice_delay: u32,
+    pub bgp_delay: u32,
+    pub nodes: Nodes,
+    pub links: Links,
+    pub vrfs: Vrfs,
+    pub sites: Sites,
+    pub resolve: bool,
+}
 
 /// The nodes, links, VRFs and sites of a network, numbered from 0 in the order of the file.
 pub struct Topology {
-    pub(crate) asn: u16,
-    pub(crate) notice_delay: u32,
-    pub(crate) bgp_delay: u32,
-    pub(crate) nodes: Nodes,
-    pub(crate) links: Links,
-    pub(crate) vrfs: Vrfs,
-    pub(crate) sites: Sites,
+    parts: Parts,
 }
 
 impl Model for Topology {
     ghost use Rattle.mn_topo.specs.Network.{Network};
+    ghost use Rattle.mn_topo.specs.Parts.{network_of};
     ghost use Rattle.mn_topo.specs.Lawful.{IsLawful};
 
     ghost Value = { Network };
 
-    ghost view = { λ a. record {
-      asn = a.asn;
-      notice_delay = a.notice_delay;
-      bgp_delay = a.bgp_delay;
-      node_names = a.nodes.names;
-      loopbacks = a.nodes.loopbacks;
-      links = a.links;
-      vrf_names = a.vrfs.names;
-      vrfs = a.vrfs.vrfs;
-      site_names = a.sites.names;
-      sites = a.sites.sites;
-    } };
+    ghost view = { λ a. network_of a.parts };
 
-    ghost invariant = { λ a. IsLawful (record {
-      asn = a.asn;
-      notice_delay = a.notice_delay;
-      bgp_delay = a.bgp_delay;
-      node_names = a.nodes.names;
-      loopbacks = a.nodes.loopbacks;
-      links = a.links;
-      vrf_names = a.vrfs.names;
-      vrfs = a.vrfs.vrfs;
-      site_names = a.sites.names;
-      sites = a.sites.sites;
-    }) };
+    ghost invariant = { λ a. IsLawful (network_of a.parts) };
 }
 
 /// By hand, so that whoever owns a topology drops it by one call, and not part by part.
 impl Drop for Topology {
     fn drop(self) {
-        let Topology {
-            asn: _,
-            notice_delay: _,
-            bgp_delay: _,
-            nodes: _,
-            links: _,
-            vrfs: _,
-            sites: _,
-        } = self;
+        let Topology { parts: _ } = self;
     }
 }
 
-ghost use Rattle.mn_topo.specs.Network.{nodes_with, node_named, vrf_named, site_named, link_of, Leads};
+ghost use Rattle.mn_topo.specs.Network.{wiring_of, nodes_with, node_named, vrf_named, site_named, link_of, Leads};
+ghost use Rattle.mn_topo.specs.Homes.{vrf_of, edge_of, home_of};
+ghost use Rattle.mn_topo.specs.Parts.{network_of};
 ghost use Rattle.mn_topo.specs.Links.{are_joined};
 ghost use Rattle.mn_topo.specs.Lawful.{IsLawful};
 ghost use Rattle.mn_topo.specs.VrfTable.{is_edge};
@@ -85,60 +67,75 @@ fn is_lawful(prefix: &Prefix) -> bool
 }
 
 impl Topology {
+    /// The topology of lawful parts.
+    pub fn of(parts: Parts) -> Topology
+        requires { IsLawful (network_of parts) }
+        ensures { result ≡ network_of parts }
+    {
+        Topology { parts }
+    }
+
     /// What holds of every topology.
     pub fn laws(&self)
         ensures { IsLawful self.now }
     {
-        let _ = &self.asn;
+        let _ = &self.parts;
     }
 
     /// The autonomous system's number: 1 to 65535.
     pub fn asn(&self) -> u16
         ensures { result ≡ self.now.asn }
     {
-        self.asn
+        self.parts.asn
     }
 
     /// Ticks from a link's change until its ends learn of it: 1 to 1000.
     pub fn notice_delay(&self) -> u32
         ensures { result ≡ self.now.notice_delay }
     {
-        self.notice_delay
+        self.parts.notice_delay
     }
 
     /// Ticks from the sending of a BGP message until its arrival: 1 to 1000.
     pub fn bgp_delay(&self) -> u32
         ensures { result ≡ self.now.bgp_delay }
     {
-        self.bgp_delay
+        self.parts.bgp_delay
+    }
+
+    /// Whether a route is left out whose next hop has no label path (RFC 4271, section 9.1.2).
+    pub fn resolve(&self) -> bool
+        ensures { result ≡ self.now.resolve }
+    {
+        self.parts.resolve
     }
 
     /// The nodes by number.
     pub fn nodes(&self) -> &[Node]
         ensures { result.now ≡ nodes_with self.now.loopbacks }
     {
-        self.nodes.as_slice()
+        self.parts.nodes.as_slice()
     }
 
     /// The links by number.
     pub fn links(&self) -> &[LinkEnds]
         ensures { result.now ≡ self.now.links }
     {
-        self.links.as_slice()
+        self.parts.links.as_slice()
     }
 
     /// The VRFs by number.
     pub fn vrfs(&self) -> &[VrfDef]
         ensures { result.now ≡ self.now.vrfs }
     {
-        self.vrfs.as_slice()
+        self.parts.vrfs.as_slice()
     }
 
     /// The sites by number.
     pub fn sites(&self) -> &[SiteDef]
         ensures { result.now ≡ self.now.sites }
     {
-        self.sites.as_slice()
+        self.parts.sites.as_slice()
     }
 
     /// The node with the name.
@@ -146,7 +143,7 @@ impl Topology {
         ensures value { result ≡ node_named self.now name.now }
         ensures within { IfSome result (λ no. no.0 < length self.now.loopbacks) }
     {
-        match self.nodes.names().number_of(name) {
+        match self.parts.nodes.names().number_of(name) {
             Some(number) => Some(NodeNo(number)),
             None => None,
         }
@@ -157,7 +154,7 @@ impl Topology {
         ensures value { result ≡ vrf_named self.now name.now }
         ensures within { IfSome result (λ no. no.0 < length self.now.vrfs) }
     {
-        match self.vrfs.names().number_of(name) {
+        match self.parts.vrfs.names().number_of(name) {
             Some(number) => Some(VrfNo(number)),
             None => None,
         }
@@ -168,7 +165,7 @@ impl Topology {
         ensures value { result ≡ site_named self.now name.now }
         ensures within { IfSome result (λ no. no.0 < length self.now.sites) }
     {
-        match self.sites.names().number_of(name) {
+        match self.parts.sites.names().number_of(name) {
             Some(number) => Some(SiteNo(number)),
             None => None,
         }
@@ -179,7 +176,7 @@ impl Topology {
         requires { no.0 < length self.now.loopbacks }
         ensures { slice_get self.now.node_names no.0 ≡ Some result.now }
     {
-        self.nodes.names().name_of(no.0)
+        self.parts.nodes.names().name_of(no.0)
     }
 
     /// The name of the VRF.
@@ -187,7 +184,7 @@ impl Topology {
         requires { no.0 < length self.now.vrfs }
         ensures { slice_get self.now.vrf_names no.0 ≡ Some result.now }
     {
-        self.vrfs.names().name_of(no.0)
+        self.parts.vrfs.names().name_of(no.0)
     }
 
     /// The name of the site.
@@ -195,7 +192,7 @@ impl Topology {
         requires { no.0 < length self.now.sites }
         ensures { slice_get self.now.site_names no.0 ≡ Some result.now }
     {
-        self.sites.names().name_of(no.0)
+        self.parts.sites.names().name_of(no.0)
     }
 
     /// The link that joins two nodes, and the direction from `a` to `b`.
@@ -204,8 +201,8 @@ impl Topology {
         ensures leads { IfSome result (λ found. Leads self.now a.0 b.0 found.0.0 found.1) }
         ensures found { is_some result ≡ are_joined self.now.links a.0 b.0 }
     {
-        let number = self.links.joining(a.0, b.0)?;
-        let link = &self.links.as_slice()[number as usize];
+        let number = self.parts.links.joining(a.0, b.0)?;
+        let link = &self.parts.links.as_slice()[number as usize];
         let direction = if link.a.0 == a.0 {
             Dir::Forth
         } else {
@@ -214,11 +211,68 @@ impl Topology {
         Some((LinkNo(number), direction))
     }
 
+    /// The end that sends in a direction of a link.
+    pub fn sender(&self, link: LinkNo, dir: Dir) -> NodeNo
+        requires { link.0 < length self.now.links }
+        ensures end { result.0 ≡ sender (wiring_of self.now) link.0 dir }
+        ensures there { result.0 < length self.now.loopbacks }
+    {
+        self.laws();
+        let ends = &self.links()[usize::from(link.0)];
+        match dir {
+            Dir::Forth => ends.a,
+            Dir::Back => ends.b,
+        }
+    }
+
+    /// The end that receives in a direction of a link.
+    pub fn receiver(&self, link: LinkNo, dir: Dir) -> NodeNo
+        requires { link.0 < length self.now.links }
+        ensures end { result.0 ≡ receiver (wiring_of self.now) link.0 dir }
+        ensures there { result.0 < length self.now.loopbacks }
+    {
+        self.laws();
+        let ends = &self.links()[usize::from(link.0)];
+        match dir {
+            Dir::Forth => ends.b,
+            Dir::Back => ends.a,
+        }
+    }
+
+    /// The VRF of a site.
+    pub fn vrf_of(&self, site: SiteNo) -> VrfNo
+        requires { site.0 < length self.now.sites }
+        ensures vrf { result.0 ≡ vrf_of self.now site.0 }
+        ensures there { result.0 < length self.now.vrfs }
+    {
+        self.laws();
+        self.sites()[usize::from(site.0)].vrf
+    }
+
+    /// The edge of a VRF.
+    pub fn edge_of(&self, vrf: VrfNo) -> NodeNo
+        requires { vrf.0 < length self.now.vrfs }
+        ensures edge { result.0 ≡ edge_of self.now vrf.0 }
+        ensures there { result.0 < length self.now.loopbacks }
+    {
+        self.laws();
+        self.vrfs()[usize::from(vrf.0)].node
+    }
+
+    /// The edge of a site.
+    pub fn home_of(&self, site: SiteNo) -> NodeNo
+        requires { site.0 < length self.now.sites }
+        ensures home { result.0 ≡ home_of self.now site.0 }
+        ensures there { result.0 < length self.now.loopbacks }
+    {
+        self.edge_of(self.vrf_of(site))
+    }
+
     /// Whether the node has a VRF.
     pub fn is_edge(&self, no: NodeNo) -> bool
         ensures { result ≡ is_edge self.now.vrfs no.0 }
     {
-        self.vrfs.is_edge(no.0)
+        self.parts.vrfs.is_edge(no.0)
     }
 
     fn has_node(&self, no: NodeNo) -> bool

@@ -2,12 +2,12 @@
 use Rattle.std.proofs.Common.{ℕ, ◌≡◌, ◌+◌, ◌-◌, ◌<◌, ◌∷◌, ◌++◌, [], true, List, length, refl, arith, sym, ◌∙◌, ap, subst, Some}
 use Rattle.std.specs.Prelude.{slice_get, slice_set, Result, Ok, Err, OnOk, IsOk}
 use Rattle.mn_base.proofs.Bools.{no}
-use Rattle.mn_base.specs.declared.drops.Rule.{Rule}
-use Rattle.mn_base.specs.declared.links.Dir.{Dir}
+use Rattle.mn_drops.specs.declared.drops.Rule.{Rule}
+use Rattle.mn_wiring.specs.declared.links.Dir.{Dir}
 use Rattle.mn_base.specs.declared.numbers.NodeNo.{NodeNo}
 use Rattle.mn_base.specs.declared.numbers.SiteNo.{SiteNo}
 use Rattle.mn_base.specs.declared.numbers.LinkNo.{LinkNo}
-use Rattle.mn_base.specs.Wiring.{receiver}
+use Rattle.mn_wiring.specs.Wiring.{receiver}
 use Rattle.mn_ipv4.specs.Header.{aged, ttl_of}
 use Rattle.mn_stack.specs.declared.message.Entry.{Entry}
 use Rattle.mn_stack.specs.Labelled.{Labelled}

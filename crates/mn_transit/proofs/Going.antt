@@ -2,12 +2,12 @@
 use Rattle.std.proofs.Common.{ℕ, ◌≡◌, ◌<◌, ◌∷◌, [], List, length, refl, arith, sym, ◌∙◌, ap, subst, Some, None, zero, suc, true, false, eq-eqb}
 use Rattle.std.specs.Prelude.{◌==◌, slice_get, slice_set}
 use Rattle.mn_base.proofs.Bools.{no, none_below}
-use Rattle.mn_base.specs.declared.drops.Rule.TheVariants as rule
-use Rattle.mn_base.specs.declared.links.Dir.{Dir}
-use Rattle.mn_base.specs.declared.links.Dir.TheVariants.{Forth, Back}
+use Rattle.mn_drops.specs.declared.drops.Rule.TheVariants as rule
+use Rattle.mn_wiring.specs.declared.links.Dir.{Dir}
+use Rattle.mn_wiring.specs.declared.links.Dir.TheVariants.{Forth, Back}
 use Rattle.mn_base.specs.declared.numbers.LinkNo.{LinkNo}
 use Rattle.mn_base.specs.declared.numbers.NodeNo.{NodeNo}
-use Rattle.mn_base.specs.Wiring.{receiver, sender}
+use Rattle.mn_wiring.specs.Wiring.{receiver, sender}
 use Rattle.mn_flight.specs.declared.Item.{Item}
 use Rattle.mn_flight.specs.Flying.{IsFlight, on_channel, off_channel, without}
 use Rattle.mn_flight_pool.proofs.Dropped.{off_without, off_all}

@@ -1,8 +1,8 @@
 -- A packet that enters, and what the packets in transit stand for then.
 use Rattle.std.proofs.Common.{ℕ, ◌≡◌, ◌≢◌, ◌+◌, ◌-◌, ◌∷◌, ◌++◌, [], Bool, true, false, List, map, length, refl, arith, sym, ◌∙◌, ap, subst, Some, None, eq-eqb}
 use Rattle.std.specs.Prelude.{◌==◌, Option, if◌then◌else◌, slice_set}
-use Rattle.mn_base.specs.declared.drops.Rule.{Rule}
-use Rattle.mn_base.specs.declared.drops.Rule.TheVariants as rule
+use Rattle.mn_drops.specs.declared.drops.Rule.{Rule}
+use Rattle.mn_drops.specs.declared.drops.Rule.TheVariants as rule
 use Rattle.mn_base.specs.declared.numbers.NodeNo.{NodeNo}
 use Rattle.mn_base.specs.declared.numbers.SiteNo.{SiteNo}
 use Rattle.mn_ipv4.specs.Header.{aged, ttl_of, destination_of}

@@ -1,8 +1,8 @@
 -- A packet that leaves its edge, and what the packets in transit stand for then.
 use Rattle.std.proofs.Common.{ℕ, ◌≡◌, ◌≢◌, ◌<◌, true, List, length, refl, sym, ◌∙◌, subst, Some, None}
 use Rattle.std.specs.Prelude.{Option, slice_set}
-use Rattle.mn_base.specs.declared.drops.Rule.TheVariants as rule
-use Rattle.mn_base.specs.declared.links.Dir.{Dir}
+use Rattle.mn_drops.specs.declared.drops.Rule.TheVariants as rule
+use Rattle.mn_wiring.specs.declared.links.Dir.{Dir}
 use Rattle.mn_base.specs.declared.numbers.NodeNo.{NodeNo}
 use Rattle.mn_stack.specs.Labelled.{Labelled}
 use Rattle.mn_topo.specs.Network.{Network, Leads}

@@ -1,8 +1,8 @@
 //! A frame comes to a node, which forwards it by its table.
 ghost use Rattle.std.specs.Prelude.{◌≡◌, ◌≢◌, ◌<◌, ◌≤◌, ◌+◌, ◌*◌, ◌^◌, ℕ, List, true, length, slice_get};
 ghost use Rattle.std.specs.List.{All};
-ghost use Rattle.mn_base.specs.Wiring.{receiver};
-ghost use Rattle.mn_base.specs.declared.links.Dir.{Dir};
+ghost use Rattle.mn_wiring.specs.Wiring.{receiver};
+ghost use Rattle.mn_wiring.specs.declared.links.Dir.{Dir};
 ghost use Rattle.mn_flight.specs.Flying.{on_channel, without};
 ghost use Rattle.mn_lfib.specs.Hop.{carried_ttl};
 ghost use Rattle.mn_topo.specs.Links.{are_joined};
@@ -17,13 +17,15 @@ ghost use Rattle.mn_transit.specs.Moving.{bytes_in, HoldsHops, CountsOn};
 ghost use Rattle.mn_transit.specs.Stands.{IsFlown, StandsFor, Makes};
 ghost use Rattle.mn_transit.specs.Visits.{path_of};
 
-use crate::ends::{channel_of, receiver};
 use crate::flown::Flown;
-use crate::transit::{Clock, Transit};
-use mn_base::{Dir, LinkNo, NodeNo, Rule};
+use crate::transit::Transit;
+use mn_base::{LinkNo, NodeNo};
+use mn_drops::Rule;
+use mn_flight::Clock;
 use mn_ledger::Verdict;
 use mn_lfib::{Forwarded, Lfib};
 use mn_topo::Topology;
+use mn_wiring::{Dir, channel_of};
 
 impl Transit {
     /// A packet of which no frame flies goes on to a neighbour. True where there is a link to it.
@@ -127,7 +129,7 @@ impl Transit {
         ensures made { Makes topology.now clock.tick clock.number (without (slice_get (on_channel (channel link.0 dir) self.old.flying) place) self.old.flying) self.new.flying result }
         ensures counts { CountsOn self.old self.new 0 1 0 }
     {
-        let node = receiver(topology, link, dir);
+        let node = topology.receiver(link, dir);
         let at = channel_of(link, dir);
         self.begin();
         let Some(taken) = self.take(at, place) else {

@@ -17,7 +17,6 @@
 //! TTL lets it come to. So nothing but `inject` can want memory.
 //!
 //! - `flown`, `path`: a frame in flight, and where a packet was
-//! - `ends`: the directions of links
 //! - `transit`: what is kept, and one call for each thing that may become of a packet
 //! - `entry`, `arrival`, `loss`: the steps that move packets; `tell`: what became of them
 //! - `laws`: as labels are given
@@ -26,7 +25,6 @@
 #![tactic(auto)]
 
 mod arrival;
-mod ends;
 mod entry;
 mod flown;
 mod laws;
@@ -37,4 +35,4 @@ mod transit;
 
 pub use flown::Flown;
 pub use laws::stands_as_labels_are_given;
-pub use transit::{Clock, Transit};
+pub use transit::Transit;

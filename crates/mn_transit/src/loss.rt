@@ -1,7 +1,7 @@
 //! A frame is lost, and all on a link are cut off.
 ghost use Rattle.std.specs.Prelude.{◌≡◌, ◌<◌, ℕ, List, length, slice_get};
 ghost use Rattle.mn_flight.specs.Flying.{on_channel, off_channel, without};
-ghost use Rattle.mn_base.specs.declared.links.Dir.TheVariants.{Forth, Back};
+ghost use Rattle.mn_wiring.specs.declared.links.Dir.TheVariants.{Forth, Back};
 ghost use Rattle.mn_topo.specs.declared.steps.Step.TheVariants as Step;
 ghost use Rattle.mn_ledger.specs.Packets.{channel, Packets, cut, packets_after};
 ghost use Rattle.mn_ledger.specs.World.{World};
@@ -9,11 +9,12 @@ ghost use Rattle.mn_frames.specs.Given.{Labelling};
 ghost use Rattle.mn_transit.specs.Moving.{CountsOn};
 ghost use Rattle.mn_transit.specs.Stands.{StandsFor};
 
-use crate::ends::{channel_of, sender};
 use crate::transit::Transit;
-use mn_base::{Dir, LinkNo, Rule};
+use mn_base::LinkNo;
+use mn_drops::Rule;
 use mn_ledger::Verdict;
 use mn_topo::Topology;
+use mn_wiring::{Dir, channel_of};
 
 impl Transit {
     /// Loses the packet at a place of a direction of a link, at the node that sent it.
@@ -25,7 +26,7 @@ impl Transit {
         ensures left { self.new.flying ≡ without (slice_get (on_channel (channel link.0 dir) self.old.flying) place) self.old.flying }
         ensures counts { CountsOn self.old self.new 0 0 0 }
     {
-        let node = sender(topology, link, dir);
+        let node = topology.sender(link, dir);
         let at = channel_of(link, dir);
         self.begin();
         if let Some(taken) = self.take(at, place) {
@@ -41,7 +42,7 @@ impl Transit {
         ensures left { self.new.flying ≡ off_channel (channel link.0 dir) self.old.flying }
         ensures counts { CountsOn self.old self.new 0 0 0 }
     {
-        let from = sender(topology, link, dir);
+        let from = topology.sender(link, dir);
         let at = channel_of(link, dir);
         'frames: while let Some(taken) = self.take(at, 0) {
             let rule = Rule::LinkCut;

@@ -12,12 +12,12 @@ ghost use Rattle.mn_transit.specs.Moving.{bytes_in};
 ghost use Rattle.mn_transit.specs.Stands.{StandsFor};
 ghost use Rattle.mn_transit.specs.Visits.{path_of};
 
-use crate::ends::channel_of;
 use crate::flown::Flown;
 use crate::transit::Transit;
-use mn_base::{Dir, LinkNo, NodeNo};
+use mn_base::{LinkNo, NodeNo};
 use mn_flight::{Flight, Item};
 use mn_ledger::Verdict;
+use mn_wiring::{Dir, channel_of};
 
 impl Transit {
     /// Whether an `inject` wanted memory.

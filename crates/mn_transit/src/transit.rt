@@ -2,8 +2,8 @@
 ghost use Rattle.std.specs.Prelude.{◌≡◌, ◌≢◌, ◌<◌, ◌≤◌, ◌+◌, ◌*◌, ◌^◌, ◌∷◌, ◌++◌, [], ℕ, List, true, false, Some, None, length, slice_get, slice_set, IfOk, IfSome, IsSome, OnOk, OnErr};
 ghost use Rattle.std.specs.List.{All};
 ghost use Rattle.mn_base.specs.Limits.{most_steps};
-ghost use Rattle.mn_base.specs.Wiring.{link as link_of};
-ghost use Rattle.mn_base.specs.declared.drops.Rule.TheVariants as Rule;
+ghost use Rattle.mn_wiring.specs.Wiring.{link as link_of};
+ghost use Rattle.mn_drops.specs.declared.drops.Rule.TheVariants as Rule;
 ghost use Rattle.mn_flight.specs.Flying.{IsFlight, on_channel, off_channel, without};
 ghost use Rattle.mn_topo.specs.Network.{Network, wiring_of};
 ghost use Rattle.mn_topo.specs.declared.steps.Step.{Step};
@@ -17,27 +17,21 @@ ghost use Rattle.mn_transit.specs.Moving.{bytes_in, HoldsHops};
 ghost use Rattle.mn_transit.specs.Stands.{StandsFor};
 ghost use Rattle.mn_transit.specs.Visits.{path_of, further};
 
-use crate::ends::channel_of;
 use crate::flown::Flown;
 use crate::path::Path;
-use mn_base::{Dir, LinkNo, NodeNo, Rule, SiteNo};
-use mn_flight::{Flight, Item};
+use mn_base::{LinkNo, NodeNo, SiteNo};
+use mn_drops::Rule;
+use mn_flight::{Clock, Flight, Item};
 use mn_flight_pool::PoolFlight;
 use mn_ledger::Verdict;
 use mn_stack::Frame;
 use mn_topo::Topology;
+use mn_wiring::{Dir, channel_of};
 use std::alloc::{AllocError, Global};
 use std::marker::Model;
 
 /// The flight of the frames. Any `Flight` takes its place here.
 type Frames = PoolFlight<Flown>;
-
-/// When a step is done, and the number of the first item that it makes.
-#[derive(Clone, Copy, Debug, PartialEq, Eq)]
-pub struct Clock {
-    pub tick: u64,
-    pub number: u64,
-}
 
 /// What became of each packet, and the frames that fly.
 ///

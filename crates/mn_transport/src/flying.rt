@@ -1,7 +1,7 @@
 //! Notices and PDUs in flight.
 ghost use Rattle.std.specs.Prelude.{◌≡◌, ◌<◌, ◌≤◌, ◌+◌, ◌*◌, ◌^◌, ◌++◌, ◌∷◌, [], length, map, IfOk, OnOk};
 ghost use Rattle.std.specs.List.{All, AllByRecursion};
-ghost use Rattle.mn_base.specs.Wiring.{nodes_of, link as link_of};
+ghost use Rattle.mn_wiring.specs.Wiring.{nodes_of, link as link_of};
 ghost use Rattle.mn_flight.specs.Flying.{IsFlight};
 ghost use Rattle.mn_lsr.specs.Said.{pdu_of};
 ghost use Rattle.mn_topo.specs.Network.{wiring_of};
@@ -9,12 +9,13 @@ ghost use Rattle.mn_ledger.specs.Packets.{channel};
 ghost use Rattle.mn_timetable.specs.Keys.{channel_from};
 ghost use Rattle.mn_transport_model.specs.Sending.{notices_to, put_pdus, off_link};
 
-use mn_base::{Dir, LinkNo, ListOf, NodeNo};
-use mn_flight::Flight;
+use mn_base::{LinkNo, ListOf, NodeNo};
+use mn_flight::{Clock, Flight, next_number};
 use mn_flight_pool::PoolFlight;
 use mn_lsr::Said;
 use mn_topo::Topology;
 use mn_transport_model::Notice;
+use mn_wiring::{Dir, channel_of};
 use std::alloc::AllocError;
 
 /// The flight of the notices, with a channel for each link and node. Any `Flight` takes its place here.
@@ -22,15 +23,6 @@ pub type Notices = PoolFlight<Notice>;
 
 /// The flight of the PDUs of LDP, with two channels for each link. Any `Flight` takes its place here.
 pub type Messages = PoolFlight<ListOf<u8>>;
-
-/// When a step is done, and the number of the first item that it makes.
-#[derive(Clone, Copy, Debug, PartialEq, Eq)]
-pub struct Clock {
-    /// At most 2 ^ 62.
-    pub tick: u64,
-    /// Greater than that of each item in flight.
-    pub number: u64,
-}
 
 /// The channel of what an end says on a link.
 fn channel_from(topology: &Topology, link: LinkNo, end: NodeNo) -> u32
@@ -42,26 +34,6 @@ fn channel_from(topology: &Topology, link: LinkNo, end: NodeNo) -> u32
         2 * u32::from(link.0)
     } else {
         2 * u32::from(link.0) + 1
-    }
-}
-
-/// The channel of what is said on a link in a direction.
-pub(crate) fn channel_of(link: LinkNo, dir: Dir) -> u32
-    ensures { result ≡ channel link.0 dir }
-{
-    match dir {
-        Dir::Forth => 2 * u32::from(link.0),
-        Dir::Back => 2 * u32::from(link.0) + 1,
-    }
-}
-
-/// The number after this one. There are never so many items.
-fn next_number(number: u64) -> Result<u64, AllocError>
-    ensures { IfOk result (λ next. next ≡ number + 1) }
-{
-    match number.checked_add(1) {
-        Some(next) => Ok(next),
-        None => Err(AllocError),
     }
 }
 

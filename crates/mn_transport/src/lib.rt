@@ -20,5 +20,5 @@ mod sites;
 mod steps;
 mod transport;
 
-pub use flying::{Clock, Messages, Notices};
+pub use flying::{Messages, Notices};
 pub use transport::Transport;

@@ -23,17 +23,6 @@ use mn_lsr::Lsr;
 use mn_topo::{Node, Topology};
 use std::alloc::{AllocError, Global};
 
-/// The edge of a site.
-fn home_of(topology: &Topology, site: SiteNo) -> NodeNo
-    requires { site.0 < length topology.now.sites }
-    ensures home { result.0 ≡ home_of topology.now site.0 }
-    ensures there { result.0 < length topology.now.loopbacks }
-{
-    topology.laws();
-    let vrf = topology.sites()[usize::from(site.0)].vrf;
-    topology.vrfs()[usize::from(vrf.0)].node
-}
-
 /// The loopbacks of the nodes, in order.
 fn loopbacks_of(alloc: Global, nodes: &[Node]) -> Result<Vec<u32>, AllocError>
     ensures { IfOk result (λ loopbacks. loopbacks.items ≡ map (λ node. node.loopback) nodes.now) }
@@ -74,7 +63,7 @@ fn first_labels(
     let mut labels = Vec::new(alloc);
     for number in 0..topology.sites().len() {
         let site = SiteNo(number as u16);
-        let home = home_of(topology, site);
+        let home = topology.home_of(site);
         match nodes[usize::from(home.0)].attach(site) {
             Ok(label) => labels.push(label)?,
             Err(_) => return Err(AllocError),
@@ -135,7 +124,7 @@ impl Transport {
             return Err(LabelBad::NoMemory);
         }
         topology.laws();
-        let home = home_of(topology, site);
+        let home = topology.home_of(site);
         match self.nodes[usize::from(home.0)].attach(site) {
             Ok(label) => {
                 self.labels[usize::from(site.0)] = label;
@@ -160,7 +149,7 @@ impl Transport {
     {
         if !self.failed {
             topology.laws();
-            let home = home_of(topology, site);
+            let home = topology.home_of(site);
             let label = self.labels[usize::from(site.0)];
             self.nodes[usize::from(home.0)].detach(label);
         }

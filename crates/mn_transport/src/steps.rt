@@ -1,8 +1,8 @@
 //! One call for each step of the transport.
 ghost use Rattle.std.specs.Prelude.{◌≡◌, ◌≢◌, ◌<◌, ◌≤◌, ◌+◌, ◌*◌, ◌^◌, ℕ, Bool, true, false, length, slice_get, slice_index, slice_set, IfOk, OnOk, OnErr, IsErr};
 ghost use Rattle.std.specs.List.{All};
-ghost use Rattle.mn_base.specs.Wiring.{link as link_of, sender, receiver, is_end};
-ghost use Rattle.mn_base.specs.declared.links.Dir.TheVariants.{Forth, Back};
+ghost use Rattle.mn_wiring.specs.Wiring.{link as link_of, sender, receiver, is_end};
+ghost use Rattle.mn_wiring.specs.declared.links.Dir.TheVariants.{Forth, Back};
 ghost use Rattle.mn_flight.specs.Flying.{IsFlight};
 ghost use Rattle.mn_linkdb.specs.Changes.{is_odd, is_link_up};
 ghost use Rattle.mn_node.specs.Machine.{Event, Learns, Opens, Closes};
@@ -13,27 +13,14 @@ ghost use Rattle.mn_transport_model.specs.Acting.{turned_by, MayAct, MayHear, Ac
 ghost use Rattle.mn_transport_model.specs.Doing.{TurnsEnds, MayBoth, MayTurn, TurnsLink, MaySwitch, Switches, LearnsNext, CanHear, HearsNext};
 ghost use Rattle.mn_transport_model.specs.Steps.{MayDo, Did};
 
-use crate::flying::{Clock, channel_of, cut, send, tell_all};
+use crate::flying::{cut, send, tell_all};
 use crate::transport::Transport;
-use mn_base::{Dir, LinkNo, NodeNo};
-use mn_flight::Flight;
+use mn_base::{LinkNo, NodeNo};
+use mn_flight::{Clock, Flight};
 use mn_lsr::LsrBad;
 use mn_topo::Topology;
+use mn_wiring::{Dir, channel_of};
 use std::alloc::AllocError;
-
-/// The end that receives in a direction of a link.
-fn receiver(topology: &Topology, link: LinkNo, dir: Dir) -> NodeNo
-    requires { link.0 < length topology.now.links }
-    ensures end { result.0 ≡ receiver (wiring_of topology.now) link.0 dir }
-    ensures there { result.0 < length topology.now.loopbacks }
-{
-    topology.laws();
-    let ends = &topology.links()[usize::from(link.0)];
-    match dir {
-        Dir::Forth => ends.b,
-        Dir::Back => ends.a,
-    }
-}
 
 /// The channel of a node's notices of a link.
 fn channel_to(topology: &Topology, link: LinkNo, node: NodeNo) -> u32
@@ -239,7 +226,7 @@ impl Transport {
         ensures hears { (event : Event) → MayHear topology.now self.old link.0 dir event →
             IfOk result (λ next. HearsNext topology.now clock.tick clock.number link.0 dir event self.old self.new next) }
     {
-        let node = receiver(topology, link, dir);
+        let node = topology.receiver(link, dir);
         let Some(pdu) = self.messages.take(channel_of(link, dir), 0) else {
             unreachable!();
         };

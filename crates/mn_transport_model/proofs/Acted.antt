@@ -4,8 +4,8 @@ use Rattle.std.specs.Prelude.{slice_get, slice_set, Result, Ok, Err, IfOk, OnOk}
 use Rattle.std.specs.List.{AllByRecursion}
 use Rattle.std.proofs.lemmas.List.{length-map}
 use Rattle.std.proofs.lemmas.Option.{get_or_from_slice_get, same_Some}
-use Rattle.mn_base.specs.Wiring.{Wiring, is_end, receiver}
-use Rattle.mn_base.specs.declared.links.Dir.{Dir}
+use Rattle.mn_wiring.specs.Wiring.{Wiring, is_end, receiver}
+use Rattle.mn_wiring.specs.declared.links.Dir.{Dir}
 use Rattle.mn_flight.specs.declared.Item.{Item}
 use Rattle.mn_flight.specs.Flying.{on_channel, without}
 use Rattle.mn_topo.specs.Network.{Network, wiring_of}

@@ -17,6 +17,7 @@ use Rattle.mn_topo.specs.Network.{Network}
 use Rattle.mn_topo.specs.Lawful.{IsLawful}
 use Rattle.mn_topo.specs.declared.steps.Step.TheVariants as step
 use Rattle.mn_topo.specs.declared.steps.JournalEntry.{JournalEntry}
+use Rattle.mn_topo.specs.declared.steps.Damaged.TheVariants.{Undamaged}
 use Rattle.mn_ledger.specs.Places.{home_of}
 use Rattle.mn_ledger.specs.World.{World}
 use Rattle.mn_ledger.specs.Transport.{knowledge_of, sessions_after}
@@ -77,16 +78,16 @@ module _ (t : Network) (lawful : IsLawful t) (es : List JournalEntry) (tick : �
   -- 1. The labels
 
   extends : Extends (given t es) later
-  extends node = (given_in t node w.config (step.Attach s), gives_more t es (record { tick = tick; step = step.Attach s }) node)
+  extends node = (given_in t node w.config (step.Attach s), gives_more t es (record { tick = tick; step = step.Attach s; damaged = Undamaged }) node)
 
   later-home : later home ≡ given t es home ++ attachment_of s.0 number ∷ []
   later-home =
-      gives_more t es (record { tick = tick; step = step.Attach s }) home ∙ ap (λ b. given t es home ++ (if b then attachment_of s.0 number ∷ [] else []))
+      gives_more t es (record { tick = tick; step = step.Attach s; damaged = Undamaged }) home ∙ ap (λ b. given t es home ++ (if b then attachment_of s.0 number ∷ [] else []))
       (same_test home)
 
   later-other : (node : ℕ) → node ≢ home → later node ≡ given t es node
   later-other node apart =
-      gives_more t es (record { tick = tick; step = step.Attach s }) node ∙ ap (λ b. given t es node ++ (if b then attachment_of s.0 number ∷ [] else []))
+      gives_more t es (record { tick = tick; step = step.Attach s; damaged = Undamaged }) node ∙ ap (λ b. given t es node ++ (if b then attachment_of s.0 number ∷ [] else []))
       (other_test home node (λ e. apart (sym e))) ∙ append-none (given t es node)
     where
       append-none : (xs : List Bind) → xs ++ [] ≡ xs

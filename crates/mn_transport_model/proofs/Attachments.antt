@@ -6,7 +6,7 @@ use Rattle.std.specs.List.{Contains, range_with_len}
 use Rattle.std.proofs.lemmas.Bool.Decides.{eqb_tells}
 use Rattle.std.proofs.lemmas.List.{length-append}
 use Rattle.std.proofs.lemmas.List.Elements.{filter-append}
-use Rattle.mn_base.specs.Wiring.{nodes_of}
+use Rattle.mn_wiring.specs.Wiring.{nodes_of}
 use Rattle.mn_base.proofs.Bools.{same_test, other_test, same_numbers}
 use Rattle.mn_base.proofs.Members.{In, in_contained, in_append, in_map, in_filter, in_range}
 use Rattle.mn_labels.specs.declared.meaning.Bind.{Bind}

@@ -4,7 +4,7 @@ use Rattle.std.specs.Prelude.{if◌then◌else◌}
 use Rattle.std.specs.List.{flat_map}
 use Rattle.std.proofs.lemmas.List.FromFn.{length-map-range_with_len}
 use Rattle.mn_base.proofs.Bools.{less_tells}
-use Rattle.mn_base.specs.Wiring.{link, nodes_of, is_end}
+use Rattle.mn_wiring.specs.Wiring.{link, nodes_of, is_end}
 use Rattle.mn_linkdb.specs.Changes.{is_link_up}
 use Rattle.mn_node.specs.Machine.{Opens, Closes}
 use Rattle.mn_base.specs.declared.numbers.LinkNo.{LinkNo}

@@ -1,7 +1,7 @@
 -- What happens to a node as a link turns, or LDP is switched for it.
 use Rattle.std.proofs.Common.{ℕ, ◌≡◌, Bool, true, false, not, refl, sym, ◌∙◌, ap, Option, None, Some}
 use Rattle.std.specs.Prelude.{◌&&◌, if◌then◌else◌}
-use Rattle.mn_base.specs.Wiring.{is_end}
+use Rattle.mn_wiring.specs.Wiring.{is_end}
 use Rattle.mn_base.specs.declared.numbers.LinkNo.{LinkNo}
 use Rattle.mn_topo.specs.Network.{Network, wiring_of}
 use Rattle.mn_topo.specs.declared.steps.Step.TheVariants as step

@@ -4,8 +4,8 @@ use Rattle.std.proofs.Common.{Some}
 use Rattle.std.specs.Prelude.{◌&&◌, ◌==◌, if◌then◌else◌, filter}
 use Rattle.std.specs.List.{flat_map}
 use Rattle.std.proofs.lemmas.Bool.Decides.{eqb_tells}
-use Rattle.mn_base.specs.Wiring.{Wiring, nodes_of, is_end, across, sender}
-use Rattle.mn_base.specs.declared.links.Dir.{Dir}
+use Rattle.mn_wiring.specs.Wiring.{Wiring, nodes_of, is_end, across, sender}
+use Rattle.mn_wiring.specs.declared.links.Dir.{Dir}
 use Rattle.mn_topo.specs.Network.{Network, wiring_of}
 use Rattle.mn_topo.specs.Lawful.{IsLawful}
 use Rattle.mn_topo.specs.declared.steps.Step.{Step}

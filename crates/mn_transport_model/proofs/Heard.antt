@@ -1,7 +1,7 @@
 -- What flies next in a direction.
 use Rattle.std.proofs.Common.{ℕ, zero, suc, ◌≡◌, ◌+◌, ◌<◌, List, [], ◌∷◌, length, map, drop, refl, arith, ◌∙◌, ap, Some}
 use Rattle.std.specs.Prelude.{slice_get, slice_index_or}
-use Rattle.mn_base.specs.Wiring.{Wiring}
+use Rattle.mn_wiring.specs.Wiring.{Wiring}
 use Rattle.mn_flight.specs.declared.Item.{Item}
 use Rattle.mn_ldp_session.specs.Spelling.{SpeaksOfNode, pdu_in_network}
 use Rattle.mn_topo.specs.Network.{Network, wiring_of}

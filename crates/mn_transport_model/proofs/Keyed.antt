@@ -1,6 +1,6 @@
 -- What a node puts into flight has the keys of what it says.
 use Rattle.std.proofs.Common.{ℕ, suc, ◌≡◌, ◌+◌, List, [], ◌∷◌, map, length, refl, sym, ◌∙◌, ap}
-use Rattle.mn_base.specs.Wiring.{Wiring, link}
+use Rattle.mn_wiring.specs.Wiring.{Wiring, link}
 use Rattle.mn_topo.specs.Network.{Network, wiring_of}
 use Rattle.mn_node.specs.Ldp.{Said}
 use Rattle.mn_node.specs.Node.{Node}

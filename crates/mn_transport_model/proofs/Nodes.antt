@@ -1,7 +1,7 @@
 -- A node that has done what an event makes it do is the ledger's node after the step.
 use Rattle.std.proofs.Common.{ℕ, ◌≡◌, ◌<◌, List, length, sym, ◌∙◌, ap, subst, Option, Some}
 use Rattle.std.specs.Prelude.{if◌then◌else◌}
-use Rattle.mn_base.specs.Wiring.{Wiring}
+use Rattle.mn_wiring.specs.Wiring.{Wiring}
 use Rattle.mn_labels.specs.Labels.{meaning_of}
 use Rattle.mn_lfib.specs.declared.answer.Use.{Use}
 use Rattle.mn_lfib.specs.declared.answer.Use.TheVariants as label_of

@@ -8,9 +8,9 @@ use Rattle.std.proofs.lemmas.Bool.Decides.{eqb_tells, leb_tells}
 use Rattle.std.proofs.lemmas.List.{get_or-set_same, get_or_past}
 use Rattle.std.proofs.lemmas.Option.{slice_get_within}
 use Rattle.mn_base.proofs.Bools.{less_tells, same_test, other_test, and_left, and_right, or_off, not_at_most_tells}
-use Rattle.mn_base.specs.Wiring.{Wiring, is_end, sender, receiver}
-use Rattle.mn_base.specs.declared.links.Dir.{Dir}
-use Rattle.mn_base.specs.declared.links.Dir.TheVariants.{Forth, Back}
+use Rattle.mn_wiring.specs.Wiring.{Wiring, is_end, sender, receiver}
+use Rattle.mn_wiring.specs.declared.links.Dir.{Dir}
+use Rattle.mn_wiring.specs.declared.links.Dir.TheVariants.{Forth, Back}
 use Rattle.mn_base.specs.declared.numbers.LinkNo.{LinkNo}
 use Rattle.mn_base.specs.declared.numbers.NodeNo.{NodeNo}
 use Rattle.mn_flight.specs.declared.Item.{Item}

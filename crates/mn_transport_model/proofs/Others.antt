@@ -2,7 +2,7 @@
 use Rattle.std.proofs.Common.{ℕ, ◌≡◌, ◌+◌, ◌*◌, ◌<◌, false, List, [], ◌++◌, length, map, drop, refl, sym, ◌∙◌, ap, subst, append-nil}
 use Rattle.std.proofs.lemmas.Option.{slice_get_within}
 use Rattle.std.proofs.Math.Path.{fun_ext}
-use Rattle.mn_base.specs.Wiring.{links_of, sender, receiver}
+use Rattle.mn_wiring.specs.Wiring.{links_of, sender, receiver}
 use Rattle.mn_flight.specs.Flying.{on_channel}
 use Rattle.mn_linkdb.specs.Changes.{is_odd}
 use Rattle.mn_topo.specs.Network.{Network, wiring_of}
@@ -10,6 +10,7 @@ use Rattle.mn_topo.specs.Lawful.{IsLawful}
 use Rattle.mn_topo.specs.declared.steps.Step.{Step}
 use Rattle.mn_topo.specs.declared.steps.Step.TheVariants as step
 use Rattle.mn_topo.specs.declared.steps.JournalEntry.{JournalEntry}
+use Rattle.mn_topo.specs.declared.steps.Damaged.TheVariants.{Undamaged}
 use Rattle.mn_ledger.specs.World.{World, Views, Sessions}
 use Rattle.mn_ledger.specs.Transport.{sessions_after}
 use Rattle.mn_ledger.specs.Ledger.{after, start, world_of}
@@ -26,13 +27,13 @@ use Rattle.mn_transport_model.proofs.Nodes.{node-still}
 
 -- the world after one entry more
 pub world-then : (t : Network) (es : List JournalEntry) (tick : ℕ) (s : Step) → world_of t (pushed es tick s) ≡ after t (world_of t es) s
-world-then t es tick s = world_from-push t es (start t) (record { tick = tick; step = s })
+world-then t es tick s = world_from-push t es (start t) (record { tick = tick; step = s; damaged = Undamaged })
 
 -- a step that attaches no site gives no label
 pub given-same : (t : Network) (es : List JournalEntry) (tick : ℕ) (s : Step) →
     ((node : ℕ) → given_in t node (world_of t es).config s ≡ []) → given t (pushed es tick s) ≡ given t es
 given-same t es tick s none =
-    fun_ext (λ node. gives_more t es (record { tick = tick; step = s }) node ∙ ap (λ xs. given t es node ++ xs) (none node) ∙ append-nil (given t es node))
+    fun_ext (λ node. gives_more t es (record { tick = tick; step = s; damaged = Undamaged }) node ∙ ap (λ xs. given t es node ++ xs) (none node) ∙ append-nil (given t es node))
 
 pub record Keeps (t : Network) (w : World) (s : Step) : Type 0 where
   pub views : (after t w s).views ≡ w.views

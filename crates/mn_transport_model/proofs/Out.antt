@@ -1,7 +1,7 @@
 -- What a node says goes out on its links.
 use Rattle.std.proofs.Common.{ℕ, ◌≡◌, ◌+◌, ◌<◌, List, [], ◌∷◌, map, length, sym, ap, subst}
 use Rattle.std.specs.List.{AllByRecursion}
-use Rattle.mn_base.specs.Wiring.{Wiring}
+use Rattle.mn_wiring.specs.Wiring.{Wiring}
 use Rattle.mn_node.specs.Ldp as node
 use Rattle.mn_node.specs.Node.{Node, session_at}
 use Rattle.mn_ldp_session.specs.Spelling.{Pdu, pdu, pdus, count_of, one_said}

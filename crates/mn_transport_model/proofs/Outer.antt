@@ -5,8 +5,8 @@ use Rattle.std.specs.List.{position_or_len}
 use Rattle.std.proofs.lemmas.Bool.Decides.{eqb_tells}
 use Rattle.std.proofs.lemmas.Option.{slice_get_read}
 use Rattle.mn_base.proofs.Bools.{other_test, same_test}
-use Rattle.mn_base.specs.Wiring.{Wiring, View}
-use Rattle.mn_base.specs.Paths.{next, next_by, dists_to}
+use Rattle.mn_wiring.specs.Wiring.{Wiring, View}
+use Rattle.mn_wiring.specs.Paths.{next, next_by, dists_to}
 use Rattle.mn_base.specs.declared.numbers.NodeNo.{NodeNo}
 use Rattle.mn_topo.specs.Network.{Network, wiring_of}
 use Rattle.mn_topo.specs.Lawful.{IsLawful}

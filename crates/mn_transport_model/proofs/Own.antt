@@ -5,7 +5,7 @@ use Rattle.std.specs.List.{flat_map}
 use Rattle.std.proofs.lemmas.List.{get_or-set_same}
 use Rattle.mn_base.proofs.Bools.{clash}
 use Rattle.mn_base.proofs.Members.{In}
-use Rattle.mn_base.specs.Wiring.{Wiring, is_end}
+use Rattle.mn_wiring.specs.Wiring.{Wiring, is_end}
 use Rattle.mn_node.specs.Ldp.{Message, Initialization, Said, Knowledge, is_operational, said_on, mention, mentioned_on, mentioned_from, offered}
 use Rattle.mn_node.specs.Ldp.{by_neighbour, news}
 use Rattle.mn_node.specs.Node.{Session, Node, session_at, hearing_in, knowledge_in}

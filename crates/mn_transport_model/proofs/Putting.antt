@@ -4,7 +4,7 @@ use Rattle.std.proofs.Common.{get_or}
 use Rattle.std.specs.List.{All, range_with_len}
 use Rattle.std.proofs.lemmas.Bool.Decides.{leb_tells}
 use Rattle.std.proofs.lemmas.List.Elements.{All-push}
-use Rattle.mn_base.specs.Wiring.{Wiring, link}
+use Rattle.mn_wiring.specs.Wiring.{Wiring, link}
 use Rattle.mn_flight.specs.declared.Item.{Item}
 use Rattle.mn_ldp_session.specs.Spelling.{Pdu}
 use Rattle.mn_transport_model.specs.declared.notice.Notice.{Notice}

@@ -5,7 +5,7 @@ use Rattle.std.specs.Prelude.{◌&&◌, not, nat_lt, slice_get, slice_index, if�
 use Rattle.std.proofs.lemmas.List.FromFn.{length-map-range_with_len, get_or-map-range_with_len}
 use Rattle.std.proofs.lemmas.Option.{get_or_from_slice_get}
 use Rattle.mn_base.proofs.Bools.{and_left, and_right, and_false, less_tells, not_at_most_tells, clash, no}
-use Rattle.mn_base.specs.Wiring.{link, is_end}
+use Rattle.mn_wiring.specs.Wiring.{link, is_end}
 use Rattle.mn_linkdb.specs.Changes.{is_odd, is_link_up}
 use Rattle.mn_topo.specs.Network.{Network, wiring_of}
 use Rattle.mn_topo.specs.Lawful.{IsLawful}

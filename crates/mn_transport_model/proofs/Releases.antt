@@ -2,9 +2,9 @@
 use Rattle.std.proofs.Common.{ℕ, ◌≡◌, ◌+◌, Bool, true, false, List, [], ◌∷◌, ◌++◌, sym, Option, None, Some}
 use Rattle.std.specs.Prelude.{◌&&◌, if◌then◌else◌, ⊤}
 use Rattle.std.specs.List.{flat_map}
-use Rattle.mn_base.specs.Wiring.{Wiring, across}
-use Rattle.mn_base.specs.declared.states.LdpState.{LdpState}
-use Rattle.mn_base.specs.declared.states.LdpState.TheVariants.{Initialized, OpenSent, OpenRec, Operational}
+use Rattle.mn_wiring.specs.Wiring.{Wiring, across}
+use Rattle.mn_states.specs.declared.states.LdpState.{LdpState}
+use Rattle.mn_states.specs.declared.states.LdpState.TheVariants.{Initialized, OpenSent, OpenRec, Operational}
 use Rattle.mn_node.specs.Ldp.{Message, Initialization, KeepAlive, Address, Mapping, Withdraw, Release, Said, Knowledge, is_operational, said_on, mention}
 use Rattle.mn_node.specs.Ldp.{mentioned_on, mentioned_from, offered, by_neighbour, answer, news}
 use Rattle.mn_node.specs.Node.{Session, Node, session_at, knowledge_in, label_brought}

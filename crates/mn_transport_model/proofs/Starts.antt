@@ -8,8 +8,8 @@ use Rattle.std.proofs.lemmas.List.{length-append, map-append}
 use Rattle.std.proofs.lemmas.List.Elements.{filter-append}
 use Rattle.std.proofs.lemmas.List.FromFn.{length-map-range_with_len, get_or-map-range_with_len}
 use Rattle.std.proofs.lemmas.Option.{same_Some, slice_get_within}
-use Rattle.mn_base.specs.Wiring.{nodes_of}
-use Rattle.mn_base.specs.declared.links.LinkEnds.{LinkEnds}
+use Rattle.mn_wiring.specs.Wiring.{nodes_of}
+use Rattle.mn_wiring.specs.declared.links.LinkEnds.{LinkEnds}
 use Rattle.mn_base.proofs.Bools.{and_left, and_right, same_test, other_test, less_tells, at_most_tells}
 use Rattle.mn_base.proofs.Members.{in_map, in_filter, in_range}
 use Rattle.mn_flight.specs.declared.Item.{Item}
@@ -52,7 +52,8 @@ is-link nodes link joins figures =
     let both = and_left (nat_lt link.a.0 nodes && nat_lt link.b.0 nodes) (not (link.a.0 == link.b.0)) joins in
     let costs = and_left (nat_le 1 link.cost && nat_le link.cost 65535) (nat_le 1 link.delay && nat_le link.delay 1000)
     (and_left ((nat_le 1 link.cost && nat_le link.cost 65535) && (nat_le 1 link.delay && nat_le link.delay 1000))
-    (nat_le 0 link.loss && nat_le link.loss 65535) figures) in
+    (nat_le 0 link.loss && nat_le link.loss 65535)
+    (and_left _ _ figures)) in
     let least = at_most_tells 1 link.cost (and_left (nat_le 1 link.cost) (nat_le link.cost 65535) costs) in
     let most = at_most_tells link.cost 65535 (and_right (nat_le 1 link.cost) (nat_le link.cost 65535) costs) in
     record {

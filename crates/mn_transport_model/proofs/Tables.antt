@@ -5,8 +5,8 @@ use Rattle.std.specs.List.{Contains}
 use Rattle.std.proofs.lemmas.List.FromFn.{get_or-map-range_with_len}
 use Rattle.std.proofs.lemmas.Option.{slice_get_past}
 use Rattle.mn_base.proofs.Bools.{and_left, and_right, less_is, not_less}
-use Rattle.mn_base.specs.Wiring.{nodes_of, is_end, across}
-use Rattle.mn_base.specs.Paths.{next}
+use Rattle.mn_wiring.specs.Wiring.{nodes_of, is_end, across}
+use Rattle.mn_wiring.specs.Paths.{next}
 use Rattle.mn_base.specs.declared.numbers.NodeNo.{NodeNo}
 use Rattle.mn_labels.specs.declared.meaning.Bind.{Bind}
 use Rattle.mn_labels.specs.Labels.{meaning_of}

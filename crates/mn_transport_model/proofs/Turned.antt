@@ -3,7 +3,7 @@ use Rattle.std.proofs.Common.{ℕ, ◌≡◌, ◌+◌, ◌-◌, ◌*◌, ◌<◌
 use Rattle.std.specs.Prelude.{◌==◌, Result, Ok, Err, OnOk}
 use Rattle.std.specs.List.{All}
 use Rattle.std.proofs.lemmas.List.Elements.{All-filter}
-use Rattle.mn_base.specs.Wiring.{link}
+use Rattle.mn_wiring.specs.Wiring.{link}
 use Rattle.mn_flight.specs.declared.Item.{Item}
 use Rattle.mn_flight.specs.Flying.{off_channel, without}
 use Rattle.mn_linkdb.specs.Changes.{is_link_up}

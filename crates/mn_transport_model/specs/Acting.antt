@@ -1,7 +1,7 @@
 -- What a node does in a step, before it is known to be the ledger's.
 use Rattle.std.specs.Prelude.{◌≡◌, ◌≢◌, ◌<◌, ◌+◌, ℕ, Bool, true, false, List, ◌++◌, length, slice_get, slice_index, slice_set, Some, None, Ok, ⊤}
-use Rattle.mn_base.specs.Wiring.{is_end, receiver}
-use Rattle.mn_base.specs.declared.links.Dir.{Dir}
+use Rattle.mn_wiring.specs.Wiring.{is_end, receiver}
+use Rattle.mn_wiring.specs.declared.links.Dir.{Dir}
 use Rattle.mn_flight.specs.declared.Item.{Item}
 use Rattle.mn_flight.specs.Flying.{on_channel}
 use Rattle.mn_node.specs.Node.{Session, Node, session_at}

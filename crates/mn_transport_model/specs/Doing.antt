@@ -1,7 +1,7 @@
 -- What the transport does in a step, before it is known to be the ledger's.
 use Rattle.std.specs.Prelude.{◌≡◌, ◌≢◌, ◌<◌, ◌+◌, ◌*◌, ℕ, Bool, true, false, ◌++◌, length, slice_get, slice_index, slice_set, Some}
-use Rattle.mn_base.specs.Wiring.{link, receiver, nodes_of}
-use Rattle.mn_base.specs.declared.links.Dir.{Dir}
+use Rattle.mn_wiring.specs.Wiring.{link, receiver, nodes_of}
+use Rattle.mn_wiring.specs.declared.links.Dir.{Dir}
 use Rattle.mn_flight.specs.Flying.{on_channel, without}
 use Rattle.mn_linkdb.specs.Changes.{is_link_up}
 use Rattle.mn_node.specs.Machine.{Event, Learns}

@@ -1,6 +1,6 @@
 -- What nodes put into flight.
 use Rattle.std.specs.Prelude.{◌+◌, ◌*◌, ℕ, List, [], ◌∷◌}
-use Rattle.mn_base.specs.Wiring.{Wiring, link}
+use Rattle.mn_wiring.specs.Wiring.{Wiring, link}
 use Rattle.mn_flight.specs.declared.Item.{Item}
 use Rattle.mn_flight.specs.Flying.{off_channel}
 use Rattle.mn_node.specs.Ldp.{Message}

@@ -1,7 +1,7 @@
 -- When a network's transport stands for the ledger.
 use Rattle.std.specs.Prelude.{◌≡◌, ◌<◌, ◌+◌, ◌*◌, ℕ, false, List, length, map, drop, slice_get, slice_index, Some}
-use Rattle.mn_base.specs.Wiring.{links_of, sender, receiver}
-use Rattle.mn_base.specs.declared.links.Dir.{Dir}
+use Rattle.mn_wiring.specs.Wiring.{links_of, sender, receiver}
+use Rattle.mn_wiring.specs.declared.links.Dir.{Dir}
 use Rattle.mn_flight.specs.Flying.{on_channel}
 use Rattle.mn_linkdb.specs.Changes.{is_odd}
 use Rattle.mn_topo.specs.Network.{Network, wiring_of}

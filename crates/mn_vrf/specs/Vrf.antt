@@ -1,5 +1,5 @@
 -- What contracts see of a VRF: its statics, its two sets of targets, and the routes that it holds. RFC 4364, sections 3 and 4.3.1.
-use Rattle.std.specs.Prelude.{ℕ, ◌==◌, nat_le, Bool, true, false, List, [], ◌∷◌, if◌then◌else◌, Option, Some, None, option_map, Result, Ok, Err, length}
+use Rattle.std.specs.Prelude.{◌≡◌, ℕ, ◌==◌, nat_le, Bool, true, false, List, [], ◌∷◌, if◌then◌else◌, Option, Some, None, option_map, Result, Ok, Err, length}
 use Rattle.mn_base.specs.declared.numbers.Rd.{Rd}
 use Rattle.mn_base.specs.declared.numbers.Rt.{Rt}
 use Rattle.mn_prefix.specs.Prefix.{AddressBlock, same_prefix, prefix_before}
@@ -82,3 +82,7 @@ heads_after last (route ∷ routes) = if is_again last route.0 then heads_after 
 -- the held prefixes in their order, each with the best of its routes
 abbrev pub heads : List (AddressBlock × Source) → List (AddressBlock × Source)
 heads routes = heads_after None routes
+
+-- what is held at a place is of this prefix
+abbrev pub IsHeldAt : AddressBlock → Option (AddressBlock × Source) → Type 0
+IsHeldAt prefix route = option_map (λ found. found.0) route ≡ Some prefix

@@ -1,10 +1,10 @@
 // The routes that a VRF holds: the sources of each prefix in a table, and the prefixes in order.
-ghost use Rattle.std.specs.Prelude.{◌≡◌, [], Some, IsSome, OnOk, OnErr, slice_get, option_map};
+ghost use Rattle.std.specs.Prelude.{◌≡◌, ◌+◌, ℕ, [], Some, IsSome, OnOk, OnErr, slice_get, option_map};
 ghost use Rattle.mn_prefix.specs.Prefix.{AddressBlock};
 ghost use Rattle.mn_prefix.specs.Table.{longest_match, value_at, ChangesOnly, first_of};
 ghost use Rattle.mn_base.specs.Ordered.{with_one, without_one};
 ghost use Rattle.mn_vrf.specs.Routes.{route_before, is_held, sources_of, unless_empty};
-ghost use Rattle.mn_vrf.specs.Vrf.{heads};
+ghost use Rattle.mn_vrf.specs.Vrf.{heads, IsHeldAt};
 
 use crate::{Source, Sources};
 use mn_lpm::LengthTable;
@@ -13,6 +13,7 @@ use std::alloc::{AllocError, Global};
 use std::collections::BTreeSet;
 use std::marker::Model;
 use std::mem;
+use std::ops::Bound;
 
 /// Held routes, by prefix and of one prefix by preference. Contracts see the list of them, which ascends.
 #[derive(Drop)]
@@ -153,6 +154,20 @@ impl Routes {
         ensures { result ≡ slice_get (heads self.now) k }
     {
         let prefix = *self.prefixes.iter().nth(k as usize)?;
+        match self.table.get(prefix) {
+            Some(sources) => best_of(prefix, sources),
+            None => None,
+        }
+    }
+
+    /// The held prefix after a held one, with the best of its routes. It takes no memory.
+    pub fn after(&self, last: Prefix) -> Option<(Prefix, Source)>
+        ensures { (k : ℕ) → IsHeldAt last (slice_get (heads self.now) k) → result ≡ slice_get (heads self.now) (k + 1) }
+    {
+        let prefix = *self
+            .prefixes
+            .range((Bound::Excluded(last), Bound::Unbounded))
+            .next()?;
         match self.table.get(prefix) {
             Some(sources) => best_of(prefix, sources),
             None => None,

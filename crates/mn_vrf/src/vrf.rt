@@ -1,11 +1,11 @@
 // One VRF, as it is told.
-ghost use Rattle.std.specs.Prelude.{◌≡◌, ℕ, [], true, false, None, Some, OnOk, OnErr, IfOk, slice_get, if◌then◌else◌, option_map};
+ghost use Rattle.std.specs.Prelude.{◌≡◌, ◌+◌, ℕ, [], true, false, None, Some, OnOk, OnErr, IfOk, slice_get, if◌then◌else◌, option_map};
 ghost use Rattle.mn_prefix.specs.Prefix.{AddressBlock};
 ghost use Rattle.mn_prefix.specs.Table.{longest_match, value_at};
 ghost use Rattle.mn_base.specs.Ordered.{with_one, without_one, one_at};
 ghost use Rattle.mn_targets.specs.Targets.{target_set, has_target};
 ghost use Rattle.mn_vrf.specs.Routes.{route_before, without_route, sources_of, unless_empty};
-ghost use Rattle.mn_vrf.specs.Vrf.{Holding, with_static, without_static, with_imports, with_exports, add_refused, del_refused, set_refused, refusal_of, static_of, heads};
+ghost use Rattle.mn_vrf.specs.Vrf.{Holding, with_static, without_static, with_imports, with_exports, add_refused, del_refused, set_refused, refusal_of, static_of, heads, IsHeldAt};
 
 use crate::{Routes, Source, Sources, StaticRoute, Statics, VrfBad};
 use mn_base::{Rd, Rt, SiteNo, VrfNo};
@@ -213,6 +213,13 @@ impl Vrf {
         ensures { result ≡ slice_get (heads self.now.held) k }
     {
         self.held.held(k)
+    }
+
+    /// The held prefix after a held one, with the best of its routes. It takes no memory.
+    pub fn after(&self, last: Prefix) -> Option<(Prefix, Source)>
+        ensures { (k : ℕ) → IsHeldAt last (slice_get (heads self.now.held) k) → result ≡ slice_get (heads self.now.held) (k + 1) }
+    {
+        self.held.after(last)
     }
 
     /// The held prefixes, and no others, each with its sources. It takes no memory.

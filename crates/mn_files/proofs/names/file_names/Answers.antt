@@ -1,7 +1,7 @@
 use Rattle.std.proofs.Common.{◌++◌, ◌∷◌, [], map, ap, ◌∙◌}
 use Rattle.std.specs.List.{flat_map}
-use Rattle.mn_base.specs.Wiring.{links_of}
-use Rattle.mn_base.specs.declared.links.Dir.TheVariants.{Forth, Back}
+use Rattle.mn_wiring.specs.Wiring.{links_of}
+use Rattle.mn_wiring.specs.declared.links.Dir.TheVariants.{Forth, Back}
 use Rattle.mn_edge.specs.Memory.{all_differ}
 use Rattle.mn_edge.specs.Written.{texts}
 use Rattle.mn_topo.specs.Network.{wiring_of}

@@ -1,6 +1,6 @@
 use Rattle.std.proofs.Common.{◌≡◌, [], ◌∙◌, ap, subst}
 use Rattle.std.specs.Prelude.{◌%◌, IfOk}
-use Rattle.mn_base.specs.Wiring.{Wiring}
+use Rattle.mn_wiring.specs.Wiring.{Wiring}
 use Rattle.mn_ldp_wire.specs.declared.message.LdpBody.{LdpBody}
 use Rattle.mn_ldp_wire.specs.declared.message.LdpId.{LdpId}
 use Rattle.mn_ldp_wire.specs.Grammar.{written}

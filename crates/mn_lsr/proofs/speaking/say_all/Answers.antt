@@ -1,6 +1,6 @@
 use Rattle.std.proofs.Common.{ℕ, ◌≡◌, ◌∙◌, ◌++◌, ◌∷◌, [], ap, map, length, List, slice_index_or}
 use Rattle.std.specs.List.{flat_map}
-use Rattle.mn_base.specs.Wiring.{Wiring, joining}
+use Rattle.mn_wiring.specs.Wiring.{Wiring, joining}
 use Rattle.mn_node.specs.Ldp.{Message, said_on}
 use Rattle.mn_lib.specs.declared.event.Tell.{Tell}
 use Rattle.mn_lib.specs.declared.event.TellKind.TheVariants.{Map}

@@ -1,6 +1,6 @@
 use Rattle.std.proofs.Common.{sym, ◌∙◌, ap, map, length, ◌++◌, ◌+◌}
 use Rattle.std.proofs.Math.ListN.{length-set}
-use Rattle.mn_base.specs.Wiring.{Wiring}
+use Rattle.mn_wiring.specs.Wiring.{Wiring}
 use Rattle.mn_lsr.specs.Message.{meaning}
 use Rattle.mn_lsr.specs.Said.{pdu_of}
 use Rattle.mn_lsr.specs.Parts.{pdus_by, ends_after}

@@ -1,5 +1,5 @@
 use Rattle.std.proofs.Common.{◌≡◌, ◌++◌, map, length}
-use Rattle.mn_base.specs.Wiring.{Wiring}
+use Rattle.mn_wiring.specs.Wiring.{Wiring}
 use Rattle.mn_lsr.specs.Message.{meaning}
 use Rattle.mn_lsr.specs.Said.{pdu_of}
 use Rattle.mn_lsr.specs.Parts.{pdus_by, ends_after}

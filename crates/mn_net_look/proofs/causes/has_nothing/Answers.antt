@@ -17,9 +17,9 @@ returns-in-Learn c = λ made.
 
 pub returns-in-HearLdp : goal.returns-in-HearLdp
 returns-in-HearLdp c = λ made.
-    none_on c.count-in-HearLdp.result c.direction.result
+    none_on c.count-in-HearLdp.result c.channel_of.result
     (channel c.in-HearLdp.link.0 c.in-HearLdp.dir) c.messages.result.now.items c.args.transport.now.messages
-    c.count-in-HearLdp.ensures.value c.direction.ensures c.messages.ensures
+    c.count-in-HearLdp.ensures.value c.channel_of.ensures c.messages.ensures
     ∙ ap (has_nothing c.args.topology.now (packed_of c.args.transport.now c.args.routes.now c.args.transit.now made)) (sym c.in-HearLdp.is)
 
 pub returns-in-HearBgp : goal.returns-in-HearBgp

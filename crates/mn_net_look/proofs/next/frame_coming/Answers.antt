@@ -28,7 +28,7 @@ returns c =
       number = c.in_ok-item.item.now.number;
       step = Carry (record { 0 = c.in_ok-item.item.now.channel / 2 }) dir 0;
       lossy = c.loses.result;
-    } in Some r) c.direction.ensures
+    } in Some r) c.direction_of.ensures
     ∙ ap (λ lossy. let r : Coming = record {
       due = c.in_ok-item.item.now.due;
       number = c.in_ok-item.item.now.number;

@@ -1,5 +1,5 @@
 use Rattle.std.proofs.Common.{refl}
-use Rattle.mn_base.specs.declared.links.Dir.TheVariants.{Forth, Back}
+use Rattle.mn_wiring.specs.declared.links.Dir.TheVariants.{Forth, Back}
 use Rattle.mn_topo.specs.Network.{Network}
 use Rattle.mn_ledger.specs.Items.{flight_of, items_on, Frames}
 use Rattle.mn_output.specs.Tables.{frames_line}

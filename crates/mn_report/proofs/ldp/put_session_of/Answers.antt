@@ -1,6 +1,6 @@
 use Rattle.std.proofs.Common.{◌∙◌, ap, sym}
-use Rattle.mn_base.specs.Wiring.{sender}
-use Rattle.mn_base.specs.declared.links.Dir.TheVariants.{Forth, Back}
+use Rattle.mn_wiring.specs.Wiring.{sender}
+use Rattle.mn_wiring.specs.declared.links.Dir.TheVariants.{Forth, Back}
 use Rattle.mn_topo.specs.Network.{Network, wiring_of}
 use Rattle.mn_ledger.specs.Ledger.{world_of}
 use Rattle.mn_output.specs.Tables.{ldp_line}

@@ -1,5 +1,7 @@
-use Rattle.std.proofs.Common.{◌≤◌, Some}
-use Rattle.std.specs.Prelude.{length}
+use Rattle.std.proofs.Common.{◌≤◌, Some, sym, ap, ◌∙◌}
+use Rattle.std.specs.Prelude.{length, option_map}
+use Rattle.mn_prefix.specs.Prefix.{AddressBlock}
+use Rattle.mn_vrf.specs.declared.source.Source.{Source}
 use Rattle.mn_ledger.specs.Ledger.{world_of}
 use Rattle.mn_frames.specs.Given.{given}
 use Rattle.mn_topo.specs.Network.{Network}
@@ -10,65 +12,69 @@ use Rattle.mn_report.proofs.Routed.{line_at, held_there, nothing_held, line_is}
 use Rattle.mn_report.proofs.Holding.{none_held}
 use Rattle.mn_report.proofs.routes.put_routes.Goals as goal
 
-pub loop-place-init : goal.loop-place-init
-loop-place-init g c = told_nothing _
+pub loop-init : goal.loop-init
+loop-init g c = record { told = told_nothing _; next = c.held-route.ensures.labels }
 
-pub loop-place-preserved : goal.loop-place-preserved
-loop-place-preserved g c =
+pub loop-preserved : goal.loop-preserved
+loop-preserved g c =
     let there =
     held_there (given c.args.net.now.topology c.args.net.now.journal)
-    (held_in c.args.net.now.topology (world_of c.args.net.now.topology c.args.net.now.journal) c.args.vrf.0) c.loop-place.place c.in-Some.found.0
-    c.in-Some.found.1 c.in-Some.ensures.labels in
-    told_next
-    (line_at c.args.net.now.topology (given c.args.net.now.topology c.args.net.now.journal) c.args.vrf.0
-    (held_in c.args.net.now.topology (world_of c.args.net.now.topology c.args.net.now.journal) c.args.vrf.0))
-    (prefixes_of (held_in c.args.net.now.topology (world_of c.args.net.now.topology c.args.net.now.journal) c.args.vrf.0)) c.loop-place.place
-    (record { address = 0; length = 0 }) _ _ _ there.below c.loop-place.invariant
-    (tells_as _ _ _ _ _
-    (of_topology (λ (topology : Network). route_line topology (given c.args.net.now.topology c.args.net.now.journal) c.args.vrf.0 (Some there.route)) _
-    _ _ _ _ c.topology.ensures
-    (c.in_ok-put_route-in-Some.ensures (given c.args.net.now.topology c.args.net.now.journal) there.route there.prefix_is there.source_is))
-    (line_is c.args.net.now.topology (given c.args.net.now.topology c.args.net.now.journal) c.args.vrf.0
-    (held_in c.args.net.now.topology (world_of c.args.net.now.topology c.args.net.now.journal) c.args.vrf.0) c.loop-place.place c.in-Some.found.0
-    c.in-Some.found.1 there))
+    (held_in c.args.net.now.topology (world_of c.args.net.now.topology c.args.net.now.journal) c.args.vrf.0) c.loop.counter c.in-Some.found.0
+    c.in-Some.found.1 (sym c.in-Some.is ∙ c.loop.invariant.next) in
+    record {
+      told = told_next
+          (line_at c.args.net.now.topology (given c.args.net.now.topology c.args.net.now.journal) c.args.vrf.0
+          (held_in c.args.net.now.topology (world_of c.args.net.now.topology c.args.net.now.journal) c.args.vrf.0))
+          (prefixes_of (held_in c.args.net.now.topology (world_of c.args.net.now.topology c.args.net.now.journal) c.args.vrf.0)) c.loop.counter
+          (record { address = 0; length = 0 }) _ _ _ there.below c.loop.invariant.told
+          (tells_as _ _ _ _ _
+          (of_topology (λ (topology : Network). route_line topology (given c.args.net.now.topology c.args.net.now.journal) c.args.vrf.0 (Some there.route)) _
+          _ _ _ _ c.topology.ensures
+          (c.in_ok-put_route-in-Some.ensures (given c.args.net.now.topology c.args.net.now.journal) there.route there.prefix_is there.source_is))
+          (line_is c.args.net.now.topology (given c.args.net.now.topology c.args.net.now.journal) c.args.vrf.0
+          (held_in c.args.net.now.topology (world_of c.args.net.now.topology c.args.net.now.journal) c.args.vrf.0) c.loop.counter c.in-Some.found.0
+          c.in-Some.found.1 there));
+      next = c.held_after-route.ensures.labels c.loop.counter
+          (ap (option_map (λ (found : AddressBlock × Source). found.0)) (sym c.loop.invariant.next ∙ c.in-Some.is));
+    }
 
 pub returns-in_err-put_route-in-Some : goal.returns-in_err-put_route-in-Some
 returns-in_err-put_route-in-Some g c =
     let there =
     held_there (given c.args.net.now.topology c.args.net.now.journal)
-    (held_in c.args.net.now.topology (world_of c.args.net.now.topology c.args.net.now.journal) c.args.vrf.0) c.loop-place.place c.in-Some.found.0
-    c.in-Some.found.1 c.in-Some.ensures.labels in
+    (held_in c.args.net.now.topology (world_of c.args.net.now.topology c.args.net.now.journal) c.args.vrf.0) c.loop.counter c.in-Some.found.0
+    c.in-Some.found.1 (sym c.in-Some.is ∙ c.loop.invariant.next) in
     tells_cut
     (line_at c.args.net.now.topology (given c.args.net.now.topology c.args.net.now.journal) c.args.vrf.0
     (held_in c.args.net.now.topology (world_of c.args.net.now.topology c.args.net.now.journal) c.args.vrf.0))
-    (prefixes_of (held_in c.args.net.now.topology (world_of c.args.net.now.topology c.args.net.now.journal) c.args.vrf.0)) c.loop-place.place
-    (record { address = 0; length = 0 }) _ _ _ _ _ c.from_residual.ensures there.below c.loop-place.invariant
+    (prefixes_of (held_in c.args.net.now.topology (world_of c.args.net.now.topology c.args.net.now.journal) c.args.vrf.0)) c.loop.counter
+    (record { address = 0; length = 0 }) _ _ _ _ _ c.from_residual.ensures there.below c.loop.invariant.told
     (tells_as _ _ _ _ _
     (of_topology (λ (topology : Network). route_line topology (given c.args.net.now.topology c.args.net.now.journal) c.args.vrf.0 (Some there.route)) _
     _ _ _ _ c.topology.ensures
     (c.in_err-put_route-in-Some.ensures (given c.args.net.now.topology c.args.net.now.journal) there.route there.prefix_is there.source_is))
     (line_is c.args.net.now.topology (given c.args.net.now.topology c.args.net.now.journal) c.args.vrf.0
-    (held_in c.args.net.now.topology (world_of c.args.net.now.topology c.args.net.now.journal) c.args.vrf.0) c.loop-place.place c.in-Some.found.0
+    (held_in c.args.net.now.topology (world_of c.args.net.now.topology c.args.net.now.journal) c.args.vrf.0) c.loop.counter c.in-Some.found.0
     c.in-Some.found.1 there))
 
 pub returns-in-None : goal.returns-in-None
 returns-in-None g c =
     let past : length (prefixes_of (held_in c.args.net.now.topology (world_of c.args.net.now.topology c.args.net.now.journal) c.args.vrf.0)) ≤
-    c.loop-place.place =
-    none_held (held_in c.args.net.now.topology (world_of c.args.net.now.topology c.args.net.now.journal) c.args.vrf.0) c.loop-place.place
+    c.loop.counter =
+    none_held (held_in c.args.net.now.topology (world_of c.args.net.now.topology c.args.net.now.journal) c.args.vrf.0) c.loop.counter
     (nothing_held (given c.args.net.now.topology c.args.net.now.journal)
-    (held_in c.args.net.now.topology (world_of c.args.net.now.topology c.args.net.now.journal) c.args.vrf.0) c.loop-place.place
-    c.in-None.ensures.labels) in
+    (held_in c.args.net.now.topology (world_of c.args.net.now.topology c.args.net.now.journal) c.args.vrf.0) c.loop.counter
+    (sym c.in-None.is ∙ c.loop.invariant.next)) in
     tells_all
     (line_at c.args.net.now.topology (given c.args.net.now.topology c.args.net.now.journal) c.args.vrf.0
     (held_in c.args.net.now.topology (world_of c.args.net.now.topology c.args.net.now.journal) c.args.vrf.0))
-    (prefixes_of (held_in c.args.net.now.topology (world_of c.args.net.now.topology c.args.net.now.journal) c.args.vrf.0)) c.loop-place.place _ _ past
-    c.loop-place.invariant
+    (prefixes_of (held_in c.args.net.now.topology (world_of c.args.net.now.topology c.args.net.now.journal) c.args.vrf.0)) c.loop.counter _ _ past
+    c.loop.invariant.told
 
 pub returns : goal.returns
 returns g c =
     tells_want_after
     (line_at c.args.net.now.topology (given c.args.net.now.topology c.args.net.now.journal) c.args.vrf.0
     (held_in c.args.net.now.topology (world_of c.args.net.now.topology c.args.net.now.journal) c.args.vrf.0))
-    (prefixes_of (held_in c.args.net.now.topology (world_of c.args.net.now.topology c.args.net.now.journal) c.args.vrf.0)) c.loop-place.place _ _
-    c.loop-place.invariant
+    (prefixes_of (held_in c.args.net.now.topology (world_of c.args.net.now.topology c.args.net.now.journal) c.args.vrf.0)) c.loop.counter _ _
+    c.loop.invariant.told

@@ -1,44 +1,62 @@
-use Rattle.std.proofs.Common.{◌≡◌, Some, None, Err, sym, ◌∙◌, ap, refl, subst, ◌-◌, ◌+◌, arith}
-use Rattle.mn_course.specs.Coming.{next_arrival}
-use Rattle.mn_course.specs.Course.{Past, Course, deliver, next_now, inputs_of, is_journal_full}
-use Rattle.mn_sched.specs.Playing.{past_of, Arrives}
-use Rattle.mn_sched.proofs.Delivering.{first_part_refl, first_part_trans, next_turn, one_then, one_stops, deliver_more}
+use Rattle.std.proofs.Common.{◌≡◌, Some, None, Err, sym, ◌∙◌, ap, refl, subst, ◌-◌, ◌+◌, arith, length}
+use Rattle.mn_course.specs.Course.{Past, Course, deliver, next_now, inputs_of, is_journal_full, one_by_one}
+use Rattle.mn_sched.specs.Playing.{past_of, Arrives, IsFirstPart}
+use Rattle.mn_sched.proofs.Delivering.{first_part_refl, first_part_trans, next_turn, one_then, one_stops, deliver_more, told_now, keeps}
 use Rattle.mn_sched.proofs.line.deliver.Goals as goal
 
 pub returns-in_default-clause-course : goal.returns-in_default-clause-course
 returns-in_default-clause-course g c = λ all told.
     let l = c.loop-turn in
-    let stands = (l.invariant.together all (l.invariant.packets ∙ told)).0 in
+    let net = c.keep_room.new.net in
+    let past : past_of net ≡ past_of l.net = c.keep_room.ensures.past in
+    let stands = keeps net l.net (g.W.Watch.stands l.watch) all past c.keep_room.ensures.topology c.keep_room.ensures.stands
+    (l.invariant.together all (l.invariant.packets ∙ told)) in
     let none : next_now c.args.net.now.topology all c.args.arrivals (past_of l.net) ≡ None =
-    ap (λ t. next_arrival t l.net.journal (inputs_of all l.net.journal) c.args.arrivals) (sym l.invariant.topology)
-    ∙ sym (c.next_arrival.ensures.value (inputs_of all l.net.journal) stands) ∙ c.in_default.is in
+    told_now c.args.net.now.topology all c.args.arrivals net l.net None past (c.keep_room.ensures.topology ∙ l.invariant.topology)
+    (sym (c.next_arrival.ensures.value (inputs_of all net.journal) stands.0) ∙ c.in_default.is) in
     let over =
     sym (l.invariant.course all told)
     ∙ next_turn c.args.net.now.topology all c.args.arrivals c.args.most l.turn (past_of l.net) None c.loop-turn-test.true none in
-    (ap (λ x. x.ending) over, sym (ap (λ x. x.past) over))
+    (ap (λ x. x.ending) over, past ∙ sym (ap (λ x. x.past) over))
 
 pub returns-in_default-clause-after : goal.returns-in_default-clause-after
-returns-in_default-clause-after g c = λ all told. c.loop-turn.invariant.together all (c.loop-turn.invariant.packets ∙ told)
+returns-in_default-clause-after g c = λ all told.
+    let l = c.loop-turn in
+    keeps c.keep_room.new.net l.net (g.W.Watch.stands l.watch) all c.keep_room.ensures.past c.keep_room.ensures.topology c.keep_room.ensures.stands
+    (l.invariant.together all (l.invariant.packets ∙ told))
+
+pub deliver_one-requires-clause-together : goal.deliver_one-requires-clause-together
+deliver_one-requires-clause-together g c = λ all told.
+    let l = c.loop-turn in
+    keeps c.keep_room.new.net l.net (g.W.Watch.stands l.watch) all c.keep_room.ensures.past c.keep_room.ensures.topology c.keep_room.ensures.stands
+    (l.invariant.together all told)
 
 pub loop-turn-preserved : goal.loop-turn-preserved
 loop-turn-preserved g c =
     let l = c.loop-turn in
-    let done = c.in-Ok.ensures in
+    let net = c.keep_room.new.net in
+    let past : past_of net ≡ past_of l.net = c.keep_room.ensures.past in
+    let journal : net.journal ≡ l.net.journal = ap (λ (p : Past). p.entries) past in
+    let many : length net.journal ≡ length l.net.journal = ap length journal in
+    let tick : net.tick ≡ l.net.tick = ap (λ (p : Past). p.clock) past in
+    let done = c.in-Ok-deliver_one.ensures in
     record {
       course = λ all told.
           let rest : Past → Course = λ later. deliver c.args.net.now.topology all c.args.arrivals (c.args.most - (l.turn + 1)) later in
-          let stands = (l.invariant.together all (l.invariant.packets ∙ told)).0 in
+          let stands = keeps net l.net (g.W.Watch.stands l.watch) all past c.keep_room.ensures.topology c.keep_room.ensures.stands
+          (l.invariant.together all (l.invariant.packets ∙ told)) in
           let some : next_now c.args.net.now.topology all c.args.arrivals (past_of l.net) ≡ Some c.in-Some.item =
-          ap (λ t. next_arrival t l.net.journal (inputs_of all l.net.journal) c.args.arrivals) (sym l.invariant.topology)
-          ∙ sym (c.next_arrival.ensures.value (inputs_of all l.net.journal) stands) ∙ c.in-Some.is in
-          sym (one_then c.args.arrivals rest (past_of l.net) (is_journal_full (past_of l.net)) c.in-Some.item c.deliver_one.new.net
+          told_now c.args.net.now.topology all c.args.arrivals net l.net (Some c.in-Some.item) past (c.keep_room.ensures.topology ∙ l.invariant.topology)
+          (sym (c.next_arrival.ensures.value (inputs_of all net.journal) stands.0) ∙ c.in-Some.is) in
+          sym (one_then c.args.arrivals rest (past_of net) (is_journal_full (past_of net)) c.in-Some.item c.deliver_one.new.net
           (done.course all (l.invariant.packets ∙ told)))
+          ∙ ap (λ p. one_by_one c.args.arrivals rest p (is_journal_full p) (Some c.in-Some.item)) past
           ∙ sym (next_turn c.args.net.now.topology all c.args.arrivals c.args.most l.turn (past_of l.net) (Some c.in-Some.item) c.loop-turn-test.true some)
           ∙ l.invariant.course all told;
       together = λ all told. done.after all (sym done.packets ∙ told);
-      topology = done.topology ∙ l.invariant.topology;
-      grown = first_part_trans _ _ _ l.invariant.grown done.grown;
-      clock = (omega (arith, done.clock.0, l.invariant.clock.0), omega (arith, done.clock.1, l.invariant.clock.1));
+      topology = done.topology ∙ c.keep_room.ensures.topology ∙ l.invariant.topology;
+      grown = first_part_trans _ _ _ l.invariant.grown (subst (λ es. IsFirstPart es c.deliver_one.new.net.journal) journal done.grown);
+      clock = (omega (arith, done.clock.0, l.invariant.clock.0, many), omega (arith, done.clock.1, l.invariant.clock.1, many, tick));
       early = done.early;
       records = done.records ∙ l.invariant.records;
       packets = done.packets ∙ l.invariant.packets;
@@ -47,20 +65,34 @@ loop-turn-preserved g c =
       writes = done.cause.1 ∙ l.invariant.writes;
     }
 
+pub returns-in-Err-deliver_one-clause-course : goal.returns-in-Err-deliver_one-clause-course
+returns-in-Err-deliver_one-clause-course g c = λ all told.
+    let l = c.loop-turn in
+    let net = c.keep_room.new.net in
+    let past : past_of net ≡ past_of l.net = c.keep_room.ensures.past in
+    let rest : Past → Course = λ later. deliver c.args.net.now.topology all c.args.arrivals (c.args.most - (l.turn + 1)) later in
+    let stands = keeps net l.net (g.W.Watch.stands l.watch) all past c.keep_room.ensures.topology c.keep_room.ensures.stands
+    (l.invariant.together all (l.invariant.packets ∙ told)) in
+    let some : next_now c.args.net.now.topology all c.args.arrivals (past_of l.net) ≡ Some c.in-Some.item =
+    told_now c.args.net.now.topology all c.args.arrivals net l.net (Some c.in-Some.item) past (c.keep_room.ensures.topology ∙ l.invariant.topology)
+    (sym (c.next_arrival.ensures.value (inputs_of all net.journal) stands.0) ∙ c.in-Some.is) in
+    subst (λ x. Arrives x c.deliver_one.new.net (Err c.in-Err-deliver_one.stopped))
+    (ap (λ p. one_by_one c.args.arrivals rest p (is_journal_full p) (Some c.in-Some.item)) past
+    ∙ sym (next_turn c.args.net.now.topology all c.args.arrivals c.args.most l.turn (past_of l.net) (Some c.in-Some.item) c.loop-turn-test.true some)
+    ∙ l.invariant.course all told)
+    (one_stops c.args.arrivals rest (past_of net) (is_journal_full (past_of net)) c.in-Some.item c.deliver_one.new.net c.in-Err-deliver_one.stopped
+    (λ later. deliver_more c.args.net.now.topology all c.args.arrivals (c.args.most - (l.turn + 1)) later)
+    (c.in-Err-deliver_one.ensures.course all (l.invariant.packets ∙ told)))
+
 pub returns-in-Err-clause-course : goal.returns-in-Err-clause-course
 returns-in-Err-clause-course g c = λ all told.
     let l = c.loop-turn in
-    let rest : Past → Course = λ later. deliver c.args.net.now.topology all c.args.arrivals (c.args.most - (l.turn + 1)) later in
-    let stands = (l.invariant.together all (l.invariant.packets ∙ told)).0 in
-    let some : next_now c.args.net.now.topology all c.args.arrivals (past_of l.net) ≡ Some c.in-Some.item =
-    ap (λ t. next_arrival t l.net.journal (inputs_of all l.net.journal) c.args.arrivals) (sym l.invariant.topology)
-    ∙ sym (c.next_arrival.ensures.value (inputs_of all l.net.journal) stands) ∙ c.in-Some.is in
-    subst (λ x. Arrives x c.deliver_one.new.net (Err c.in-Err.stopped))
-    (sym (next_turn c.args.net.now.topology all c.args.arrivals c.args.most l.turn (past_of l.net) (Some c.in-Some.item) c.loop-turn-test.true some)
-    ∙ l.invariant.course all told)
-    (one_stops c.args.arrivals rest (past_of l.net) (is_journal_full (past_of l.net)) c.in-Some.item c.deliver_one.new.net c.in-Err.stopped
-    (λ later. deliver_more c.args.net.now.topology all c.args.arrivals (c.args.most - (l.turn + 1)) later)
-    (c.in-Err.ensures.course all (l.invariant.packets ∙ told)))
+    let net = c.keep_room.new.net in
+    let past : past_of net ≡ past_of l.net = c.keep_room.ensures.past in
+    subst (λ why. Arrives (deliver c.args.net.now.topology all c.args.arrivals c.args.most (past_of c.args.net.now)) net (Err why)) (sym c.in-Err.ensures.memory)
+    (subst (λ (x : Course). IsFirstPart net.journal x.past.entries) (l.invariant.course all told)
+    (subst (λ (p : Past). IsFirstPart p.entries (deliver c.args.net.now.topology all c.args.arrivals (c.args.most - l.turn) (past_of l.net)).past.entries) (sym past)
+    (deliver_more c.args.net.now.topology all c.args.arrivals (c.args.most - l.turn) (past_of l.net))))
 
 pub returns-clause-after : goal.returns-clause-after
 returns-clause-after g c = λ all told. c.loop-turn.invariant.together all (c.loop-turn.invariant.packets ∙ told)
@@ -81,8 +113,15 @@ loop-turn-init g c = record {
   writes = refl;
 }
 
-pub returns-in-Err-clause-goes_on : goal.returns-in-Err-clause-goes_on
-returns-in-Err-clause-goes_on g c = g.met.W.Watch.onward _ _ _ c.loop-turn.invariant.goes_on c.in-Err.ensures.goes_on
-
 pub returns-in-Err-clause-grown : goal.returns-in-Err-clause-grown
-returns-in-Err-clause-grown g c = first_part_trans _ _ _ c.loop-turn.invariant.grown c.in-Err.ensures.grown
+returns-in-Err-clause-grown g c =
+    let l = c.loop-turn in
+    subst (λ (p : Past). IsFirstPart c.args.net.now.journal p.entries) (sym c.keep_room.ensures.past) l.invariant.grown
+
+pub returns-in-Err-deliver_one-clause-goes_on : goal.returns-in-Err-deliver_one-clause-goes_on
+returns-in-Err-deliver_one-clause-goes_on g c = g.met.W.Watch.onward _ _ _ c.loop-turn.invariant.goes_on c.in-Err-deliver_one.ensures.goes_on
+
+pub returns-in-Err-deliver_one-clause-grown : goal.returns-in-Err-deliver_one-clause-grown
+returns-in-Err-deliver_one-clause-grown g c =
+    let journal = ap (λ (p : Past). p.entries) c.keep_room.ensures.past in
+    first_part_trans _ _ _ c.loop-turn.invariant.grown (subst (λ es. IsFirstPart es c.deliver_one.new.net.journal) journal c.in-Err-deliver_one.ensures.grown)

@@ -1,7 +1,7 @@
 use Rattle.std.proofs.Common.{◌≡◌, ◌+◌, ◌<◌, List, length, get_or, sym, ap, ◌∙◌, subst, arith}
-use Rattle.mn_base.specs.declared.links.LinkEnds.{LinkEnds}
+use Rattle.mn_wiring.specs.declared.links.LinkEnds.{LinkEnds}
 use Rattle.mn_base.specs.declared.numbers.LinkNo.{LinkNo}
-use Rattle.mn_base.specs.Wiring.{link}
+use Rattle.mn_wiring.specs.Wiring.{link}
 use Rattle.mn_spf.specs.Ways.{wiring_of}
 use Rattle.mn_spf.proofs.Adjacent.{AreBelow, number, put, none_below, down_below, up_below, all_below}
 use Rattle.mn_spf.proofs.adjacency.links_by_node.Goals as goal
@@ -15,7 +15,7 @@ loop-number-preserved c =
     let v = c.args.view.now in
     let k = c.loop-number.number in
     let net = c.ends-links.ensures.form.network in
-    let zero : LinkEnds = record { a = record { 0 = 0 }; b = record { 0 = 0 }; cost = 0; delay = 0; loss = 0 } in
+    let zero : LinkEnds = record { a = record { 0 = 0 }; b = record { 0 = 0 }; cost = 0; delay = 0; loss = 0; life = 0 } in
     let a = (get_or c.ends-links.result.now k zero).a.0 in
     let b = (get_or c.ends-links.result.now k zero).b.0 in
     let is : get_or c.ends-links.result.now k zero ≡ link (wiring_of v) k = ap (λ (es : List LinkEnds). get_or es k zero) c.ends-links.ensures.value in

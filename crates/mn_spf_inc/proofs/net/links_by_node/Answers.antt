@@ -1,5 +1,5 @@
 use Rattle.std.proofs.Common.{◌+◌, ◌<◌, List, length, get_or, sym, ap, ◌∙◌, refl, subst, arith}
-use Rattle.mn_base.specs.declared.links.LinkEnds.{LinkEnds}
+use Rattle.mn_wiring.specs.declared.links.LinkEnds.{LinkEnds}
 use Rattle.mn_base.specs.declared.numbers.LinkNo.{LinkNo}
 use Rattle.mn_spf.proofs.Adjacent.{AreBelow, number, put, none_below, up_below, all_below}
 use Rattle.mn_spf_inc.specs.Nets.{all_up}
@@ -13,7 +13,7 @@ pub loop-number-preserved : goal.loop-number-preserved
 loop-number-preserved c =
     let v = all_up c.args.nodes c.args.ends.now in
     let k = c.loop-number.number in
-    let zero : LinkEnds = record { a = record { 0 = 0 }; b = record { 0 = 0 }; cost = 0; delay = 0; loss = 0 } in
+    let zero : LinkEnds = record { a = record { 0 = 0 }; b = record { 0 = 0 }; cost = 0; delay = 0; loss = 0; life = 0 } in
     let here : k < length v.ends = c.loop-number-test.true in
     let it = c.requires.links k zero here in
     subst (AreBelow v (k + 1))

@@ -1,5 +1,5 @@
 use Rattle.std.proofs.Common.{◌≡◌, ◌++◌, ◌∷◌, [], length, ap, ◌∙◌, length-append}
-use Rattle.mn_flight_pool.proofs.Grown.{channel_held, channel_counted, channel_by_due}
+use Rattle.mn_flight_pool.proofs.Grown.{channel_held, channel_counted, channel_by_due, channel_recent}
 use Rattle.mn_flight_pool.proofs.pool.Pool.add_channel.Goals as goal
 
 pub returns-clause-whole : goal.returns-clause-whole
@@ -18,4 +18,6 @@ returns-clause-whole g c =
       by_due = channel_by_due c.args.self.now c.requires.whole c.in_ok-first.first c.add.new.self added fresh c.requires.count c.lone.new.self c.lone.ensures;
       room = c.requires.whole.room;
       ticks_room = c.requires.whole.ticks_room;
+      recent = channel_recent c.args.self.now c.requires.whole c.in_ok-first.first c.add.new.self added fresh c.requires.count c.lone.new.self c.lone.ensures;
+      recent_room = c.requires.whole.recent_room;
     }

@@ -1,5 +1,6 @@
 use Rattle.std.proofs.Common.{[], arith, subst}
 use Rattle.mn_flight_pool.specs.Rings.{IsVacantFirst}
+use Rattle.mn_flight_pool.proofs.Whole.{none_last}
 use Rattle.mn_flight_pool.proofs.Grown.{empty_held, empty_counted, empty_by_due}
 use Rattle.mn_flight_pool.proofs.pool.Pool.empty.Goals as goal
 
@@ -17,4 +18,6 @@ returns-clause-whole g c =
           c.new-3.result.items c.new-3.ensures.items;
       room = omega (arith, c.new-4.ensures.len);
       ticks_room = omega (arith, c.new-4.ensures.len);
+      recent = none_last [] c.new-5.result.items c.new-5.ensures.items;
+      recent_room = omega (arith, c.new-4.ensures.len);
     }

@@ -1,7 +1,20 @@
 use Rattle.std.proofs.Common.{◌≡◌, ◌++◌, ◌∷◌, [], arith}
 use Rattle.std.proofs.lemmas.Grind.{common_steps}
-use Rattle.mn_flight_pool.proofs.Grown.{grown_held, grown_items, grown_counted, grown_by_due}
+use Rattle.mn_flight_pool.proofs.Grown.{grown_held, grown_items, grown_counted, grown_by_due, grown_recent}
+use Rattle.mn_flight_pool.proofs.Whole.{recent_few}
 use Rattle.mn_flight_pool.proofs.pool.Pool.grow.Goals as goal
+
+pub overflow_sub-ticks : goal.overflow_sub-ticks
+overflow_sub-ticks g c =
+    omega (
+      arith,
+      recent_few c.args.self.now c.requires,
+      c.args.self.now.recent.ok.0,
+      c.len-2.ensures,
+      c.in-Some-checked_add.ensures,
+      c.in-Some.ensures,
+      c.len.ensures,
+    )
 
 pub returns-clause-whole : goal.returns-clause-whole
 returns-clause-whole g c =
@@ -46,6 +59,23 @@ returns-clause-whole g c =
             c.in-Some.ensures,
             c.in-Some-checked_add.ensures,
             c.len.ensures,
+          );
+      recent =
+          let same : c.reserve-3.new.self.items ≡ c.args.self.now.recent.items = c.reserve-3.ensures.items in
+          rw same (grown_recent c.args.self.now c.requires c.in_ok-node.node c.add.new.self added fresh);
+      recent_room =
+          grind (
+            arith,
+            common_steps,
+            c.requires.recent_room,
+            c.push.ensures.upper_bound,
+            c.in_ok-reserve-3.ensures,
+            c.reserve-3.ensures,
+            c.reserve.ensures.len,
+            c.in-Some.ensures,
+            c.in-Some-checked_add.ensures,
+            c.len.ensures,
+            c.len-2.ensures,
           );
     }
 

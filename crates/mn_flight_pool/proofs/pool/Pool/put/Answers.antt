@@ -1,8 +1,9 @@
-use Rattle.std.proofs.Common.{◌<◌, ◌≤◌, ◌+◌, length, arith, ap, get_or}
-use Rattle.std.specs.Prelude.{slice_set}
+use Rattle.std.proofs.Common.{◌≡◌, ◌<◌, ◌≤◌, ◌+◌, ◌++◌, ◌∷◌, [], length, true, cond, arith, ap, ◌∙◌, get_or}
+use Rattle.std.specs.Prelude.{is_ok, slice_set}
 use Rattle.std.proofs.lemmas.Grind.{common_steps}
 use Rattle.mn_flight_pool.proofs.Put.{ticks_count, count_within, count_read, free_there, first_ring, node_in_one, last_in_one, next_in_one, put_held}
-use Rattle.mn_flight_pool.proofs.Put.{put_items, put_counted, put_by_due}
+use Rattle.mn_flight_pool.proofs.Put.{put_items, put_counted, put_by_due, put_recent}
+use Rattle.mn_flight_pool.proofs.Whole.{recent_few}
 use Rattle.mn_flight_pool.proofs.pool.Pool.put.Goals as goal
 
 pub enter-requires-clause-node : goal.enter-requires-clause-node
@@ -47,6 +48,10 @@ overflow_add-index_mut g c =
 pub returns-in-Some-clause-whole : goal.returns-in-Some-clause-whole
 returns-in-Some-clause-whole g c =
     let below : c.args.item.channel < length c.args.self.now.heads.items = omega (arith, c.requires.channel, c.args.self.now.heads.ok.0) in
+    let ok : is_ok c.push.result ≡ true =
+    c.push.ensures.succeeds (omega (arith, c.requires.whole.recent_room, c.requires.room, recent_few c.args.self.now c.requires.whole)) in
+    let pushed : c.push.new.self.items ≡ c.args.self.now.recent.items ++ c.in-Some.node ∷ [] =
+    c.push.ensures.items ∙ ap (λ b. cond b (c.args.self.now.recent.items ++ c.in-Some.node ∷ []) c.args.self.now.recent.items) ok in
     record {
       held = put_held c.args.self.now c.requires.whole c.in-Some.node c.pop.new.self.items c.in-Some.ensures.items c.args.item c.index-first.result.now
           below c.index-first.ensures c.requires.number c.enter.new.store c.enter.ensures c.link_due.new.store c.link_due.ensures.store;
@@ -62,6 +67,10 @@ returns-in-Some-clause-whole g c =
           c.link_due.new.ticks.items c.link_due.ensures.ticks;
       room = omega (arith, c.requires.whole.room, c.in-Some.ensures.len, c.in-Some.ensures.capacity);
       ticks_room = omega (arith, c.requires.whole.ticks_room, c.in-Some.ensures.len, c.link_due.ensures.capacity);
+      recent = put_recent c.args.self.now c.requires.whole c.in-Some.node c.pop.new.self.items c.in-Some.ensures.items c.args.item c.index-first.result.now
+          below c.index-first.ensures c.requires.number c.enter.new.store c.enter.ensures c.link_due.new.store c.link_due.ensures.store
+          c.push.new.self.items pushed;
+      recent_room = omega (arith, c.requires.whole.recent_room, c.in-Some.ensures.len, c.push.ensures.capacity);
     }
 
 pub returns-in-Some-clause-items : goal.returns-in-Some-clause-items

@@ -8,7 +8,7 @@ use Rattle.mn_flight_pool.specs.declared.node.Pair.TheVariants.{Due}
 use Rattle.mn_flight_pool.proofs.Put.{ptrs_push, count_read}
 use Rattle.mn_flight_pool.proofs.Take.{some_count, next_there, prev_there, no_item, same_item, below, some_on, number_ring, channel_ring, item_one}
 use Rattle.mn_flight_pool.proofs.Take.{take_held, take_items, take_counted, take_by_due}
-use Rattle.mn_flight_pool.proofs.Whole.{node_holds, items_count}
+use Rattle.mn_flight_pool.proofs.Whole.{node_holds, items_count, none_last}
 use Rattle.mn_flight_pool.proofs.pool.Pool.take.Goals as goal
 
 pub returns-in_err-due : goal.returns-in_err-due
@@ -106,6 +106,16 @@ returns-clause-whole g c =
             c.requires.whole.ticks_room,
             c.push.ensures.upper_bound,
             c.unlink_due.ensures.capacity,
+            some_count c.args.self.now c.requires.whole
+                c.args.node.ptr c.requires.node,
+          );
+      recent = none_last _ c.clear.new.self.items c.clear.ensures.items;
+      recent_room =
+          omega (
+            arith,
+            c.requires.whole.recent_room,
+            c.push.ensures.upper_bound,
+            c.clear.ensures.capacity,
             some_count c.args.self.now c.requires.whole
                 c.args.node.ptr c.requires.node,
           );

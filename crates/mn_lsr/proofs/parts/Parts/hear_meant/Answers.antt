@@ -5,7 +5,7 @@ use Rattle.mn_node.specs.Machine.{Hears}
 use Rattle.mn_ldp_session.specs.declared.session.Session.{Session}
 use Rattle.mn_lsr.specs.Message.{meaning}
 use Rattle.mn_lsr.specs.Said.{pdu_of}
-use Rattle.mn_lsr.specs.Replies.{replied}
+use Rattle.mn_lsr.specs.Replies.{replied, heard_by}
 use Rattle.mn_lsr.specs.Parts.{wiring_in}
 use Rattle.mn_lsr.proofs.HeardMessage.{meant-is, hearing-as, machine-heard}
 use Rattle.mn_lsr.proofs.Tail.{after-all, may-follow-then, replied-then, machines-then}
@@ -24,7 +24,8 @@ tell-requires c =
     let happens =
     hearing-as p st l c.requires.there c.in-Some.was (sym c.session.ensures ∙ c.in-Some.is) body m label c.in-Ok.reply c.hear.new.self c.far.result es
     c.set_session.new.self.sessions.items meant
-    c.in-Ok.ensures.table c.in-Ok.ensures.ends c.far.ensures c.event_of-event.ensures c.set_session.ensures.set in
+    c.in-Ok.ensures.table c.in-Ok.ensures.ends c.far.ensures
+    (c.event_of-event.ensures ∙ ap (λ b. heard_by c.far.result b m label) c.begins.ensures) c.set_session.ensures.set in
     let said =
     replied-then p c.set_session.new.self c.reply.new.self c.set_session.new.self.sessions.items l label c.in-Ok.reply (map pdu_of c.args.out.now.items)
     (map pdu_of c.reply.new.out.items) c.set_session.ensures.others refl
@@ -45,7 +46,8 @@ returns-clause-stands c =
     let happens =
     hearing-as p st l c.requires.there c.in-Some.was (sym c.session.ensures ∙ c.in-Some.is) body m label c.in-Ok.reply c.hear.new.self c.far.result es
     c.set_session.new.self.sessions.items meant
-    c.in-Ok.ensures.table c.in-Ok.ensures.ends c.far.ensures c.event_of-event.ensures c.set_session.ensures.set in
+    c.in-Ok.ensures.table c.in-Ok.ensures.ends c.far.ensures
+    (c.event_of-event.ensures ∙ ap (λ b. heard_by c.far.result b m label) c.begins.ensures) c.set_session.ensures.set in
     let said =
     replied-then p c.set_session.new.self c.reply.new.self c.set_session.new.self.sessions.items l label c.in-Ok.reply (map pdu_of c.args.out.now.items)
     (map pdu_of c.reply.new.out.items) c.set_session.ensures.others refl
@@ -77,7 +79,8 @@ returns-clause-node c =
     let happens =
     hearing-as p st l c.requires.there c.in-Some.was (sym c.session.ensures ∙ c.in-Some.is) body m label c.in-Ok.reply c.hear.new.self c.far.result es
     c.set_session.new.self.sessions.items meant
-    c.in-Ok.ensures.table c.in-Ok.ensures.ends c.far.ensures c.event_of-event.ensures c.set_session.ensures.set in
+    c.in-Ok.ensures.table c.in-Ok.ensures.ends c.far.ensures
+    (c.event_of-event.ensures ∙ ap (λ b. heard_by c.far.result b m label) c.begins.ensures) c.set_session.ensures.set in
     let said =
     replied-then p c.set_session.new.self c.reply.new.self c.set_session.new.self.sessions.items l label c.in-Ok.reply (map pdu_of c.args.out.now.items)
     (map pdu_of c.reply.new.out.items) c.set_session.ensures.others refl
@@ -109,7 +112,8 @@ returns-clause-said c =
     let happens =
     hearing-as p st l c.requires.there c.in-Some.was (sym c.session.ensures ∙ c.in-Some.is) body m label c.in-Ok.reply c.hear.new.self c.far.result es
     c.set_session.new.self.sessions.items meant
-    c.in-Ok.ensures.table c.in-Ok.ensures.ends c.far.ensures c.event_of-event.ensures c.set_session.ensures.set in
+    c.in-Ok.ensures.table c.in-Ok.ensures.ends c.far.ensures
+    (c.event_of-event.ensures ∙ ap (λ b. heard_by c.far.result b m label) c.begins.ensures) c.set_session.ensures.set in
     let said =
     replied-then p c.set_session.new.self c.reply.new.self c.set_session.new.self.sessions.items l label c.in-Ok.reply (map pdu_of c.args.out.now.items)
     (map pdu_of c.reply.new.out.items) c.set_session.ensures.others refl
@@ -141,7 +145,8 @@ returns-clause-machine c =
     let happens =
     hearing-as p st l c.requires.there c.in-Some.was (sym c.session.ensures ∙ c.in-Some.is) body m label c.in-Ok.reply c.hear.new.self c.far.result es
     c.set_session.new.self.sessions.items meant
-    c.in-Ok.ensures.table c.in-Ok.ensures.ends c.far.ensures c.event_of-event.ensures c.set_session.ensures.set in
+    c.in-Ok.ensures.table c.in-Ok.ensures.ends c.far.ensures
+    (c.event_of-event.ensures ∙ ap (λ b. heard_by c.far.result b m label) c.begins.ensures) c.set_session.ensures.set in
     let said =
     replied-then p c.set_session.new.self c.reply.new.self c.set_session.new.self.sessions.items l label c.in-Ok.reply (map pdu_of c.args.out.now.items)
     (map pdu_of c.reply.new.out.items) c.set_session.ensures.others refl

@@ -10,62 +10,64 @@ use Rattle.mn_lsr.specs.declared.said.Said.{Said}
 use Rattle.mn_lsr.specs.Said.{pdu_of}
 use Rattle.mn_lsr.specs.Telling.{said_by_tell}
 use Rattle.mn_lsr.specs.Parts.{Stands, node_in, pdus_by, ends_after}
-use Rattle.mn_lsr.proofs.Learning.{learning, tree-of, events-of, releases-of}
+use Rattle.mn_lsr.proofs.Learning.{learning, events-of, releases-of}
+use Rattle.mn_lsr.proofs.Mended.{link_there, turns, mended-then, tree-then}
 use Rattle.mn_lsr.proofs.After.{Happens, may-follow, stands-then, node-of, said-then, length-machines}
 use Rattle.mn_lsr.proofs.parts.Parts.learn.Goals as goal
+
+pub turn-requires-clause-there : goal.turn-requires-clause-there
+turn-requires-clause-there c = link_there c.args.self.now c.requires.stands c.args.link.0 c.requires.there
+
+pub turn-requires-clause-turns : goal.turn-requires-clause-turns
+turn-requires-clause-turns c =
+    turns c.args.self.now c.requires.stands c.args.link.0 c.requires.there c.learn.new.self c.in-Ok.ensures.learned c.up-up.result c.up-up.ensures
 
 pub follow-requires : goal.follow-requires
 follow-requires c =
     let p = c.args.self.now in
     let st = c.requires.stands in
     let l = c.args.link.0 in
-    let tree_is = tree-of p st l c.learn.new.self c.in-Ok-tree.tree c.in-Ok.ensures.learned c.in-Ok-tree.ensures.least in
+    let tree_is =
+    tree-then p st l c.requires.there c.learn.new.self c.in-Ok.ensures.learned c.up-up.result c.up-up.ensures c.turn.new.self
+    c.turn.ensures.of c.in-Ok-turn.ensures.turned c.in-Ok-turn.ensures.ok.1 c.tree-tree.result.now c.tree-tree.ensures.value c.tree-tree.ensures.least in
     let events_are =
-    events-of p st l c.learn.new.self c.in-Ok-tree.tree c.nodes.result c.in-Ok-next_hops.events.items c.deref.result.now c.in-Ok.ensures.learned
+    events-of p st l c.learn.new.self c.tree-tree.result.now c.nodes.result c.in-Ok-next_hops.events.items c.deref.result.now c.in-Ok.ensures.learned
     c.nodes.ensures.value c.in-Ok-next_hops.ensures c.deref.ensures.value in
     let happens =
     subst (λ (es : List LibEvent). Happens p (Learns l) (after_learn p.view l).counts es p.sessions.items 0 []) (sym events_are)
-    (learning p st l c.in-Ok-tree.tree tree_is) in
-    may-follow p st (Learns l) (after_learn p.view l).counts c.deref.result.now p.sessions.items 0 [] happens c.learn.new.self p.tree p.sessions 0
+    (learning p st l c.tree-tree.result.now tree_is) in
+    may-follow p st (Learns l) (after_learn p.view l).counts c.deref.result.now p.sessions.items 0 [] happens c.learn.new.self c.turn.new.self p.sessions 0
     c.in-Ok.ensures.learned (sym (length-machines p.sessions.items) ∙ st.ends.one_each)
-    (releases-of p c.in-Ok-tree.tree 0 c.deref.result.now events_are)
+    (releases-of p c.tree-tree.result.now 0 c.deref.result.now events_are)
 
 pub returns-clause-stands : goal.returns-clause-stands
 returns-clause-stands c =
     let p = c.args.self.now in
     let st = c.requires.stands in
     let l = c.args.link.0 in
-    let tree_is = tree-of p st l c.learn.new.self c.in-Ok-tree.tree c.in-Ok.ensures.learned c.in-Ok-tree.ensures.least in
+    let tree_is =
+    tree-then p st l c.requires.there c.learn.new.self c.in-Ok.ensures.learned c.up-up.result c.up-up.ensures c.turn.new.self
+    c.turn.ensures.of c.in-Ok-turn.ensures.turned c.in-Ok-turn.ensures.ok.1 c.tree-tree.result.now c.tree-tree.ensures.value c.tree-tree.ensures.least in
+    let mended_is =
+    mended-then p st l c.requires.there c.learn.new.self c.in-Ok.ensures.learned c.up-up.result c.up-up.ensures c.turn.new.self
+    c.turn.ensures.of c.in-Ok-turn.ensures.turned c.in-Ok-turn.ensures.ok.1 in
     let events_are =
-    events-of p st l c.learn.new.self c.in-Ok-tree.tree c.nodes.result c.in-Ok-next_hops.events.items c.deref.result.now c.in-Ok.ensures.learned
+    events-of p st l c.learn.new.self c.tree-tree.result.now c.nodes.result c.in-Ok-next_hops.events.items c.deref.result.now c.in-Ok.ensures.learned
     c.nodes.ensures.value c.in-Ok-next_hops.ensures c.deref.ensures.value in
     let happens =
     subst (λ (es : List LibEvent). Happens p (Learns l) (after_learn p.view l).counts es p.sessions.items 0 []) (sym events_are)
-    (learning p st l c.in-Ok-tree.tree tree_is) in
+    (learning p st l c.tree-tree.result.now tree_is) in
     let q : Parts = c.follow.new.self in
-    let of : Parts → Parts =
-    λ x. record {
-      me = x.me;
-      loopbacks = x.loopbacks;
-      view = x.view;
-      tree = c.in-Ok-tree.tree;
-      sessions = q.sessions;
-      lib = q.lib;
-      labels =
-          x.labels;
-      lfib = q.lfib;
-      attached = x.attached;
-    } in
     let counted : q.sessions.items ≡ ends_after p.sessions.items
     (flat_map (said_by_tell (record { loopbacks = p.loopbacks.items; ends = p.view.ends }) p.me.0) (tells p.lib c.deref.result.now)) =
     c.in-Ok-follow.ensures.counted
     ∙ ap (λ (v : Learned). ends_after p.sessions.items
     (flat_map (said_by_tell (record { loopbacks = p.loopbacks.items; ends = v.ends }) p.me.0) (tells p.lib c.deref.result.now))) c.in-Ok.ensures.learned
     in
-    subst (λ (x : Parts). Stands (of x)) (sym c.in-Ok-follow.ensures.others)
-    (stands-then p st (Learns l) (after_learn p.view l).counts c.deref.result.now p.sessions.items 0 [] happens c.learn.new.self c.in-Ok-tree.tree
+    subst Stands (sym c.in-Ok-follow.ensures.others)
+    (stands-then p st (Learns l) (after_learn p.view l).counts c.deref.result.now p.sessions.items 0 [] happens c.learn.new.self c.turn.new.self
     q.sessions q.lib q.lfib
-    c.in-Ok.ensures.learned (length-set p.view.counts l (slice_index p.view.counts l + 1)) tree_is c.in-Ok-follow.ensures.bindings counted
+    c.in-Ok.ensures.learned (length-set p.view.counts l (slice_index p.view.counts l + 1)) mended_is c.in-Ok-follow.ensures.bindings counted
     c.in-Ok-follow.ensures.ways c.in-Ok-follow.ensures.uses)
 
 pub returns-clause-node : goal.returns-clause-node
@@ -73,35 +75,24 @@ returns-clause-node c =
     let p = c.args.self.now in
     let st = c.requires.stands in
     let l = c.args.link.0 in
-    let tree_is = tree-of p st l c.learn.new.self c.in-Ok-tree.tree c.in-Ok.ensures.learned c.in-Ok-tree.ensures.least in
+    let tree_is =
+    tree-then p st l c.requires.there c.learn.new.self c.in-Ok.ensures.learned c.up-up.result c.up-up.ensures c.turn.new.self
+    c.turn.ensures.of c.in-Ok-turn.ensures.turned c.in-Ok-turn.ensures.ok.1 c.tree-tree.result.now c.tree-tree.ensures.value c.tree-tree.ensures.least in
     let events_are =
-    events-of p st l c.learn.new.self c.in-Ok-tree.tree c.nodes.result c.in-Ok-next_hops.events.items c.deref.result.now c.in-Ok.ensures.learned
+    events-of p st l c.learn.new.self c.tree-tree.result.now c.nodes.result c.in-Ok-next_hops.events.items c.deref.result.now c.in-Ok.ensures.learned
     c.nodes.ensures.value c.in-Ok-next_hops.ensures c.deref.ensures.value in
     let happens =
     subst (λ (es : List LibEvent). Happens p (Learns l) (after_learn p.view l).counts es p.sessions.items 0 []) (sym events_are)
-    (learning p st l c.in-Ok-tree.tree tree_is) in
+    (learning p st l c.tree-tree.result.now tree_is) in
     let q : Parts = c.follow.new.self in
-    let of : Parts → Parts =
-    λ x. record {
-      me = x.me;
-      loopbacks = x.loopbacks;
-      view = x.view;
-      tree = c.in-Ok-tree.tree;
-      sessions = q.sessions;
-      lib = q.lib;
-      labels =
-          x.labels;
-      lfib = q.lfib;
-      attached = x.attached;
-    } in
     let counted : q.sessions.items ≡ ends_after p.sessions.items
     (flat_map (said_by_tell (record { loopbacks = p.loopbacks.items; ends = p.view.ends }) p.me.0) (tells p.lib c.deref.result.now)) =
     c.in-Ok-follow.ensures.counted
     ∙ ap (λ (v : Learned). ends_after p.sessions.items
     (flat_map (said_by_tell (record { loopbacks = p.loopbacks.items; ends = v.ends }) p.me.0) (tells p.lib c.deref.result.now))) c.in-Ok.ensures.learned
     in
-    ap (λ (x : Parts). node_in (of x)) c.in-Ok-follow.ensures.others
-    ∙ node-of p st (Learns l) (after_learn p.view l).counts c.deref.result.now p.sessions.items 0 [] happens c.learn.new.self c.in-Ok-tree.tree q.sessions
+    ap node_in c.in-Ok-follow.ensures.others
+    ∙ node-of p st (Learns l) (after_learn p.view l).counts c.deref.result.now p.sessions.items 0 [] happens c.learn.new.self c.turn.new.self q.sessions
     q.lib q.lfib c.in-Ok.ensures.learned c.in-Ok-follow.ensures.bindings counted
 
 pub returns-clause-said : goal.returns-clause-said
@@ -109,13 +100,15 @@ returns-clause-said c =
     let p = c.args.self.now in
     let st = c.requires.stands in
     let l = c.args.link.0 in
-    let tree_is = tree-of p st l c.learn.new.self c.in-Ok-tree.tree c.in-Ok.ensures.learned c.in-Ok-tree.ensures.least in
+    let tree_is =
+    tree-then p st l c.requires.there c.learn.new.self c.in-Ok.ensures.learned c.up-up.result c.up-up.ensures c.turn.new.self
+    c.turn.ensures.of c.in-Ok-turn.ensures.turned c.in-Ok-turn.ensures.ok.1 c.tree-tree.result.now c.tree-tree.ensures.value c.tree-tree.ensures.least in
     let events_are =
-    events-of p st l c.learn.new.self c.in-Ok-tree.tree c.nodes.result c.in-Ok-next_hops.events.items c.deref.result.now c.in-Ok.ensures.learned
+    events-of p st l c.learn.new.self c.tree-tree.result.now c.nodes.result c.in-Ok-next_hops.events.items c.deref.result.now c.in-Ok.ensures.learned
     c.nodes.ensures.value c.in-Ok-next_hops.ensures c.deref.ensures.value in
     let happens =
     subst (λ (es : List LibEvent). Happens p (Learns l) (after_learn p.view l).counts es p.sessions.items 0 []) (sym events_are)
-    (learning p st l c.in-Ok-tree.tree tree_is) in
+    (learning p st l c.tree-tree.result.now tree_is) in
     c.in-Ok-follow.ensures.said
     ∙ ap (λ (xs : List Said). map pdu_of xs ++ pdus_by (record { loopbacks = p.loopbacks.items; ends = c.learn.new.self.ends }) p.me.0 0 p.sessions.items
     (flat_map (said_by_tell (record { loopbacks = p.loopbacks.items; ends = c.learn.new.self.ends }) p.me.0) (tells p.lib c.deref.result.now)))

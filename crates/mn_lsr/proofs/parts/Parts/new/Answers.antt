@@ -9,12 +9,16 @@ returns-clause-stands c =
       me = refl;
       loopbacks = c.in_ok-loopbacks.ensures.items;
       view = c.in_ok-view.ensures;
-      tree = c.in_ok-tree.ensures.least;
+      sound = c.in_ok-mended.ensures.sound;
+      from = c.in_ok-mended.ensures.of.0;
+      nodes = c.in_ok-mended.ensures.of.1;
+      ends = c.in_ok-mended.ensures.of.2;
+      up = c.in_ok-mended.ensures.down;
       sessions = c.in_ok-sessions.ensures;
       bindings = c.in_ok-lib.ensures;
       given = c.in_ok-give_fecs.ensures;
-      uses = c.new-3.ensures;
-      attached = c.new-4.ensures.items;
+      uses = c.new-4.ensures;
+      attached = c.new-5.ensures.items;
     } in
     made-stands c.args.me c.args.loopbacks.now c.args.ends.now _ c.requires.me c.requires.wired made
 
@@ -24,22 +28,26 @@ returns-clause-node c =
       me = c.args.me;
       loopbacks = c.in_ok-loopbacks.loopbacks;
       view = c.in_ok-view.view;
-      tree = c.in_ok-tree.tree;
+      mended = c.in_ok-mended.mended;
       sessions = c.in_ok-sessions.sessions;
       lib = c.in_ok-lib.lib;
       labels = c.give_fecs.new.labels;
-      lfib = c.new-3.result;
-      attached = c.new-4.result;
+      lfib = c.new-4.result;
+      attached = c.new-5.result;
     } in
     let made : IsMade c.args.me c.args.loopbacks.now c.args.ends.now p = record {
       me = refl;
       loopbacks = c.in_ok-loopbacks.ensures.items;
       view = c.in_ok-view.ensures;
-      tree = c.in_ok-tree.ensures.least;
+      sound = c.in_ok-mended.ensures.sound;
+      from = c.in_ok-mended.ensures.of.0;
+      nodes = c.in_ok-mended.ensures.of.1;
+      ends = c.in_ok-mended.ensures.of.2;
+      up = c.in_ok-mended.ensures.down;
       sessions = c.in_ok-sessions.ensures;
       bindings = c.in_ok-lib.ensures;
       given = c.in_ok-give_fecs.ensures;
-      uses = c.new-3.ensures;
-      attached = c.new-4.ensures.items;
+      uses = c.new-4.ensures;
+      attached = c.new-5.ensures.items;
     } in
     made-node c.args.me c.args.loopbacks.now c.args.ends.now p c.requires.me c.requires.wired made

@@ -29,7 +29,7 @@ pub invariant_of-self-2 : goal.invariant_of-self-2
 invariant_of-self-2 c = λ works.
     let may = net_may _ _ (step.Attach c.args.site) [] c.self.view_is c.requires.may in
     let is = c.self.invariant may.works in
-    (as_it_is _ _ (step.Attach c.args.site) [] c.reserve.new.self.items c.push_reserved.new.self.items
+    (as_it_is _ _ (step.Attach c.args.site) [] c.reserve.new.self.items c.push_reserved.new.self.items _
     (attach_done _ c.args.site c.in-Ok.label c.attach.new.self c.attach-2.new.self c.begin.new.self c.in_ok-more.more c.in_ok-self-inside.field-0
     c.laws.ensures is may
     (next_is _ c.args.site c.in-Ok.label c.laws.ensures is may
@@ -42,7 +42,7 @@ returns-clause-done c =
     let may = net_may _ _ (step.Attach c.args.site) [] c.self.view_is c.requires.may in
     let is = c.self.invariant may.works in
     net_done _ _ _ (step.Attach c.args.site) [] c.self.view_is
-    (as_it_is _ _ (step.Attach c.args.site) [] c.reserve.new.self.items c.push_reserved.new.self.items
+    (as_it_is _ _ (step.Attach c.args.site) [] c.reserve.new.self.items c.push_reserved.new.self.items _
     (attach_done _ c.args.site c.in-Ok.label c.attach.new.self c.attach-2.new.self c.begin.new.self c.in_ok-more.more c.in_ok-self-inside.field-0
     c.laws.ensures is may
     (next_is _ c.args.site c.in-Ok.label c.laws.ensures is may

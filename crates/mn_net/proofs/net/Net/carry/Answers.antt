@@ -38,7 +38,7 @@ count_frame-requires-clause-few c = λ n below.
 pub invariant_of-self-2 : goal.invariant_of-self-2
 invariant_of-self-2 c = λ works.
     let may = net_may _ _ (step.Carry c.args.link c.args.dir c.args.place) [] c.self.view_is c.requires.may in
-    (as_it_is _ _ (step.Carry c.args.link c.args.dir c.args.place) [] c.reserve.new.self.items c.push_reserved.new.self.items
+    (as_it_is _ _ (step.Carry c.args.link c.args.dir c.args.place) [] c.reserve.new.self.items c.push_reserved.new.self.items _
     (carry_done _ c.carry-flies.new.self c.count_frame.new.tally c.args.link c.args.dir c.args.place c.carry-flies.result
     (c.self.inside.made + c.from.result) c.receiver-node.result.0
     c.node.result.now c.table-table.result.now c.a_transport_goes_on_as_it_was.ensures c.routes_stay_as_they_were.ensures c.laws.ensures
@@ -46,13 +46,13 @@ invariant_of-self-2 c = λ works.
     c.node.ensures c.table-table.ensures.uses c.carry-flies.ensures.moved c.carry-flies.ensures.made c.carry-flies.ensures.counts
     (ap (λ n. c.self.inside.made + n) (c.from.ensures ∙ one_more c.carry-flies.result))
     (counted_so c.self.inside.topology (frame_of c.self.inside.made c.carry-flies.new.self.flying) c.self.inside.tally c.reserve-2.new.self
-    c.count_frame.new.tally c.in_ok-reserve-2.ensures.kept c.count_frame.ensures)) may.works c.reserve.ensures.items c.push_reserved.ensures.items).is
+    c.count_frame.new.tally c.in_ok-reserve-2.ensures.kept c.count_frame.ensures.counted)) may.works c.reserve.ensures.items c.push_reserved.ensures.items).is
 
 pub returns-clause-done : goal.returns-clause-done
 returns-clause-done c =
     let may = net_may _ _ (step.Carry c.args.link c.args.dir c.args.place) [] c.self.view_is c.requires.may in
     net_done _ _ _ (step.Carry c.args.link c.args.dir c.args.place) [] c.self.view_is
-    (as_it_is _ _ (step.Carry c.args.link c.args.dir c.args.place) [] c.reserve.new.self.items c.push_reserved.new.self.items
+    (as_it_is _ _ (step.Carry c.args.link c.args.dir c.args.place) [] c.reserve.new.self.items c.push_reserved.new.self.items _
     (carry_done _ c.carry-flies.new.self c.count_frame.new.tally c.args.link c.args.dir c.args.place c.carry-flies.result
     (c.self.inside.made + c.from.result) c.receiver-node.result.0
     c.node.result.now c.table-table.result.now c.a_transport_goes_on_as_it_was.ensures c.routes_stay_as_they_were.ensures c.laws.ensures
@@ -60,4 +60,4 @@ returns-clause-done c =
     c.node.ensures c.table-table.ensures.uses c.carry-flies.ensures.moved c.carry-flies.ensures.made c.carry-flies.ensures.counts
     (ap (λ n. c.self.inside.made + n) (c.from.ensures ∙ one_more c.carry-flies.result))
     (counted_so c.self.inside.topology (frame_of c.self.inside.made c.carry-flies.new.self.flying) c.self.inside.tally c.reserve-2.new.self
-    c.count_frame.new.tally c.in_ok-reserve-2.ensures.kept c.count_frame.ensures)) may.works c.reserve.ensures.items c.push_reserved.ensures.items)
+    c.count_frame.new.tally c.in_ok-reserve-2.ensures.kept c.count_frame.ensures.counted)) may.works c.reserve.ensures.items c.push_reserved.ensures.items)

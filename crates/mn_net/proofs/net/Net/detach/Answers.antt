@@ -25,7 +25,7 @@ detach-requires-2 c = record {
 pub invariant_of-self-2 : goal.invariant_of-self-2
 invariant_of-self-2 c = λ works.
     let may = net_may _ _ (step.Detach c.args.site) [] c.self.view_is c.requires.may in
-    (as_it_is _ _ (step.Detach c.args.site) [] c.reserve.new.self.items c.push_reserved.new.self.items
+    (as_it_is _ _ (step.Detach c.args.site) [] c.reserve.new.self.items c.push_reserved.new.self.items _
     (detach_done _ c.args.site c.detach-2.new.self c.detach.new.self c.begin.new.self c.in_ok-more.more c.in_ok-self-inside.field-0
     c.laws.ensures (c.self.invariant may.works) may c.detach-2.ensures.goes c.detach-2.ensures.notices c.detach-2.ensures.messages
     c.in_ok-more.ensures.did c.begin.ensures.begun c.in_ok-self-inside.ensures) may.works c.reserve.ensures.items c.push_reserved.ensures.items).is
@@ -34,7 +34,7 @@ pub returns-clause-done : goal.returns-clause-done
 returns-clause-done c =
     let may = net_may _ _ (step.Detach c.args.site) [] c.self.view_is c.requires.may in
     net_done _ _ _ (step.Detach c.args.site) [] c.self.view_is
-    (as_it_is _ _ (step.Detach c.args.site) [] c.reserve.new.self.items c.push_reserved.new.self.items
+    (as_it_is _ _ (step.Detach c.args.site) [] c.reserve.new.self.items c.push_reserved.new.self.items _
     (detach_done _ c.args.site c.detach-2.new.self c.detach.new.self c.begin.new.self c.in_ok-more.more c.in_ok-self-inside.field-0
     c.laws.ensures (c.self.invariant may.works) may c.detach-2.ensures.goes c.detach-2.ensures.notices c.detach-2.ensures.messages
     c.in_ok-more.ensures.did c.begin.ensures.begun c.in_ok-self-inside.ensures) may.works c.reserve.ensures.items c.push_reserved.ensures.items)

@@ -16,14 +16,14 @@ use Rattle.mn_net.proofs.net.Net.held.Goals as goal
 pub edge-requires : goal.edge-requires
 edge-requires c =
     let is = net_is _ _ c.self.view_is c.self.invariant c.requires.works in
-    subst (λ n. c.edge_at-node.result.0 < n) (sym (edges_length _ is)) c.edge_at-node.ensures.there
+    subst (λ n. c.edge_of-node.result.0 < n) (sym (edges_length _ is)) c.edge_of-node.ensures.there
 
 pub returns-in-Some-clause-told : goal.returns-in-Some-clause-told
 returns-in-Some-clause-told c =
     let is = net_is _ _ c.self.view_is c.self.invariant c.requires.works in
     let v = subst (λ (n : NetNow). c.args.vrf.0 < length n.topology.vrfs) (sym c.self.view_is) c.requires.vrf in
     held_told _ c.laws.ensures is c.args.vrf.0 v c.args.place c.in-Some.edge.now c.held.result
-    (c.in-Some.ensures ∙ ap (λ n. slice_index_or c.self.inside.routes.edges n None) c.edge_at-node.ensures.edge) c.held.ensures
+    (c.in-Some.ensures ∙ ap (λ n. slice_index_or c.self.inside.routes.edges n None) c.edge_of-node.ensures.edge) c.held.ensures
     ∙ ap (λ (n : NetNow). option_map (as_held (labels_of n.topology n.journal))
     (held_at (held n.topology (world_of n.topology n.journal).config (world_of n.topology n.journal).peerings
     (edge_of n.topology c.args.vrf.0) c.args.vrf.0) c.args.place)) c.self.view_is
@@ -33,7 +33,7 @@ returns-in-Some-clause-labels c =
     let is = net_is _ _ c.self.view_is c.self.invariant c.requires.works in
     let v = subst (λ (n : NetNow). c.args.vrf.0 < length n.topology.vrfs) (sym c.self.view_is) c.requires.vrf in
     held_told _ c.laws.ensures is c.args.vrf.0 v c.args.place c.in-Some.edge.now c.held.result
-    (c.in-Some.ensures ∙ ap (λ n. slice_index_or c.self.inside.routes.edges n None) c.edge_at-node.ensures.edge) c.held.ensures
+    (c.in-Some.ensures ∙ ap (λ n. slice_index_or c.self.inside.routes.edges n None) c.edge_of-node.ensures.edge) c.held.ensures
     ∙ given_told _ c.laws.ensures is c.args.vrf.0 v c.args.place
     ∙ ap (λ (n : NetNow). option_map (given_held (given n.topology n.journal))
     (held_at (held n.topology (world_of n.topology n.journal).config (world_of n.topology n.journal).peerings
@@ -44,11 +44,11 @@ returns-in-None-clause-told c =
     let is = net_is _ _ c.self.view_is c.self.invariant c.requires.works in
     let v = subst (λ (n : NetNow). c.args.vrf.0 < length n.topology.vrfs) (sym c.self.view_is) c.requires.vrf in
     absurd (some_edge _ c.laws.ensures is c.args.vrf.0 v
-    (c.in-None.ensures ∙ ap (λ n. slice_index_or c.self.inside.routes.edges n None) c.edge_at-node.ensures.edge))
+    (c.in-None.ensures ∙ ap (λ n. slice_index_or c.self.inside.routes.edges n None) c.edge_of-node.ensures.edge))
 
 pub returns-in-None-clause-labels : goal.returns-in-None-clause-labels
 returns-in-None-clause-labels c =
     let is = net_is _ _ c.self.view_is c.self.invariant c.requires.works in
     let v = subst (λ (n : NetNow). c.args.vrf.0 < length n.topology.vrfs) (sym c.self.view_is) c.requires.vrf in
     absurd (some_edge _ c.laws.ensures is c.args.vrf.0 v
-    (c.in-None.ensures ∙ ap (λ n. slice_index_or c.self.inside.routes.edges n None) c.edge_at-node.ensures.edge))
+    (c.in-None.ensures ∙ ap (λ n. slice_index_or c.self.inside.routes.edges n None) c.edge_of-node.ensures.edge))

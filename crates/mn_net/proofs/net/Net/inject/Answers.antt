@@ -76,37 +76,37 @@ pub invariant_of-self-2 : goal.invariant_of-self-2
 invariant_of-self-2 c = λ works.
     let may = net_may _ _ (step.Inject c.args.site c.args.number) c.args.packet.now c.self.view_is c.requires.may in
     let is = c.self.invariant may.works in
-    (as_it_is _ _ (step.Inject c.args.site c.args.number) c.args.packet.now c.reserve.new.self.items c.push_reserved.new.self.items
-    (inject_done _ c.inject.new.self c.count_frame.new.tally c.args.site c.args.number c.args.packet.now c.home-node.result c.in_ok-entered.entered
+    (as_it_is _ _ (step.Inject c.args.site c.args.number) c.args.packet.now c.reserve.new.self.items c.push_reserved.new.self.items _
+    (inject_done _ c.inject.new.self c.count_frame.new.tally c.args.site c.args.number c.args.packet.now c.home_of-node.result c.in_ok-entered.entered
     c.way_out-outer.result c.in_ok-flies.flies
     (c.self.inside.made + c.from.result) c.a_transport_goes_on_as_it_was.ensures c.routes_stay_as_they_were.ensures c.laws.ensures is may
     (λ ps h. sym c.flying_bytes-flying.ensures.counted ∙ c.flying_bytes-flying.ensures.told _ _ _ is.channels h.stands.packets)
-    c.home-node.ensures.home c.in_ok-entered.ensures.fate
+    c.home_of-node.ensures.home c.in_ok-entered.ensures.fate
     (size_small c.self.inside.topology (given c.self.inside.topology c.self.inside.journal.items)
     (world_of c.self.inside.topology c.self.inside.journal.items) c.args.site.0 c.args.packet.now c.in_ok-entered.entered (λ i. (c.type_inv.packet i).fits)
     (c.in_ok-entered.ensures.fate c.self.inside.journal.items is.inputs is.stands.stands.lawful is.stands.routes))
-    (λ es stands fate. c.way_out-outer.ensures.told es stands c.args.site.0 c.args.packet.now c.home-node.ensures.home fate)
+    (λ es stands fate. c.way_out-outer.ensures.told es stands c.args.site.0 c.args.packet.now c.home_of-node.ensures.home fate)
     c.in_ok-flies.ensures.moved c.in_ok-flies.ensures.made c.in_ok-flies.ensures.counts
     (ap (λ n. c.self.inside.made + n) (c.from.ensures ∙ one_more c.in_ok-flies.flies))
     (counted_so c.self.inside.topology (frame_of c.self.inside.made c.inject.new.self.flying) c.self.inside.tally c.reserve-2.new.self
-    c.count_frame.new.tally c.in_ok-reserve-2.ensures.kept c.count_frame.ensures)) may.works c.reserve.ensures.items c.push_reserved.ensures.items).is
+    c.count_frame.new.tally c.in_ok-reserve-2.ensures.kept c.count_frame.ensures.counted)) may.works c.reserve.ensures.items c.push_reserved.ensures.items).is
 
 pub returns-clause-done : goal.returns-clause-done
 returns-clause-done c =
     let may = net_may _ _ (step.Inject c.args.site c.args.number) c.args.packet.now c.self.view_is c.requires.may in
     let is = c.self.invariant may.works in
     net_done _ _ _ (step.Inject c.args.site c.args.number) c.args.packet.now c.self.view_is
-    (as_it_is _ _ (step.Inject c.args.site c.args.number) c.args.packet.now c.reserve.new.self.items c.push_reserved.new.self.items
-    (inject_done _ c.inject.new.self c.count_frame.new.tally c.args.site c.args.number c.args.packet.now c.home-node.result c.in_ok-entered.entered
+    (as_it_is _ _ (step.Inject c.args.site c.args.number) c.args.packet.now c.reserve.new.self.items c.push_reserved.new.self.items _
+    (inject_done _ c.inject.new.self c.count_frame.new.tally c.args.site c.args.number c.args.packet.now c.home_of-node.result c.in_ok-entered.entered
     c.way_out-outer.result c.in_ok-flies.flies
     (c.self.inside.made + c.from.result) c.a_transport_goes_on_as_it_was.ensures c.routes_stay_as_they_were.ensures c.laws.ensures is may
     (λ ps h. sym c.flying_bytes-flying.ensures.counted ∙ c.flying_bytes-flying.ensures.told _ _ _ is.channels h.stands.packets)
-    c.home-node.ensures.home c.in_ok-entered.ensures.fate
+    c.home_of-node.ensures.home c.in_ok-entered.ensures.fate
     (size_small c.self.inside.topology (given c.self.inside.topology c.self.inside.journal.items)
     (world_of c.self.inside.topology c.self.inside.journal.items) c.args.site.0 c.args.packet.now c.in_ok-entered.entered (λ i. (c.type_inv.packet i).fits)
     (c.in_ok-entered.ensures.fate c.self.inside.journal.items is.inputs is.stands.stands.lawful is.stands.routes))
-    (λ es stands fate. c.way_out-outer.ensures.told es stands c.args.site.0 c.args.packet.now c.home-node.ensures.home fate)
+    (λ es stands fate. c.way_out-outer.ensures.told es stands c.args.site.0 c.args.packet.now c.home_of-node.ensures.home fate)
     c.in_ok-flies.ensures.moved c.in_ok-flies.ensures.made c.in_ok-flies.ensures.counts
     (ap (λ n. c.self.inside.made + n) (c.from.ensures ∙ one_more c.in_ok-flies.flies))
     (counted_so c.self.inside.topology (frame_of c.self.inside.made c.inject.new.self.flying) c.self.inside.tally c.reserve-2.new.self
-    c.count_frame.new.tally c.in_ok-reserve-2.ensures.kept c.count_frame.ensures)) may.works c.reserve.ensures.items c.push_reserved.ensures.items)
+    c.count_frame.new.tally c.in_ok-reserve-2.ensures.kept c.count_frame.ensures.counted)) may.works c.reserve.ensures.items c.push_reserved.ensures.items)

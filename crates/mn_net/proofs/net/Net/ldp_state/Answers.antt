@@ -1,5 +1,5 @@
 use Rattle.std.proofs.Common.{◌<◌, ◌∙◌, ap, sym, subst}
-use Rattle.mn_base.specs.Wiring.{sender}
+use Rattle.mn_wiring.specs.Wiring.{sender}
 use Rattle.mn_topo.specs.Network.{wiring_of}
 use Rattle.mn_lsr.specs.Standing.{state_in}
 use Rattle.mn_node.specs.Node.{Node, session_at}

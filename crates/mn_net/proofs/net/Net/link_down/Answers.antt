@@ -22,7 +22,7 @@ link_down-requires-clause-may c = λ works.
 pub invariant_of-self-2 : goal.invariant_of-self-2
 invariant_of-self-2 c = λ works.
     let may = net_may _ _ (step.LinkDown c.args.link) [] c.self.view_is c.requires.may in
-    (as_it_is _ _ (step.LinkDown c.args.link) [] c.reserve.new.self.items c.push_reserved.new.self.items
+    (as_it_is _ _ (step.LinkDown c.args.link) [] c.reserve.new.self.items c.push_reserved.new.self.items _
     (down_done _ c.args.link c.link_down.new.self c.link_down-2.new.self c.in_ok-more.more c.in_ok-self-inside.field-0 c.routes_stay_as_they_were.ensures
     c.laws.ensures
     (c.self.invariant may.works) may c.in_ok-more.ensures.did c.link_down-2.ensures.moved c.link_down-2.ensures.left c.link_down-2.ensures.counts
@@ -32,7 +32,7 @@ pub returns-clause-done : goal.returns-clause-done
 returns-clause-done c =
     let may = net_may _ _ (step.LinkDown c.args.link) [] c.self.view_is c.requires.may in
     net_done _ _ _ (step.LinkDown c.args.link) [] c.self.view_is
-    (as_it_is _ _ (step.LinkDown c.args.link) [] c.reserve.new.self.items c.push_reserved.new.self.items
+    (as_it_is _ _ (step.LinkDown c.args.link) [] c.reserve.new.self.items c.push_reserved.new.self.items _
     (down_done _ c.args.link c.link_down.new.self c.link_down-2.new.self c.in_ok-more.more c.in_ok-self-inside.field-0 c.routes_stay_as_they_were.ensures
     c.laws.ensures
     (c.self.invariant may.works) may c.in_ok-more.ensures.did c.link_down-2.ensures.moved c.link_down-2.ensures.left c.link_down-2.ensures.counts

@@ -1,38 +1,40 @@
-use Rattle.std.proofs.Common.{[]}
+use Rattle.std.proofs.Common.{[], ◌∙◌}
 use Rattle.mn_net_moves.proofs.Moves.{net_may, net_done, as_it_is}
 use Rattle.mn_net_moves.proofs.Turns.{touched, link_may, notice_numbers, message_numbers, link_done}
+use Rattle.mn_net.specs.Turns.{link_step}
+use Rattle.mn_net.proofs.OfTurns.{of_transport, moves_nothing, as_said}
 use Rattle.mn_net.proofs.net.Net.turn_link.Goals as goal
 
 pub act-requires-clause-notices : goal.act-requires-clause-notices
 act-requires-clause-notices c =
-    let may = net_may _ _ c.args.step [] c.self.view_is c.requires.may in
+    let may = net_may _ _ (link_step c.args.turn) [] c.self.view_is c.requires.may in
     notice_numbers _ (c.self.invariant may.works)
 
 pub act-requires-clause-messages : goal.act-requires-clause-messages
 act-requires-clause-messages c =
-    let may = net_may _ _ c.args.step [] c.self.view_is c.requires.may in
+    let may = net_may _ _ (link_step c.args.turn) [] c.self.view_is c.requires.may in
     message_numbers _ (c.self.invariant may.works)
 
 pub act-requires-clause-may : goal.act-requires-clause-may
 act-requires-clause-may c = λ works.
-    let may = net_may _ _ c.args.step [] c.self.view_is c.requires.may in
-    link_may _ c.args.step c.laws.ensures (c.self.invariant may.works) may (touched c.args.step c.requires.its)
+    let may = net_may _ _ (link_step c.args.turn) [] c.self.view_is c.requires.may in
+    link_may _ (link_step c.args.turn) c.laws.ensures (c.self.invariant may.works) may (touched (link_step c.args.turn) (of_transport c.args.turn))
 
 pub invariant_of-self-2 : goal.invariant_of-self-2
 invariant_of-self-2 c = λ works.
-    let may = net_may _ _ c.args.step [] c.self.view_is c.requires.may in
-    (as_it_is _ _ c.args.step [] c.reserve.new.self.items c.push_reserved.new.self.items
-    (link_done _ c.args.step c.act.new.transport c.begin.new.self c.in_ok-more.more c.in_ok-self-inside.field-0 c.routes_stay_as_they_were.ensures
+    let may = net_may _ _ (link_step c.args.turn) [] c.self.view_is c.requires.may in
+    (as_it_is _ _ (link_step c.args.turn) [] c.reserve.new.self.items c.push_reserved.new.self.items _
+    (link_done _ (link_step c.args.turn) c.act.new.transport c.begin.new.self c.in_ok-more.more c.in_ok-self-inside.field-0 c.routes_stay_as_they_were.ensures
     c.laws.ensures
-    (c.self.invariant may.works) may c.requires.its c.requires.still c.in_ok-more.ensures.did c.begin.ensures.begun c.in_ok-self-inside.ensures) may.works
-    c.reserve.ensures.items c.push_reserved.ensures.items).is
+    (c.self.invariant may.works) may (of_transport c.args.turn) (moves_nothing c.args.turn) c.in_ok-more.ensures.did c.begin.ensures.begun c.in_ok-self-inside.ensures) may.works
+    c.reserve.ensures.items (c.push_reserved.ensures.items ∙ as_said _ _ _ c.step.ensures)).is
 
 pub returns-clause-done : goal.returns-clause-done
 returns-clause-done c =
-    let may = net_may _ _ c.args.step [] c.self.view_is c.requires.may in
-    net_done _ _ _ c.args.step [] c.self.view_is
-    (as_it_is _ _ c.args.step [] c.reserve.new.self.items c.push_reserved.new.self.items
-    (link_done _ c.args.step c.act.new.transport c.begin.new.self c.in_ok-more.more c.in_ok-self-inside.field-0 c.routes_stay_as_they_were.ensures
+    let may = net_may _ _ (link_step c.args.turn) [] c.self.view_is c.requires.may in
+    net_done _ _ _ (link_step c.args.turn) [] c.self.view_is
+    (as_it_is _ _ (link_step c.args.turn) [] c.reserve.new.self.items c.push_reserved.new.self.items _
+    (link_done _ (link_step c.args.turn) c.act.new.transport c.begin.new.self c.in_ok-more.more c.in_ok-self-inside.field-0 c.routes_stay_as_they_were.ensures
     c.laws.ensures
-    (c.self.invariant may.works) may c.requires.its c.requires.still c.in_ok-more.ensures.did c.begin.ensures.begun c.in_ok-self-inside.ensures) may.works
-    c.reserve.ensures.items c.push_reserved.ensures.items)
+    (c.self.invariant may.works) may (of_transport c.args.turn) (moves_nothing c.args.turn) c.in_ok-more.ensures.did c.begin.ensures.begun c.in_ok-self-inside.ensures) may.works
+    c.reserve.ensures.items (c.push_reserved.ensures.items ∙ as_said _ _ _ c.step.ensures))

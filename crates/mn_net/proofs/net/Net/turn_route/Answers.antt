@@ -1,38 +1,40 @@
-use Rattle.std.proofs.Common.{[]}
+use Rattle.std.proofs.Common.{[], ◌∙◌}
 use Rattle.mn_net_moves.proofs.Moves.{net_may, net_done, as_it_is}
 use Rattle.mn_net_moves.proofs.Turns.{route_may, route_numbers, told_done, may_count}
+use Rattle.mn_net.specs.Turns.{route_step}
+use Rattle.mn_net.proofs.OfTurns.{of_routes, of_routes_alone, as_said, counted_as, counts_as}
 use Rattle.mn_net.proofs.net.Net.turn_route.Goals as goal
 
 pub act-requires-clause-messages : goal.act-requires-clause-messages
 act-requires-clause-messages c =
-    let may = net_may _ _ c.args.step [] c.self.view_is c.requires.may in
+    let may = net_may _ _ (route_step c.args.turn) [] c.self.view_is c.requires.may in
     route_numbers _ (c.self.invariant may.works)
 
 pub act-requires-clause-may : goal.act-requires-clause-may
 act-requires-clause-may c = λ works.
-    let may = net_may _ _ c.args.step [] c.self.view_is c.requires.may in
-    route_may _ c.args.step (c.self.invariant may.works) may
+    let may = net_may _ _ (route_step c.args.turn) [] c.self.view_is c.requires.may in
+    route_may _ (route_step c.args.turn) (c.self.invariant may.works) may
 
 pub count_static-requires : goal.count_static-requires
 count_static-requires c =
-    let may = net_may _ _ c.args.step [] c.self.view_is c.requires.may in
-    may_count _ c.args.step c.laws.ensures (c.self.invariant may.works) may
+    let may = net_may _ _ (route_step c.args.turn) [] c.self.view_is c.requires.may in
+    counted_as _ c.step-step.ensures (may_count _ (route_step c.args.turn) c.laws.ensures (c.self.invariant may.works) may)
 
 pub invariant_of-self-2 : goal.invariant_of-self-2
 invariant_of-self-2 c = λ works.
-    let may = net_may _ _ c.args.step [] c.self.view_is c.requires.may in
-    (as_it_is _ _ c.args.step [] c.reserve.new.self.items c.push_reserved.new.self.items
-    (told_done _ c.args.step c.act.new.routes c.begin.new.self c.count_static.new.tally c.in_ok-more.more c.in_ok-self-inside.field-0
+    let may = net_may _ _ (route_step c.args.turn) [] c.self.view_is c.requires.may in
+    (as_it_is _ _ (route_step c.args.turn) [] c.reserve.new.self.items c.push_reserved.new.self.items _
+    (told_done _ (route_step c.args.turn) c.act.new.routes c.begin.new.self c.count_static.new.tally c.in_ok-more.more c.in_ok-self-inside.field-0
     c.a_transport_goes_on_as_it_was.ensures c.laws.ensures
-    (c.self.invariant may.works) may c.requires.its c.requires.alone c.in_ok-more.ensures.did c.begin.ensures.begun c.in_ok-self-inside.ensures
-    c.count_static.ensures) may.works c.reserve.ensures.items c.push_reserved.ensures.items).is
+    (c.self.invariant may.works) may (of_routes c.args.turn) (of_routes_alone c.args.turn) c.in_ok-more.ensures.did c.begin.ensures.begun c.in_ok-self-inside.ensures
+    (c.count_static.ensures ∙ counts_as _ c.step-step.ensures)) may.works c.reserve.ensures.items (c.push_reserved.ensures.items ∙ as_said _ _ _ c.step-step.ensures)).is
 
 pub returns-clause-done : goal.returns-clause-done
 returns-clause-done c =
-    let may = net_may _ _ c.args.step [] c.self.view_is c.requires.may in
-    net_done _ _ _ c.args.step [] c.self.view_is
-    (as_it_is _ _ c.args.step [] c.reserve.new.self.items c.push_reserved.new.self.items
-    (told_done _ c.args.step c.act.new.routes c.begin.new.self c.count_static.new.tally c.in_ok-more.more c.in_ok-self-inside.field-0
+    let may = net_may _ _ (route_step c.args.turn) [] c.self.view_is c.requires.may in
+    net_done _ _ _ (route_step c.args.turn) [] c.self.view_is
+    (as_it_is _ _ (route_step c.args.turn) [] c.reserve.new.self.items c.push_reserved.new.self.items _
+    (told_done _ (route_step c.args.turn) c.act.new.routes c.begin.new.self c.count_static.new.tally c.in_ok-more.more c.in_ok-self-inside.field-0
     c.a_transport_goes_on_as_it_was.ensures c.laws.ensures
-    (c.self.invariant may.works) may c.requires.its c.requires.alone c.in_ok-more.ensures.did c.begin.ensures.begun c.in_ok-self-inside.ensures
-    c.count_static.ensures) may.works c.reserve.ensures.items c.push_reserved.ensures.items)
+    (c.self.invariant may.works) may (of_routes c.args.turn) (of_routes_alone c.args.turn) c.in_ok-more.ensures.did c.begin.ensures.begun c.in_ok-self-inside.ensures
+    (c.count_static.ensures ∙ counts_as _ c.step-step.ensures)) may.works c.reserve.ensures.items (c.push_reserved.ensures.items ∙ as_said _ _ _ c.step-step.ensures))

@@ -1,7 +1,7 @@
 use Rattle.std.proofs.Common.{◌∙◌, map, ap}
-use Rattle.mn_base.specs.Wiring.{links_of}
+use Rattle.mn_wiring.specs.Wiring.{links_of}
 use Rattle.mn_topo.specs.Network.{wiring_of}
-use Rattle.mn_base.specs.Wiring.{Wiring}
+use Rattle.mn_wiring.specs.Wiring.{Wiring}
 use Rattle.mn_node.specs.Node.{Node}
 use Rattle.mn_net_moves.proofs.Told.{net_is, node_in}
 use Rattle.mn_ledger.specs.Ledger.{world_of}

@@ -1,9 +1,38 @@
-use Rattle.std.proofs.Common.{◌≡◌, ◌<◌, length, arith, sym, ◌∙◌, ap, false}
+use Rattle.std.proofs.Common.{◌≡◌, ◌<◌, [], List, length, arith, refl, sym, ◌∙◌, ap, subst, false}
 use Rattle.std.specs.Prelude.{slice_index_or}
+use Rattle.std.proofs.lemmas.List.{get_or-set_same, get_or_default}
+use Rattle.mn_rib_in.specs.Heard.{Heard}
+use Rattle.mn_pe.specs.Pe.{AreOfEdge, AreLabelled, edge_of}
 use Rattle.mn_pe.specs.Edge.{Edge, after_withdrawn, after_reached, after_update}
 use Rattle.mn_pe.specs.Pe.{PeNow, after_giving, after_taking}
 use Rattle.mn_pe.proofs.Sound.{heard_edge, heard_sound}
 use Rattle.mn_pe.proofs.pe.Pe.hear.Goals as goal
+
+-- the VRFs and what was heard are the edge's
+pub hear_withdrawn-requires : goal.hear_withdrawn-requires
+hear_withdrawn-requires c =
+    let address : c.args.loopback ≡ slice_index_or c.self.inside.loopbacks.items c.args.peer.0 0 = c.requires.address
+    ∙ ap (λ (p : PeNow). slice_index_or p.edge.loopbacks c.args.peer.0 0) (sym c.self.view_is) in
+    let below : c.args.peer.0 < length c.self.inside.heard.items = omega arith in
+    record {
+      edge =
+          edge_of c.self.inside.vrfs.items c.self.inside.sites.items c.self.inside.labels.items c.self.inside.loopbacks.items c.self.inside.heard.items;
+      below = below;
+      same = refl;
+      sound = c.self.invariant c.if-self.false;
+      heard_is = sym (c.index_mut.ensures.value ∙ get_or_default c.self.inside.heard.items c.args.peer.0 c.index_mut.result.now [] below);
+      loopback_is = address;
+    }
+
+pub hear_reached-requires-clause-edge : goal.hear_reached-requires-clause-edge
+hear_reached-requires-clause-edge c =
+    let below : c.args.peer.0 < length c.self.inside.heard.items = omega arith in
+    subst (λ (heard : List Heard). AreOfEdge c.hear_withdrawn.new.vrfs.items heard c.args.loopback c.args.peer.0)
+    (sym (c.index_mut-2.ensures.value
+    ∙ get_or-set_same c.self.inside.heard.items c.args.peer.0 c.hear_withdrawn.new.heard c.index_mut-2.result.now below)) c.hear_withdrawn.ensures.edge
+
+pub hear_reached-requires-clause-labels : goal.hear_reached-requires-clause-labels
+hear_reached-requires-clause-labels c = subst AreLabelled (sym c.reached.ensures) c.requires.labels
 
 -- each VRF holds what it should after the UPDATE
 pub invariant_of-self-2 : goal.invariant_of-self-2

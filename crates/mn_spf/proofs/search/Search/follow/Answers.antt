@@ -1,8 +1,8 @@
 use Rattle.std.proofs.Common.{◌≡◌, ℕ, List, get_or, ap, ◌∙◌, refl, subst, arith}
 use Rattle.std.proofs.lemmas.List.{get_or_default}
-use Rattle.mn_base.specs.declared.links.LinkEnds.{LinkEnds}
+use Rattle.mn_wiring.specs.declared.links.LinkEnds.{LinkEnds}
 use Rattle.mn_base.specs.declared.numbers.LinkNo.{LinkNo}
-use Rattle.mn_base.specs.Wiring.{link}
+use Rattle.mn_wiring.specs.Wiring.{link}
 use Rattle.mn_linkdb.specs.Learned.{Learned}
 use Rattle.mn_spf.specs.declared.way.Way.{Way}
 use Rattle.mn_spf.specs.Ways.{wiring_of, way_over}
@@ -13,9 +13,9 @@ use Rattle.mn_spf.proofs.search.Search.follow.Goals as goal
 
 -- the ends that are read are the link's
 ends_are : (v : Learned) (es : List LinkEnds) (n l : ℕ) → es ≡ v.ends → n ≡ l →
-    get_or es n (record { a = record { 0 = 0 }; b = record { 0 = 0 }; cost = 0; delay = 0; loss = 0 }) ≡ link (wiring_of v) l
+    get_or es n (record { a = record { 0 = 0 }; b = record { 0 = 0 }; cost = 0; delay = 0; loss = 0; life = 0 }) ≡ link (wiring_of v) l
 ends_are v es n l e f =
-    ap (λ (xs : List LinkEnds). get_or xs n (record { a = record { 0 = 0 }; b = record { 0 = 0 }; cost = 0; delay = 0; loss = 0 })) e
+    ap (λ (xs : List LinkEnds). get_or xs n (record { a = record { 0 = 0 }; b = record { 0 = 0 }; cost = 0; delay = 0; loss = 0; life = 0 })) e
     ∙ ap (link (wiring_of v)) f
 
 pub loop-link-init : goal.loop-link-init

@@ -1,5 +1,5 @@
 use Rattle.std.proofs.Common.{◌≡◌, ◌<◌, true, length, get_or, refl, sym, ap, ◌∙◌, arith}
-use Rattle.mn_base.specs.declared.links.LinkEnds.{LinkEnds}
+use Rattle.mn_wiring.specs.declared.links.LinkEnds.{LinkEnds}
 use Rattle.mn_linkdb.specs.PathTable.{dist_at}
 use Rattle.mn_spf.specs.Ways.{goes, beyond, other_end}
 use Rattle.mn_spf.proofs.Walks.{beyond_below}

@@ -1,6 +1,6 @@
 use Rattle.std.proofs.Common.{sym, ap, ◌∙◌, subst, arith}
-use Rattle.mn_base.specs.declared.links.LinkEnds.{LinkEnds}
-use Rattle.mn_base.specs.Wiring.{link}
+use Rattle.mn_wiring.specs.declared.links.LinkEnds.{LinkEnds}
+use Rattle.mn_wiring.specs.Wiring.{link}
 use Rattle.mn_linkdb.specs.PathTable.{dist_at}
 use Rattle.mn_spf.specs.Ways.{wiring_of, other_end}
 use Rattle.mn_spf_inc.specs.Mending.{state_of, OneLink, OffersBeyond}

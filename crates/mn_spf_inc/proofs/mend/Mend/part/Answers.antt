@@ -2,8 +2,8 @@ use Rattle.std.proofs.Common.{◌≡◌, [], length, refl, sym, ap, ◌∙◌, s
 use Rattle.std.specs.BinaryHeap.{heap_items, heap_len}
 use Rattle.std.proofs.lemmas.Bool.{eqb-true, eqb-false}
 use Rattle.mn_base.proofs.Bools.{clash}
-use Rattle.mn_base.specs.declared.links.LinkEnds.{LinkEnds}
-use Rattle.mn_base.specs.Wiring.{link}
+use Rattle.mn_wiring.specs.declared.links.LinkEnds.{LinkEnds}
+use Rattle.mn_wiring.specs.Wiring.{link}
 use Rattle.mn_linkdb.specs.PathTable.{PathTable, dist_at}
 use Rattle.mn_spf.specs.Ways.{wiring_of, other_end}
 use Rattle.mn_spf_inc.specs.Mending.{State, state_of, DoubtsBeyond, HeldOver, HeldOverEither, IsPassedOver}

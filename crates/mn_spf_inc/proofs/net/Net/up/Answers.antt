@@ -1,7 +1,7 @@
 use Rattle.std.proofs.Common.{◌<◌, length, get_or, sym, ap, ◌∙◌, arith}
 use Rattle.std.specs.Prelude.{false}
 use Rattle.std.proofs.lemmas.List.{get_or_default}
-use Rattle.mn_base.specs.Wiring.{is_up}
+use Rattle.mn_wiring.specs.Wiring.{is_up}
 use Rattle.mn_linkdb.specs.Learned.{Learned, links_up}
 use Rattle.mn_spf_inc.proofs.Nets.{up_is}
 use Rattle.mn_spf_inc.proofs.net.Net.up.Goals as goal

@@ -1,6 +1,6 @@
 use Rattle.std.proofs.Common.{◌≡◌, ◌<◌, true, false, length, set, refl, sym, ap, ◌∙◌, subst, arith}
 use Rattle.mn_base.proofs.Bools.{clash}
-use Rattle.mn_base.specs.Wiring.{link, is_up}
+use Rattle.mn_wiring.specs.Wiring.{link, is_up}
 use Rattle.mn_linkdb.specs.Learned.{Learned, links_up}
 use Rattle.mn_spf.specs.Ways.{wiring_of}
 use Rattle.mn_spf_inc.specs.declared.tree.MendTree.TheInside.{Inside}

@@ -1,6 +1,6 @@
 use Rattle.std.proofs.Common.{◌≡◌, subst}
 use Rattle.std.specs.Prelude.{false}
-use Rattle.mn_base.specs.Wiring.{Wiring}
+use Rattle.mn_wiring.specs.Wiring.{Wiring}
 use Rattle.mn_linkdb.specs.PathTable.{IsTable}
 use Rattle.mn_linkdb.specs.Trees.{IsTree}
 use Rattle.mn_spf_inc.specs.Mended.{Mended, IsOver}

@@ -1,5 +1,5 @@
 use Rattle.std.proofs.Common.{◌≡◌, length}
-use Rattle.mn_base.specs.Wiring.{sender}
+use Rattle.mn_wiring.specs.Wiring.{sender}
 use Rattle.mn_flight.specs.Flying.{off_channel}
 use Rattle.mn_topo.specs.Network.{wiring_of}
 use Rattle.mn_ledger.specs.Packets.{Packets, channel}

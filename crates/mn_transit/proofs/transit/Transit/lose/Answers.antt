@@ -10,7 +10,7 @@ use Rattle.mn_transit.proofs.transit.Transit.lose.Goals as goal
 pub returns-in-Some-clause-moved : goal.returns-in-Some-clause-moved
 returns-in-Some-clause-moved c = λ given world packets bytes.
     stands_lost _ given world _ _ _ _ packets _ _ c.args.link c.args.dir c.sender-node.result c.in-Some.taken bytes c.begin.ensures.begun
-    c.channel_of-at.ensures c.sender-node.ensures
+    c.channel_of-at.ensures c.sender-node.ensures.end
     (record { found = c.in-Some.ensures.taken; left = c.in-Some.ensures.left; flight = c.take.ensures.flight }) c.judge.ensures
 
 pub returns-in-Some-clause-counts : goal.returns-in-Some-clause-counts

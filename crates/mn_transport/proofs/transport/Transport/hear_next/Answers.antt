@@ -1,6 +1,6 @@
 use Rattle.std.proofs.Common.{◌≡◌, ◌<◌, ◌∙◌, sym, subst}
 use Rattle.std.specs.List.{All}
-use Rattle.mn_base.specs.Wiring.{receiver}
+use Rattle.mn_wiring.specs.Wiring.{receiver}
 use Rattle.mn_topo.specs.Network.{wiring_of}
 use Rattle.mn_transport_model.specs.Carried.{Carried}
 use Rattle.mn_transport_model.proofs.Acted.{hears-on-links, hears-acts}

@@ -1,5 +1,5 @@
 use Rattle.std.proofs.Common.{rules, ◌≡◌, List, true, length, refl, ◌∙◌, ap, replicate}
-use Rattle.mn_base.specs.declared.links.LinkEnds.{LinkEnds}
+use Rattle.mn_wiring.specs.declared.links.LinkEnds.{LinkEnds}
 use Rattle.mn_transport_model.proofs.Starts.{starts}
 use Rattle.mn_transport.proofs.transport.Transport.new.Goals as goal
 

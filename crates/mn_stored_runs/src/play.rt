@@ -1,0 +1,70 @@
+// One run, from its folder into another.
+use mn_edge_real::{HostShelf, HostSink};
+use mn_run::command;
+use std::alloc::{AllocError, Global};
+use std::io::{BufWriter, Error, ErrorKind};
+use std::{fs, io};
+
+/// The bytes that a text has in hexadecimal. Behind a `#` a line has a comment.
+fn bytes_of(alloc: Global, text: &str) -> io::Result<Vec<u8>> {
+    let mut digits = String::new(alloc);
+    for line in text.lines() {
+        let told = line.split('#').next().unwrap_or(line);
+        for word in told.split_whitespace() {
+            digits.push_str(word)?;
+        }
+    }
+    match hex::decode(alloc, digits.as_str()) {
+        Ok(bytes) => Ok(bytes),
+        Err(_) => Err(Error::from(ErrorKind::InvalidData)),
+    }
+}
+
+/// The name of the run's capture. One in hexadecimal is written as bytes first.
+fn capture_of(rt: &HostRuntime, run: &str, left: &str) -> io::Result<String> {
+    let written = format!(in rt.alloc(); "{run}/capture.hex")?;
+    match fs::read_to_string(rt, written.as_str()) {
+        Ok(text) => {
+            let name = format!(in rt.alloc(); "{left}.pcap")?;
+            fs::write(
+                rt,
+                name.as_str(),
+                bytes_of(rt.alloc(), text.as_str())?.as_slice(),
+            )?;
+            Ok(name)
+        }
+        Err(error) if error.kind() == ErrorKind::NotFound => {
+            Ok(format!(in rt.alloc(); "{run}/capture.pcap")?)
+        }
+        Err(error) => Err(error),
+    }
+}
+
+/// The words of the run's command line.
+fn words_of(
+    alloc: Global,
+    run: &str,
+    capture: String,
+    left: &str,
+) -> Result<Vec<String>, AllocError> {
+    let mut words = Vec::new(alloc);
+    words.push(String::from_str(alloc, "run")?)?;
+    words.push(format!(in alloc; "{run}/topology.toml")?)?;
+    words.push(format!(in alloc; "{run}/script.txt")?)?;
+    words.push(capture)?;
+    words.push(String::from_str(alloc, left)?)?;
+    Ok(words)
+}
+
+/// Does the run, and answers its status.
+pub(crate) fn play(rt: &HostRuntime, run: &str, left: &str) -> io::Result<u8> {
+    let words = words_of(rt.alloc(), run, capture_of(rt, run, left)?, left)?;
+    let report = format!(in rt.alloc(); "{left}/report.txt")?;
+    let mut shelf = HostShelf::new(rt);
+    let mut out = HostSink::new(BufWriter::new(rt.alloc(), fs::create(rt, report.as_str())?)?);
+    let outcome = command(rt.alloc(), &words, &mut shelf, &mut out);
+    match out.flush() {
+        Ok(()) => Ok(outcome.status()),
+        Err(_) => Err(Error::from(ErrorKind::Other)),
+    }
+}

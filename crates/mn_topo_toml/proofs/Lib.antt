@@ -1,0 +1,10 @@
+pub mod Keys
+pub mod Arrays
+pub mod StaticKeys
+pub mod LawfulEntries
+pub mod LawfulLinks
+pub mod LawfulVrfs
+pub mod Prefixes
+pub mod LawfulSites
+pub mod LawfulNetwork
+pub mod Chain

@@ -1,0 +1,2 @@
+pub mod Dist
+pub mod Next
