@@ -1,0 +1,83 @@
+"""The crates that the program stands on, their sources, and the two programs that are made of them."""
+
+import hashlib
+import re
+import shutil
+import sys
+from pathlib import Path
+
+ROOT = Path(__file__).resolve().parents[1]
+CRATES = ROOT / "crates"
+PROGRAM = CRATES / "mplsnet/out/mplsnet"  # proved
+TRIAL = ROOT / "trial/mplsnet-trial"  # not proved
+SUM = ROOT / "trial/mplsnet-trial.sources"
+MAIN = CRATES / "mplsnet/src/main.rt"
+
+
+def version():
+    """The version, which stands in the program's source."""
+    return re.search(r'^const VERSION: &str = "mplsnet (\S+)\\n";$', MAIN.read_text(), re.M)[1]
+
+
+def crates():
+    """The program's crate and all that it stands on, each behind those that it names."""
+    lines = (line.partition("#")[0].partition(":") for line in (ROOT / "crates.txt").read_text().splitlines())
+    named = {head.split()[0]: rest.split() for head, _, rest in lines if head.strip()}
+    found = []
+
+    def add(name):
+        if name in named and name not in found:
+            for below in named[name]:
+                add(below)
+            found.append(name)
+
+    add("mplsnet")
+    return found
+
+
+def files(*endings):
+    """The files of these crates that end so, in order."""
+    found = (path for name in crates() for path in (CRATES / name).rglob("*") if path.suffix in endings)
+    return sorted(path for path in found if "out" not in path.relative_to(CRATES).parts)
+
+
+def checksum():
+    """The checksum of the code: all .rt files of these crates, with their names."""
+    sum_ = hashlib.sha256()
+    for path in files(".rt"):
+        content = path.read_bytes()
+        sum_.update(f"{path.relative_to(CRATES)} {len(content)}\n".encode())
+        sum_.update(content)
+    return sum_.hexdigest()
+
+
+def is_proved():
+    """Whether the proved program is there, and no source has changed since."""
+    if not PROGRAM.exists():
+        return False
+    made = PROGRAM.stat().st_mtime
+    return all(path.stat().st_mtime <= made for path in [ROOT / "crates.txt", *files(".rt", ".antt")])
+
+
+def is_tried():
+    """Whether the trial build is there, and is of these sources."""
+    return TRIAL.exists() and SUM.exists() and SUM.read_text().strip() == checksum()
+
+
+def need_rt(who):
+    if not shutil.which("rt"):
+        sys.exit(f"{who}: there is no rt in PATH: the Rattle kit that README.md names has it")
+
+
+def lasted(seconds):
+    """So long, in words."""
+    minutes = int(seconds) // 60
+    if minutes < 1:
+        return counted(int(seconds), "second")
+    if minutes < 60:
+        return counted(minutes, "minute")
+    return f"{counted(minutes // 60, 'hour')} {counted(minutes % 60, 'minute')}"
+
+
+def counted(count, what):
+    return f"{count} {what}{'s' * (count != 1)}"
