@@ -1,5 +1,5 @@
 # Completion of mplsnet and its tools for bash: 'source completions/mplsnet.bash', or copy this file as 'mplsnet' into
-# ~/.local/share/bash-completion/completions/ (and link mplsnet-draw, mplsnet-wireshark, mplsnet-play and mplsnet-decode to it there).
+# ~/.local/share/bash-completion/completions/ (and link the names of the tools to it there, as 'make install' does).
 
 # Folders, and files that end in one of the given ways; all files where none is given.
 _mplsnet_files() {
@@ -44,6 +44,7 @@ _mplsnet() {
     local word=${COMP_WORDS[COMP_CWORD]}
     COMPREPLY=()
     case $COMP_CWORD:${COMP_WORDS[1]} in
+        1:-*) _mplsnet_words '--help --version' "$word" ;;
         1:*) _mplsnet_words 'run check generate' "$word" ;;
         2:run | 2:check) _mplsnet_files "$word" .toml ;;
         3:run) _mplsnet_files "$word" ;;
@@ -59,11 +60,11 @@ _mplsnet_draw() {
         --report) _mplsnet_files "$word"; return ;;
         --svg) _mplsnet_files "$word" .svg; return ;;
         --png) _mplsnet_files "$word" .png; return ;;
-        --layout) _mplsnet_words 'dot neato fdp circo' "$word"; return ;;
-        --packet) return ;;
+        --layout) _mplsnet_words 'dot neato fdp circo circle' "$word"; return ;;
+        --packet | --vpn | --down) return ;;
     esac
     if [[ $word == -* ]]; then
-        _mplsnet_words '--help --report --packet --svg --png --layout' "$word"
+        _mplsnet_words '--help --report --packet --svg --png --layout --vpn --no-sites --down' "$word"
     else
         _mplsnet_files "$word" .toml
     fi
@@ -91,16 +92,19 @@ _mplsnet_play() {
     COMPREPLY=()
     case ${COMP_WORDS[COMP_CWORD - 1]} in
         --report) _mplsnet_files "$word"; return ;;
-        --layout) _mplsnet_words 'spread circle' "$word"; return ;;
+        --script) _mplsnet_files "$word"; return ;;
+        --capture) _mplsnet_files "$word" .pcap; return ;;
+        --layout) _mplsnet_words 'auto spread circle rings' "$word"; return ;;
+        --from | --to | --packet | --at) return ;;
     esac
     if [[ $word == -* ]]; then
-        _mplsnet_words '--help --report --layout' "$word"
+        _mplsnet_words '--help --report --capture --script --layout --from --to --packet --svg --at' "$word"
         return
     fi
-    case $(_mplsnet_place --report --layout) in
+    case $(_mplsnet_place --report --capture --script --layout --from --to --packet --at) in
         0) _mplsnet_folders "$word" ;;
         1) _mplsnet_files "$word" .toml ;;
-        2) _mplsnet_files "$word" .html ;;
+        2) _mplsnet_files "$word" .html .svg ;;
     esac
 }
 
@@ -113,8 +117,136 @@ _mplsnet_decode() {
     fi
 }
 
-complete -F _mplsnet mplsnet
+_mplsnet_lint() {
+    local word=${COMP_WORDS[COMP_CWORD]}
+    COMPREPLY=()
+    if [[ $word == -* ]]; then
+        _mplsnet_words '--help' "$word"
+        return
+    fi
+    case $(_mplsnet_place) in
+        0) _mplsnet_files "$word" .toml ;;
+        1) _mplsnet_files "$word" ;;
+    esac
+}
+
+_mplsnet_run() {
+    local word=${COMP_WORDS[COMP_CWORD]}
+    COMPREPLY=()
+    if [[ ${COMP_WORDS[COMP_CWORD - 1]} == --program ]]; then
+        _mplsnet_files "$word"
+        return
+    fi
+    if [[ $word == -* ]]; then
+        _mplsnet_words '--help --program' "$word"
+        return
+    fi
+    case $(_mplsnet_place --program) in
+        0) _mplsnet_files "$word" .toml ;;
+        1) _mplsnet_files "$word" ;;
+        2) _mplsnet_files "$word" .pcap ;;
+        3) _mplsnet_folders "$word" ;;
+    esac
+}
+
+_mplsnet_whatif() {
+    local word=${COMP_WORDS[COMP_CWORD]}
+    COMPREPLY=()
+    case ${COMP_WORDS[COMP_CWORD - 1]} in
+        --of) _mplsnet_words 'links nodes ldp bgp' "$word"; return ;;
+        --html) _mplsnet_files "$word" .html; return ;;
+        --program) _mplsnet_files "$word"; return ;;
+        --only | --site | --budget | --jobs | --dask) return ;;
+    esac
+    if [[ $word == -* ]]; then
+        _mplsnet_words '--help --of --double --only --site --keep-bgp --json --csv --matrix --all --html --budget --jobs --dask --program --quiet' "$word"
+    else
+        _mplsnet_files "$word" .toml
+    fi
+}
+
+_mplsnet_why() {
+    local word=${COMP_WORDS[COMP_CWORD]}
+    COMPREPLY=()
+    case ${COMP_WORDS[COMP_CWORD - 1]} in
+        --report | --script) _mplsnet_files "$word"; return ;;
+        --capture) _mplsnet_files "$word" .pcap; return ;;
+    esac
+    if [[ $word == -* ]]; then
+        _mplsnet_words '--help --all --each --json --report --script --capture' "$word"
+        return
+    fi
+    case $(_mplsnet_place --report --script --capture) in
+        0) _mplsnet_folders "$word" ;;
+        1) _mplsnet_files "$word" .toml ;;
+    esac
+}
+
+_mplsnet_report() {
+    local word=${COMP_WORDS[COMP_CWORD]}
+    COMPREPLY=()
+    if [[ ${COMP_WORDS[COMP_CWORD - 1]} == --report ]]; then
+        _mplsnet_files "$word"
+    elif [[ $word == -* ]]; then
+        _mplsnet_words '--help --csv --json --report' "$word"
+    elif [[ $(_mplsnet_place --report) == 0 ]]; then
+        _mplsnet_folders "$word"
+    else
+        _mplsnet_words 'packets steps labels messages sessions frames deliveries tables refused' "$word"
+    fi
+}
+
+_mplsnet_diff() {
+    local word=${COMP_WORDS[COMP_CWORD]}
+    COMPREPLY=()
+    case ${COMP_WORDS[COMP_CWORD - 1]} in
+        --topology) _mplsnet_files "$word" .toml; return ;;
+        --capture) _mplsnet_files "$word" .pcap; return ;;
+    esac
+    if [[ $word == -* ]]; then
+        _mplsnet_words '--help --topology --capture --all' "$word"
+    else
+        _mplsnet_folders "$word"
+    fi
+}
+
+_mplsnet_new() {
+    local word=${COMP_WORDS[COMP_CWORD]}
+    COMPREPLY=()
+    case ${COMP_WORDS[COMP_CWORD - 1]} in
+        --from | --script) _mplsnet_files "$word"; return ;;
+        --topology) _mplsnet_files "$word" .toml; return ;;
+        --capture) _mplsnet_files "$word" .pcap; return ;;
+        --form) _mplsnet_words 'short netlab containerlab frr' "$word"; return ;;
+        --family) _mplsnet_words 'ring mesh waxman fat-tree' "$word"; return ;;
+        --random | --generated | --size | --edges | --vpns | --vpn) return ;;
+    esac
+    _mplsnet_words '--help --from --random --generated --form --family --size --edges --vpns --vpn --topology --script --capture' "$word"
+}
+
+_mplsnet_read() {
+    local word=${COMP_WORDS[COMP_CWORD]}
+    COMPREPLY=()
+    if [[ $word == -* ]]; then
+        _mplsnet_words '--help --hex --json' "$word"
+        return
+    fi
+    case $(_mplsnet_place) in
+        0) _mplsnet_words 'ldp bgp' "$word" ;;
+        1) _mplsnet_files "$word" ;;
+    esac
+}
+
+complete -F _mplsnet mplsnet mplsnet-trial
+complete -F _mplsnet_lint mplsnet-lint
+complete -F _mplsnet_run mplsnet-run
 complete -F _mplsnet_draw mplsnet-draw
 complete -F _mplsnet_wireshark mplsnet-wireshark
 complete -F _mplsnet_play mplsnet-play
 complete -F _mplsnet_decode mplsnet-decode
+complete -F _mplsnet_whatif mplsnet-whatif
+complete -F _mplsnet_why mplsnet-why
+complete -F _mplsnet_report mplsnet-report
+complete -F _mplsnet_diff mplsnet-diff
+complete -F _mplsnet_new mplsnet-new
+complete -F _mplsnet_read mplsnet-read

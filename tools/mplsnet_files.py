@@ -1,5 +1,6 @@
 """What the tools read: a topology, a report, and the folder of a run (docs/FORMATS.md has them all)."""
 
+import os
 import re
 import struct
 import sys
@@ -103,6 +104,34 @@ def text(path, kind, at, entry, key):
     return entry[key]
 
 
+def texts(table, key):
+    """The texts of an array; none where the key has something else."""
+    found = table.get(key, [])
+    return [one for one in found if isinstance(one, str)] if isinstance(found, list) else []
+
+
+def vpns_of(net):
+    """A number for each VRF, and the VPNs' names: VRFs whose first target (exported, or else imported) is the same have the same.
+
+    A VPN is named as its VRFs' names begin, or else by that target.
+    """
+    found, members = {}, {}
+    for vrf in net["vrf"]:
+        targets = [one for key in ("export", "import") for one in texts(vrf, key)]
+        target = targets[0] if targets else f"vrf {vrf['name']}"
+        found[vrf["name"]] = target
+        members.setdefault(target, []).append(vrf["name"])
+    names, taken = [], set()
+    for target, vrfs in members.items():
+        name = os.path.commonprefix(vrfs)
+        if name not in vrfs:
+            name = re.sub(r"[-_.][^-_.]*\Z", "", name)
+        names.append(name if len(name) > 1 and name not in taken else target)
+        taken.add(names[-1])
+    numbers = {target: at for at, target in enumerate(members)}
+    return {vrf: numbers[target] for vrf, target in found.items()}, names
+
+
 # The report.
 
 
@@ -141,7 +170,7 @@ def read_report(path):
 # The folder of a run.
 
 
-@dataclass(frozen=True)
+@dataclass(frozen=True, slots=True)
 class Entry:
     """An entry of a label stack."""
 
@@ -150,7 +179,7 @@ class Entry:
     bottom: bool
 
 
-@dataclass(frozen=True)
+@dataclass(frozen=True, slots=True)
 class Frame:
     """A frame that was sent over a link: its tick, its label stack, top first, and the packet's bytes."""
 
@@ -184,9 +213,12 @@ class Run:
 
 
 JOURNAL = re.compile(
-    r"(0|[1-9]\d*) (link (?:up|down) \S+ \S+|learn \S+ \S+ \S+|ldp (?:on|off) \S+ \S+|hear (?:ldp|bgp) \S+ \S+|bgp (?:up|down) \S+ \S+"
-    r"|route (?:add|del) \S+ \S+|import (?:add|del) \S+ \S+|export (?:add|del) \S+ \S+|site (?:up|down) \S+|inject \S+ \d+|(?:carry|lose) \S+ \S+ \d+)"
+    r"link (?:up|down) \S+ \S+|learn \S+ \S+ \S+|ldp (?:on|off) \S+ \S+|hear (?:ldp|bgp) \S+ \S+|bgp (?:up|down) \S+ \S+"
+    r"|route (?:add|del) \S+ \S+|import (?:add|del) \S+ \S+|export (?:add|del) \S+ \S+|site (?:up|down) \S+|inject \S+ \d+|(?:carry|lose) \S+ \S+ \d+"
 )
+KINDS = {"link", "learn", "ldp", "hear", "bgp", "route", "import", "export", "site", "inject", "carry", "lose"}
+NUMBER = re.compile(r"0|[1-9]\d*")
+OLDER = "an older run's? It isn't removed when another run writes into the folder"
 
 
 def read_run(folder):
@@ -196,16 +228,17 @@ def read_run(folder):
         raise Fault(f"{folder}: not a folder")
     read_journal(run)
     read_labels(run)
+    shared = Shared()
     for file in sorted(run.folder.iterdir()):
         ends = tuple(file.stem.split("+"))
         if len(ends) != 2 or file.suffix not in (".pcap", ".ldp", ".bgp"):
             continue
         for name in ends:
             if name not in run.nodes:
-                raise Fault(f"{file}: labels.txt has no node '{name}'")
+                raise Fault(f"{file}: labels.txt has no node '{name}': the file may be {OLDER}")
         if file.suffix == ".pcap":
             run.links.append(ends)
-            run.frames[ends] = [frame_of(file, tick, record) for tick, record in records_of(file, 9)]
+            run.frames[ends] = frames_of(file, shared)
         elif file.suffix == ".ldp":
             run.ldp[ends] = ldp_lives(file)
         else:
@@ -218,34 +251,50 @@ def read_run(folder):
 
 def check_names(run):
     """What the steps name is there: links by their captures, nodes and sites by their labels."""
-    joined = {frozenset(link) for link in run.links}
+    joined, seen = {frozenset(link) for link in run.links}, set()
     for step, (_, words) in enumerate(run.steps):
-        kind, *rest = words
-        if kind in ("site", "inject", "route"):
-            name = rest[0] if kind == "inject" else rest[1]
-            fault = None if name in run.node_of else f"labels.txt has no site '{name}'"
-        elif kind == "bgp" or words[:2] == ("hear", "bgp"):
-            fault = next((f"labels.txt has no node '{name}'" for name in rest[1:] if name not in run.loopbacks), None)
-        elif kind in ("import", "export"):
+        if words in seen:
             continue
-        else:
-            ends = rest[:2] if kind in ("carry", "lose") else rest[-2:]
-            fault = None if frozenset(ends) in joined else f"there is no {'+'.join(ends)}.pcap"
-            if kind == "learn" and rest[0] not in run.nodes:
-                fault = f"labels.txt has no node '{rest[0]}'"
+        seen.add(words)
+        fault = misnamed(run, joined, words)
         if fault:
             raise Fault(f"{run.place(step)}: {fault}")
 
 
+def misnamed(run, joined, words):
+    """What the words of a step name that isn't there."""
+    kind, *rest = words
+    if kind in ("site", "inject", "route"):
+        name = rest[0] if kind == "inject" else rest[1]
+        return None if name in run.node_of else f"labels.txt has no site '{name}'"
+    if kind == "bgp" or words[:2] == ("hear", "bgp"):
+        return next((f"labels.txt has no node '{name}'" for name in rest[1:] if name not in run.loopbacks), None)
+    if kind not in KINDS or kind in ("import", "export"):
+        return None
+    if kind == "learn" and rest[0] not in run.nodes:
+        return f"labels.txt has no node '{rest[0]}'"
+    ends = rest[:2] if kind in ("carry", "lose") else rest[-2:]
+    return None if frozenset(ends) in joined else f"there is no {'+'.join(ends)}.pcap"
+
+
 def read_journal(run):
-    """The steps, each with its tick."""
-    path, last = run.folder / "journal.txt", 0
+    """The steps, each with its tick. Steps of the same words share them; those of a kind that isn't known here are only kept."""
+    path, last, known = run.folder / "journal.txt", 0, {}
     for number, line in enumerate(lines_of(path, "a journal"), 1):
-        found = JOURNAL.fullmatch(line)
-        if not found or int(found[1]) < last:
-            raise Fault(f"{path}: line {number}: {'not a step' if not found else 'before the tick of the line above'}: {line[:100]}")
-        last = int(found[1])
-        run.steps.append((last, tuple(found[2].split())))
+        tick, _, rest = line.partition(" ")
+        words = known.get(rest)
+        if words is None:
+            words = tuple(map(sys.intern, rest.split()))
+            if not words or words[0] in KINDS and not JOURNAL.fullmatch(rest):
+                raise Fault(f"{path}: line {number}: not a step: {line[:100]}")
+            known[rest] = words
+        if not NUMBER.fullmatch(tick):
+            raise Fault(f"{path}: line {number}: not a step: {line[:100]}")
+        when = int(tick)
+        if when < last:
+            raise Fault(f"{path}: line {number}: before the tick of the line above: {line[:100]}")
+        last = last if when == last else when
+        run.steps.append((last, words))
 
 
 def read_labels(run):
@@ -293,16 +342,31 @@ def records_of(path, link_type):
     return records
 
 
-def frame_of(path, tick, record):
+class Shared:
+    """Label stacks and packets that stand in several frames are kept once."""
+
+    def __init__(self):
+        self.stacks, self.packets = {}, {}
+
+
+def frames_of(path, shared):
+    """The frames of a link."""
+    return [frame_of(path, tick, record, shared) for tick, record in records_of(path, 9)]
+
+
+def frame_of(path, tick, record, shared):
     """A record of a link as a frame: 02 81, the label stack and the packet."""
-    stack, at = [], 2
-    while not stack or not stack[-1].bottom:
+    at = 2
+    while at == 2 or not record[at - 2] & 1:
         if record[:2] != b"\x02\x81" or len(record) - at < 4:
             raise Fault(f"{path}: a record of tick {tick} isn't an MPLS frame over PPP")
-        (word,) = struct.unpack_from(">I", record, at)
-        stack.append(Entry(word >> 12, word & 255, bool(word >> 8 & 1)))
         at += 4
-    return Frame(tick, tuple(stack), record[at:])
+    labels, packet = record[2:at], record[at:]
+    stack = shared.stacks.get(labels)
+    if stack is None:
+        words = struct.unpack(f">{len(labels) // 4}I", labels)
+        stack = shared.stacks[labels] = tuple(Entry(word >> 12, word & 255, bool(word >> 8 & 1)) for word in words)
+    return Frame(tick, stack, shared.packets.setdefault(packet, packet))
 
 
 def ldp_lives(path):

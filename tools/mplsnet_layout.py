@@ -48,9 +48,13 @@ def laid_out(count, links, unit):
 
 
 def circle(count, unit):
-    """Places on a circle in the nodes' order, the first one above, neighbours about a unit apart."""
+    """Places on a circle in the nodes' order, the first one above, neighbours about a unit apart.
+
+    The second half is turned a little, so that lines between opposite nodes don't all meet in the middle.
+    """
     radius = unit / 2 / math.sin(math.pi / count) if count > 1 else 0
-    angles = [2 * math.pi * at / count - math.pi / 2 for at in range(count)]
+    turn = 0.3 * 2 * math.pi / count if count >= 8 else 0
+    angles = [2 * math.pi * at / count - math.pi / 2 + (turn if 2 * at >= count else 0) for at in range(count)]
     return [(round(radius * math.cos(angle)), round(radius * math.sin(angle))) for angle in angles]
 
 
@@ -93,6 +97,159 @@ def turned(places, unit):
     flip_x = -1 if spun[0][0] > 1e-6 else 1
     flip_y = -1 if spun[0][1] > 1e-6 else 1
     return [(round(x * flip_x * unit), round(y * flip_y * unit)) for x, y in spun]
+
+
+# Boxes: half the width and half the height of what is drawn, in full and with its name alone, as mplsnet_play_draw.js has them.
+
+
+def node_box(name):
+    return max(52.0, 4.4 * len(name) + 12), 23.0
+
+
+def site_box(name, vrf):
+    return max(58.0, 3.7 * (len(name) + 5) + 8, 3.4 * (len(vrf) + 4) + 8), 27.0
+
+
+def short_box(name, high):
+    return 3.6 * len(name) + 7, high
+
+
+SCREEN = (1040, 680)  # the pixels of the drawing on a usual screen
+NAME = 10.5 / 12  # of a name alone: 10.5 pixels there
+GAP = 7  # between boxes
+
+
+def is_provider(count, edges, links):
+    """Edges around a core: more edges than other nodes, and few links between edges."""
+    cores = count - len(edges)
+    between = sum(a in edges and b in edges for a, b in links)
+    return count > 14 and 0 < cores < len(edges) and between * 4 <= len(links)
+
+
+def drawing(kind, names, edges, links, sites, unit=300, reach=165):
+    """A place for each node and each site (its name, VRF and node), none on another; edges is the set of nodes with a VRF."""
+    homes = [home for *_, home in sites]
+    if kind == "rings" or kind == "auto" and is_provider(len(names), edges, links):
+        nodes, outer = rings(len(names), edges, links, homes)
+    else:
+        nodes = circle(len(names), unit) if kind == "circle" else laid_out(len(names), links, unit)
+        nodes = moved_apart([(x, y, wide + 40, high + 30) for (x, y), (wide, high) in zip(nodes, map(node_box, names))], 0)
+        outer = sites_laid_out(nodes, links, homes, reach, 66)
+    full = [node_box(name) for name in names] + [site_box(name, vrf) for name, vrf, _ in sites]
+    short = [short_box(name, 11) for name in names] + [short_box(name, 9) for name, *_ in sites]
+    places = nodes + outer
+    for _ in range(4):
+        size = NAME / scale_of(places, full)
+        boxes = [(x, y, max(one[0], two[0] * size) + GAP, max(one[1], two[1] * size) + GAP) for (x, y), one, two in zip(places, full, short)]
+        if not any_on_another(boxes):
+            break
+        places = moved_apart(boxes, len(names))
+    places = [(round(x), round(y)) for x, y in places]
+    return places[: len(names)], places[len(names) :]
+
+
+def scale_of(places, boxes):
+    """How many pixels of a usual screen a unit takes where all is seen."""
+    spans = [[places[at][axis] + way * boxes[at][axis] for at in range(len(places)) for way in (-1, 1)] for axis in (0, 1)]
+    return min(pixels / max(1, max(span) - min(span)) for pixels, span in zip(SCREEN, spans)) if places else 1
+
+
+def pairs_on_another(boxes):
+    """The pairs of boxes that overlap, each with by how much, found in the order of their left sides."""
+    order = sorted(range(len(boxes)), key=lambda at: boxes[at][0] - boxes[at][2])
+    for place, at in enumerate(order):
+        x, y, wide, high = boxes[at]
+        for other in order[place + 1 :]:
+            far_x, far_y, far_wide, far_high = boxes[other]
+            if far_x - far_wide >= x + wide:
+                break
+            over = high + far_high - abs(y - far_y)
+            if over > 1e-6:
+                yield at, other, wide + far_wide - abs(x - far_x), over
+
+
+def any_on_another(boxes):
+    return next(pairs_on_another(boxes), None) is not None
+
+
+def moved_apart(boxes, fixed):
+    """The boxes' places when none lies on another: the first ones stay, but that all move from the middle where there is no room."""
+    boxes = [list(box) for box in boxes]
+    for turn in range(1, 1500):
+        pairs = list(pairs_on_another(boxes))
+        if not pairs:
+            break
+        for at, other, wide, high in pairs:
+            axis, over = (0, wide) if wide < high else (1, high)
+            way = 1 if (boxes[other][axis], other) >= (boxes[at][axis], at) else -1
+            share = 0 if at < fixed else 1 if other < fixed else 0.5
+            if max(at, other) >= fixed:
+                boxes[at][axis] -= way * (over * share + (0.5 if share else 0))
+                boxes[other][axis] += way * (over * (1 - share) + (0.5 if share < 1 else 0))
+        if turn % 40 == 0 or all(max(at, other) < fixed for at, other, *_ in pairs):
+            for box in boxes:
+                box[0], box[1] = box[0] * 1.06, box[1] * 1.06
+    return [(x, y) for x, y, *_ in boxes]
+
+
+# A provider: its core within, its edges around it in the order of the cores that they are at, and their sites outside.
+
+SLOT, WIDER = 74, 1.5  # the way along the outer ring for each site, and how much wider than high the rings are
+
+
+def rings(count, edges, links, homes):
+    """Places of the nodes and of the sites."""
+    cores = [at for at in range(count) if at not in edges]
+    numbers = {core: at for at, core in enumerate(cores)}
+    inner = laid_out(len(cores), [(numbers[a], numbers[b]) for a, b in links if a in numbers and b in numbers], 300)
+    order = sorted(numbers.values(), key=lambda at: (round(math.atan2(inner[at][1], inner[at][0]), 3), at))
+    angle = {cores[at]: 2 * math.pi * place / len(cores) for place, at in enumerate(order)}
+    wanted = {}
+    for edge in sorted(edges):
+        near = [angle[b if a == edge else a] for a, b in links if edge in (a, b) and (b if a == edge else a) in angle]
+        x, y = sum(map(math.cos, near)), sum(map(math.sin, near))
+        wanted[edge] = math.atan2(y, x) % (2 * math.pi) if math.hypot(x, y) > 0.2 else (near[0] if near else 0)
+    around = sorted(edges, key=lambda edge: (round(wanted[edge], 3), edge))
+    slots = {edge: max(1.6, homes.count(edge)) for edge in around}
+    length = max(sum(slots.values()) * SLOT, len(edges) * 118 + 900, len(cores) * 260)
+    high = length / around_of(WIDER, 1)
+    ring = [(WIDER * high, high), (WIDER * high - 190, high - 120), (max(120, WIDER * high - 480), max(80, high - 310))]
+    places, at, edge_share = {}, 0.0, {}
+    for edge in around:
+        edge_share[edge] = (at + slots[edge] / 2) / sum(slots.values())
+        at += slots[edge]
+    # The first edge stands where it is nearest to its cores.
+    turn = wanted[around[0]] / (2 * math.pi) - edge_share[around[0]] if around else 0
+    for edge in around:
+        places[edge] = on_ring(*ring[1], edge_share[edge] + turn)
+    for core in cores:
+        places[core] = on_ring(*ring[2], angle[core] / (2 * math.pi))
+    outer, seen, total = [], {}, sum(slots.values())
+    for home in homes:
+        place = seen[home] = seen.get(home, -1) + 1
+        share = edge_share[home] + (place - (homes.count(home) - 1) / 2) * slots[home] / homes.count(home) / total + turn
+        outer.append(on_ring(*ring[0], share))
+    return [places[at] for at in range(count)], outer
+
+
+def around_of(wide, high):
+    """The length of an ellipse (Ramanujan's approximation)."""
+    return math.pi * (3 * (wide + high) - math.sqrt((3 * wide + high) * (wide + 3 * high)))
+
+
+def on_ring(wide, high, share):
+    """The place on an ellipse after a share of its way around, counted from the right."""
+    share %= 1
+    points, way = 360, [0.0]
+    spots = [(wide * math.cos(2 * math.pi * at / points), high * math.sin(2 * math.pi * at / points)) for at in range(points + 1)]
+    for one, other in zip(spots, spots[1:]):
+        way.append(way[-1] + math.dist(one, other))
+    at = next(at for at in range(points) if way[at + 1] >= share * way[-1])
+    part = (share * way[-1] - way[at]) / (way[at + 1] - way[at])
+    return tuple(one + (other - one) * part for one, other in zip(spots[at], spots[at + 1]))
+
+
+# Sites beside their nodes.
 
 
 def sites_laid_out(places, links, sites, reach, gap):

@@ -5,19 +5,19 @@ a `carry` sends is looked up in the links' captures, by its tick, its packet and
 where the report is there. A step that fits several frames is decided by the steps after it.
 """
 
-from bisect import bisect_left, bisect_right
+from bisect import bisect_left, bisect_right, insort
 from dataclasses import dataclass, field
 
 from mplsnet_files import Fault
 
 MOST_TRIES = 200_000
-AHEAD = 40  # how many later steps of a direction are looked at
+AHEAD = 60  # how many of the frames that a node has still to send are looked at
 
 
 # Sessions.
 
 
-@dataclass(eq=False)
+@dataclass(eq=False, slots=True)
 class Session:
     """One life of a session. The end of greater address opens it: it says the first message, as RFC 5036 has it."""
 
@@ -113,7 +113,7 @@ def hand_out(run, sessions):
 # Frames.
 
 
-@dataclass(eq=False)
+@dataclass(eq=False, slots=True)
 class Flight:
     """A frame on its way: the packet's number from 1, how many nodes the packet was at, and the packet's edge."""
 
@@ -125,7 +125,12 @@ class Flight:
     frame: object
 
 
-@dataclass
+NONE = ()
+LOSE, DROP, DELIVER = ("lose",), ("drop",), ("deliver",)
+LOST, DROPPED = ("lost",), ("dropped",)
+
+
+@dataclass(slots=True)
 class Move:
     """A step that moves packets, and what it did.
 
@@ -137,7 +142,7 @@ class Move:
     tick: int
     words: tuple
     packet: int | None = None
-    took: list = field(default_factory=list)
+    took: tuple = ()
     sent: Flight | None = None
     end: tuple | None = None
 
@@ -162,39 +167,83 @@ class Frames:
                 self.moves.append(Move(step, tick, words, packets if words[0] == "inject" else None))
         if ways is not None and len(ways) != packets:
             raise Fault(f"the report has {len(ways)} packets, and by the journal {packets} were sent")
-        self.here = {node: [] for node in run.nodes}  # the moves by which a packet is at the node
-        self.takes = {pair: [] for pair in self.link_of}  # the moves that take a frame of the direction, and its place; none where all go
+        if ways is None:
+            self.look_ahead()
+
+    def look_ahead(self):
+        """By which move each frame must have been sent, for a run without its report.
+
+        A link that goes down begins another epoch of its two directions. In an epoch the frame of place P that is
+        taken as the Kth, from 0, is at least the (K+P+1)th that was sent in it.
+        """
+        self.here = {node: [] for node in self.run.nodes}  # the moves by which a packet is at the node
+        self.epochs = {pair: [[]] for pair in self.link_of}  # of each the moves by which its frames must have been sent
+        self.sent = {pair: [0] for pair in self.link_of}  # of each epoch so far how many were sent
+        taken = dict.fromkeys(self.link_of, 0)
         for at, move in enumerate(self.moves):
             kind, *rest = move.words
             if kind == "link":
-                for pair in ((rest[1], rest[2]), (rest[2], rest[1])):
-                    self.takes.get(pair, []).append((at, None))
+                for pair in self.both(rest):
+                    self.epochs[pair].append([])
+                    taken[pair] = 0
                 continue
             if kind != "inject":
-                self.takes.get((rest[0], rest[1]), []).append((at, int(rest[2])))
+                pair, place = (rest[0], rest[1]), int(rest[2])
+                due = self.epochs[pair][-1]
+                due += [at] * (taken[pair] + place + 1 - len(due))
+                taken[pair] += 1
             if kind != "lose":
-                self.here.get(run.node_of.get(rest[0]) if kind == "inject" else rest[1], []).append(at)
+                self.here[self.node_at(move)].append(at)
+        self.due = {node: [] for node in self.run.nodes}  # what each node has still to send, of the present epochs
+        for pair in self.link_of:
+            self.add_due(pair)
+
+    def due_in(self, pair):
+        """What is due in a direction's present epoch."""
+        return self.epochs[pair][len(self.sent[pair]) - 1][self.sent[pair][-1] :]
+
+    def add_due(self, pair):
+        self.due[pair[0]] += self.due_in(pair)
+        self.due[pair[0]].sort()
+
+    def both(self, ends):
+        """The two directions of a link."""
+        return (ends[-2], ends[-1]), (ends[-1], ends[-2])
+
+    def node_at(self, move):
+        """Where the move brings a packet."""
+        return self.run.node_of[move.words[1]] if move.words[0] == "inject" else move.words[2]
 
     def found(self):
         """All moves, each with what it did: the first way through the journal that uses every frame and delivery."""
-        trail, tries, farthest = [iter(self.choices(0))], 0, 0  # of each step so far the choices that weren't tried yet
+        trail, tries, farthest = [self.choices(0)], 0, 0  # of each step so far the choices that weren't tried yet, the next one last
         while trail and tries < MOST_TRIES:
             at = len(trail) - 1
-            choice = next(trail[-1], None)
+            choice = self.next_choice(at, trail[-1])
             if choice is None:
                 tries += 1
                 trail.pop()
                 if trail:
                     self.undo(self.moves[at - 1])
                 continue
+            if not trail[-1]:
+                trail[-1] = NONE
             if at == len(self.moves):
                 return self.moves
             self.do(self.moves[at], choice)
-            trail.append(iter(self.choices(at + 1)))
+            trail.append(self.choices(at + 1))
             farthest = max(farthest, at + 1)
         place = self.run.place(self.moves[farthest].step) + ": this step" if farthest < len(self.moves) else f"{self.run.folder}: the journal's end"
         advice = "" if self.ways is not None else " (the report would help)"
         raise Fault(f"{place} fits no frame of the links' captures{advice}")
+
+    def next_choice(self, at, untried):
+        """The next of the choices after which all can still be sent in time."""
+        while untried:
+            choice = untried.pop()
+            if self.ways is not None or choice[0] in ("lose", "end") or self.is_in_time(at, choice):
+                return choice
+        return None
 
     def is_used_before(self, tick):
         """Each frame and delivery of a tick before this one has its step."""
@@ -205,25 +254,26 @@ class Frames:
     # What a step may have done: ("send", node, node), ("deliver",), ("drop",) or ("lose",).
 
     def choices(self, at):
+        """What the move may have done, the likeliest last."""
         if at == len(self.moves):
-            return [("end",)] if self.is_used_before(None) else []
+            return [("end",)] if self.is_used_before(None) else NONE
         move = self.moves[at]
         kind, *rest = move.words
         if (at == 0 or self.moves[at - 1].tick < move.tick) and not self.is_used_before(move.tick):
-            return []
+            return NONE
         if kind == "link":
-            cut = self.flying.get((rest[1], rest[2]), []) + self.flying.get((rest[2], rest[1]), [])
-            return [("lose",)] if all(self.ends_as(flight, "LinkCut") for flight in cut) else []
+            cut = [flight for pair in self.both(rest) for flight in self.flying[pair]]
+            return [LOSE] if all(self.ends_as(flight, "LinkCut") for flight in cut) else NONE
         if kind == "inject":
-            node = self.run.node_of.get(rest[0])
-            return self.onward(at, node, None) if node and self.was_at(move.packet, 0, node) else []
-        flights, place = self.flying.get((rest[0], rest[1]), []), int(rest[2])
+            node = self.node_at(move)
+            return self.onward(move, node, None) if self.was_at(move.packet, 0, node) else NONE
+        flights, place = self.flying[rest[0], rest[1]], int(rest[2])
         if place >= len(flights):
-            return []
+            return NONE
         flight = flights[place]
         if kind == "lose":
-            return [("lose",)] if self.ends_as(flight, "Lost") else []
-        return self.onward(at, rest[1], flight) if self.was_at(flight.packet, flight.nodes, rest[1]) else []
+            return [LOSE] if self.ends_as(flight, "Lost") else NONE
+        return self.onward(move, rest[1], flight) if self.was_at(flight.packet, flight.nodes, rest[1]) else NONE
 
     def was_at(self, packet, place, node):
         """The packet's path may have the node at the place."""
@@ -239,11 +289,10 @@ class Frames:
         way = self.ways[flight.packet - 1]
         return way.end == "dropped" and way.words[0] == rule and len(way.nodes) == flight.nodes
 
-    def onward(self, at, node, flight):
+    def onward(self, move, node, flight):
         """What may become of a packet at the node; it came there by the flight, or is new."""
-        move = self.moves[at]
         packet, been = (flight.packet, flight.nodes + 1) if flight else (move.packet, 1)
-        receivers, may_end = self.neighbours[node], ["deliver", "drop"]
+        receivers, may_end = self.neighbours[node], [DROP, DELIVER]
         if self.ways is not None:
             way = self.ways[packet - 1]
             if been < len(way.nodes):
@@ -251,32 +300,28 @@ class Frames:
             elif way.end == "flying":
                 receivers, may_end = [way.words[1]], []
             elif way.end == "delivered":
-                receivers, may_end = [], ["deliver"] if int(way.words[2]) == self.delivered + 1 else []
+                receivers, may_end = [], [DELIVER] if int(way.words[2]) == self.delivered + 1 else []
             elif way.words[0] in ("Lost", "LinkCut"):
                 may_end = []
             else:
-                receivers, may_end = [], ["drop"]
-        sent = [("send", node, to) for to in receivers if self.sends(move.tick, node, to, flight)]
-        if "deliver" in may_end and not self.delivers(move.tick, flight):
-            may_end.remove("deliver")
-        choices = sent + [(end,) for end in may_end]
-        return choices if self.ways is not None else [choice for choice in choices if self.is_in_time(at, node, choice)]
+                receivers, may_end = [], [DROP]
+        if DELIVER in may_end and not self.delivers(move.tick, flight):
+            may_end.remove(DELIVER)
+        return may_end + [("send", node, to) for to in reversed(receivers) if self.sends(move.tick, node, to, flight)]
 
-    def is_in_time(self, at, node, choice):
+    def is_in_time(self, at, choice):
         """After the choice the node has still enough moves to send, in time, what is taken later from its directions."""
-        due = []
-        for other in self.neighbours[node]:
-            takes = self.takes[node, other]
-            flying, sent = len(self.flying[node, other]) + (choice == ("send", node, other)), 0
-            start = bisect_right(takes, (at, -1))
-            for taken, (later, place) in enumerate(takes[start : start + AHEAD]):
-                if place is None:
-                    break
-                due += [later] * (place + 1 + taken - flying - sent)
-                sent = max(sent, place + 1 + taken - flying)
-        moves = self.here[node]
+        node = self.node_at(self.moves[at])
+        due, moves, done = self.due[node], self.here[node], None
+        if choice[0] == "send":
+            pair = choice[1:]
+            epoch, place = self.epochs[pair][len(self.sent[pair]) - 1], self.sent[pair][-1]
+            done = bisect_left(due, epoch[place]) if place < len(epoch) else None
         gone = bisect_right(moves, at)
-        return all(bisect_left(moves, later) - gone > earlier for earlier, later in enumerate(sorted(due)))
+        for rank, later in enumerate(due[:AHEAD]):
+            if rank != done and bisect_left(moves, later, gone) - gone <= rank - (done is not None and rank > done):
+                return False
+        return True
 
     def next_frame(self, sender, receiver):
         link = self.link_of.get((sender, receiver))
@@ -322,11 +367,11 @@ class Frames:
         """Does what was chosen for the step."""
         kind, *rest = move.words
         if kind == "link":
-            for pair in ((rest[1], rest[2]), (rest[2], rest[1])):
-                move.took += self.flying.get(pair, [])
+            move.took = tuple(flight for pair in self.both(rest) for flight in self.flying[pair])
+            for pair in self.both(rest):
                 self.flying[pair] = []
         elif kind != "inject":
-            move.took = [self.flying[rest[0], rest[1]].pop(int(rest[2]))]
+            move.took = (self.flying[rest[0], rest[1]].pop(int(rest[2])),)
         if choice[0] == "send":
             _, sender, receiver = choice
             frame = self.next_frame(sender, receiver)
@@ -338,11 +383,15 @@ class Frames:
             self.delivered += 1
             move.end = ("delivered", self.delivered)
         else:
-            move.end = ("lost",) if choice[0] == "lose" else ("dropped",)
+            move.end = LOST if choice[0] == "lose" else DROPPED
+        if self.ways is None:
+            self.count(move, +1)
 
     def undo(self, move):
         """Undoes what was done last, for this step."""
         kind, *rest = move.words
+        if self.ways is None:
+            self.count(move, -1)
         if move.sent:
             self.flying[move.sent.sender, move.sent.receiver].pop()
             self.next[self.link_of[move.sent.sender, move.sent.receiver]] -= 1
@@ -353,4 +402,24 @@ class Frames:
                 self.flying[flight.sender, flight.receiver].append(flight)
         elif move.took:
             self.flying[rest[0], rest[1]].insert(int(rest[2]), move.took[0])
-        move.took, move.sent, move.end = [], None, None
+        move.took, move.sent, move.end = (), None, None
+
+    def count(self, move, by):
+        """Counts what the move sent, and the epochs that it began; or counts back."""
+        if move.sent:
+            pair = (move.sent.sender, move.sent.receiver)
+            place = self.sent[pair][-1] - (by < 0)
+            for later in self.epochs[pair][len(self.sent[pair]) - 1][place : place + 1]:
+                remove(self.due[pair[0]], later) if by > 0 else insort(self.due[pair[0]], later)
+            self.sent[pair][-1] += by
+        elif move.words[0] == "link":
+            for pair in self.both(move.words):
+                for later in self.due_in(pair):
+                    remove(self.due[pair[0]], later)
+                self.sent[pair].append(0) if by > 0 else self.sent[pair].pop()
+                self.add_due(pair)
+
+
+def remove(places, one):
+    """Takes a number out of numbers in order."""
+    places.pop(bisect_left(places, one))

@@ -8,7 +8,8 @@ import shutil
 import subprocess
 import tempfile
 
-CHROMIUM = next((found for name in ("chromium", "chromium-browser", "google-chrome") if (found := shutil.which(name))), None)
+NAMES = () if os.environ.get("MPLSNET_BROWSER") == "no" else ("chromium", "chromium-browser", "google-chrome")
+CHROMIUM = next((found for name in NAMES if (found := shutil.which(name))), None)
 PATIENCE = 120  # seconds, for a busy machine
 
 

@@ -13,7 +13,8 @@ BASH = ROOT / "completions/mplsnet.bash"
 ZSH = ROOT / "completions/_mplsnet"
 FORMATS = (ROOT / "docs/FORMATS.md").read_text()
 
-TOOLS = ["mplsnet-draw", "mplsnet-wireshark", "mplsnet-play", "mplsnet-decode"]
+TOOLS = ["mplsnet-draw", "mplsnet-wireshark", "mplsnet-play", "mplsnet-decode", "mplsnet-read", "mplsnet-lint", "mplsnet-run"]
+TOOLS += ["mplsnet-whatif", "mplsnet-why", "mplsnet-report", "mplsnet-diff", "mplsnet-new"]
 
 # What bash would do at the end of the line, in a folder.
 COMPLETE = """
@@ -80,10 +81,10 @@ class Bash(unittest.TestCase):
         for tool in TOOLS:
             with self.subTest(tool):
                 said = subprocess.run([sys.executable, ROOT / "tools" / tool, "--help"], capture_output=True, text=True).stdout
-                options = set(re.findall(r"^  (?:-\w, )?(--[a-z]+)", said, re.M))
+                options = set(re.findall(r"^  (?:-\w, )?(--[a-z-]+)", said, re.M))
                 self.assertEqual(options, self.completed("examples", tool, "-"))
                 words = ZSH.read_text().split(f"_{tool.replace('-', '_')}_words() {{")[1].split("\n}")[0]
-                self.assertEqual(options, set(re.findall(r"--[a-z]+", words)))
+                self.assertEqual(options, set(re.findall(r"--[a-z-]+", words)))
         self.assertEqual({"neato"}, self.completed("examples", "mplsnet-draw", "--layout", "n"))
         self.assertEqual({"circle"}, self.completed("examples", "mplsnet-play", "--layout", "c"))
 
@@ -95,6 +96,10 @@ class Bash(unittest.TestCase):
         self.assertEqual({"expected"}, self.completed(first, "mplsnet-play", "--layout", "circle", ""))
         self.assertEqual({"topology.toml", "expected"}, self.completed(first, "mplsnet-play", "expected", "--report", "report.txt", ""))
         self.assertEqual({"expected"}, self.completed(first, "mplsnet-decode", "expected", "expected", ""))
+        self.assertEqual({"topology.toml", "expected"}, self.completed(first, "mplsnet-whatif", "--only", "p1", ""))
+        self.assertEqual({"topology.toml", "expected"}, self.completed(first, "mplsnet-why", "expected", ""))
+        self.assertEqual({"packets"}, self.completed(first, "mplsnet-report", "expected", "--csv", "p"))
+        self.assertEqual({"waxman"}, self.completed(first, "mplsnet-new", "--family", "w"))
 
 
 class Tools(unittest.TestCase):

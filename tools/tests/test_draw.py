@@ -1,11 +1,15 @@
 """The drawing of a topology, of each way that a packet can end, and what is said of wrong files."""
 
+import re
 import shutil
 import subprocess
 import sys
 import tempfile
 import unittest
+from cmath import phase
 from pathlib import Path
+
+from provider import Provider
 
 ROOT = Path(__file__).resolve().parents[2]
 DRAW = ROOT / "tools/mplsnet-draw"
@@ -127,6 +131,39 @@ class Draw(unittest.TestCase):
         vrf = '[[node]]\nname = "x"\nloopback = "10.0.0.1"\n[[vrf]]\nname = "v"\nnode = "x"\nrd = "1:1"\n'
         drawing = self.drawn(self.file(f'{vrf}[[site]]\nname = "s"\nvrf = "v"\nprefixes = {prefixes}\n'))
         self.assertIn("10.3.0.0/16\\nand 5 more", self.line(drawing, '"site s" [', "house"))
+
+    def test_a_large_network_has_its_sites_in_the_nodes_labels_and_words_at_unlike_links(self):
+        topology = self.file(Provider(8, 30).topology())
+        drawing = self.drawn(topology)
+        self.assertIn("c9s1, c9s4", self.line(drawing, '"node pe09" ['))
+        self.assertNotIn('"site c9s1"', drawing)
+        self.assertIn('label=""', self.line(drawing, '"node p02" -- "node p03"'))
+        self.assertIn("cost 50 delay 3", self.line(drawing, '"node pe01" -- "node p01"'))
+        self.line(drawing, "links without words: cost 10 delay 1")
+        self.report.write_text("packet 1 line 5 site c1s1 record 1 delivered c1s2 ttl 61 copy 1 path pe01 p05 pe11\n")
+        drawing = self.drawn("--report", self.report, "--packet", 1, topology)
+        self.assertIn("penwidth", self.line(drawing, '"vrf vpn1-c1s2" -- "site c1s2"'))
+        self.assertEqual(2, drawing.count("shape=\"house\""), "the packet's sites alone")
+
+    def test_one_vpn_no_sites_and_links_that_are_down(self):
+        topology = self.file(Provider(4, 8).topology())
+        self.assertEqual(2, self.drawn("--vpn", "vpn3", topology).count("shape=\"house\""))
+        self.assertEqual(2, self.drawn("--vpn", "65000:102", topology).count("shape=\"house\""))
+        self.refused(1, "no VPN 'blue': it has vpn1, ", "--vpn", "blue", topology)
+        self.assertNotIn("house", self.drawn("--no-sites", topology))
+        drawing = self.drawn("--down", "p01+p02,p01+pe05", topology)
+        self.assertEqual(2, drawing.count("down"))
+        self.assertIn("dashed", self.line(drawing, '"node pe05" -- "node p01"', "down"))
+        self.refused(1, "there is no link 'p01+p04'", "--down", "p01+p02,p01+p04", topology)
+
+    def test_a_circle_has_the_nodes_in_their_order(self):
+        drawing = self.drawn("--layout", "circle", ROOT / "examples/ring/topology.toml")
+        places = [complex(*map(float, place)) for place in re.findall(r'pos="([-.\d]+),([-.\d]+)!"', drawing)]
+        self.assertEqual(12, len(places))
+        turns = [phase(other / one) for one, other in zip(places, places[1:])]
+        self.assertTrue(all(turn < 0 for turn in turns), "clockwise")
+        middles = [abs((places[at] + places[at + 6]) / 2) for at in range(6)]
+        self.assertGreater(min(middles), 0.1, "lines between opposite nodes don't meet in the middle")
 
     def test_without_dot_the_message_says_what_to_do(self):
         self.refused(3, "dot isn't installed: install Graphviz", "--svg", self.folder / "x.svg", LINKS, env={"PATH": str(self.folder)})

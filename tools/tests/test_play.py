@@ -8,8 +8,10 @@ import sys
 import tempfile
 import unittest
 from pathlib import Path
+from xml.etree import ElementTree
 
 from browser import CHROMIUM, Browser
+from provider import made
 
 ROOT = Path(__file__).resolve().parents[2]
 TOOL = ROOT / "tools/mplsnet-play"
@@ -74,6 +76,7 @@ class Play(unittest.TestCase):
         data = self.data(self.made(LINKS / "expected", LINKS / "topology.toml"))
         self.assertEqual([("pe1", True), ("p", False), ("pe2", True)], [(node["name"], node["edge"]) for node in data["nodes"]])
         self.assertEqual({0}, {node["y"] for node in data["nodes"]}, "the chain is drawn level")
+        self.assertEqual(["red"], data["vpns"])
         self.assertEqual([[[17, 63], [18, 63]], [[18, 62]]], [flight["st"] for flight in data["flights"]])
         self.assertEqual([["ldp", 1, 0], ["ldp", 2, 1], ["bgp", 2, 0]], data["sessions"])
         self.assertEqual("10.1.0.1 to 10.2.0.1 UDP", data["packets"][0]["ip"])
@@ -95,9 +98,77 @@ class Play(unittest.TestCase):
         self.assertEqual(["</script><b>"], self.data(page)["sites"][0]["prefixes"])
         self.assertEqual(2, page.count("</script>"))
 
+    def test_a_part_of_the_steps_begins_with_the_state_before_it(self):
+        whole = self.data(self.made(LINKS / "expected", LINKS / "topology.toml"))
+        data = self.data(self.made(LINKS / "expected", LINKS / "topology.toml", "--from", 41, "--to", 41))
+        self.assertEqual((40, 42, whole["steps"][40:41]), (data["first"], data["total"], data["steps"]))
+        start = data["start"]
+        self.assertEqual(([True, True], [1, 1], {"0 1": [0]}, [{"path": [0]}]), (start["up"], start["changes"], start["queues"], start["ways"]))
+        self.assertEqual([[node * 2 + link, 1] for node in range(3) for link in range(2)], sorted(start["learned"]))
+        self.assertEqual({"ldp 0 1": 0, "ldp 1 2": 1, "bgp 0 2": 2}, start["living"])
+        self.assertEqual([1], [packet["n"] for packet in data["packets"]])
+        self.assertEqual(["packet", "total"], [line.split()[0] for line in data["report"]])
+        data = self.data(self.made(LINKS / "expected", LINKS / "topology.toml", "--packet", 1))
+        self.assertEqual((39, 3, 0), (data["first"], len(data["steps"]), data["follow"]))
+
+    def test_a_run_that_is_too_long_is_told_before_it_is_read(self):
+        run = self.folder / "long"
+        run.mkdir()
+        (run / "journal.txt").write_text("0 link up pe1 p\n" * 100_001)
+        said = "has 100001 steps: a page takes at most 100000: choose some by --from and --to, or a packet's by --packet"
+        self.refused(1, said, run, LINKS / "topology.toml", self.out)
+        self.refused(1, said, run, LINKS / "topology.toml", self.out, "--to", 100_001)
+        self.refused(1, "labels.txt: No such file", run, LINKS / "topology.toml", self.out, "--from", 2)
+
+    def test_steps_and_rules_that_are_not_known_are_shown_by_their_own_words(self):
+        run = self.folder / "run"
+        shutil.copytree(LINKS / "expected", run)
+        journal = (run / "journal.txt").read_text().splitlines(keepends=True)
+        (run / "journal.txt").write_text("".join([*journal[:40], "1 wait 7\n", "1 spoil ldp pe1 p 3\n"]))
+        (run / "report.txt").write_text("packet 1 line 5 site a record 1 flying pe1 p path pe1\n")
+        header = (run / "p+pe2.pcap").read_bytes()[:24]
+        (run / "p+pe2.pcap").write_bytes(header)
+        (run / "delivered.pcap").write_bytes((run / "delivered.pcap").read_bytes()[:24])
+        data = self.data(self.made(run, LINKS / "topology.toml"))
+        self.assertEqual(["wait 7.", "spoil ldp pe1 p 3."], [step["x"] for step in data["steps"][-2:]])
+        (run / "journal.txt").write_text("".join([*journal[:39], "0 inject a 1\n"]))
+        (run / "report.txt").write_text("packet 1 line 5 site a record 1 dropped Overslept at pe1 path pe1\n")
+        (run / "pe1+p.pcap").write_bytes(header)
+        self.assertEqual("Overslept", self.data(self.made(run, LINKS / "topology.toml"))["steps"][-1]["drop"])
+
+    @unittest.skipUnless((ROOT / "tools/mplsnet_why.py").exists(), "mplsnet-why isn't there")
+    def test_why_a_packet_fell(self):
+        example = ROOT / "examples/ordered-control"
+        words = ("--capture", example / "capture.pcap", "--script", example / "script.txt")
+        packets = self.data(self.made(example / "expected", example / "topology.toml", *words))["packets"]
+        dropped = {int(line.split()[1]) for line in (example / "expected/report.txt").read_text().splitlines() if line.startswith("packet ") and " dropped " in line}
+        self.assertEqual(dropped, {packet["n"] for packet in packets if packet["why"]})
+        self.assertTrue(all(packet["why"].startswith("Why: ") and packet["why"].endswith(".") for packet in packets if packet["why"]))
+
+    def test_pictures(self):
+        for run, topology, at, words in (
+            (LINKS / "expected", LINKS / "topology.toml", 40, ["step 40, tick 0: inject a 1", ">17<", ">18<", ">site a<", ">192.0.2.2<"]),
+            (LINKS / "expected", LINKS / "topology.toml", 42, ["#1 delivered, TTL 61"]),
+            (ROOT / "examples/loss/expected", ROOT / "examples/loss/topology.toml", 1, [">step 1, tick 0: link up"]),
+        ):
+            self.out = self.folder / "picture.svg"
+            picture = self.made(run, topology, "--svg", "--at", at)
+            ElementTree.fromstring(picture)
+            for one in words:
+                self.assertIn(one, picture)
+            self.assertGreaterEqual(min(map(float, re.findall(r'font-size="([\d.]+)"', picture))), 9)
+
     def test_wrong_words_and_files(self):
         topology = LINKS / "topology.toml"
         self.refused(2, "usage:", LINKS / "expected", topology)
+        for said, words in (
+            ("--svg and --at go together", ["--svg"]), ("--svg and --at go together", ["--at", 3]), ("--from is past --to", ["--from", 3, "--to", 2]),
+            ("'0' isn't a number from 1", ["--from", 0]), ("--packet and --svg choose for themselves", ["--packet", 1, "--to", 2]), ("--packet goes with a page", ["--svg", "--at", 1, "--packet", 1]),
+        ):  # fmt: skip
+            self.refused(2, said, LINKS / "expected", topology, self.out, *words)
+        self.refused(1, "there is no step 43: it has 42", LINKS / "expected", topology, self.out, "--from", 43)
+        self.refused(1, "there is no step 43: it has 42", LINKS / "expected", topology, self.out, "--svg", "--at", 43)
+        self.refused(1, "packet 2: no step injects it", LINKS / "expected", topology, self.out, "--packet", 2)
         self.refused(1, "nothing: not a folder", self.folder / "nothing", topology, self.out)
         self.refused(1, "not TOML", LINKS / "expected", TOOL, self.out)
         self.refused(1, "No such file", LINKS / "expected", topology, self.folder / "none/run.html")
@@ -188,6 +259,115 @@ class InABrowser(unittest.TestCase):
                 total = report.splitlines()[-1].split()
                 counts = browser.value("(state => [state.ways.length, state.delivered, state.dropped])(stateAfter(steps.length))")
                 self.assertEqual([int(total[at]) for at in (2, 4, 6)], counts)
+
+
+# What a reader of the drawing sees: the least height of a name in pixels; which sites lie on nodes, and names on names; and whether names pass their boxes.
+DRAWN = """(() => {
+    const box = element => element.firstChild.getBoundingClientRect();
+    const touch = (a, b) => a.left < b.right && b.left < a.right && a.top < b.bottom && b.top < a.bottom;
+    const texts = [...document.querySelectorAll("#net .node text, #net .site text, #net .chip text, #net .mark")].filter(text => text.getClientRects().length);
+    const named = all.map((one, at) => [one, box((at < nodes.length ? drawn.nodes : drawn.sites)[at < nodes.length ? at : at - nodes.length])]);
+    const onNodes = named.slice(nodes.length).filter(([, site]) => named.slice(0, nodes.length).some(([, one]) => touch(site, one))).map(([site]) => site.name);
+    const shown = named.filter(([one]) => !one.bare), onNames = shown.filter(([, a], at) => shown.slice(at + 1).some(([, b]) => touch(a, b))).map(([one]) => one.name);
+    const wide = texts.filter(text => text.closest(".node, .site")).filter(text => text.getBoundingClientRect().width > box(text.parentNode).width + 1).map(text => text.textContent);
+    return {least: Math.min(...texts.map(text => parseFloat(getComputedStyle(text).fontSize) * text.getScreenCTM().a)), onNodes, onNames, wide, shown: shown.length};
+})()"""
+
+
+@unittest.skipUnless(CHROMIUM, "chromium isn't installed")
+class LargeNetworks(unittest.TestCase):
+    """Networks of a provider with 12, 38 and 64 nodes, as they are seen on a screen and on a phone, in light and dark."""
+
+    @classmethod
+    def setUpClass(cls):
+        cls.folder = Path(tempfile.mkdtemp())
+        cls.addClassCleanup(shutil.rmtree, cls.folder)
+        cls.browser = Browser()
+        cls.addClassCleanup(cls.browser.close)
+        cls.pages = {}
+        for nodes, cores, edges in ((12, 4, 8), (38, 8, 30), (64, 12, 52)):
+            place = cls.folder / str(nodes)
+            made(place, cores, edges, with_bgp=nodes < 64, most=40)
+            cls.pages[nodes] = place / "run.html"
+            subprocess.run([sys.executable, TOOL, place / "run", place / "topology.toml", cls.pages[nodes]], check=True)
+
+    def tearDown(self):
+        self.assertEqual([], self.browser.errors)
+
+    def opened(self, nodes, width=1500, height=900, scheme="light", at=10**6):
+        self.browser.call("Emulation.setDeviceMetricsOverride", width=width, height=height, deviceScaleFactor=1, mobile=False)
+        self.browser.call("Emulation.setEmulatedMedia", features=[{"name": "prefers-color-scheme", "value": scheme}])
+        self.browser.open("about:blank")
+        self.browser.open(f"{self.pages[nodes].as_uri()}#{at}")
+        return self.browser
+
+    def test_every_name_can_be_read_and_none_lies_on_another(self):
+        for nodes in self.pages:
+            for width, height, scheme in ((1500, 900, "light"), (390, 844, "dark")):
+                with self.subTest(f"{nodes} nodes, {width} pixels"):
+                    seen = self.opened(nodes, width, height, scheme).value(DRAWN)
+                    self.assertGreaterEqual(seen["least"], 9)
+                    self.assertEqual(([], [], []), (seen["onNodes"], seen["onNames"], seen["wide"]))
+                    if width == 1500:
+                        self.assertEqual(nodes + self.browser.value("sites.length"), seen["shown"], "all names are shown")
+                    self.assertLessEqual(self.browser.value("document.documentElement.scrollWidth"), width)
+                    for key, count in (("]", 9), ("[", 16), ("0", 1)):
+                        for _ in range(count):
+                            self.browser.key(key)
+                        seen = self.browser.value(DRAWN)
+                        self.assertGreaterEqual(seen["least"], 9, f"after {count} times {key}")
+                        self.assertEqual([], seen["onNames"])
+
+    def test_a_phone_has_the_legend_folded_and_the_panel_as_high_as_the_drawing(self):
+        browser = self.opened(38, 390, 844)
+        self.assertEqual([False, True], browser.value("[$('legend').open, Math.abs($('stage').clientHeight - document.querySelector('aside').clientHeight) < 3]"))
+        self.assertTrue(self.opened(38).value("$('legend').open"))
+
+    def test_a_packet_is_found_by_site_vpn_or_verdict_in_two_keys(self):
+        browser = self.opened(38, at=0)
+        numbers = "[...document.querySelectorAll('.packets tbody tr')].map(row => row.cells[0].textContent)"
+        for keys, wanted in (
+            ("sc", "packets.filter((packet, p) => packet.site === offered.site[0] || finals[p].words?.startsWith(`${offered.site[0]} `)).length"), ("vv", "found({vpn: 'vpn1'}).length"),
+            ("dN", "finals.filter(way => way.words?.startsWith('NoRoute')).length"), ("/d", "found({words: 'd'}).length"),
+        ):  # fmt: skip
+            for key in keys:
+                browser.key(key, ord(key.upper()), text=key)
+            self.assertEqual(browser.value(f"Math.min(MOST, {wanted})"), browser.value(f"{numbers}.length"), keys)
+            self.assertGreater(browser.value(f"{numbers}.length"), 0, keys)
+            browser.key("Enter", 13)
+            self.assertEqual(browser.value(f"{numbers}[0]"), browser.value("`${packets[followed].n}`"), keys)
+            self.assertTrue(browser.value("steps[at - 1].k === 'inject' && steps[at - 1].p === followed"), keys)
+            browser.key("Escape", 27)
+            self.assertEqual([None, False], browser.value("[followed, Object.values(sought).some(Boolean)]"))
+
+    def test_a_packet_that_is_followed_leads_to_its_steps(self):
+        browser = self.opened(38, at=0)
+        browser.key("n")
+        first = browser.value("stepsOf[followed]")
+        self.assertEqual(first[0] + 1, browser.value("at"))
+        for step in first[1:]:
+            browser.key("ArrowRight", 39, shift=True)
+            self.assertEqual(step + 1, browser.value("at"))
+        self.assertEqual(len(first), browser.value("document.querySelectorAll('.followed .line').length"))
+        self.assertEqual(browser.value("new Set(finals[followed].path).size - 1"), browser.value("document.querySelectorAll('.link.way').length"))
+
+    def test_keys_for_nodes_and_help(self):
+        browser = self.opened(38)
+        self.assertEqual(0, browser.value("document.querySelectorAll('.arc').length"), "no session of many is drawn before a node is chosen")
+        browser.value("drawn.nodes[9].focus()")
+        browser.key("Tab", 9)
+        browser.key("Enter", 13)
+        self.assertEqual([10, "Node"], browser.value("[picked, tab]"))
+        self.assertEqual(29, browser.value("document.querySelectorAll('.arc').length"), "those of the chosen edge")
+        browser.key("?")
+        self.assertTrue(browser.value("$('keys').open"))
+        browser.key("Escape", 27)
+        self.assertFalse(browser.value("$('keys').open"))
+
+    def test_a_step_is_quick(self):
+        browser = self.opened(64, at=4000)
+        times = browser.value("[...Array(40)].map((_, turn) => { const begun = performance.now(); go(at + (turn < 20 ? 1 : -1)); return performance.now() - begun; }).sort((a, b) => a - b)")
+        self.assertLess(times[0], 50, "the quickest of forty, since the machine may be busy")
 
 
 if __name__ == "__main__":

@@ -34,6 +34,7 @@ b = "p"
 cost = 65535
 delay = 1000
 loss = 0
+life = 1000000
 [[vrf]]
 name = "red"
 node = "pe1"
@@ -84,6 +85,9 @@ REFUSED = [
     ("T12 BadDelay", "a delay past its range", "delay = 1000\nloss", "delay = 1001\nloss"),
     ("T12 BadDelay", "a loss below 0", "loss = 0", "loss = -1"),
     ("T12 BadDelay", "a loss past its range", "loss = 0", "loss = 65536"),
+    ("T12 BadDelay", "a life of 0", "life = 1000000", "life = 0"),
+    ("T12 BadDelay", "a life past its range", "life = 1000000", "life = 1000001"),
+    ("T4 WrongKind", "a life that is a text", "life = 1000000", 'life = "long"'),
     ("T14 BadTarget", "a distinguisher without a number", "65000:4294967295", "65000"),
     ("T14 BadTarget", "a distinguisher's number past its range", "65000:4294967295", "65000:4294967296"),
     ("T14 BadTarget", "a distinguisher's AS past its range", "65000:4294967295", "65536:1"),

@@ -1,12 +1,18 @@
 """The capture of a whole run: its TCP streams are the run's files, its frames are the links', and all stands in order."""
 
+import io
 import shutil
 import struct
 import subprocess
 import sys
 import tempfile
 import unittest
+from contextlib import redirect_stderr
+from importlib.machinery import SourceFileLoader
+from importlib.util import module_from_spec, spec_from_loader
 from pathlib import Path
+
+from provider import made
 
 ROOT = Path(__file__).resolve().parents[2]
 TOOL = ROOT / "tools/mplsnet-wireshark"
@@ -220,6 +226,35 @@ class Wireshark(unittest.TestCase):
         (run / "journal.txt").write_bytes(b"5 inject a 1\n6 inject a 1\n7 carry pe1 pe2 1\n")
         self.refused(1, "journal.txt: line 2: this step fits no frame of the links' captures (the report would help)", run, self.out)
 
+    def test_a_provider_with_and_without_its_report(self):
+        # Links go down and come up: each time all packets go another way, and frames that fly are cut.
+        made(self.folder, 4, 8, failures=6)
+        capture = self.made(self.folder / "run", "--topology", self.folder / "topology.toml")
+        self.assert_has_the_files_of(capture, self.folder / "run")
+        (self.folder / "run/report.txt").unlink()
+        self.assert_has_the_files_of(self.made(self.folder / "run"), self.folder / "run")
+
+    def test_a_long_run_is_told_of(self):
+        loader = SourceFileLoader("mplsnet_wireshark", str(TOOL))
+        tool = module_from_spec(spec_from_loader("mplsnet_wireshark", loader))
+        sys.path.insert(0, str(TOOL.parent))
+        self.addCleanup(sys.path.remove, str(TOOL.parent))
+        loader.exec_module(tool)
+        for steps, wanted in ((99_999, []), (250_000, ["250000 steps: what each hears", "100000 of 250000 steps written", "200000 of 250000 steps written"])):
+            said = io.StringIO()
+            with redirect_stderr(said):
+                progress = tool.Progress(steps)
+                progress.tell("what each hears")
+                for step in range(steps):
+                    progress.at(step)
+            self.assertEqual([f"mplsnet-wireshark: {line}" for line in wanted], said.getvalue().splitlines())
+
+    def test_steps_of_kinds_that_are_not_known_are_passed_over(self):
+        journal = (LINKS / "expected/journal.txt").read_bytes()
+        first, rest = journal.split(b"\n", 1)
+        capture = self.made(self.copy(journal__txt=first + b"\n0 wait 7\n0 spoil ldp pe1 p 3\n" + rest))
+        self.assert_has_the_files_of(capture, self.folder / "run")
+
     def test_wrong_words(self):
         self.refused(2, "usage:")
         self.refused(2, "usage:", LINKS / "expected")
@@ -237,6 +272,7 @@ class Wireshark(unittest.TestCase):
             ("journal.txt: line 1: there is no pe1+pe2.pcap", {"journal__txt": b"0 learn p pe1 pe2\n"}),
             ("journal.txt: line 1: labels.txt has no node 'q'", {"journal__txt": b"0 bgp up pe1 q\n"}),
             ("journal.txt: line 1: labels.txt has no site 'c'", {"journal__txt": b"0 inject c 1\n"}),
+            ("x+p.ldp: labels.txt has no node 'x': the file may be an older run's", {"x_p__ldp": b""}),
             ("labels.txt: line 1: not a label", {"labels__txt": b"pe1 16\n"}),
             ("labels.txt: p hasn't a label for each other node", {"labels__txt": (expected / "labels.txt").read_bytes().replace(b"pe2 17 ", b"pe1 17 ")}),
             ("p+pe1.ldp: byte 158: not an LDP PDU", {"p_pe1__ldp": stream[:158] + stream[159:]}),

@@ -1,0 +1,415 @@
+"""What becomes of a network's site pairs when parts of it fail: failures, probes, scripts, and runs of them.
+
+`run_job` is a plain function of a job: a topology's, a script's and a capture's bytes with what they ask. It may be
+called in any process, and on any machine that has the program.
+"""
+
+import os
+import shutil
+import signal
+import subprocess
+import tempfile
+from dataclasses import dataclass, field
+from itertools import combinations
+from pathlib import Path
+
+from mplsnet_files import Fault, Run, bgp_lives, ldp_lives, read_labels
+from mplsnet_knowledge import Net, prefix_text
+from mplsnet_pcap import capture_of, udp_packet
+from mplsnet_why import Explainer, short
+
+KINDS = ("links", "nodes", "ldp", "bgp")
+MOST_STEPS, MOST_RECORDS = 4_000_000, 100_000
+REFUSED = (3, 4, 5, 9)  # statuses that a line of the report goes with
+
+
+@dataclass(frozen=True)
+class Failure:
+    """What fails at once: its kind and name, the script's lines that bring it about and undo it, and a node that is down."""
+
+    kind: str
+    name: str
+    down: tuple
+    up: tuple
+    node: str | None = None
+
+    def __str__(self):
+        return f"{self.kind} {self.name}"
+
+
+@dataclass(frozen=True)
+class Probe:
+    """A packet from a site to an address of a prefix, and the sites that have the prefix."""
+
+    site: str
+    prefix: str
+    address: bytes
+    source: bytes
+    to: tuple
+
+    def __str__(self):
+        return f"{self.site} -> {'|'.join(self.to)}"
+
+
+@dataclass
+class Job:
+    """A run: the network comes up, and then each failure comes and goes."""
+
+    program: str
+    path: str  # the topology's, for what is said of it
+    topology: bytes
+    tables: dict
+    bring_up: list
+    probes: list
+    failures: list
+    room: str | None = None  # the folder in which the run's folder is made
+    paths: bool = False  # each way is told
+    reasons: bool = True
+
+    def script(self):
+        inject = [f"inject {probe.site} {record}" for record, probe in enumerate(self.probes, 1)]
+        lines = [*self.bring_up, "drain", *inject, "flush"]
+        for failure in self.failures:
+            lines += [*failure.down, "drain", *inject, "flush", *failure.up, "drain"]
+        return "\n".join(lines) + "\n"
+
+    def capture(self):
+        return capture_of([udp_packet(probe.source, probe.address) for probe in self.probes])
+
+
+@dataclass(frozen=True)
+class Loss:
+    """A probe that didn't arrive: its number from 0, the rule and the node that dropped it, and why."""
+
+    probe: int
+    rule: str
+    node: str
+    reason: str
+
+
+@dataclass
+class Outcome:
+    """What a failure did: the probes lost of those that arrived without it, how many took another way, the steps it took."""
+
+    failure: Failure | None
+    lost: list = field(default_factory=list)
+    moved: int = 0
+    steps: int = 0
+    paths: list | None = None
+
+
+# Failures.
+
+
+def failures_of(net, kinds, keep_bgp):
+    """The single failures of these kinds, in the topology's order."""
+    made = {"links": links_of, "nodes": nodes_of, "ldp": ldp_of, "bgp": bgp_of}
+    return [failure for kind in KINDS if kind in kinds for failure in made[kind](net, keep_bgp)]
+
+
+def link_words(net, link):
+    return f"{net.nodes[net.links[link][0]]} {net.nodes[net.links[link][1]]}"
+
+
+def links_failure(net, links, keep_bgp, kind, name, node=None):
+    """These links go down, and with them the sessions of edges that have no way left."""
+    apart = [] if keep_bgp else sessions_apart(net, set(links))
+    down = [f"link down {link_words(net, link)}" for link in links] + [f"bgp down {a} {b}" for a, b in apart]
+    up = [f"link up {link_words(net, link)}" for link in links] + [f"bgp up {a} {b}" for a, b in apart]
+    return Failure(kind, name, tuple(down), tuple(up), node)
+
+
+def links_of(net, keep_bgp):
+    return [links_failure(net, [link], keep_bgp, "link", net.link_name(link)) for link in range(len(net.links))]
+
+
+def nodes_of(net, keep_bgp):
+    found = []
+    for node, name in enumerate(net.nodes):
+        links = sorted(link for _, link in net.neighbours[node])
+        found.append(links_failure(net, links, keep_bgp, "node", name, name))
+    return found
+
+
+def ldp_of(net, _):
+    return [Failure("ldp", net.link_name(at), (f"ldp off {link_words(net, at)}",), (f"ldp on {link_words(net, at)}",)) for at in range(len(net.links))]
+
+
+def bgp_of(net, _):
+    """The sessions whose edges have something to tell each other."""
+    found = []
+    for a, b in combinations(net.edges, 2):
+        ours, theirs = ([vrf for vrf in net.vrfs if vrf.node == edge] for edge in (a, b))
+        if any(one.imports & other.exports or other.imports & one.exports for one in ours for other in theirs):
+            names = f"{net.nodes[a]} {net.nodes[b]}"
+            found.append(Failure("bgp", names.replace(" ", "-"), (f"bgp down {names}",), (f"bgp up {names}",)))
+    return found
+
+
+def double_of(net, keep_bgp):
+    """Each two links at once."""
+    pairs = combinations(range(len(net.links)), 2)
+    return [links_failure(net, pair, keep_bgp, "links", " and ".join(map(net.link_name, pair))) for pair in pairs]
+
+
+def sessions_apart(net, down):
+    """The pairs of edges between which no links lead, without these ones."""
+    part = list(range(len(net.nodes)))
+
+    def root(node):
+        while part[node] != node:
+            part[node] = part[part[node]]
+            node = part[node]
+        return node
+
+    for link, (a, b, _) in enumerate(net.links):
+        if link not in down:
+            part[root(a)] = root(b)
+    return [(net.nodes[a], net.nodes[b]) for a, b in combinations(net.edges, 2) if root(a) != root(b)]
+
+
+def bring_up(net, keep_bgp):
+    """All links and sessions; a session of edges between which no links lead never stood."""
+    apart = set() if keep_bgp else set(sessions_apart(net, set()))
+    pairs = [(net.nodes[a], net.nodes[b]) for a, b in combinations(net.edges, 2)]
+    return [f"link up {link_words(net, at)}" for at in range(len(net.links))] + [f"bgp up {a} {b}" for a, b in pairs if (a, b) not in apart]
+
+
+# Probes.
+
+
+def is_unicast(address):
+    return address >> 24 not in (0, 127) and address >> 28 not in (14, 15)
+
+
+def first_address(of):
+    """The first address of the prefix that a packet may go to, behind the network's own; none where there is none."""
+    first, length = of
+    size = 1 << 32 - length
+    for at in [first + 1 if length < 31 else first, *range((first >> 24) + 1 << 24, first + size, 1 << 24)]:
+        at = at + 1 if at & 0xFFFFFF == 0 and length < 31 else at
+        if first <= at < first + size and is_unicast(at):
+            return at
+    return None
+
+
+def probes_of(net, sites=None):
+    """From each site a packet to each prefix of other sites of which its VRF imports a target, or that are of its VRF."""
+    found = {}
+    for site, name in enumerate(net.sites):
+        vrf = net.vrf_of[site]
+        source = next(filter(None, map(first_address, net.prefixes[site])), 0xC0000201)
+        for other, to in enumerate(net.sites):
+            shares = net.vrf_of[other] == vrf or net.vrfs[vrf].imports & net.vrfs[net.vrf_of[other]].exports
+            if other == site or not shares or sites and not {name, to} <= sites:
+                continue
+            for of in net.prefixes[other]:
+                if of not in net.prefixes[site] and first_address(of) is not None:
+                    found.setdefault((name, of), (first_address(of), source, []))[2].append(to)
+    return [Probe(name, prefix_text(of), at.to_bytes(4, "big"), source.to_bytes(4, "big"), tuple(to)) for (name, of), (at, source, to) in found.items()]
+
+
+# A run.
+
+
+WORKING = {}  # the program that runs in this process and its folder, for the case that it is told to stop
+
+
+def stop(*_):
+    """Ends the program that runs, and leaves nothing behind. It takes no lock, and isn't begun twice: it may come at any time."""
+    signal.signal(signal.SIGTERM, signal.SIG_IGN)
+    if "program" in WORKING:
+        try:
+            os.kill(WORKING["program"].pid, signal.SIGKILL)
+            os.waitpid(WORKING["program"].pid, 0)
+        except (ProcessLookupError, ChildProcessError):
+            pass  # it has ended
+    shutil.rmtree(WORKING.get("folder", ""), ignore_errors=True)
+    os._exit(143)
+
+
+def begin_worker():
+    """A process that works for another one: that one alone hears of an interrupt, and tells it to stop."""
+    signal.signal(signal.SIGINT, signal.SIG_IGN)
+    signal.signal(signal.SIGTERM, stop)
+
+
+def begun(words, report):
+    """The program; it can't be missed by what tells this process to stop."""
+    mask = signal.pthread_sigmask(signal.SIG_BLOCK, {signal.SIGTERM})
+    try:
+        WORKING["program"] = subprocess.Popen(words, stdin=subprocess.DEVNULL, stdout=report, stderr=subprocess.PIPE)
+        return WORKING["program"]
+    finally:
+        signal.pthread_sigmask(signal.SIG_SETMASK, mask)
+
+
+class TooLarge(Exception):
+    """The run takes more steps than a run may."""
+
+
+def run_job(job):
+    """The outcome without a failure, and then that of each failure; none where the run takes too many steps."""
+    folder = WORKING["folder"] = tempfile.mkdtemp(prefix="mplsnet-whatif-", dir=job.room)
+    try:
+        return Reading(job, Path(folder)).outcomes()
+    except TooLarge:
+        return None
+    finally:
+        shutil.rmtree(folder, ignore_errors=True)
+        WORKING.pop("folder", None)
+
+
+class Reading:
+    """Runs a job's script in a folder, and reads what became of its probes."""
+
+    def __init__(self, job, folder):
+        self.job, self.folder, self.out = job, folder, folder / "out"
+        self.run()
+
+    def run(self):
+        """Runs the program."""
+        job = self.job
+        self.out.mkdir()
+        inputs = [(self.folder / name, content) for name, content in (("t", job.topology), ("s", job.script().encode()), ("c", job.capture()))]
+        try:
+            for path, content in inputs:
+                path.write_bytes(content)
+            with open(self.folder / "report", "wb") as report:
+                words = [job.program, "run", *(str(path) for path, _ in inputs), str(self.out)]
+                with begun(words, report) as program:
+                    said = program.communicate()[1]
+        except OSError as error:
+            raise Fault(f"{error.filename or job.program}: {error.strerror}", 3)
+        finally:
+            WORKING.pop("program", None)
+        with open(self.folder / "report", encoding="latin-1") as report:
+            last = next((line.rstrip("\n") for line in report if program.returncode in REFUSED), "")
+        if last == "too large steps":
+            raise TooLarge
+        if program.returncode != 0:
+            what = last or said.decode(errors="replace").strip().partition("\n")[0] or f"{job.program} ended with status {program.returncode}"
+            raise Fault(f"{job.path}: {what}", 3)
+
+    def outcomes(self):
+        """What became of the probes of each failure, told against those without one."""
+        job, outcomes, base = self.job, [], None
+        for number, ends in enumerate(self.blocks()):
+            failure = job.failures[number - 1] if number else None
+            outcome = Outcome(failure, paths=[ending_words(*end) for end in ends] if job.paths or not number else None)
+            for probe, (verdict, what, path) in enumerate(ends):
+                is_down = failure is not None and failure.node is not None and path.split(" ", 1)[0] == failure.node
+                if verdict == "delivered" and not is_down:
+                    outcome.moved += base is not None and base[probe] != (verdict, what, path)
+                elif base is None or base[probe][0] == "delivered":
+                    rule, _, node = what.partition(" ") if verdict == "dropped" and not is_down else ("NodeDown", "", failure.node if is_down else path)
+                    outcome.lost.append(Loss(probe, rule, node, f"node {node} is down" if is_down else ""))
+            outcomes.append(outcome)
+            base = base or ends
+        self.with_reasons(outcomes)
+        return outcomes
+
+    def blocks(self):
+        """Of the run without a failure, and then of each failure, how each probe ended: verdict, its words, the path."""
+        ends, count = [], len(self.job.probes)
+        with open(self.folder / "report", encoding="latin-1") as report:
+            for line in report:
+                if not line.startswith("packet "):
+                    if line.startswith("line "):
+                        raise Fault(f"{self.job.path}: the program refused a line of the script: {line.rstrip()}", 3)
+                    continue
+                said, _, path = line.rstrip("\n").partition(" path ")
+                words = said.split(" ")
+                verdict = words[8]
+                ends.append((verdict, words[9] if verdict == "delivered" else f"{words[9]} {words[-1]}", path))
+                if len(ends) == count:
+                    yield ends
+                    ends = []
+
+    def with_reasons(self, outcomes):
+        """Counts each failure's steps, and tells why its probes were lost, by what nodes knew as they were sent."""
+        count, number, sent, before = len(self.job.probes), 0, 0, 0
+        explainer = None
+        if self.job.reasons and any(loss.rule != "NodeDown" for outcome in outcomes for loss in outcome.lost):
+            explainer = self.explainer()
+        with open(self.out / "journal.txt", encoding="ascii") as journal:
+            for step, line in enumerate(journal, 1):
+                words = line.split()
+                kind = words[1]
+                if kind == "carry":
+                    continue
+                if kind == "inject":
+                    if sent % count == 0:
+                        number = sent // count
+                        if number:
+                            outcomes[number].steps, before = step - before, step
+                        else:
+                            outcomes[0].steps = before = step
+                        if explainer:
+                            outcomes[number].lost = [self.explained(explainer, loss) for loss in outcomes[number].lost]
+                    sent += 1
+                elif explainer:
+                    explainer.known.do(words[1:])
+
+    def explainer(self):
+        run = Run(self.out)
+        read_labels(run)
+        for path in self.out.iterdir():
+            if path.suffix in (".ldp", ".bgp") and path.stat().st_size:
+                lives = ldp_lives(path) if path.suffix == ".ldp" else bgp_lives(path)
+                (run.ldp if path.suffix == ".ldp" else run.bgp)[tuple(path.stem.split("+"))] = lives
+        return Explainer(Net(self.job.path, self.job.tables), run.labels, run.ldp, run.bgp, dated=False)
+
+    def explained(self, explainer, loss):
+        """The loss with its reason."""
+        if loss.rule == "NodeDown":
+            return loss
+        probe, net = self.job.probes[loss.probe], explainer.net
+        address = int.from_bytes(probe.address, "big")
+        vrf = net.vrf_of[net.site_number[probe.site]]
+        if net.nodes[net.vrfs[vrf].node] == loss.node:
+            facts = explainer.entry(loss.rule, probe.site, address)
+        elif loss.rule == "NoEntry":
+            facts = explainer.transit(loss.node, net.nodes[explainer.known.best(vrf, address).edge])
+        else:
+            return loss
+        return Loss(loss.probe, loss.rule, loss.node, ended(explainer.known, facts[-1]) or short(loss.rule, loss.node, facts))
+
+
+def ended(known, fact):
+    """What is said of a session that is gone because no links lead from the one edge to the other."""
+    if fact.kind != "no session" or known.next_hop(*map(known.net.number.get, fact.names), known.up) is not None:
+        return None
+    return f"no links lead from {fact.names[0]} to {fact.names[1]}, and their BGP session ended"
+
+
+def ending_words(verdict, what, path):
+    """How a probe ended, for a matrix: its path, or the rule that dropped it."""
+    return path if verdict == "delivered" else f"{what.partition(' ')[0]} at {what.partition(' ')[2]}"
+
+
+# Many runs.
+
+
+def memory_folder():
+    """A folder in memory where there is one that has room."""
+    room = Path("/dev/shm")
+    if room.is_dir() and os.access(room, os.W_OK) and shutil.disk_usage(room).free > 1 << 30:
+        return str(room)
+    return None
+
+
+def shares(failures, costs, bring_up_cost, budget, workers):
+    """The failures cut into runs, each of at most the budget of steps with its bring-up, as far as one failure allows.
+
+    There are two runs for each worker, since costs are only guessed; but none is much shorter than its bring-up.
+    """
+    most = max(1, min(budget - bring_up_cost, max(-(-sum(costs) // (2 * workers)), 2 * bring_up_cost)))
+    cut, share, cost = [], [], 0
+    for failure, its in zip(failures, costs):
+        if share and cost + its > most:
+            cut.append(share)
+            share, cost = [], 0
+        share.append(failure)
+        cost += its
+    return [*cut, share] if share else cut

@@ -1,0 +1,50 @@
+"""Runs for the tests, worked out by examples/reference.py in place of the program, and the program's stand-in."""
+
+import sys
+from pathlib import Path
+
+ROOT = Path(__file__).resolve().parents[2]
+sys.path[:0] = [str(ROOT / "tools"), str(ROOT / "examples"), str(ROOT / "scripts")]
+sys.dont_write_bytecode = True
+import random_runs  # noqa: E402
+import reference  # noqa: E402
+import reference_inputs  # noqa: E402
+
+NAMES = ("topology.toml", "script.txt", "capture.pcap")
+STAND_IN = """\
+#!{python} -B
+# What 'mplsnet run' does, by examples/reference.py.
+import sys
+sys.path.insert(0, {examples!r})
+import reference
+words = sys.argv[1:]
+if len(words) != 5 or words[0] != "run":
+    print("usage: mplsnet run TOPOLOGY SCRIPT CAPTURE FOLDER | check TOPOLOGY | generate NUMBER")
+    sys.exit(2)
+report, files = reference.run_of(*(open(path, "rb").read() for path in words[1:4]))
+for name, content in files.items():
+    with open(words[4] + "/" + name, "wb") as file:
+        file.write(content)
+sys.stdout.buffer.write(report)
+first = report.decode("latin-1").splitlines()[-1].split()[0]
+sys.exit({{"topology": 3, "script": 4, "capture": 5, "too": 9}}.get(first, 0))
+"""
+
+
+def stand_in(folder):
+    """A program that answers 'run' as mplsnet does, for small networks."""
+    path = Path(folder) / "mplsnet"
+    path.write_text(STAND_IN.format(python=sys.executable, examples=str(ROOT / "examples")))
+    path.chmod(0o755)
+    return path
+
+
+def left(folder, inputs):
+    """Writes the inputs and what their run leaves into the folder: FOLDER/out, with report.txt. Whether they were accepted."""
+    report, files = reference.run_of(*inputs)
+    (folder / "out").mkdir(parents=True, exist_ok=True)
+    for name, content in zip(NAMES, inputs):
+        (folder / name).write_bytes(content)
+    for name, content in {**files, "report.txt": report}.items():
+        (folder / "out" / name).write_bytes(content)
+    return bool(files)

@@ -1,0 +1,322 @@
+"""What mplsnet-new makes runs, and every probe of it arrives."""
+
+import shutil
+import subprocess
+import sys
+import tempfile
+import tomllib
+import unittest
+from pathlib import Path
+
+from runs import ROOT, reference
+
+import mplsnet_whatif as whatif
+from mplsnet_knowledge import Net
+
+TOOL = ROOT / "tools/mplsnet-new"
+SHORT = """\
+as: 65010
+nodes: p[1-4] pe[01-05]           # four inner nodes and five edges
+links: ring p[1-4]; pe -> 2 of p; p1 - p3 cost 20 delay 3
+vpn c1: pe01 pe02+pe03 pe02
+vpn c2: pe01 pe04; hub pe05
+vpn svc: pe03
+share: svc with c1 c2
+"""
+NETLAB = """\
+provider: clab
+defaults.device: frr
+module: [ ospf, bgp, mpls, vrf ]
+mpls.ldp: True
+bgp.as: 65001
+vrfs:
+  red:
+    rd: 65001:7
+    import: [ red, shared ]
+    export: red
+  blue:
+    links: [ h2-pe2 ]
+  shared:
+    import: [ shared, red, '65001:99' ]
+nodes:
+  pe1:
+  p-1:
+    module: [ ospf, mpls ]
+  pe2:
+  h1: { device: linux }
+  h2: { device: linux }
+  ce3:
+    module: [ bgp ]
+  srv: { role: host }
+links:
+- pe1-p-1
+- pe2:
+    ospf.cost: 30
+  p-1:
+- h1:
+  pe1:
+    vrf: red
+  prefix: 192.168.1.0/24
+- ce3:
+  pe2:
+  vrf: red
+- interfaces: [ srv, { node: pe1, vrf: shared } ]
+- h1-h2
+tools: { graphite: }
+"""
+CLAB = """\
+name: mpls
+topology:
+  kinds:
+    vr-xrv9k: { image: xrv }
+  nodes:
+    pe1: { kind: vr-xrv9k }
+    p1: { kind: vr-xrv9k }
+    pe2: { kind: linux, image: frrouting/frr:latest }
+    host1: { kind: linux, image: alpine }
+  links:
+    - endpoints: ["pe1:eth1", "p1:eth1"]
+    - endpoints: ["p1:eth2", "pe2:eth1"]
+    - endpoints: ["p1:eth3", "pe2:eth2"]
+    - endpoints: ["pe1:eth2", "host1:eth1"]
+"""
+FRR = {
+    "pe1": """\
+frr version 8.4
+hostname pe1
+!
+vrf RED
+ ip route 10.1.5.0/24 192.168.1.2
+exit-vrf
+!
+interface eth0
+ ip address 10.0.1.1/30
+ ip ospf cost 15
+!
+interface eth1 vrf RED
+ ip address 192.168.1.1/24
+!
+interface lo
+ ip address 10.255.0.1/32
+!
+router ospf
+ network 10.0.0.0/8 area 0
+!
+router bgp 65002
+ neighbor 10.255.0.3 remote-as 65002
+ address-family ipv4 vpn
+  neighbor 10.255.0.3 activate
+ exit-address-family
+!
+router bgp 65002 vrf RED
+ address-family ipv4 unicast
+  redistribute connected
+  redistribute static
+  rd vpn export 65002:1
+  rt vpn both 65002:10
+  label vpn export auto
+  export vpn
+  import vpn
+ exit-address-family
+!
+mpls ldp
+ router-id 10.255.0.1
+ address-family ipv4
+  interface eth0
+ exit-address-family
+""",
+    "p": """\
+hostname p
+interface eth0
+ ip address 10.0.1.2/30
+ ip ospf cost 15
+interface eth1
+ ip address 10.0.2.1/30
+interface lo
+ ip address 10.255.0.2/32
+mpls ldp
+ address-family ipv4
+  interface eth0
+  interface eth1
+""",
+    "pe2": """\
+hostname pe2
+interface eth0
+ ip address 10.0.2.2/30
+interface lo
+ ip address 10.255.0.3/32
+interface eth1
+ vrf RED
+ ip address 192.168.2.1/24
+router bgp 65002 vrf RED
+ address-family ipv4 unicast
+  network 10.2.0.0/16
+  rd vpn export 65002:2
+  rt vpn import 65002:10
+  rt vpn export 65002:10
+mpls ldp
+ address-family ipv4
+  interface eth0
+""",
+    "ce1": "hostname ce1\ninterface eth0\n ip address 192.168.1.2/24\nrouter bgp 65100\n neighbor 192.168.1.1 remote-as 65002\n",
+}
+
+
+class New(unittest.TestCase):
+    def setUp(self):
+        self.folder = Path(tempfile.mkdtemp())
+        self.addCleanup(shutil.rmtree, self.folder)
+        self.out = [self.folder / name for name in ("topology.toml", "up.txt", "probes.pcap")]
+
+    def run_tool(self, *words):
+        return subprocess.run([sys.executable, TOOL, *map(str, words)], capture_output=True, text=True)
+
+    def made(self, *words):
+        """What the run of the three files reports, the topology's tables, and what was left out."""
+        ran = self.run_tool(*words, "--topology", self.out[0], "--script", self.out[1], "--capture", self.out[2])
+        self.assertEqual((0, ""), (ran.returncode, ran.stdout), ran.stderr)
+        report, _ = reference.run_of(*(path.read_bytes() for path in self.out))
+        lines = ran.stderr.splitlines()
+        self.assertTrue(all(line.startswith("mplsnet-new: left out: ") for line in lines), lines)
+        return report.decode().splitlines(), tomllib.loads(self.out[0].read_text()), [line.removeprefix("mplsnet-new: left out: ") for line in lines]
+
+    def all_arrive(self, report):
+        *packets, total = report
+        words = total.split()
+        self.assertEqual("total", words[0])
+        self.assertEqual((str(len(packets)), "0", "0"), (words[4], words[6], words[8]), report)
+        self.assertGreater(len(packets), 0)
+
+    def file(self, name, text):
+        path = self.folder / name
+        path.parent.mkdir(exist_ok=True)
+        path.write_text(text)
+        return path
+
+    def refused(self, status, said, *words):
+        ran = self.run_tool(*words)
+        self.assertEqual((status, ""), (ran.returncode, ran.stdout))
+        self.assertIn(said, ran.stderr)
+        self.assertNotIn("Traceback", ran.stderr)
+
+    def test_the_short_form(self):
+        report, net, left = self.made("--from", self.file("net.txt", SHORT))
+        self.all_arrive(report)
+        self.assertEqual([], left)
+        self.assertEqual((65010, 9, 15), (net["as"], len(net["node"]), len(net["link"])))
+        self.assertEqual({"a": "p1", "b": "p3", "cost": 20, "delay": 3}, net["link"][-1])
+        targets = {vrf["name"]: (vrf["import"], vrf["export"]) for vrf in net["vrf"]}
+        self.assertEqual((["65010:1", "65010:20001"], ["65010:1", "65010:30001"]), targets["c1-pe01"])
+        self.assertEqual((["65010:10002", "65010:20001"], ["65010:2", "65010:30001"]), targets["c2-pe01"])
+        self.assertEqual((["65010:2", "65010:20001"], ["65010:10002", "65010:30001"]), targets["c2-pe05-hub"])
+        self.assertEqual((["65010:3", "65010:30001"], ["65010:3", "65010:20001"]), targets["svc-pe03"])
+        sites = {site["name"]: (site["vrf"], site["prefixes"]) for site in net["site"]}
+        self.assertEqual(sites["c1-pe02"][1], sites["c1-pe03"][1], "a site behind two edges has one prefix")
+        self.assertEqual(("c1-pe02", ["10.1.3.0/24"]), sites["c1-pe02-2"])
+
+    def test_families(self):
+        for family in ("ring", "mesh", "waxman", "fat-tree"):
+            with self.subTest(family):
+                words = ("--random", 5, "--family", family, "--size", 4, "--edges", 4, "--vpns", 2)
+                report, net, _ = self.made(*words)
+                self.all_arrive(report)
+                self.assertEqual(self.run_tool(*words).stdout, self.out[0].read_text(), "the same seed gives the same")
+                self.assertNotEqual(self.run_tool("--random", 6, *words[2:]).stdout, self.out[0].read_text())
+
+    def test_generated(self):
+        report, _, _ = self.made("--generated", 0)
+        # The total is that of 'generate 0' (docs/MEASUREMENTS.md has its steps).
+        self.assertRegex(report[-1], r"^total packets 1000 delivered 1000 dropped 0 flying 0 steps 2381 refused 0 tick \d+$")
+
+    def test_netlab(self):
+        report, net, left = self.made("--from", self.file("lab.yml", NETLAB))
+        self.all_arrive(report)
+        self.assertEqual(["pe1", "p-1", "pe2"], [node["name"] for node in net["node"]])
+        self.assertEqual([{"a": "pe1", "b": "p-1"}, {"a": "pe2", "b": "p-1", "cost": 30}], net["link"])
+        self.assertEqual({"red-pe1": (["65001:7", "65001:3"], ["65001:7"]), "red-pe2": (["65001:7", "65001:3"], ["65001:7"]),
+                          "shared-pe1": (["65001:3", "65001:7", "65001:99"], ["65001:3"]), "blue-pe2": (["65001:2"], ["65001:2"])},
+                         {vrf["name"]: (vrf["import"], vrf["export"]) for vrf in net["vrf"]})  # fmt: skip
+        self.assertEqual({"h1": "red-pe1", "ce3": "red-pe2", "srv": "shared-pe1", "h2": "blue-pe2"}, {site["name"]: site["vrf"] for site in net["site"]})
+        self.assertIn(["192.168.1.0/24"], [site["prefixes"] for site in net["site"]])
+        self.assertIn("top: mpls.ldp, tools", left)
+
+    def test_containerlab(self):
+        report, net, left = self.made("--from", self.file("lab.clab.yml", CLAB), "--vpn", "red: pe1 pe2")
+        self.all_arrive(report)
+        self.assertEqual(["pe1", "p1", "pe2"], [node["name"] for node in net["node"]])
+        self.assertEqual(2, len(net["link"]))
+        self.assertEqual(["nodes that are no routers: host1", "link 2 of p1, pe2: another joins the same two, or it joins one with itself",
+                          "link 3 of pe1, host1: not between two routers"], left)  # fmt: skip
+        self.assertIn("no VPN is there", self.run_tool("--from", self.folder / "lab.clab.yml").stderr)
+
+    def test_frr(self):
+        for name, text in FRR.items():
+            self.file(f"lab/{name}/frr.conf".replace(f"/{name}/", f"-{name}/"), text)
+        lab = self.folder / "lab"
+        lab.mkdir()
+        for name in FRR:
+            (self.folder / f"lab-{name}").rename(lab / name)
+        report, net, left = self.made("--from", lab)
+        self.all_arrive(report)
+        self.assertEqual({"pe1": "10.255.0.1", "p": "10.255.0.2", "pe2": "10.255.0.3"}, {node["name"]: node["loopback"] for node in net["node"]})
+        self.assertEqual([("p", "pe1", 15), ("p", "pe2", None)], [(*sorted((link["a"], link["b"])), link.get("cost")) for link in net["link"]])
+        self.assertEqual({"RED-pe1": ("65002:1", ["65002:10"], ["65002:10"]), "RED-pe2": ("65002:2", ["65002:10"], ["65002:10"])},
+                         {vrf["name"]: (vrf["rd"], vrf["import"], vrf["export"]) for vrf in net["vrf"]})  # fmt: skip
+        self.assertEqual({"RED-pe1": ["192.168.1.0/24", "10.1.5.0/24"], "RED-pe2": ["10.2.0.0/16"]}, {site["name"]: site["prefixes"] for site in net["site"]})
+        self.assertIn("routers without LDP and VRFs: ce1", left)
+        self.assertIn("pe1: 1 of 'router ospf ..'", left)
+
+    def test_the_network_of_the_document(self):
+        """docs/WHATIF.md tells of its network what it has."""
+        page = (ROOT / "docs/WHATIF.md").read_text()
+        made = self.run_tool("--from", self.file("provider.txt", page.split("```text\n")[1].split("```")[0]))
+        tables = tomllib.loads(made.stdout)
+        self.assertEqual((0, ""), (made.returncode, made.stderr))
+        prefixes = sum(len(site["prefixes"]) for site in tables["site"])
+        counts = " ".join(f"{kind}s {len(tables[kind])}" for kind in ("node", "link", "vrf", "site"))
+        self.assertIn(f"topology ok {counts} prefixes {prefixes}\n", page)
+        net = Net("net", tables)
+        failures = whatif.failures_of(net, whatif.KINDS, False)
+        self.assertIn(f"{len(whatif.probes_of(net))} of them", page)
+        self.assertIn(f"{len(whatif.double_of(net, False)):,} pairs here", page)
+        self.assertIn(f"{len(failures)} failures of {len(whatif.probes_of(net))} pairs: {len(failures) * len(whatif.probes_of(net))} verdicts", page)
+
+    def test_wrong_words(self):
+        self.refused(2, "one of the arguments --from --random --generated is required")
+        self.refused(2, "'100' isn't a number from 0 to 99", "--generated", 100)
+        self.refused(2, "a fat tree has an even number of pods", "--random", 1, "--family", "fat-tree", "--size", 5)
+        self.refused(2, "--form is of --from", "--random", 1, "--form", "frr")
+
+    def test_wrong_files(self):
+        self.refused(1, "nothing.txt: No such file", "--from", self.folder / "nothing.txt")
+        for line, said in (
+            ("links: ring q", "there is no node 'q'"),
+            ("nodes: p[1-", "'p[1-' isn't a name or a pattern"),
+            ("nodes: p[3-1]", "'3-1' isn't a number or a range"),
+            ("nodes: p1", "node 'p1' stands twice"),
+            ("nodes: p/1", "'p/1' is no name"),
+            ("links: p -> x of p", "isn't of the form 'pe -> 2 of p'"),
+            ("links: p1 - p1", "a link from 'p1' to itself"),
+            ("links: p1 - p2 cost 0", "cost '0' isn't a number from 1"),
+            ("links: web p", "is none of 'ring ..'"),
+            ("vpn a: p1 p9", "there is no node 'p9'"),
+            ("share: a with b", "there is no VPN 'a' above"),
+            ("color: red", "'color' is none of 'nodes'"),
+            ("red", "isn't of the form 'nodes: ..'"),
+        ):
+            with self.subTest(line):
+                net = self.file("net.txt", f"nodes: p[1-2]\n{line}\n")
+                self.refused(1, "net.txt: line 2: ", "--from", net)
+                self.refused(1, said, "--from", net)
+        self.refused(1, "has at most 256", "--from", self.file("net.txt", "nodes: p[1-300]\n"))
+        self.refused(1, "lab.yml: line 3: not YAML", "--from", self.file("lab.yml", "nodes:\n a: [\n"))
+        self.refused(1, "has no nodes: isn't netlab's", "--from", self.file("lab.yml", "links: []\n"))
+        self.refused(1, "link 0: 'a-b' doesn't name nodes", "--from", self.file("lab.yml", "nodes: [a]\nlinks: [a-b]\n"))
+        self.refused(1, "isn't an address of IPv4", "--from", self.file("r.conf", "interface e\n ip address 1.2.3\n"))
+        (self.folder / "empty").mkdir()
+        self.refused(1, "has neither *.conf nor */frr.conf", "--from", self.folder / "empty")
+        self.refused(1, "out.toml: No such file", "--random", 1, "--topology", self.folder / "no/out.toml")
+
+
+if __name__ == "__main__":
+    unittest.main()

@@ -1,0 +1,297 @@
+"""What is lost by which failure: one run of all equals a run for each, and the tool as its user meets it."""
+
+import csv
+import io
+import json
+import os
+import random
+import shutil
+import signal
+import subprocess
+import sys
+import tempfile
+import time
+import tomllib
+import unittest
+from pathlib import Path
+
+from runs import ROOT, random_runs, reference, stand_in
+
+import mplsnet_whatif as whatif
+from mplsnet_files import read_topology
+from mplsnet_knowledge import Net
+from mplsnet_topology import topology_text
+
+TOOL = ROOT / "tools/mplsnet-whatif"
+LINKS = ROOT / "examples/two-links/topology.toml"
+SEEDS = range(int(os.environ.get("MPLSNET_RANDOM", "40")) // 4)
+DUAL = """
+[[node]]
+name = "pe1"
+loopback = "192.0.2.1"
+[[node]]
+name = "p"
+loopback = "192.0.2.2"
+[[node]]
+name = "pe2"
+loopback = "192.0.2.3"
+[[node]]
+name = "pe3"
+loopback = "192.0.2.4"
+[[link]]
+a = "pe1"
+b = "p"
+loss = 2
+[[link]]
+a = "p"
+b = "pe2"
+[[link]]
+a = "p"
+b = "pe3"
+[[vrf]]
+name = "red1"
+node = "pe1"
+rd = "65000:1"
+import = ["65000:1"]
+export = ["65000:1"]
+[[vrf]]
+name = "red2"
+node = "pe2"
+rd = "65000:2"
+import = ["65000:1"]
+export = ["65000:1"]
+[[vrf]]
+name = "red3"
+node = "pe3"
+rd = "65000:3"
+import = ["65000:1"]
+export = ["65000:1"]
+[[site]]
+name = "a"
+vrf = "red1"
+prefixes = ["10.1.0.0/16"]
+[[site]]
+name = "b"
+vrf = "red2"
+prefixes = ["10.2.0.0/16"]
+[[site]]
+name = "b-too"
+vrf = "red3"
+prefixes = ["10.2.0.0/16"]
+"""
+
+
+class ByReference(whatif.Reading):
+    """Reads what examples/reference.py leaves in place of the program."""
+
+    def run(self):
+        report, files = reference.run_of(self.job.topology, self.job.script().encode(), self.job.capture())
+        self.out.mkdir()
+        (self.folder / "report").write_bytes(report)
+        for name, content in files.items():
+            (self.out / name).write_bytes(content)
+
+
+def outcomes(net, tables, probes, failures, keep_bgp=False):
+    job = whatif.Job("", "net", topology_text(tables).encode(), tables, whatif.bring_up(net, keep_bgp), probes, failures, paths=True)
+    with tempfile.TemporaryDirectory() as folder:
+        return ByReference(job, Path(folder)).outcomes()
+
+
+def told(outcome):
+    return outcome.failure, outcome.lost, outcome.moved, outcome.paths
+
+
+class Runs(unittest.TestCase):
+    def test_one_run_of_all_equals_a_run_for_each(self):
+        compared = lost = 0
+        for seed in SEEDS:
+            rng = random.Random(seed)
+            tables = random_runs.random_topology(rng)
+            for link in tables["link"]:
+                link.pop("loss", None)
+            net = Net("net", tables)
+            probes = whatif.probes_of(net)
+            keep_bgp = rng.random() < 0.3
+            failures = whatif.failures_of(net, whatif.KINDS, keep_bgp) + whatif.double_of(net, keep_bgp)[:6]
+            if not probes or not failures:
+                continue
+            with self.subTest(seed=seed):
+                base, *together = outcomes(net, tables, probes, failures, keep_bgp)
+                for failure, one in zip(failures, together):
+                    alone = outcomes(net, tables, probes, [failure], keep_bgp)
+                    self.assertEqual(told(base), told(alone[0]))
+                    self.assertEqual(told(alone[1]), told(one))
+                    compared += 1
+                    lost += len(one.lost)
+        self.assertGreater(compared, len(SEEDS))
+        self.assertGreater(lost, 0)
+
+    def test_shares_fit_the_budget(self):
+        costs = [random.Random(7).randrange(10, 400) for _ in range(300)]
+        work = whatif.shares(list(range(300)), costs, 500, 3_000, 4)
+        self.assertEqual(list(range(300)), [one for share in work for one in share])
+        self.assertTrue(all(500 + sum(costs[one] for one in share) <= 3_000 for share in work))
+        self.assertEqual([[0], [1]], whatif.shares([0, 1], [9_000, 9_000], 500, 3_000, 1))
+        self.assertEqual([], whatif.shares([], [], 500, 3_000, 4))
+
+    def test_addresses(self):
+        for prefix, due in (
+            ((0x0A010000, 16), 0x0A010001), ((0x0A010000, 32), 0x0A010000), ((0x0A010002, 31), 0x0A010002), ((0, 0), 0x01000001), ((0x7F000000, 8), None), ((0xE0000000, 4), None),
+        ):  # fmt: skip
+            self.assertEqual(due, whatif.first_address(prefix))
+
+
+class Tool(unittest.TestCase):
+    def setUp(self):
+        self.folder = Path(tempfile.mkdtemp())
+        self.addCleanup(shutil.rmtree, self.folder)
+        self.program = stand_in(self.folder)
+        self.dual = self.folder / "dual.toml"
+        self.dual.write_text(DUAL)
+
+    def run_tool(self, *words, **more):
+        words = [sys.executable, TOOL, "--program", self.program, *map(str, words)]
+        return subprocess.run(words, capture_output=True, text=True, **more)
+
+    def answer(self, status, *words):
+        ran = self.run_tool("--quiet", *words)
+        self.assertEqual((status, ""), (ran.returncode, ran.stderr))
+        return ran.stdout
+
+    def refused(self, status, said, *words):
+        ran = self.run_tool(*words)
+        self.assertEqual((status, ""), (ran.returncode, ran.stdout))
+        self.assertIn(said, ran.stderr)
+        self.assertNotIn("Traceback", ran.stderr)
+
+    def test_two_links(self):
+        said = self.answer(1, LINKS)
+        for line in (
+            "link pe1-p: 2 pairs lost",
+            "  1 NoRoute at pe1: no links lead from pe1 to pe2, and their BGP session ended: a -> b",
+            "ldp p-pe2: 2 pairs lost",
+            "  1 NoLsp at pe1: LDP is off on p-pe2, 2 hops from pe1: a -> b",
+            "  1 NoLsp at pe2: LDP is off on p-pe2: b -> a",
+            "  1 NodeDown at pe1: node pe1 is down: a -> b",
+            "  1 NoRoute at pe1: there is no BGP session between pe1 and pe2: a -> b",
+            "8 failures of 2 pairs: 16 verdicts",
+            "8 failures cut 2 pairs; 0 cut none",
+        ):
+            self.assertIn(line + "\n", said)
+
+    def test_a_site_behind_two_edges(self):
+        """Its other edge serves it where the session of the first one ends, and doesn't where it stays."""
+        said = self.answer(1, "--only", "link p-pe2", self.dual)
+        self.assertIn("link p-pe2: 1 pair lost, 1 by another way\n  1 NoRoute at pe2: no links lead from pe2 to pe1, and their BGP session ended: b -> a\n", said)
+        said = self.answer(1, "--keep-bgp", "--only", "pe2-p", "--of", "links", self.dual)
+        self.assertIn("link p-pe2: 2 pairs lost\n  1 NoLsp at pe1: link p-pe2 is down: a -> b|b-too\n", said)
+
+    def test_losses_of_links_are_left_out(self):
+        self.assertEqual([], json.loads(self.answer(0, "--json", "--only", "bgp pe2-pe3", self.dual))["unreached"])
+
+    def test_forms_say_the_same(self):
+        answer = json.loads(self.answer(1, "--json", self.dual))
+        lost = [(one["kind"], one["name"], pair["from"], pair["rule"]) for one in answer["failures"] for pair in one["lost"]]
+        rows = list(csv.DictReader(io.StringIO(self.answer(1, "--csv", self.dual))))
+        self.assertEqual(lost, [(row["kind"], row["name"], row["from"], row["rule"]) for row in rows])
+        matrix = list(csv.reader(io.StringIO(self.answer(1, "--matrix", "--only", "pe1-p", "--of", "links", self.dual))))
+        self.assertEqual(["from \\ to", "b|b-too", "a"], matrix[0])
+        self.assertEqual("pe1 p pe2 => NoRoute at pe1", matrix[1][1])
+        page = self.folder / "page.html"
+        self.answer(1, "--html", page, self.dual)
+        text = page.read_text()
+        self.assertNotRegex(text, r"<link|<img|<script|\ssrc=|\shref=|url\(")
+        self.assertIn("link pe1-p: ", text)
+
+    def test_budget_and_jobs_change_nothing(self):
+        whole = self.answer(1, self.dual)
+        self.assertEqual(whole, self.answer(1, "--budget", "300", "--jobs", "3", self.dual))
+
+    def test_double(self):
+        said = self.answer(1, "--double", self.dual)
+        self.assertIn("links p-pe2 and p-pe3: 3 pairs lost\n", said)
+        self.assertIn("3 failures of 3 pairs: 9 verdicts\n", said)
+
+    def test_wrong_words(self):
+        self.refused(2, "'x' is none of links, nodes, ldp, bgp", "--of", "links,x", LINKS)
+        self.refused(2, "'0' isn't a number of steps", "--budget", "0", LINKS)
+        self.refused(2, "it doesn't go with --of", "--double", "--of", "ldp", LINKS)
+        self.refused(3, "did you mean 'ldp pe1-p'?", "--only", "ldp pe1-pp", LINKS)
+        self.refused(3, "there is no site 'c'", "--site", "c", LINKS)
+
+    def test_wrong_files(self):
+        self.refused(3, "nothing.toml: No such file", self.folder / "nothing.toml")
+        wrong = self.folder / "wrong.toml"
+        wrong.write_text("as = = 1")
+        self.refused(3, "wrong.toml: not TOML", wrong)
+        wrong.write_text(DUAL.replace('name = "pe3"\nloopback = "192.0.2.4"', 'name = "pe3"\nloopback = "192.0.2.3"'))
+        self.refused(3, "wrong.toml: topology refused T10 TwiceLoopback at node 3", wrong)
+        wrong.write_text(DUAL.replace("65000:1", "65000:9", 1).replace('["65000:1"]', "[]"))
+        self.refused(3, "no site's VRF imports a target of another's", wrong)
+        self.refused(3, "page.html: No such file", "--quiet", "--html", self.folder / "no/page.html", LINKS)
+        ran = subprocess.run([sys.executable, TOOL, "--program", self.folder / "nothing", LINKS], capture_output=True, text=True)
+        self.assertEqual((3, f"mplsnet-whatif: {self.folder}/nothing: isn't a program that can be run\n"), (ran.returncode, ran.stderr))
+
+    def test_a_program_that_fails(self):
+        self.program.write_text("#!/bin/sh\necho out of luck >&2\nexit 8\n")
+        self.refused(3, "out of luck", LINKS)
+
+    def test_an_interrupted_run_leaves_nothing(self):
+        self.program.write_text(f"#!/bin/sh\necho $$ >{self.folder}/pid\nexec sleep 60\n")
+        room = whatif.memory_folder() or tempfile.gettempdir()
+        before = set(Path(room).glob("mplsnet-whatif-*"))
+        tool = subprocess.Popen([sys.executable, TOOL, "--program", self.program, LINKS], stderr=subprocess.PIPE, text=True, start_new_session=True)
+        for _ in range(600):
+            if (self.folder / "pid").exists() and (self.folder / "pid").read_text():
+                break
+            time.sleep(0.1)
+        os.killpg(tool.pid, signal.SIGINT)
+        said = tool.communicate(timeout=60)[1]
+        self.assertEqual(130, tool.returncode)
+        self.assertIn("interrupted after 0 of 8 failures", said)
+        self.assertNotIn("Traceback", said)
+        for _ in range(100):
+            if not set(Path(room).glob("mplsnet-whatif-*")) - before:
+                break
+            time.sleep(0.1)
+        self.assertEqual(set(), set(Path(room).glob("mplsnet-whatif-*")) - before)
+        process = Path(f"/proc/{(self.folder / 'pid').read_text().strip()}")
+        for _ in range(300):
+            if not process.exists():
+                break
+            time.sleep(0.1)
+        self.assertFalse(process.exists())
+
+
+def dask_python():
+    """A Python that has dask.distributed."""
+    for python in (sys.executable, "/usr/bin/python3"):
+        if os.path.exists(python) and subprocess.run([python, "-c", "import distributed, tomllib"], capture_output=True).returncode == 0:
+            return python
+    return None
+
+
+CLUSTER = """
+import subprocess, sys
+from distributed import LocalCluster
+if __name__ == "__main__":
+    with LocalCluster(n_workers=2, threads_per_worker=1, dashboard_address=None) as cluster:
+        sys.exit(subprocess.run([sys.executable, *sys.argv[1:], "--dask", cluster.scheduler_address]).returncode)
+"""
+
+
+class ByDask(unittest.TestCase):
+    @unittest.skipUnless(dask_python(), "dask.distributed isn't installed")
+    def test_two_workers_say_the_same(self):
+        with tempfile.TemporaryDirectory() as folder:
+            program, cluster = stand_in(folder), Path(folder) / "cluster.py"
+            cluster.write_text(CLUSTER)
+            words = ["--quiet", "--program", str(program), "--budget", "200", str(LINKS)]
+            here = subprocess.run([sys.executable, TOOL, *words], capture_output=True, text=True)
+            there = subprocess.run([dask_python(), cluster, TOOL, *words], capture_output=True, text=True, cwd=folder, env={**os.environ, "PYTHONPATH": ""})
+            self.assertEqual((1, here.stdout), (there.returncode, there.stdout), there.stderr)
+
+
+if __name__ == "__main__":
+    unittest.main()
