@@ -246,7 +246,7 @@ class Why(unittest.TestCase):
     def test_random_runs(self):
         kinds = self.check_all(random_runs.random_run)
         if len(SEEDS) >= 1000:
-            self.assertLessEqual(set(WORDS) - kinds, {"address unknown", "each waits", "withdrawn", "links down"})
+            self.assertLessEqual(set(WORDS) - kinds, {"address unknown", "each waits", "withdrawn", "links down", "went round"})
 
     def test_disturbed_networks(self):
         kinds = self.check_all(disturbed_run)
