@@ -7,7 +7,6 @@ use std::alloc::{AllocError, Global};
 use std::marker::Model;
 
 /// At most 2^16 names, in the order in which they came.
-#[derive(Drop)]
 pub struct Names {
     names: IndexSet<Vec<u8>>,
 }
@@ -20,6 +19,13 @@ impl Model for Names {
     ghost view = { λ a. map (λ name. name.items) a.names.keys };
 
     ghost invariant = { λ a. length a.names.keys ≤ 2 ^ 16 };
+}
+
+/// By hand, so that whoever owns them drops them by one call.
+impl Drop for Names {
+    fn drop(self) {
+        let Names { names: _ } = self;
+    }
 }
 
 impl Names {

@@ -17,7 +17,6 @@ pub struct Node {
 }
 
 /// The nodes in order, and their loopbacks to look among.
-#[derive(Drop)]
 pub struct Nodes {
     names: Names,
     nodes: Vec<Node>,
@@ -33,6 +32,17 @@ impl Model for Nodes {
     ghost view = { λ a. record { names = a.names; loopbacks = a.loopbacks.keys } };
 
     ghost invariant = { λ a. a.loopbacks.keys ≡ map (λ node. node.loopback) a.nodes.items };
+}
+
+/// By hand, so that whoever owns them drops them by one call.
+impl Drop for Nodes {
+    fn drop(self) {
+        let Nodes {
+            names: _,
+            nodes: _,
+            loopbacks: _,
+        } = self;
+    }
 }
 
 impl Nodes {

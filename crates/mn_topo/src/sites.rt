@@ -17,7 +17,6 @@ pub struct SiteDef {
 }
 
 /// The sites in order.
-#[derive(Drop)]
 pub struct Sites {
     names: Names,
     sites: Vec<SiteDef>,
@@ -29,6 +28,13 @@ impl Model for Sites {
     ghost Value = { SiteTable };
 
     ghost view = { λ a. record { names = a.names; sites = a.sites.items } };
+}
+
+/// By hand, so that whoever owns them drops them by one call.
+impl Drop for Sites {
+    fn drop(self) {
+        let Sites { names: _, sites: _ } = self;
+    }
 }
 
 ghost use Rattle.mn_topo.specs.SiteTable.{no_sites};

@@ -20,7 +20,6 @@ pub struct VrfDef {
 }
 
 /// The VRFs in order, with their distinguishers and the nodes that have one to look among.
-#[derive(Drop)]
 pub struct Vrfs {
     names: Names,
     vrfs: Vec<VrfDef>,
@@ -37,6 +36,18 @@ impl Model for Vrfs {
     ghost view = { λ a. record { names = a.names; vrfs = a.vrfs.items } };
 
     ghost invariant = { λ a. (a.rds.keys ≡ map (λ vrf. vrf.rd.0) a.vrfs.items) × (a.edges.keys ≡ edges_of a.vrfs.items) };
+}
+
+/// By hand, so that whoever owns them drops them by one call.
+impl Drop for Vrfs {
+    fn drop(self) {
+        let Vrfs {
+            names: _,
+            vrfs: _,
+            rds: _,
+            edges: _,
+        } = self;
+    }
 }
 
 ghost use Rattle.mn_topo.specs.VrfTable.{no_vrfs, has_rd, is_edge, edges_of};
