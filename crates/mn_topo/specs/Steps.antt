@@ -7,7 +7,7 @@ use Rattle.mn_base.specs.declared.numbers.VrfNo.{VrfNo}
 use Rattle.mn_base.specs.declared.numbers.SiteNo.{SiteNo}
 use Rattle.mn_topo.specs.declared.steps.Step.{Step}
 use Rattle.mn_topo.specs.declared.steps.Step.TheVariants.{LinkUp, LinkDown, Learn, LdpAdmin, HearLdp, BgpUp, BgpDown, HearBgp, AddRoute, DelRoute, Import}
-use Rattle.mn_topo.specs.declared.steps.Step.TheVariants.{Export, Attach, Detach, Inject, Carry, Lose}
+use Rattle.mn_topo.specs.declared.steps.Step.TheVariants.{Export, Attach, Detach, Inject, Carry, Lose, Tick}
 use Rattle.mn_topo.specs.VrfTable.{is_edge}
 use Rattle.mn_topo.specs.SiteTable.{is_lawful_prefix}
 use Rattle.mn_topo.specs.Network.{Network}
@@ -33,7 +33,8 @@ abbrev pub are_edges_in_order : Network → NodeNo → NodeNo → Bool
 are_edges_in_order network a b = (is_edge network.vrfs a.0 && is_edge network.vrfs b.0) && nat_lt a.0 b.0
 
 -- the numbers are those of links, nodes, VRFs and sites of the topology, a prefix has no bit past its length, a record is from 1, a target
--- is of one of its two forms, and a BGP step names two different edges, which BgpUp and BgpDown do in their order
+-- is of one of its two forms, a BGP step names two different edges, which BgpUp and BgpDown do in their order, and time goes by for 1 to
+-- 1,000,000 ticks
 abbrev pub fits : Network → Step → Bool
 fits network (LinkUp link) = has_link network link
 fits network (LinkDown link) = has_link network link
@@ -52,3 +53,4 @@ fits network (Detach site) = has_site network site
 fits network (Inject site number) = has_site network site && nat_le 1 number
 fits network (Carry link dir place) = has_link network link
 fits network (Lose link dir place) = has_link network link
+fits network (Tick ticks) = nat_le 1 ticks && nat_le ticks 1000000

@@ -41,6 +41,8 @@ pub enum Step {
     Carry(LinkNo, Dir, u32),
     /// The frame at a place, from 0, among those in flight in the direction is lost.
     Lose(LinkNo, Dir, u32),
+    /// So many ticks go by, from 1 to 1,000,000. Links have no life yet, so nothing changes.
+    Tick(u32),
 }
 
 /// A message of a session that was damaged on its way: the packet of a record of the capture, numbered from 1, came in its place,

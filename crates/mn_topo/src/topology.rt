@@ -12,6 +12,9 @@ use mn_prefix::Prefix;
 use mn_wiring::{Dir, LinkEnds};
 use std::marker::Model;
 
+/// Ticks for which a step lets time go by.
+const MOST_TICKS: u32 = 1_000_000;
+
 /// What a topology is made of.
 #[derive(Drop)]
 pub struct Parts {
@@ -312,8 +315,8 @@ impl Topology {
     }
 
     /// Whether the step's numbers are those of the topology, a record is from 1, a target is of one of its
-    /// two forms, and a BGP step names two different edges, which BgpUp and BgpDown do in their order. A prefix
-    /// has no bit past its length, as its type says.
+    /// two forms, a BGP step names two different edges, which BgpUp and BgpDown do in their order, and time
+    /// goes by for 1 to 1,000,000 ticks. A prefix has no bit past its length, as its type says.
     pub fn fits(&self, step: &Step) -> bool
         ensures { result ≡ fits self.now step.now }
     {
@@ -332,6 +335,7 @@ impl Topology {
             Step::Attach(site) | Step::Detach(site) => self.has_site(*site),
             Step::Inject(site, record) => self.has_site(*site) && *record >= 1,
             Step::Carry(link, _, _) | Step::Lose(link, _, _) => self.has_link(*link),
+            Step::Tick(ticks) => *ticks >= 1 && *ticks <= MOST_TICKS,
         }
     }
 }
