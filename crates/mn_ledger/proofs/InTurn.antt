@@ -49,6 +49,7 @@ link_there t (step.Detach s) h = tt
 link_there t (step.Inject s n) h = tt
 link_there t (step.Carry l d n) h = tt
 link_there t (step.Lose l d n) h = tt
+link_there t (step.Tick n) h = tt
 
 pub in_order : (t : Network) (s : Step) → fits t s ≡ true → AreInOrder s
 in_order t (step.BgpUp a b) h = less_tells a.0 b.0 (and_right (is_edge t.vrfs a.0 && is_edge t.vrfs b.0) (nat_lt a.0 b.0) h)
@@ -68,6 +69,7 @@ in_order t (step.Detach s) h = tt
 in_order t (step.Inject s n) h = tt
 in_order t (step.Carry l d n) h = tt
 in_order t (step.Lose l d n) h = tt
+in_order t (step.Tick n) h = tt
 
 -- 2. Nobody learns more than was changed
 

@@ -7,7 +7,7 @@ use Rattle.mn_base.proofs.Bools.{clash, and_left, and_right, other_test, same_nu
 use Rattle.mn_topo.specs.Network.{Network, wiring_of}
 use Rattle.mn_topo.specs.declared.steps.Step.{Step}
 use Rattle.mn_topo.specs.declared.steps.Step.TheVariants.{LinkUp, LinkDown, Learn, LdpAdmin, HearLdp, BgpUp, BgpDown, HearBgp, AddRoute, DelRoute, Import}
-use Rattle.mn_topo.specs.declared.steps.Step.TheVariants.{Export, Attach, Detach, Inject, Carry, Lose}
+use Rattle.mn_topo.specs.declared.steps.Step.TheVariants.{Export, Attach, Detach, Inject, Carry, Lose, Tick}
 use Rattle.mn_topo.specs.declared.steps.JournalEntry.{JournalEntry}
 use Rattle.mn_ledger.specs.World.{World}
 use Rattle.mn_ledger.specs.Packets.{Packets, packets_after, before_step}
@@ -30,6 +30,7 @@ config_kept t w (HearBgp a b) h = refl
 config_kept t w (Inject s n) h = refl
 config_kept t w (Carry l d n) h = refl
 config_kept t w (Lose l d n) h = refl
+config_kept t w (Tick n) h = refl
 config_kept t w (LinkUp l) h = cc
 config_kept t w (LinkDown l) h = cc
 config_kept t w (LdpAdmin l on) h = cc

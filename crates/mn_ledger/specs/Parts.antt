@@ -4,7 +4,7 @@ use Rattle.std.specs.List.{list_any}
 use Rattle.mn_topo.specs.Network.{Network}
 use Rattle.mn_topo.specs.declared.steps.Step.{Step}
 use Rattle.mn_topo.specs.declared.steps.Step.TheVariants.{LinkUp, LinkDown, Learn, LdpAdmin, HearLdp, BgpUp, BgpDown, HearBgp, AddRoute, DelRoute, Import}
-use Rattle.mn_topo.specs.declared.steps.Step.TheVariants.{Export, Attach, Detach, Inject, Carry, Lose}
+use Rattle.mn_topo.specs.declared.steps.Step.TheVariants.{Export, Attach, Detach, Inject, Carry, Lose, Tick}
 use Rattle.mn_topo.specs.declared.steps.JournalEntry.{JournalEntry}
 use Rattle.mn_prefix.specs.Prefix.{AddressBlock}
 use Rattle.mn_ledger.specs.World.{World}
@@ -23,6 +23,7 @@ is_configuring (HearBgp a b) = false
 is_configuring (Inject s number) = false
 is_configuring (Carry l dir place) = false
 is_configuring (Lose l dir place) = false
+is_configuring (Tick ticks) = false
 is_configuring _ = true
 
 -- the steps that change or learn of a link

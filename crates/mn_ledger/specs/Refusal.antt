@@ -11,7 +11,7 @@ use Rattle.mn_ipv4.specs.Header.{total_length}
 use Rattle.mn_topo.specs.Network.{Network, wiring_of}
 use Rattle.mn_topo.specs.declared.steps.Step.{Step}
 use Rattle.mn_topo.specs.declared.steps.Step.TheVariants.{LinkUp, LinkDown, Learn, LdpAdmin, HearLdp, BgpUp, BgpDown, HearBgp, AddRoute, DelRoute, Import}
-use Rattle.mn_topo.specs.declared.steps.Step.TheVariants.{Export, Attach, Detach, Inject, Carry, Lose}
+use Rattle.mn_topo.specs.declared.steps.Step.TheVariants.{Export, Attach, Detach, Inject, Carry, Lose, Tick}
 use Rattle.mn_topo.specs.declared.steps.JournalEntry.{JournalEntry}
 use Rattle.mn_ledger.specs.declared.refused.Refused.{Refused}
 use Rattle.mn_ledger.specs.declared.refused.Refused.TheVariants.{Unchanged, Empty, PrefixTaken, NoRouteThere, RoutesFull, TargetsFull, LabelsSpent, NetFull}
@@ -106,13 +106,14 @@ unfoldable pub bytes_flying : Network → Packets → ℕ
 bytes_flying topology packets =
     sum (flat_map (λ l. map (λ token. total_length token.bytes) (flying_on packets l Forth ++ flying_on packets l Back)) (links_of (wiring_of topology)))
 
--- the step takes something out of flight
+-- the step takes something out of flight, or lets time go by
 abbrev pub takes_out : Step → Bool
 takes_out (Learn node l) = true
 takes_out (HearLdp l dir) = true
 takes_out (HearBgp a b) = true
 takes_out (Carry l dir place) = true
 takes_out (Lose l dir place) = true
+takes_out (Tick ticks) = true
 takes_out _ = false
 
 abbrev pub has_no_room : Network → Packets → Step → List ℕ → Bool
