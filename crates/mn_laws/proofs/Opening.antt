@@ -11,7 +11,7 @@ use Rattle.mn_topo.specs.Network.{Network, wiring_of}
 use Rattle.mn_topo.specs.Steps.{fits}
 use Rattle.mn_topo.specs.VrfTable.{is_edge}
 use Rattle.mn_topo.specs.declared.steps.Step.{Step}
-use Rattle.mn_topo.specs.declared.steps.Step.TheVariants.{LinkUp, Learn, HearLdp, HearBgp, Carry, Lose}
+use Rattle.mn_topo.specs.declared.steps.Step.TheVariants.{LinkUp, Learn, HearLdp, HearBgp, Carry, Lose, Tick}
 use Rattle.mn_topo.specs.declared.steps.JournalEntry.{JournalEntry}
 use Rattle.mn_ledger.specs.declared.refused.Refused.{Refused}
 use Rattle.mn_ledger.specs.declared.refused.Refused.TheVariants.{Empty, TooManySteps}
@@ -54,6 +54,7 @@ takes_open t w k n (HearLdp l d) b h e = past_empty (is_empty t w k (HearLdp l d
 takes_open t w k n (HearBgp x y) b h e = past_empty (is_empty t w k (HearBgp x y)) (nat_le 4000000 n) TooManySteps e
 takes_open t w k n (Carry l d p) b h e = past_empty (is_empty t w k (Carry l d p)) (nat_le 4000000 n) TooManySteps e
 takes_open t w k n (Lose l d p) b h e = past_empty (is_empty t w k (Lose l d p)) (nat_le 4000000 n) TooManySteps e
+takes_open t w k n (Tick ticks) b h e = past_empty (is_empty t w k (Tick ticks)) (nat_le 4000000 n) TooManySteps e
 takes_open t w k n (LinkUp l) b h e = absurd (no h)
 takes_open t w k n _ b h e = absurd (no h)
 
