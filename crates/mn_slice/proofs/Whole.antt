@@ -290,6 +290,7 @@ module _ (t : Network) (lawful : IsLawful t) (w : World) (packets : Packets) (tu
   speaks (step.Inject x y) fit new full m below = plain (step.Inject x y) m [] below refl refl
   speaks (step.Carry x y z) fit new full m below = plain (step.Carry x y z) m [] below refl refl
   speaks (step.Lose x y z) fit new full m below = plain (step.Lose x y z) m [] below refl refl
+  speaks (step.Tick ticks) fit new full m below = plain (step.Tick ticks) m [] below refl refl
 
   -- 4. What each node keeps after the step
 
