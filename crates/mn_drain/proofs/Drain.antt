@@ -160,6 +160,7 @@ hear-phase t (step.Detach s ∷ ss) w lawful g all d = absurd d.0.in_turn
 hear-phase t (step.Inject s n ∷ ss) w lawful g all d = absurd d.0.in_turn
 hear-phase t (step.Carry l dir place ∷ ss) w lawful g all d = absurd d.0.in_turn
 hear-phase t (step.Lose l dir place ∷ ss) w lawful g all d = absurd d.0.in_turn
+hear-phase t (step.Tick ticks ∷ ss) w lawful g all d = absurd d.0.in_turn
 
 -- 4. While notices are learned
 
@@ -220,6 +221,7 @@ drain-less t (step.Detach s ∷ ss) w lawful g d = absurd d.0.in_turn
 drain-less t (step.Inject s n ∷ ss) w lawful g d = absurd d.0.in_turn
 drain-less t (step.Carry l dir place ∷ ss) w lawful g d = absurd d.0.in_turn
 drain-less t (step.Lose l dir place ∷ ss) w lawful g d = absurd d.0.in_turn
+drain-less t (step.Tick ticks ∷ ss) w lawful g d = absurd d.0.in_turn
 
 -- 5. The bound
 

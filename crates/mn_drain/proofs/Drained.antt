@@ -66,6 +66,7 @@ same-config t w (step.Detach s) d = absurd d.in_turn
 same-config t w (step.Inject s n) d = absurd d.in_turn
 same-config t w (step.Carry l dir place) d = absurd d.in_turn
 same-config t w (step.Lose l dir place) d = absurd d.in_turn
+same-config t w (step.Tick ticks) d = absurd d.in_turn
 
 drain-config : (t : Network) (ss : List Step) (w : World) → IsDrain t w ss → (after_steps t w ss).config ≡ w.config
 drain-config t [] w d = refl
@@ -166,6 +167,7 @@ settled_is_drained t w lawful settled (step.Detach s) d = d.in_turn
 settled_is_drained t w lawful settled (step.Inject s n) d = d.in_turn
 settled_is_drained t w lawful settled (step.Carry l dir place) d = d.in_turn
 settled_is_drained t w lawful settled (step.Lose l dir place) d = d.in_turn
+settled_is_drained t w lawful settled (step.Tick ticks) d = d.in_turn
 
 -- 3. The world after a drain is that of the longer journal
 world-from-steps : (t : Network) (more : List JournalEntry) (w : World) → after_steps t w (map (λ entry. entry.step) more) ≡ world_from t w more
@@ -196,3 +198,4 @@ drain_is_lawful t w k count (step.Detach s) b room d = absurd d.in_turn
 drain_is_lawful t w k count (step.Inject s n) b room d = absurd d.in_turn
 drain_is_lawful t w k count (step.Carry l dir place) b room d = absurd d.in_turn
 drain_is_lawful t w k count (step.Lose l dir place) b room d = absurd d.in_turn
+drain_is_lawful t w k count (step.Tick ticks) b room d = absurd d.in_turn

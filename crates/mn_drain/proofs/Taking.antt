@@ -113,6 +113,7 @@ takes t w k made flight lawful turn f (step.Detach s) on fit e = absurd (none-so
 takes t w k made flight lawful turn f (step.Inject s n) on fit e = absurd (none-some on e)
 takes t w k made flight lawful turn f (step.Carry l dir place) on fit e = absurd (none-some on e)
 takes t w k made flight lawful turn f (step.Lose l dir place) on fit e = absurd (none-some on e)
+takes t w k made flight lawful turn f (step.Tick ticks) on fit e = absurd (none-some on e)
 
 pub takes_what_flies : (t : Network) (es : List JournalEntry) (ps : List (List ℕ)) (s : Step) (on : Channel) → IsLawful t → IsLawfulJournal t es ps
     → fits t s ≡ true → taken_from t s ≡ Some on
@@ -150,3 +151,4 @@ drained_where_none_flies t es ps lawful journal none (step.Detach s) d = d.in_tu
 drained_where_none_flies t es ps lawful journal none (step.Inject s n) d = d.in_turn
 drained_where_none_flies t es ps lawful journal none (step.Carry l dir place) d = d.in_turn
 drained_where_none_flies t es ps lawful journal none (step.Lose l dir place) d = d.in_turn
+drained_where_none_flies t es ps lawful journal none (step.Tick ticks) d = d.in_turn
