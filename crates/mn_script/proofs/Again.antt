@@ -31,12 +31,12 @@ use Rattle.mn_topo.proofs.Ends.{name_again, link_again}
 use Rattle.mn_script.specs.declared.refusal.ScriptRule.TheVariants.{BadNumber, NoSuchName, NotLinked, NotEdge}
 use Rattle.mn_script.specs.Rules.{◌>>=◌, or_rule}
 use Rattle.mn_script.specs.Operands.{lesser, greater, number_in, prefix_in, target_in, node_in, vrf_in, site_in, link_in, edges_in}
-use Rattle.mn_script.specs.Spelled.{node_text, vrf_text, site_text, from_text, to_text, step_words, IsStep}
+use Rattle.mn_script.specs.Spelled.{node_text, vrf_text, site_text, from_text, to_text, step_words, IsScripted}
 use Rattle.mn_script.specs.Steps.{step_line, link_line, learn_line, ldp_line, hear_line, hear_ldp_line, hear_bgp_line, bgp_line, route_line}
 use Rattle.mn_script.specs.Steps.{target_operands, import_line, export_line, site_line, inject_line, frame_operands, carry_line, lose_line}
 use Rattle.mn_topo.specs.declared.steps.Step.{Step}
 use Rattle.mn_topo.specs.declared.steps.Step.TheVariants.{LinkUp, LinkDown, Learn, LdpAdmin, HearLdp, BgpUp, BgpDown, HearBgp, AddRoute, DelRoute, Import}
-use Rattle.mn_topo.specs.declared.steps.Step.TheVariants.{Export, Attach, Detach, Inject, Carry, Lose}
+use Rattle.mn_topo.specs.declared.steps.Step.TheVariants.{Export, Attach, Detach, Inject, Carry, Lose, Tick}
 use Rattle.mn_script.specs.declared.command.Command.{Command}
 use Rattle.mn_script.specs.declared.command.Command.TheVariants as command
 use Rattle.mn_script.specs.declared.command.Show.{Show}
@@ -285,7 +285,7 @@ unfolding step_line lose_line
 lose network link direction place lawful below high =
     ap (λ found. found >>= (λ it. Ok (Lose it.0 it.1 it.2))) (frame_again network (codes "lose") link direction place lawful below high)
 
-pub step_again : (network : Network) (step : Step) → IsLawful network → fits network step ≡ true → IsStep step →
+pub step_again : (network : Network) (step : Step) → IsLawful network → fits network step ≡ true → IsScripted step →
     step_line network (step_words network step) ≡ Ok step
 step_again network (LinkUp link) lawful fit is = link_up network link lawful (ltb-true _ _ fit)
 step_again network (LinkDown link) lawful fit is = link_down network link lawful (ltb-true _ _ fit)
@@ -305,6 +305,7 @@ step_again network (Inject site number) lawful fit is = let both = and_parts _ _
     inject network site number lawful (ltb-true _ _ both.0) (leb-true _ _ both.1) is
 step_again network (Carry link direction place) lawful fit is = carry network link direction place lawful (ltb-true _ _ fit) is
 step_again network (Lose link direction place) lawful fit is = lose network link direction place lawful (ltb-true _ _ fit) is
+step_again network (Tick ticks) lawful fit is = absurd is
 
 -- words that are those of no other line
 record StepWords (ws : List (List ℕ)) : Type 0 where
@@ -332,6 +333,7 @@ step_words_are network (Detach site) = record { some = refl; run = refl; drain =
 step_words_are network (Inject site number) = record { some = refl; run = refl; drain = refl; flush = refl; show = refl }
 step_words_are network (Carry link direction place) = record { some = refl; run = refl; drain = refl; flush = refl; show = refl }
 step_words_are network (Lose link direction place) = record { some = refl; run = refl; drain = refl; flush = refl; show = refl }
+step_words_are network (Tick ticks) = record { some = refl; run = refl; drain = refl; flush = refl; show = refl }
 
 step_said : (network : Network) (ws : List (List ℕ)) (step : Step) → StepWords ws → step_line network ws ≡ Ok step →
     line_says network ws ≡ Ok (Some (command.Do step))

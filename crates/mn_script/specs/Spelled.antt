@@ -13,7 +13,7 @@ use Rattle.mn_text.specs.Addresses.{prefix_text}
 use Rattle.mn_text.specs.Pairs.{rt_text}
 use Rattle.mn_topo.specs.declared.steps.Step.{Step}
 use Rattle.mn_topo.specs.declared.steps.Step.TheVariants.{LinkUp, LinkDown, Learn, LdpAdmin, HearLdp, BgpUp, BgpDown, HearBgp, AddRoute, DelRoute, Import}
-use Rattle.mn_topo.specs.declared.steps.Step.TheVariants.{Export, Attach, Detach, Inject, Carry, Lose}
+use Rattle.mn_topo.specs.declared.steps.Step.TheVariants.{Export, Attach, Detach, Inject, Carry, Lose, Tick}
 use Rattle.mn_topo.specs.Network.{Network, wiring_of}
 use Rattle.mn_script.specs.declared.command.Command.{Command}
 use Rattle.mn_script.specs.declared.command.Command.TheVariants as command
@@ -56,6 +56,7 @@ step_words network (Detach site) = codes "site" ∷ codes "down" ∷ site_text n
 step_words network (Inject site number) = codes "inject" ∷ site_text network site ∷ number_text number ∷ []
 step_words network (Carry link direction place) = codes "carry" ∷ from_text network link direction ∷ to_text network link direction ∷ number_text place ∷ []
 step_words network (Lose link direction place) = codes "lose" ∷ from_text network link direction ∷ to_text network link direction ∷ number_text place ∷ []
+step_words network (Tick ticks) = codes "tick" ∷ number_text ticks ∷ []
 
 -- the same words, with the two nodes in the other order where a line may name them in either
 abbrev pub turned_words : Network → Step → List (List ℕ)
@@ -106,6 +107,11 @@ IsStep (Carry link direction place) = place < 2 ^ 32
 IsStep (Lose link direction place) = place < 2 ^ 32
 IsStep _ = ⊤
 
+-- a line of a script says such a step, but for a Tick, which no line says yet
+abbrev pub IsScripted : Step → Type 0
+IsScripted (Tick ticks) = ⊥
+IsScripted step = IsStep step
+
 abbrev pub IsCommand : Command → Type 0
-IsCommand (command.Do step) = IsStep step
+IsCommand (command.Do step) = IsScripted step
 IsCommand _ = ⊤
