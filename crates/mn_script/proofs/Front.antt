@@ -1,6 +1,9 @@
 -- A line of more than four words says what its first five words say.
 use Rattle.std.proofs.Common.{◌≡◌, ◌<◌, ◌==◌, ℕ, false, List, [], ◌∷◌, length, take, refl, ap, sym, ◌∙◌, arith, lit<}
 use Rattle.mn_topo.specs.Network.{Network}
+use Rattle.std.specs.Prelude.{Ok}
+use Rattle.mn_script.specs.Rules.{◌>>=◌}
+use Rattle.mn_script.specs.Script.{numbered, command_says}
 use Rattle.mn_script.specs.declared.command.Show.{Show}
 use Rattle.mn_script.specs.declared.command.Show.TheVariants as table
 use Rattle.mn_script.specs.Lines.{run_line, bounded_drain, drain_line, flush_line, plain_show, show_tree, show_vrf, show_line}
@@ -153,6 +156,21 @@ says_by_five network (a ∷ b ∷ c ∷ []) = refl
 says_by_five network (a ∷ b ∷ c ∷ d ∷ []) = refl
 says_by_five network (a ∷ b ∷ c ∷ d ∷ e ∷ ws) = sym (says_more network a b c d e ws)
 
--- the first five of some words say what the words say
-pub said_by_five : (network : Network) (first ws : List (List ℕ)) → first ≡ take 5 ws → line_says network first ≡ line_says network ws
-said_by_five network first ws h = ap (line_says network) h ∙ says_by_five network ws
+-- so six are, which is what is kept of a line
+pub says_by_six : (network : Network) (ws : List (List ℕ)) → line_says network (take 6 ws) ≡ line_says network ws
+says_by_six network ws = sym (says_by_five network (take 6 ws)) ∙ ap (line_says network) (take_take_five ws) ∙ says_by_five network ws where
+  take_take_five : (ws : List (List ℕ)) → take 5 (take 6 ws) ≡ take 5 ws
+  take_take_five [] = refl
+  take_take_five (a ∷ []) = refl
+  take_take_five (a ∷ b ∷ []) = refl
+  take_take_five (a ∷ b ∷ c ∷ []) = refl
+  take_take_five (a ∷ b ∷ c ∷ d ∷ []) = refl
+  take_take_five (a ∷ b ∷ c ∷ d ∷ e ∷ ws) = refl
+
+-- the first six of some words say what the words say
+pub said_by_six : (network : Network) (first ws : List (List ℕ)) → first ≡ take 6 ws → line_says network first ≡ line_says network ws
+said_by_six network first ws h = ap (line_says network) h ∙ says_by_six network ws
+
+-- and so the command of a line with its number
+pub command_says_by_six : (network : Network) (number : ℕ) (ws : List (List ℕ)) → command_says network number (take 6 ws) ≡ command_says network number ws
+command_says_by_six network number ws = ap (λ said. said >>= (λ command. Ok (numbered number command))) (says_by_six network ws)

@@ -32,13 +32,13 @@ comment_ends word next rest e h =
     ∙ ap (λ b. cond (not b) (word ∷ line_words next) []) h
 
 -- few words that are all of them
-few_are_all : (front all : List (List ℕ)) → front ++ [] ≡ all → length front ≤ 5 → front ≡ take 5 all
-few_are_all front all e few = sym (take_all 5 front few) ∙ ap (take 5) (sym (append-nil front) ∙ e)
+few_are_all : (front all : List (List ℕ)) → front ++ [] ≡ all → length front ≤ 6 → front ≡ take 6 all
+few_are_all front all e few = sym (take_all 6 front few) ∙ ap (take 6) (sym (append-nil front) ∙ e)
 
--- five words before others
-five_are_first : (front more all : List (List ℕ)) → front ++ more ≡ all → length front ≡ 5 → front ≡ take 5 all
-five_are_first front more all e five =
-    sym (take_all 5 front (omega arith)) ∙ sym (take-append-le 5 front more (omega arith)) ∙ ap (take 5) e
+-- six words before others
+six_are_first : (front more all : List (List ℕ)) → front ++ more ≡ all → length front ≡ 6 → front ≡ take 6 all
+six_are_first front more all e six =
+    sym (take_all 6 front (omega arith)) ∙ sym (take-append-le 6 front more (omega arith)) ∙ ap (take 6) e
 
 -- as many texts as words
 as_many : (found : List (Bor (List ℕ))) → length (texts found) ≡ length found
@@ -47,14 +47,14 @@ as_many found = length-map found (λ (w : Bor (List ℕ)). w.now)
 -- the words before a comment, of which there are few
 pub before_comment : (found : List (Bor (List ℕ))) (word next rest line : List ℕ)
     → words rest ≡ word ∷ words next → is_comment word ≡ true
-    → length found ≤ 5 → texts found ++ line_words rest ≡ line_words line
-    → texts found ≡ take 5 (line_words line)
+    → length found ≤ 6 → texts found ++ line_words rest ≡ line_words line
+    → texts found ≡ take 6 (line_words line)
 before_comment found word next rest line first comment few before =
     let none = ap (λ ws. texts found ++ ws) (sym (comment_ends word next rest first comment)) in
     few_are_all (texts found) (line_words line) (none ∙ before) (omega (arith, as_many found))
 
--- five words that were found before others
-pub first_five : (found : List (Bor (List ℕ))) (rest line : List ℕ) → length found ≡ 5
-    → texts found ++ line_words rest ≡ line_words line → texts found ≡ take 5 (line_words line)
-first_five found rest line five before =
-    five_are_first (texts found) (line_words rest) (line_words line) before (as_many found ∙ five)
+-- six words that were found before others
+pub first_six : (found : List (Bor (List ℕ))) (rest line : List ℕ) → length found ≡ 6
+    → texts found ++ line_words rest ≡ line_words line → texts found ≡ take 6 (line_words line)
+first_six found rest line six before =
+    six_are_first (texts found) (line_words rest) (line_words line) before (as_many found ∙ six)

@@ -1,12 +1,17 @@
 -- Which line of a script is refused first, and which commands its lines have.
-use Rattle.std.specs.Prelude.{◌≡◌, ◌<◌, ◌+◌, ℕ, min, true, List, length, slice_index_or, Option, Some, None, Result, Ok, Err, is_ok}
+use Rattle.std.specs.Prelude.{◌≡◌, ◌<◌, ◌+◌, ℕ, min, true, List, length, map, slice_index_or, Option, Some, None, Result, Ok, Err, is_ok}
 use Rattle.std.specs.List.{filter_map, enumerate_from}
 use Rattle.std.specs.Str.Lines.{lines}
 use Rattle.mn_topo.specs.Network.{Network}
 use Rattle.mn_script.specs.declared.refusal.ScriptRule.{ScriptRule}
 use Rattle.mn_script.specs.declared.command.Command.{Command}
 use Rattle.mn_script.specs.declared.command.Line.{Line}
-use Rattle.mn_script.specs.Script.{all_say}
+use Rattle.mn_script.specs.Words.{line_words}
+use Rattle.mn_script.specs.Lines.{line_says}
+
+-- what each line says: its command, none where it has no words, or the rule that refuses it
+abbrev pub all_say : Network → List (List ℕ) → List (Result (Option Command) ScriptRule)
+all_say network texts = map (λ text. line_says network (line_words text)) texts
 
 -- what the line at a place, from 0, says
 abbrev pub says_at : Network → List ℕ → ℕ → Result (Option Command) ScriptRule

@@ -3,6 +3,7 @@ pub mod Words
 pub mod Operands
 pub mod Steps
 pub mod Lines
+pub mod Reading
 pub mod Script
 pub mod Counting
 pub mod Firsts

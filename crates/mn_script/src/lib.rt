@@ -13,7 +13,7 @@
 //!
 //! A word that begins with `#` ends its line. A line without words is passed over, and counts as a line: lines
 //! are numbered from 1. The first refused line is answered, and in a line the first of the rules S1 to S6 that it
-//! breaks. At most five words of a line are kept, so that a line takes no more memory than a command. The rooms:
+//! breaks. At most six words of a line are kept, so that a line takes no more memory than a command. The rooms:
 //!
 //! - `refusal`: the rules, and what a reader answers
 //! - `command`: what a line asks for
@@ -21,6 +21,7 @@
 //! - `operands`: what the words of a line name, S3 to S6
 //! - `steps`: the lines that name a step, a function each
 //! - `lines`: all lines, by their first word
+//! - `reading`: the lines of a file in any language of lines, of which a script is one
 //! - `read`: the whole script
 //! - `laws`: what follows from the definitions
 #![tactic(auto)]
@@ -30,13 +31,17 @@ mod laws;
 mod lines;
 mod operands;
 mod read;
+mod reading;
 mod refusal;
 mod steps;
 mod words;
 
 pub use command::{Command, Line, Show};
 pub use laws::{all_read, command_again, command_only, first_refused};
-pub use lines::line_says;
-pub use read::{count_lines, read_script};
+pub use lines::{drain_line, line_says, show_vrf};
+pub use operands::{link_in, node_in, number_in, prefix_in, site_in, target_in, vrf_in};
+pub use read::{Commands, count_lines, read_script};
+pub use reading::{Language, read_lines};
 pub use refusal::{ScriptBad, ScriptRule};
-pub use words::line_words;
+pub use steps::{export_line, import_line, link_line, route_line, site_line};
+pub use words::{choice, counted, is_word, line_words, word_at};

@@ -3,11 +3,12 @@ ghost use Rattle.std.specs.Prelude.{◌≡◌, ◌≤◌, true, IfOk, IfSome};
 ghost use Rattle.mn_topo.specs.Network.{Network};
 ghost use Rattle.mn_script.specs.Words.{texts};
 ghost use Rattle.mn_script.specs.Lines.{run_line, bounded_drain, drain_line, flush_line, plain_show, show_tree, show_vrf, show_line, table_line, do_line, command_line, line_says, show_fits, command_fits};
+ghost use Rattle.mn_script.specs.Script.{command_says};
 
 use crate::operands::{node_in, number_in, vrf_in};
 use crate::steps::step_line;
 use crate::words::{counted, is_word, word_at};
-use crate::{Command, ScriptRule, Show};
+use crate::{Command, Line, ScriptRule, Show};
 use mn_base::MOST_STEPS;
 use mn_topo::Topology;
 
@@ -38,7 +39,7 @@ fn bounded_drain(words: &[&[u8]]) -> Result<Command, ScriptRule>
 
 /// `drain N`, or `drain` with no bound.
 #[tactic(auto, unfolding(crate::specs::Lines::drain_line))]
-fn drain_line(words: &[&[u8]]) -> Result<Command, ScriptRule>
+pub fn drain_line(words: &[&[u8]]) -> Result<Command, ScriptRule>
     ensures value { result ≡ drain_line (texts words.now) }
     ensures fits { (network : Network) → IfOk result (λ command. command_fits network command ≡ true) }
 {
@@ -82,7 +83,7 @@ fn show_tree(topology: &Topology, words: &[&[u8]]) -> Result<Show, ScriptRule>
 
 /// `show vrf VRF`.
 #[tactic(auto, unfolding(crate::specs::Lines::show_vrf))]
-fn show_vrf(topology: &Topology, words: &[&[u8]]) -> Result<Show, ScriptRule>
+pub fn show_vrf(topology: &Topology, words: &[&[u8]]) -> Result<Show, ScriptRule>
     ensures value { result ≡ show_vrf topology.now (texts words.now) }
     ensures fits { IfOk result (λ table. show_fits topology.now table ≡ true) }
 {
@@ -165,4 +166,19 @@ pub fn line_says(topology: &Topology, words: &[&[u8]]) -> Result<Option<Command>
     }
     let command = command_line(topology, words)?;
     Ok(Some(command))
+}
+
+/// The command of a line with the line's number, none where it has no words.
+pub(crate) fn numbered_line(
+    topology: &Topology,
+    number: u32,
+    words: &[&[u8]],
+) -> Result<Option<Line>, ScriptRule>
+    ensures value { result ≡ command_says topology.now number (texts words.now) }
+    ensures fits { IfOk result (λ said. IfSome said (λ line. command_fits topology.now line.command ≡ true)) }
+{
+    match line_says(topology, words)? {
+        Some(command) => Ok(Some(Line { number, command })),
+        None => Ok(None),
+    }
 }

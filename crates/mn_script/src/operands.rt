@@ -12,8 +12,8 @@ use mn_text::{number_up_to, prefix, rt};
 use mn_topo::Topology;
 use mn_wiring::Dir;
 
-/// A number from `least` to `most`.
-pub(crate) fn number_in(word: &[u8], least: u32, most: u32) -> Result<u32, ScriptRule>
+/// A number from `least` to `most`: S3 otherwise.
+pub fn number_in(word: &[u8], least: u32, most: u32) -> Result<u32, ScriptRule>
     ensures value { result ≡ number_in word.now least most }
     ensures within { IfOk result (λ n. (least ≤ n) × (n ≤ most)) }
 {
@@ -23,7 +23,8 @@ pub(crate) fn number_in(word: &[u8], least: u32, most: u32) -> Result<u32, Scrip
     }
 }
 
-pub(crate) fn prefix_in(word: &[u8]) -> Result<Prefix, ScriptRule>
+/// A prefix: S3 otherwise.
+pub fn prefix_in(word: &[u8]) -> Result<Prefix, ScriptRule>
     ensures { result ≡ prefix_in word.now }
 {
     match prefix(word) {
@@ -32,7 +33,8 @@ pub(crate) fn prefix_in(word: &[u8]) -> Result<Prefix, ScriptRule>
     }
 }
 
-pub(crate) fn target_in(word: &[u8]) -> Result<Rt, ScriptRule>
+/// A route target: S3 otherwise.
+pub fn target_in(word: &[u8]) -> Result<Rt, ScriptRule>
     ensures value { result ≡ target_in word.now }
     ensures form { IfOk result (λ target. has_rt_form target.0 ≡ true) }
 {
@@ -42,30 +44,34 @@ pub(crate) fn target_in(word: &[u8]) -> Result<Rt, ScriptRule>
     }
 }
 
-pub(crate) fn node_in(topology: &Topology, word: &[u8]) -> Result<NodeNo, ScriptRule>
+/// The node of the name: S4 where there is none.
+pub fn node_in(topology: &Topology, word: &[u8]) -> Result<NodeNo, ScriptRule>
     ensures value { result ≡ node_in topology.now word.now }
     ensures within { IfOk result (λ node. node.0 < length topology.now.loopbacks) }
 {
     topology.node_named(word).ok_or(ScriptRule::NoSuchName)
 }
 
-pub(crate) fn vrf_in(topology: &Topology, word: &[u8]) -> Result<VrfNo, ScriptRule>
+/// The VRF of the name: S4 where there is none.
+pub fn vrf_in(topology: &Topology, word: &[u8]) -> Result<VrfNo, ScriptRule>
     ensures value { result ≡ vrf_in topology.now word.now }
     ensures within { IfOk result (λ vrf. vrf.0 < length topology.now.vrfs) }
 {
     topology.vrf_named(word).ok_or(ScriptRule::NoSuchName)
 }
 
-pub(crate) fn site_in(topology: &Topology, word: &[u8]) -> Result<SiteNo, ScriptRule>
+/// The site of the name: S4 where there is none.
+pub fn site_in(topology: &Topology, word: &[u8]) -> Result<SiteNo, ScriptRule>
     ensures value { result ≡ site_in topology.now word.now }
     ensures within { IfOk result (λ site. site.0 < length topology.now.sites) }
 {
     topology.site_named(word).ok_or(ScriptRule::NoSuchName)
 }
 
-/// The link between two nodes, and its direction from the first to the second.
+/// The link between two nodes, and its direction from the first to the second: S4 where one names no node, S5 where
+/// they have no link.
 #[tactic(auto, unfolding(crate::specs::Operands::link_in))]
-pub(crate) fn link_in(topology: &Topology, a: &[u8], b: &[u8]) -> Result<(LinkNo, Dir), ScriptRule>
+pub fn link_in(topology: &Topology, a: &[u8], b: &[u8]) -> Result<(LinkNo, Dir), ScriptRule>
     ensures value { result ≡ link_in topology.now a.now b.now }
     ensures within { IfOk result (λ found. found.0.0 < length topology.now.links) }
 {

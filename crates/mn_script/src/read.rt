@@ -1,16 +1,16 @@
 //! From the bytes of a file to the script.
-ghost use Rattle.std.specs.Prelude.{◌≡◌, ◌≤◌, ◌==◌, ◌++◌, length, count_by, IfOk, OnOk};
+ghost use Rattle.std.specs.Prelude.{◌≡◌, ◌≤◌, ◌==◌, length, count_by, IfOk};
 ghost use Rattle.std.specs.Str.Lines.{lines};
 ghost use Rattle.mn_script.specs.Rules.{Reads};
 ghost use Rattle.mn_script.specs.Counting.{ends_open, line_count};
-ghost use Rattle.mn_script.specs.Script.{line_of, script_of, AllFit};
+ghost use Rattle.mn_script.specs.Lines.{command_fits};
+ghost use Rattle.mn_script.specs.Script.{command_says, script_of, AllFit};
 
-use crate::lines::line_says;
-use crate::words::line_words;
-use crate::{Command, Line, ScriptBad};
-use mn_text::first_line;
+use crate::lines::numbered_line;
+use crate::reading::{Language, read_lines};
+use crate::{Line, ScriptBad, ScriptRule};
 use mn_topo::Topology;
-use std::alloc::{AllocError, Global};
+use std::alloc::Global;
 
 fn feeds(bytes: &[u8]) -> usize
     ensures { result ≡ count_by (λ byte. byte == 10) bytes.now }
@@ -34,14 +34,23 @@ pub fn count_lines(bytes: &[u8]) -> u64
     if ends_open(bytes) { feeds + 1 } else { feeds }
 }
 
-/// Adds the command of a line, if it has one.
-fn put(script: &mut Vec<Line>, number: u32, said: Option<Command>) -> Result<(), AllocError>
-    ensures { OnOk result (script.new.items ≡ script.old.items ++ line_of number said) }
-{
-    if let Some(command) = said {
-        script.push(Line { number, command })?;
+/// The language of scripts over a topology.
+#[derive(Drop)]
+pub struct Commands<'t>(pub &'t Topology);
+
+impl Language for Commands<'_> {
+    type Line = Line;
+
+    ghost says = { λ commands. command_says commands.0.now };
+
+    ghost fits = { λ commands line. command_fits commands.0.now line.command };
+
+    fn says(&self, number: u32, words: &[&[u8]]) -> Result<Option<Line>, ScriptRule> {
+        numbered_line(self.0, number, words)
     }
-    Ok(())
+
+    #[tactic(auto, using(crate::proofs::Front::command_says_by_six))]
+    fn by_six(&self) {}
 }
 
 /// The script of a file.
@@ -52,17 +61,5 @@ pub fn read_script(alloc: Global, topology: &Topology, bytes: &[u8]) -> Result<V
     ensures fits { IfOk result (λ script. AllFit topology.now script.items) }
     ensures few { IfOk result (λ script. length script.items ≤ length (lines bytes.now)) }
 {
-    let mut script = Vec::new(alloc);
-    let mut rest = bytes;
-    let mut number = 1u32;
-    'lines: while let Some((line, next)) = first_line(rest) {
-        let words = line_words(alloc, line)?;
-        match line_says(topology, &words) {
-            Ok(said) => put(&mut script, number, said)?,
-            Err(rule) => return Err(ScriptBad::Refused { rule, line: number }),
-        }
-        rest = next;
-        number = number.saturating_add(1);
-    }
-    Ok(script)
+    read_lines(alloc, &Commands(topology), 1, bytes)
 }

@@ -17,7 +17,7 @@ use mn_wiring::Dir;
 
 /// `link up A B`, `link down A B`.
 #[tactic(auto, unfolding(crate::specs::Steps::link_line))]
-fn link_line(topology: &Topology, words: &[&[u8]]) -> Result<Step, ScriptRule>
+pub fn link_line(topology: &Topology, words: &[&[u8]]) -> Result<Step, ScriptRule>
     ensures value { result ≡ link_line topology.now (texts words.now) }
     ensures fits { IfOk result (λ step. fits topology.now step ≡ true) }
 {
@@ -109,7 +109,7 @@ fn bgp_line(topology: &Topology, words: &[&[u8]]) -> Result<Step, ScriptRule>
 
 /// `route add SITE PREFIX`, `route del SITE PREFIX`.
 #[tactic(auto, unfolding(crate::specs::Steps::route_line))]
-fn route_line(topology: &Topology, words: &[&[u8]]) -> Result<Step, ScriptRule>
+pub fn route_line(topology: &Topology, words: &[&[u8]]) -> Result<Step, ScriptRule>
     ensures value { result ≡ route_line topology.now (texts words.now) }
     ensures fits { IfOk result (λ step. fits topology.now step ≡ true) }
 {
@@ -140,7 +140,7 @@ fn target_operands(topology: &Topology, words: &[&[u8]]) -> Result<(VrfNo, Rt, b
 
 /// `import add VRF TARGET`, `import del VRF TARGET`.
 #[tactic(auto, unfolding(crate::specs::Steps::import_line))]
-fn import_line(topology: &Topology, words: &[&[u8]]) -> Result<Step, ScriptRule>
+pub fn import_line(topology: &Topology, words: &[&[u8]]) -> Result<Step, ScriptRule>
     ensures value { result ≡ import_line topology.now (texts words.now) }
     ensures fits { IfOk result (λ step. fits topology.now step ≡ true) }
 {
@@ -150,7 +150,7 @@ fn import_line(topology: &Topology, words: &[&[u8]]) -> Result<Step, ScriptRule>
 
 /// `export add VRF TARGET`, `export del VRF TARGET`.
 #[tactic(auto, unfolding(crate::specs::Steps::export_line))]
-fn export_line(topology: &Topology, words: &[&[u8]]) -> Result<Step, ScriptRule>
+pub fn export_line(topology: &Topology, words: &[&[u8]]) -> Result<Step, ScriptRule>
     ensures value { result ≡ export_line topology.now (texts words.now) }
     ensures fits { IfOk result (λ step. fits topology.now step ≡ true) }
 {
@@ -160,7 +160,7 @@ fn export_line(topology: &Topology, words: &[&[u8]]) -> Result<Step, ScriptRule>
 
 /// `site up SITE`, `site down SITE`.
 #[tactic(auto, unfolding(crate::specs::Steps::site_line))]
-fn site_line(topology: &Topology, words: &[&[u8]]) -> Result<Step, ScriptRule>
+pub fn site_line(topology: &Topology, words: &[&[u8]]) -> Result<Step, ScriptRule>
     ensures value { result ≡ site_line topology.now (texts words.now) }
     ensures fits { IfOk result (λ step. fits topology.now step ≡ true) }
 {

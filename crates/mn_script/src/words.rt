@@ -12,13 +12,13 @@ fn is_comment(word: &[u8]) -> bool
     !word.is_empty() && word[0] == b'#'
 }
 
-/// Words of a line that are looked at: one more than the longest form has.
-const MOST_WORDS: usize = 5;
+/// Words of a line that are looked at: no form of any language of lines has more than five.
+const MOST_WORDS: usize = 6;
 
-/// The first words of a line, before one that begins with `#`. They are five at most, so that a line of millions of
+/// The first words of a line, before one that begins with `#`. They are six at most, so that a line of millions of
 /// words takes no more memory than a command: what it says is S2 by then, or S1 of its first words.
 pub fn line_words(alloc: Global, line: &[u8]) -> Result<Vec<&[u8]>, AllocError>
-    ensures { IfOk result (λ found. texts found.items ≡ take 5 (line_words line.now)) }
+    ensures { IfOk result (λ found. texts found.items ≡ take 6 (line_words line.now)) }
 {
     let mut found = Vec::new(alloc);
     let mut rest = line;
@@ -33,7 +33,7 @@ pub fn line_words(alloc: Global, line: &[u8]) -> Result<Vec<&[u8]>, AllocError>
 }
 
 /// The word at `k`, from 0, and the empty text where there is none.
-pub(crate) fn word_at<'a>(words: &[&'a [u8]], k: usize) -> &'a [u8]
+pub fn word_at<'a>(words: &[&'a [u8]], k: usize) -> &'a [u8]
     ensures { result.now ≡ word_at (texts words.now) k }
 {
     match words.get(k) {
@@ -42,14 +42,16 @@ pub(crate) fn word_at<'a>(words: &[&'a [u8]], k: usize) -> &'a [u8]
     }
 }
 
-pub(crate) fn is_word(words: &[&[u8]], k: usize, text: &str) -> bool
+/// Whether the word at `k`, from 0, is the text; none is the empty text.
+pub fn is_word(words: &[&[u8]], k: usize, text: &str) -> bool
     ensures { result ≡ is_word (texts words.now) k text.now }
 {
     word_at(words, k) == text.as_bytes()
 }
 
-/// Whether the second word is the one of two or the other.
-pub(crate) fn choice(words: &[&[u8]], one: &str, other: &str) -> Result<bool, ScriptRule>
+/// Whether the second word is the one of two or the other: S2 where it is the only word that there is, and S1 where
+/// it is neither.
+pub fn choice(words: &[&[u8]], one: &str, other: &str) -> Result<bool, ScriptRule>
     ensures { result ≡ choice (texts words.now) one.now other.now }
 {
     if words.len() == 1 {
@@ -64,8 +66,8 @@ pub(crate) fn choice(words: &[&[u8]], one: &str, other: &str) -> Result<bool, Sc
     Err(ScriptRule::UnknownWord)
 }
 
-/// That the line has so many words.
-pub(crate) fn counted(words: &[&[u8]], count: usize) -> Result<(), ScriptRule>
+/// That the line has so many words: S2 otherwise.
+pub fn counted(words: &[&[u8]], count: usize) -> Result<(), ScriptRule>
     ensures { result ≡ counted (texts words.now) count }
 {
     if words.len() == count {

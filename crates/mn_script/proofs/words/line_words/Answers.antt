@@ -1,5 +1,5 @@
 use Rattle.std.proofs.Common.{sym, ◌∙◌, arith}
-use Rattle.mn_script.proofs.Wording.{word_joins, before_comment, first_five}
+use Rattle.mn_script.proofs.Wording.{word_joins, before_comment, first_six}
 use Rattle.mn_script.proofs.words.line_words.Goals as goal
 use Rattle.mn_script.proofs.words.line_words.Goals.{then-is_comment-via-then-is_comment, then-is_comment-via-else-is_comment+then-len-eq-MOST_WORDS}
 
@@ -20,5 +20,5 @@ returns-then-is_comment c =
           before_comment c.words.found.items c.in-Some.word.now c.in-Some.next.now c.words.rest.now c.args.line.now
           c.in-Some.ensures.first (sym c.is_comment.ensures ∙ w.if-is_comment.true) c.words.invariant.few c.words.invariant.same
       | then-is_comment-via-else-is_comment+then-len-eq-MOST_WORDS w ↦
-          first_five c.words.found.items c.words.rest.now c.args.line.now (omega arith) c.words.invariant.same
+          first_six c.words.found.items c.words.rest.now c.args.line.now (omega arith) c.words.invariant.same
     ]

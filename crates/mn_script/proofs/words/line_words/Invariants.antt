@@ -5,7 +5,7 @@ use Rattle.mn_script.proofs.words.line_words.Given as goal
 abbrev pub invariant-words : goal.invariant-words
 invariant-words l = record {
   same : texts l.found.items ++ line_words l.rest ≡ line_words l.line;
-  few : length l.found.items ≤ 5;
+  few : length l.found.items ≤ 6;
 }
 
 abbrev pub decreases-words : goal.decreases-words
