@@ -1,6 +1,7 @@
 """The crates that the program stands on, their sources, and the two programs that are made of them."""
 
 import hashlib
+import os
 import re
 import shutil
 import sys
@@ -36,9 +37,13 @@ def crates():
 
 
 def files(*endings):
-    """The files of these crates that end so, in order."""
-    found = (path for name in crates() for path in (CRATES / name).rglob("*") if path.suffix in endings)
-    return sorted(path for path in found if "out" not in path.relative_to(CRATES).parts)
+    """The files of these crates that end so, in order. What was built is never looked at: there are many files in out/."""
+    found = []
+    for name in crates():
+        for folder, folders, names in os.walk(CRATES / name):
+            folders[:] = [name for name in folders if name != "out"]
+            found += [path for path in (Path(folder) / name for name in names) if path.suffix in endings]
+    return sorted(found)
 
 
 def checksum():

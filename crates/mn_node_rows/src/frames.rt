@@ -43,21 +43,18 @@ fn four(alloc: Global) -> Result<Lfib, AllocError> {
     Ok(lfib)
 }
 
-/// Label 16 is set to site 0, or was and has ended. To end it before changes nothing.
-fn of_site(alloc: Global, ends: bool) -> Result<Lfib, AllocError> {
+/// Label 16 was ended as a site's before it was one, which changes nothing; where it begins it is then set to site 0, and where
+/// it ends too it is ended.
+fn of_site(alloc: Global, begins: bool, ends: bool) -> Result<Lfib, AllocError> {
     let mut lfib = Lfib::new(alloc);
     lfib.set_site(16, None)?;
+    if !begins {
+        return Ok(lfib);
+    }
     lfib.set_site(16, Some(SiteNo(0)))?;
     if ends {
         lfib.set_site(16, None)?;
     }
-    Ok(lfib)
-}
-
-/// Label 16 was ended as a site's before it was one.
-fn never_began(alloc: Global) -> Result<Lfib, AllocError> {
-    let mut lfib = Lfib::new(alloc);
-    lfib.set_site(16, None)?;
     Ok(lfib)
 }
 
@@ -75,9 +72,9 @@ fn table_of(alloc: Global, call: Call<'_>) -> Result<Option<Lfib>, AllocError> {
     Ok(match call.verb() {
         b"none" => Some(Lfib::new(alloc)),
         b"four" => Some(four(alloc)?),
-        b"never" => Some(never_began(alloc)?),
-        b"site" => Some(of_site(alloc, false)?),
-        b"ended" => Some(of_site(alloc, true)?),
+        b"never" => Some(of_site(alloc, false, false)?),
+        b"site" => Some(of_site(alloc, true, false)?),
+        b"ended" => Some(of_site(alloc, true, true)?),
         b"fec" => Some(of_fec(alloc, false)?),
         b"unused" => Some(of_fec(alloc, true)?),
         _ => None,

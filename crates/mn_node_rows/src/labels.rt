@@ -5,24 +5,17 @@ use mn_labels::{Bind, LabelBad, Labels};
 use mn_rows::{Answer, Call, displayed, shown};
 use std::alloc::Global;
 
-fn fec(call: Call<'_>) -> Option<Bind> {
-    Some(Bind::Fec(call.node(2)?))
-}
-
-fn attachment(call: Call<'_>) -> Option<Bind> {
-    Some(Bind::Site(call.site(2)?, call.number_u32(3)?))
+/// What a label is asked for: a node's address, or a site's attachment.
+fn bind(call: Call<'_>) -> Option<Bind> {
+    match call.verb() {
+        b"fec" => Some(Bind::Fec(call.node(2)?)),
+        _ => Some(Bind::Site(call.site(2)?, call.number_u32(3)?)),
+    }
 }
 
 fn give(alloc: Global, labels: &mut Labels, what: Option<Bind>) -> Answer {
     match what {
         Some(what) => shown(alloc, &labels.give(what)),
-        None => Ok(None),
-    }
-}
-
-fn means(alloc: Global, labels: &Labels, call: Call<'_>) -> Answer {
-    match call.number_u32(2) {
-        Some(label) => shown(alloc, &labels.means(label)),
         None => Ok(None),
     }
 }
@@ -44,9 +37,11 @@ fn spend(alloc: Global, labels: &mut Labels, call: Call<'_>) -> Answer {
 
 pub(crate) fn label_row(alloc: Global, labels: &mut Labels, call: Call<'_>) -> Answer {
     match call.verb() {
-        b"fec" => give(alloc, labels, fec(call)),
-        b"site" => give(alloc, labels, attachment(call)),
-        b"means" => means(alloc, labels, call),
+        b"fec" | b"site" => give(alloc, labels, bind(call)),
+        b"means" => match call.number_u32(2) {
+            Some(label) => shown(alloc, &labels.means(label)),
+            None => Ok(None),
+        },
         b"table" => shown(alloc, &labels.table()),
         b"count" => shown(alloc, &labels.table().len()),
         b"spend" => spend(alloc, labels, call),

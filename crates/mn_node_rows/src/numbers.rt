@@ -50,16 +50,12 @@ fn before(alloc: Global, call: Call<'_>) -> Answer {
     }
 }
 
-fn push(alloc: Global, numbers: &mut Numbers, call: Call<'_>) -> Answer {
-    match call.number_u16(2) {
-        Some(number) => shown(alloc, &numbers.list.push(number)),
-        None => Ok(None),
-    }
-}
-
 pub(crate) fn number_row(alloc: Global, numbers: &mut Numbers, call: Call<'_>) -> Answer {
     match (call.part(), call.verb()) {
-        (b"list", b"push") => push(alloc, numbers, call),
+        (b"list", b"push") => match call.number_u16(2) {
+            Some(number) => shown(alloc, &numbers.list.push(number)),
+            None => Ok(None),
+        },
         (b"list", b"all") => shown(alloc, &numbers.list.as_slice()),
         (b"rd" | b"rt", b"form") => form(alloc, call),
         (b"rd" | b"rt", b"before") => before(alloc, call),

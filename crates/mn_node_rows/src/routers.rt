@@ -376,13 +376,6 @@ impl Routers {
     }
 }
 
-fn of_router(alloc: Global, routers: &mut Routers, call: Call<'_>, node: NodeNo) -> Answer {
-    match routers.get(node) {
-        Some(router) => router.answer(alloc, call),
-        None => Ok(None),
-    }
-}
-
 pub(crate) fn router_row(alloc: Global, routers: &mut Routers, call: Call<'_>) -> Answer {
     if matches!(call.verb(), b"agree") {
         return routers.agree(alloc);
@@ -390,8 +383,11 @@ pub(crate) fn router_row(alloc: Global, routers: &mut Routers, call: Call<'_>) -
     let Some(node) = call.node(2) else {
         return Ok(None);
     };
-    match call.verb() {
-        b"new" => routers.make(alloc, call, node),
-        _ => of_router(alloc, routers, call, node),
+    if matches!(call.verb(), b"new") {
+        return routers.make(alloc, call, node);
+    }
+    match routers.get(node) {
+        Some(router) => router.answer(alloc, call),
+        None => Ok(None),
     }
 }

@@ -1,4 +1,5 @@
 //! Results as text.
+use mn_base::{Rd, Rt};
 use mn_prefix::Prefix;
 use std::alloc::{AllocError, Global};
 use std::fmt;
@@ -49,12 +50,14 @@ pub struct Paired(pub u64);
 
 impl Display for Paired {
     fn fmt<W: fmt::Write>(&self, f: &mut fmt::Formatter<W>) -> fmt::Result {
-        // The first byte is 0 before an AS of two bytes, and 1 before an address (RFC 4360, sections 3.1 and 3.2).
-        if self.0 >> 56 == 0 {
-            write!(f, "{}:{}", self.0 >> 32 & 0xFFFF, self.0 & 0xFFFF_FFFF)
-        } else {
+        // The first two bytes are the type. Before an address it is 0001 in a distinguisher (RFC 4364, section 4.2) and 0102 in
+        // a target (RFC 4360, sections 3.2 and 4), before an AS of two bytes 0000 and 0002.
+        let kind = self.0 >> 48;
+        if kind == Rd::BY_ADDRESS || kind == Rt::BY_ADDRESS {
             let address = (self.0 >> 16 & 0xFFFF_FFFF) as u32;
             write!(f, "{}:{}", Dotted(address), self.0 & 0xFFFF)
+        } else {
+            write!(f, "{}:{}", self.0 >> 32 & 0xFFFF, self.0 & 0xFFFF_FFFF)
         }
     }
 }

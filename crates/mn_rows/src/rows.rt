@@ -83,9 +83,20 @@ fn add_line(text: &mut String, line: &str) -> Result<(), AllocError> {
     text.push('\n')
 }
 
+/// What a file holds. One that can't be read is named on standard error.
+fn content_of(rt: &HostRuntime, file: &str) -> io::Result<String> {
+    match fs::read_to_string(rt, file) {
+        Ok(content) => Ok(content),
+        Err(error) => {
+            eprintln!(rt; "{file}: {error}")?;
+            Err(error)
+        }
+    }
+}
+
 /// Goes through the rows of a file, over a world of its own.
 fn try_file<W: World>(rt: &HostRuntime, file: &str, tally: &mut Tally) -> io::Result<()> {
-    let content = fs::read_to_string(rt, file)?;
+    let content = content_of(rt, file)?;
     let mut world = W::new(rt.alloc())?;
     let mut text = String::new(rt.alloc());
     let mut place = Place { file, line: 0 };
@@ -105,7 +116,8 @@ fn try_file<W: World>(rt: &HostRuntime, file: &str, tally: &mut Tally) -> io::Re
 }
 
 /// Goes through the files that the program's words name, prints each row that differs, and at the end how many rows there
-/// were and how many differ. The status is 1 where one does.
+/// were and how many differ. The status is 1 where one does. A file that can't be read ends the run, and is named on standard
+/// error.
 pub fn run<W: World>(rt: &HostRuntime) -> io::Result<ExitCode> {
     let mut tally = Tally { rows: 0, differ: 0 };
     for file in env::args(rt)?.skip(1) {
