@@ -1,0 +1,10 @@
+pub mod ThreeInARow
+pub mod Kept
+pub mod Ends
+pub mod Sending
+pub mod Hearing
+pub mod Changing
+pub mod Start
+pub mod Quiet
+pub mod Sums
+pub mod Draining
