@@ -4,6 +4,12 @@ use Rattle.mn_flight_pool.proofs.Grown.{grown_held, grown_items, grown_counted, 
 use Rattle.mn_flight_pool.proofs.Whole.{recent_few}
 use Rattle.mn_flight_pool.proofs.pool.Pool.grow.Goals as goal
 
+pub overflow_add-more : goal.overflow_add-more
+overflow_add-more g c = omega (arith, c.requires.room, c.args.self.now.free.small)
+
+pub overflow_add-ticks : goal.overflow_add-ticks
+overflow_add-ticks g c = omega (arith, c.requires.room, c.args.self.now.free.small, c.len.ensures)
+
 pub overflow_sub-ticks : goal.overflow_sub-ticks
 overflow_sub-ticks g c =
     omega (
@@ -11,8 +17,6 @@ overflow_sub-ticks g c =
       recent_few c.args.self.now c.requires,
       c.args.self.now.recent.ok.0,
       c.len-2.ensures,
-      c.in-Some-checked_add.ensures,
-      c.in-Some.ensures,
       c.len.ensures,
     )
 
@@ -45,7 +49,6 @@ returns-clause-whole g c =
         c.push.ensures.upper_bound,
         c.in_ok-reserve.ensures,
         c.reserve.ensures,
-        c.in-Some.ensures,
       );
       ticks_room =
           grind (
@@ -56,8 +59,6 @@ returns-clause-whole g c =
             c.in_ok-reserve-2.ensures,
             c.reserve-2.ensures,
             c.reserve.ensures.len,
-            c.in-Some.ensures,
-            c.in-Some-checked_add.ensures,
             c.len.ensures,
           );
       recent =
@@ -72,8 +73,6 @@ returns-clause-whole g c =
             c.in_ok-reserve-3.ensures,
             c.reserve-3.ensures,
             c.reserve.ensures.len,
-            c.in-Some.ensures,
-            c.in-Some-checked_add.ensures,
             c.len.ensures,
             c.len-2.ensures,
           );
