@@ -178,7 +178,7 @@ pub(crate) fn hear_reached(
 pub(crate) fn forget_in_all(vrfs: &mut Vec<Vrf>, heard: &RibIn, peer: NodeNo, loopback: u32)
     ensures { vrfs.new.items ≡ after_forgetting loopback peer.0 vrfs.old.items heard.now }
 {
-    for route in heard.as_slice() {
+    for route in heard.iter() {
         give_in_all(
             vrfs,
             route.prefix(),

@@ -14,7 +14,7 @@ use mn_base::{NodeNo, Rt, SiteNo, VrfNo};
 use mn_prefix::Prefix;
 use mn_rib_in::RibIn;
 use mn_targets::Targets;
-use mn_vrf::{Routes, Source, StaticRoute, Vrf};
+use mn_vrf::{Routes, Source, Vrf};
 use std::alloc::AllocError;
 
 /// Whether one of the targets is imported that is another than this one.
@@ -71,19 +71,18 @@ fn turn_if(
 fn turn_statics(
     held: &mut Routes,
     labels: &[Option<u32>],
-    statics: &[StaticRoute],
-    teller: VrfNo,
+    teller: &Vrf,
     on: bool,
 ) -> Result<(), AllocError>
-    ensures { OnOk result (held.new ≡ after_statics on teller.0 labels.now held.old statics.now) }
+    ensures { OnOk result (held.new ≡ after_statics on teller.now.vrf.number labels.now held.old teller.now.vrf.statics) }
 {
-    for route in statics {
+    for route in teller.statics() {
         let site = route.site();
         turn_if(
             held,
             label_at(labels, site),
             route.prefix(),
-            Source::Near(teller, site),
+            Source::Near(teller.number(), site),
             on,
         )?;
     }
@@ -104,7 +103,7 @@ fn turn_near(
 {
     for vrf in vrfs {
         if vrf.number().0 != number.0 && meet_alone(target, vrf.exports().as_slice(), imports) {
-            turn_statics(held, labels, vrf.statics(), vrf.number(), on)?;
+            turn_statics(held, labels, vrf, on)?;
         }
     }
     Ok(())
@@ -122,7 +121,7 @@ fn turn_far(
 ) -> Result<(), AllocError>
     ensures { OnOk result (held.new ≡ after_heard on target loopback peer.0 imports.now held.old heard.now) }
 {
-    for route in heard.as_slice() {
+    for route in heard.iter() {
         if meet_alone(target, route.targets(), imports) {
             let source = far_source(loopback, peer, route.rd(), route.label());
             turn(held, route.prefix(), source, on)?;
@@ -229,8 +228,7 @@ fn tell(
     ensures { OnOk result ((d : Holding) → vrfs.new.items ≡ slice_set vrfs.old.items to (telling_statics on labels.now (slice_index_or vrfs.old.items at d).vrf (slice_index_or vrfs.old.items to d))) }
 {
     let mut held = vrfs[to].take_held();
-    let teller = vrfs[at].number();
-    turn_statics(&mut held, labels, vrfs[at].statics(), teller, on)?;
+    turn_statics(&mut held, labels, &vrfs[at], on)?;
     vrfs[to].hold(held);
     Ok(())
 }
@@ -300,17 +298,17 @@ fn source_for(vrf: &Vrf, teller: &Vrf, site: SiteNo) -> Option<Source>
     None
 }
 
-/// Statics over a site.
+/// Statics of a VRF over a site.
 fn turn_over(
     held: &mut Routes,
-    statics: &[StaticRoute],
+    teller: &Vrf,
     site: SiteNo,
     source: Source,
     on: bool,
 ) -> Result<(), AllocError>
-    ensures { OnOk result (held.new ≡ after_over on site.0 source held.old statics.now) }
+    ensures { OnOk result (held.new ≡ after_over on site.0 source held.old teller.now.vrf.statics) }
 {
-    for route in statics {
+    for route in teller.statics() {
         if route.site().0 == site.0 {
             turn(held, route.prefix(), source, on)?;
         }
@@ -332,7 +330,7 @@ fn attach_from(
     ensures { OnOk result ((d : Holding) → vrfs.new.items ≡ slice_set vrfs.old.items to (turning_over on site.0 (slice_index_or vrfs.old.items at d).vrf (Some source) (slice_index_or vrfs.old.items to d))) }
 {
     let mut held = vrfs[to].take_held();
-    turn_over(&mut held, vrfs[at].statics(), site, source, on)?;
+    turn_over(&mut held, &vrfs[at], site, source, on)?;
     vrfs[to].hold(held);
     Ok(())
 }

@@ -1,31 +1,34 @@
-// All routes of one peer, by a binary search over a vector.
-ghost use Rattle.std.specs.Prelude.{◌≡◌, ◌<◌, ◌≤◌, ℕ, [], true, false, length, OnOk, OnErr, option_map, slice_get, slice_index_or};
-ghost use Rattle.mn_base.specs.Ordered.{IsPlaceFor, StandsAt, StandsBehind};
-ghost use Rattle.mn_rib_in.specs.Heard.{Heard, heard_before, place_of, with_heard, without_heard, has_heard};
+// All routes of one peer.
+ghost use Rattle.std.specs.Prelude.{◌≡◌, [], length, OnOk, OnErr, option_map, slice_get};
+ghost use Rattle.std.specs.Map.Iter.{ShowsInOrder, deref};
+ghost use Rattle.mn_rib_in.specs.Heard.{Heard, with_heard, without_heard, has_heard};
 
 use crate::HeardRoute;
 use mn_base::{Rd, Rt};
 use mn_prefix::Prefix;
 use std::alloc::{AllocError, Global};
+use std::collections::BTreeMap;
+use std::collections::btree_map::Values;
 use std::marker::Model;
 
 /// The routes heard of one peer. Contracts see the list of them, which ascends.
 #[derive(Drop)]
 pub struct RibIn {
     alloc: Global,
-    routes: Vec<HeardRoute>,
+    by_place: BTreeMap<(Rd, Prefix), HeardRoute>,
 }
 
 impl Model for RibIn {
     ghost use Rattle.std.specs.Prelude.{List};
-    ghost use Rattle.mn_base.specs.Ordered.{Ascends};
-    ghost use Rattle.mn_rib_in.specs.Heard.{Heard, heard_before};
+    ghost use Rattle.std.specs.BTreeMap.{values};
+    ghost use Rattle.mn_rib_in.specs.Heard.{Heard};
+    ghost use Rattle.mn_rib_in.specs.Kept.{AreByPlace};
 
     ghost Value = { List Heard };
 
-    ghost view = { λ r. r.routes.items };
+    ghost view = { λ r. values r.by_place };
 
-    ghost invariant = { λ r. Ascends heard_before r.routes.items };
+    ghost invariant = { λ r. AreByPlace r.by_place.entries };
 }
 
 impl RibIn {
@@ -35,7 +38,7 @@ impl RibIn {
     {
         RibIn {
             alloc,
-            routes: Vec::new(alloc),
+            by_place: BTreeMap::new(alloc),
         }
     }
 
@@ -50,7 +53,6 @@ impl RibIn {
         ensures ok { OnOk result (self.new ≡ with_heard (record { rd = rd; prefix = prefix; label = label; targets = targets.now }) self.old) }
         ensures err { OnErr result (self.new ≡ self.old) }
     {
-        let at = self.place(rd, prefix);
         let targets = Vec::from_slice(self.alloc, targets)?;
         let route = HeardRoute {
             rd,
@@ -58,11 +60,7 @@ impl RibIn {
             label,
             targets,
         };
-        if self.is_taken(at, rd, prefix) {
-            self.routes[at] = route;
-            return Ok(());
-        }
-        self.routes.insert(at, route)?;
+        self.by_place.insert((rd, prefix), route)?;
         Ok(())
     }
 
@@ -71,73 +69,42 @@ impl RibIn {
         ensures removed { self.new ≡ without_heard rd prefix self.old }
         ensures there { result ≡ has_heard rd prefix self.old }
     {
-        let at = self.place(rd, prefix);
-        if !self.is_taken(at, rd, prefix) {
-            return false;
-        }
-        self.routes.remove(at);
-        true
+        self.by_place.remove(&(rd, prefix)).is_some()
     }
 
     /// Whether a route of this distinguisher and prefix is among them.
     pub fn has(&self, rd: Rd, prefix: Prefix) -> bool
         ensures { result ≡ has_heard rd prefix self.now }
     {
-        self.is_taken(self.place(rd, prefix), rd, prefix)
+        self.by_place.contains_key(&(rd, prefix))
     }
 
     /// Forgets all routes.
     pub fn clear(&mut self)
         ensures { self.new ≡ [] }
     {
-        self.routes.clear();
+        self.by_place.clear();
     }
 
-    /// All of them.
-    pub fn as_slice(&self) -> &[HeardRoute]
-        ensures { result.now ≡ self.now }
+    /// All of them. It takes no memory.
+    pub fn iter(&self) -> Values<'_, (Rd, Prefix), HeardRoute>
+        ensures rest { result ≡ self.now }
+        ensures runs { ShowsInOrder (deref {X = Heard}) }
     {
-        &self.routes
+        self.by_place.values()
     }
 
     /// How many routes there are.
     pub fn len(&self) -> usize
         ensures { result ≡ length self.now }
     {
-        self.routes.len()
+        self.by_place.len()
     }
 
     /// The route at a place, from 0.
     pub fn at(&self, k: usize) -> Option<&HeardRoute>
         ensures { option_map (λ route. route.now) result ≡ slice_get self.now k }
     {
-        self.routes.get(k)
-    }
-
-    /// Where a route of this distinguisher and prefix stands, or would stand.
-    fn place(&self, rd: Rd, prefix: Prefix) -> usize
-        ensures { IsPlaceFor heard_before self.now (place_of rd prefix) result }
-    {
-        let mut low = 0;
-        let mut high = self.routes.len();
-        while low < high {
-            let middle = low + (high - low) / 2;
-            if self.routes[middle].stands_before(rd, prefix) {
-                low = middle + 1;
-            } else {
-                high = middle;
-            }
-        }
-        low
-    }
-
-    /// Whether a route of this distinguisher and prefix stands at its place.
-    fn is_taken(&self, at: usize, rd: Rd, prefix: Prefix) -> bool
-        requires { IsPlaceFor heard_before self.now (place_of rd prefix) at }
-        ensures taken { result ≡ true → StandsAt heard_before self.now (place_of rd prefix) at }
-        ensures free { result ≡ false → StandsBehind heard_before self.now (place_of rd prefix) at }
-        ensures has { result ≡ has_heard rd prefix self.now }
-    {
-        at < self.routes.len() && !self.routes[at].stands_behind(rd, prefix)
+        self.by_place.values().nth(k)
     }
 }

@@ -1,6 +1,5 @@
-// One route, and where it stands beside a place.
+// One route.
 ghost use Rattle.std.specs.Prelude.{◌≡◌};
-ghost use Rattle.mn_rib_in.specs.Heard.{heard_before, place_of};
 
 use mn_base::{Rd, Rt};
 use mn_prefix::Prefix;
@@ -50,31 +49,5 @@ impl HeardRoute {
         ensures { result.now ≡ self.now.targets }
     {
         &self.targets
-    }
-
-    /// Whether it stands before the place of this distinguisher and prefix.
-    pub(crate) fn stands_before(&self, rd: Rd, prefix: Prefix) -> bool
-        ensures { result ≡ heard_before self.now (place_of rd prefix) }
-    {
-        if self.rd.0 != rd.0 {
-            return self.rd.0 < rd.0;
-        }
-        if self.prefix.address() != prefix.address() {
-            return self.prefix.address() < prefix.address();
-        }
-        self.prefix.length() < prefix.length()
-    }
-
-    /// Whether it stands behind the place of this distinguisher and prefix.
-    pub(crate) fn stands_behind(&self, rd: Rd, prefix: Prefix) -> bool
-        ensures { result ≡ heard_before (place_of rd prefix) self.now }
-    {
-        if self.rd.0 != rd.0 {
-            return rd.0 < self.rd.0;
-        }
-        if self.prefix.address() != prefix.address() {
-            return prefix.address() < self.prefix.address();
-        }
-        prefix.length() < self.prefix.length()
     }
 }

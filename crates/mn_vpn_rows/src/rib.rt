@@ -39,7 +39,7 @@ pub(crate) fn rib_row(alloc: Global, rib: &mut RibIn, call: Call<'_>) -> Answer 
             rib.clear();
             done(alloc)
         }
-        b"size" => shown(alloc, &(rib.len(), rib.as_slice().len())),
+        b"size" => shown(alloc, &(rib.len(), rib.iter().count())),
         b"at" => match call.number_u16(2) {
             Some(k) => route(alloc, rib.at(usize::from(k))),
             None => Ok(None),

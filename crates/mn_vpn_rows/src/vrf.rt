@@ -133,7 +133,7 @@ fn at_number(alloc: Global, vrf: &Vrf, call: Call<'_>) -> Answer {
 fn look(alloc: Global, vrf: &Vrf, call: Call<'_>) -> Answer {
     match call.verb() {
         b"held" | b"static" => at_number(alloc, vrf, call),
-        b"statics" => shown(alloc, &vrf.statics().len()),
+        b"statics" => shown(alloc, &vrf.statics().count()),
         b"imports" => shown(alloc, &vrf.imports().as_slice().len()),
         b"exports" => target_list(alloc, vrf.exports().as_slice()),
         b"name" => Ok(Some(format!(in alloc; "{} {}", vrf.number().0, Paired(vrf.rd().0))?)),

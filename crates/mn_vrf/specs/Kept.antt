@@ -1,12 +1,19 @@
--- How held routes are kept: of each prefix its sources in a table, and the prefixes in order beside it.
+-- How statics and held routes are kept: a static at its prefix in an ordered map; of each prefix its sources in a table, and the
+-- prefixes in order beside it.
 use Rattle.std.specs.Prelude.{◌≡◌, ◌<◌, List, [], map, length, Some}
 use Rattle.std.specs.Option.{is_some, unwrap_or}
 use Rattle.std.specs.List.{list_any, flat_map}
 use Rattle.mn_base.specs.Ordered.{Ascends}
+use Rattle.mn_by_key.specs.ByKey.{AreByKey}
 use Rattle.mn_prefix.specs.Prefix.{AddressBlock, same_prefix, prefix_before}
 use Rattle.mn_prefix.specs.Table.{value_at}
 use Rattle.mn_vrf.specs.declared.source.Source.{Source}
 use Rattle.mn_vrf.specs.Routes.{source_before}
+use Rattle.mn_vrf.specs.Vrf.{Static, static_before}
+
+-- each static stands at its prefix, and they ascend
+abbrev pub AreByPrefix : List (AddressBlock × Static) → Type 0
+AreByPrefix entries = AreByKey static_before (λ (x : Static). x.prefix) entries
 
 -- the sources that a table has at a prefix
 abbrev pub those : AddressBlock → List (AddressBlock × List Source) → List Source

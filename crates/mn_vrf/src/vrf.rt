@@ -1,11 +1,12 @@
 // One VRF, as it is told.
 ghost use Rattle.std.specs.Prelude.{◌≡◌, ◌+◌, ℕ, [], true, false, None, Some, OnOk, OnErr, IfOk, slice_get, if◌then◌else◌, option_map};
+ghost use Rattle.std.specs.Map.Iter.{ShowsInOrder, deref};
 ghost use Rattle.mn_prefix.specs.Prefix.{AddressBlock};
 ghost use Rattle.mn_prefix.specs.Table.{longest_match, value_at};
 ghost use Rattle.mn_base.specs.Ordered.{with_one, without_one, one_at};
 ghost use Rattle.mn_targets.specs.Targets.{target_set, has_target};
 ghost use Rattle.mn_vrf.specs.Routes.{route_before, without_route, sources_of, unless_empty};
-ghost use Rattle.mn_vrf.specs.Vrf.{Holding, with_static, without_static, with_imports, with_exports, add_refused, del_refused, set_refused, refusal_of, static_of, heads, IsHeldAt};
+ghost use Rattle.mn_vrf.specs.Vrf.{Static, Holding, with_static, without_static, with_imports, with_exports, add_refused, del_refused, set_refused, refusal_of, static_of, heads, IsHeldAt};
 
 use crate::{Routes, Source, Sources, StaticRoute, Statics, VrfBad};
 use mn_base::{Rd, Rt, SiteNo, VrfNo};
@@ -13,6 +14,7 @@ use mn_lpm::LengthTable;
 use mn_prefix::Prefix;
 use mn_targets::Targets;
 use std::alloc::{AllocError, Global};
+use std::collections::btree_map::Values;
 use std::marker::Model;
 
 /// A VRF: its statics, its two sets of targets, and the routes that it holds.
@@ -243,11 +245,12 @@ impl Vrf {
         self.statics.at(k)
     }
 
-    /// Its statics, in the order of their prefixes.
-    pub fn statics(&self) -> &[StaticRoute]
-        ensures { result.now ≡ self.now.vrf.statics }
+    /// Its statics, in the order of their prefixes. It takes no memory.
+    pub fn statics(&self) -> Values<'_, Prefix, StaticRoute>
+        ensures rest { result ≡ self.now.vrf.statics }
+        ensures runs { ShowsInOrder (deref {X = Static}) }
     {
-        self.statics.as_slice()
+        self.statics.iter()
     }
 
     /// Holds these routes, and no others.

@@ -1,8 +1,8 @@
-use Rattle.std.proofs.Common.{◌≡◌, drop}
+use Rattle.std.proofs.Common.{◌≡◌}
 use Rattle.mn_pe.specs.Pe.{after_forgetting}
 use Rattle.mn_pe.proofs.hearing.forget_in_all.Given as goal
 
 -- the routes to come end it
 abbrev pub invariant-loop-route : goal.invariant-loop-route
 invariant-loop-route l = after_forgetting l.loopback l.peer.0 l.vrfs.items
-    (drop l.route-index l.heard) ≡ after_forgetting l.loopback l.peer.0 l.fn.vrfs.items l.heard
+    l.route-iterator ≡ after_forgetting l.loopback l.peer.0 l.fn.vrfs.items l.heard

@@ -28,8 +28,6 @@ returns c = λ d.
     sym (told_at rest at d) ∙ ap (λ us. slice_index_or us at d.vrf) told_rest ∙ told_at old at d in
     let teller_is : (x : Holding) → x ≡ slice_index_or rest at x → x.vrf ≡ teller =
     λ x e. ap (λ (h : Holding). h.vrf) (e ∙ get_or_default rest at x d there) ∙ same_teller in
-    let statics : c.statics.result.now ≡ teller.statics =
-    c.statics.ensures ∙ ap (λ (u : VrfState). u.statics) (teller_is c.index.result.now c.index.ensures) in
     let held : c.take_held-held.result ≡ one.held = c.take_held-held.ensures.all ∙ ap (λ (h : Holding). h.held) first in
     let after : List (AddressBlock × Source) → List Static → List (AddressBlock × Source) = λ ks ss. after_over c.args.on c.args.site.0 c.args.source ks ss in
     let made : c.hold.new.self ≡ turning_over c.args.on c.args.site.0 teller (Some c.args.source) one =
@@ -37,5 +35,7 @@ returns c = λ d.
     ∙ ap (λ (h : Holding). record h { held = c.turn_over.new.held })
     (c.index_mut-2.ensures.value ∙ get_or-set_same old to bare c.index_mut-2.result.now c.requires.here ∙ bare_is)
     ∙ ap (λ ks. record one { held = ks })
-    (c.in_ok-turn_over.ensures ∙ ap (after c.take_held-held.result) statics ∙ ap (λ ks. after ks teller.statics) held) in
+    (c.in_ok-turn_over.ensures
+    ∙ ap (λ (u : VrfState). after c.take_held-held.result u.statics) (teller_is c.index.result.now c.index.ensures)
+    ∙ ap (λ ks. after ks teller.statics) held) in
     ap (slice_set rest to) made ∙ set-set old to bare (turning_over c.args.on c.args.site.0 teller (Some c.args.source) one)

@@ -1,7 +1,6 @@
 use Rattle.std.proofs.Common.{◌≡◌, ◌<◌, ℕ, [], List, length, sym, ◌∙◌, ap, subst}
 use Rattle.std.specs.Prelude.{slice_set, slice_index_or}
 use Rattle.std.proofs.lemmas.List.{get_or_default, get_or-set_same, set-set}
-use Rattle.mn_base.specs.declared.numbers.VrfNo.{VrfNo}
 use Rattle.mn_prefix.specs.Prefix.{AddressBlock}
 use Rattle.mn_vrf.specs.declared.source.Source.{Source}
 use Rattle.mn_vrf.specs.Vrf.{Static, VrfState, Holding}
@@ -29,10 +28,6 @@ returns c = λ d.
     sym (told_at rest at d) ∙ ap (λ us. slice_index_or us at d.vrf) told_rest ∙ told_at old at d in
     let teller_is : (x : Holding) → x ≡ slice_index_or rest at x → x.vrf ≡ teller =
     λ x e. ap (λ (h : Holding). h.vrf) (e ∙ get_or_default rest at x d there) ∙ same_teller in
-    let number : c.number-teller.result.0 ≡ teller.number =
-    ap (λ (n : VrfNo). n.0) c.number-teller.ensures ∙ ap (λ (u : VrfState). u.number) (teller_is c.index.result.now c.index.ensures) in
-    let statics : c.statics.result.now ≡ teller.statics =
-    c.statics.ensures ∙ ap (λ (u : VrfState). u.statics) (teller_is c.index-2.result.now c.index-2.ensures) in
     let held : c.take_held-held.result ≡ one.held = c.take_held-held.ensures.all ∙ ap (λ (h : Holding). h.held) first in
     let after : ℕ → List (AddressBlock × Source) → List Static → List (AddressBlock × Source) = λ n ks ss. after_statics c.args.on n c.args.labels.now ks ss in
     let made : c.hold.new.self ≡ telling_statics c.args.on c.args.labels.now teller one =
@@ -40,6 +35,7 @@ returns c = λ d.
     ∙ ap (λ (h : Holding). record h { held = c.turn_statics.new.held })
     (c.index_mut-2.ensures.value ∙ get_or-set_same old to bare c.index_mut-2.result.now c.requires.here ∙ bare_is)
     ∙ ap (λ ks. record one { held = ks })
-    (c.in_ok-turn_statics.ensures ∙ ap (λ n. after n c.take_held-held.result c.statics.result.now) number
-    ∙ ap (after teller.number c.take_held-held.result) statics ∙ ap (λ ks. after teller.number ks teller.statics) held) in
+    (c.in_ok-turn_statics.ensures
+    ∙ ap (λ (u : VrfState). after u.number c.take_held-held.result u.statics) (teller_is c.index.result.now c.index.ensures)
+    ∙ ap (λ ks. after teller.number ks teller.statics) held) in
     ap (slice_set rest to) made ∙ set-set old to bare (telling_statics c.args.on c.args.labels.now teller one)
