@@ -195,6 +195,15 @@ fn put_record(
     )
 }
 
+/// `tick` and a number of ticks.
+fn put_tick(out: &mut Vec<u8>, ticks: u32) -> Result<(), AllocError>
+    ensures ok { OnOk result (out.new.items ≡ out.old.items ++ spaced (codes "tick" ∷ number_text ticks ∷ [])) }
+    ensures grew { Grew out.old.items out.new.items }
+{
+    let mut digits = Buffer::new();
+    put_words(out, &[b"tick", digits.format(ticks).as_bytes()])
+}
+
 /// The words of a step, each after a space.
 fn put_step_words(out: &mut Vec<u8>, topology: &Topology, step: &Step) -> Result<(), AllocError>
     requires { fits topology.now step.now ≡ true }
@@ -230,6 +239,7 @@ fn put_step_words(out: &mut Vec<u8>, topology: &Topology, step: &Step) -> Result
         Step::Lose(link, direction, place) => {
             put_frame(out, topology, b"lose", link, direction, place)
         }
+        Step::Tick(ticks) => put_tick(out, ticks),
     }
 }
 
