@@ -13,7 +13,7 @@
 //! - `links`: the steps of links and of LDP
 //! - `sessions`: the steps of BGP, routes and targets
 //! - `sites`: the steps that attach and detach sites
-//! - `moving`: the steps that move packets
+//! - `moving`: the steps that move packets, and the one that lets time go by
 //! - `next`: what comes next
 //! - `nodes`: what is told of links and of the transport of nodes
 //! - `edges`: what is told of sessions and routes

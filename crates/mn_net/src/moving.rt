@@ -1,4 +1,4 @@
-//! The steps that move packets.
+//! The steps that move packets, and the one that lets time go by.
 ghost use Rattle.std.specs.Prelude.{◌≡◌, ◌<◌, ℕ, List, [], length, OnOk, OnErr};
 ghost use Rattle.mn_topo.specs.declared.steps.JournalEntry.{JournalEntry};
 ghost use Rattle.mn_topo.specs.declared.steps.Step.TheVariants as step;
@@ -99,6 +99,27 @@ impl Net {
         self.journal.push_reserved(JournalEntry {
             tick: self.tick,
             step: Step::Lose(link, dir, place),
+            damaged: Damaged::Undamaged,
+        });
+        self.failed = false;
+        Ok(())
+    }
+
+    /// So many ticks go by. Links have no life yet, so that no frame is on one for too long.
+    pub(crate) fn elapse(&mut self, ticks: u32) -> Result<(), AllocError>
+        requires may { MayBeDone self.old (step.Tick ticks) [] }
+        ensures done { OnOk result (IsDone self.old self.new (step.Tick ticks) []) }
+        ensures failed { OnErr result (HasFailed self.old self.new) }
+    {
+        a_transport_goes_on_as_it_was();
+        routes_stay_as_they_were();
+        self.topology.laws();
+        self.failed = true;
+        self.journal.reserve(1)?;
+        self.transit.begin();
+        self.journal.push_reserved(JournalEntry {
+            tick: self.tick,
+            step: Step::Tick(ticks),
             damaged: Damaged::Undamaged,
         });
         self.failed = false;

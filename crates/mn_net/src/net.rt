@@ -220,6 +220,7 @@ impl Net {
             Step::Inject(site, number) => self.inject(site, number, packet),
             Step::Carry(link, dir, place) => self.carry(link, dir, place),
             Step::Lose(link, dir, place) => self.lose(link, dir, place),
+            Step::Tick(ticks) => self.elapse(ticks),
         }
     }
 

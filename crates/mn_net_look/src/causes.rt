@@ -61,7 +61,8 @@ pub(crate) fn is_so(
         | Step::DelRoute(_, _)
         | Step::Inject(_, _)
         | Step::Carry(_, _, _)
-        | Step::Lose(_, _, _) => false,
+        | Step::Lose(_, _, _)
+        | Step::Tick(_) => false,
     }
 }
 
@@ -102,7 +103,8 @@ pub(crate) fn has_nothing(
         | Step::Export(_, _, _)
         | Step::Attach(_)
         | Step::Detach(_)
-        | Step::Inject(_, _) => false,
+        | Step::Inject(_, _)
+        | Step::Tick(_) => false,
     }
 }
 
@@ -201,7 +203,7 @@ pub(crate) fn has_given_all(topology: &Topology, transport: &Transport, step: &S
     }
 }
 
-/// The step takes something out of flight.
+/// The step takes something out of flight, or lets time go by.
 fn takes_out(step: &Step) -> bool
     ensures { result ≡ takes_out step.now }
 {
@@ -210,7 +212,8 @@ fn takes_out(step: &Step) -> bool
         | Step::HearLdp(_, _)
         | Step::HearBgp(_, _)
         | Step::Carry(_, _, _)
-        | Step::Lose(_, _, _) => true,
+        | Step::Lose(_, _, _)
+        | Step::Tick(_) => true,
         _ => false,
     }
 }

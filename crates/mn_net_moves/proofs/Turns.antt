@@ -1,4 +1,4 @@
--- The steps of the transport and of the routes, from what these say of them.
+-- The steps of the transport and of the routes, from what these say of them, and the step in which time goes by.
 use Rattle.std.proofs.Common.{ℕ, ◌≡◌, ◌+◌, ◌<◌, true, false, List, [], ◌++◌, length, refl, arith, sym, ap, ◌∙◌, subst, None}
 use Rattle.std.specs.List.{All}
 use Rattle.mn_base.proofs.Bools.{no}
@@ -9,7 +9,7 @@ use Rattle.mn_topo.specs.Network.{Network}
 use Rattle.mn_topo.specs.Lawful.{IsLawful}
 use Rattle.mn_topo.specs.declared.steps.Step.{Step}
 use Rattle.mn_topo.specs.declared.steps.Step.TheVariants.{LinkUp, LinkDown, Learn, LdpAdmin, HearLdp, BgpUp, BgpDown, HearBgp, AddRoute, DelRoute, Import}
-use Rattle.mn_topo.specs.declared.steps.Step.TheVariants.{Export, Attach, Detach, Inject, Carry}
+use Rattle.mn_topo.specs.declared.steps.Step.TheVariants.{Export, Attach, Detach, Inject, Carry, Tick}
 use Rattle.mn_topo.specs.declared.steps.JournalEntry.{JournalEntry}
 use Rattle.mn_ledger.specs.World.{World}
 use Rattle.mn_ledger.specs.Packets.{Packets, channel, packets_after}
@@ -442,3 +442,31 @@ down_done old l carried moving made made_now stay lawful is may did moved_as lef
           (moved_as (given old.topology (pushed old.journal old.tick s)) (later_world old.topology old.journal s) (packets_of old.topology old.journal ps) []
           (labelled_more old.topology old.journal old.tick s old.moving (packets_of old.topology old.journal ps) h.stands.packets)) left;
     }))
+
+-- 8. Time goes by, and nothing changes
+
+none_said_then : (old : NetNow) (ticks : ℕ) (moving : Moving) →
+    HaveSaid old.topology old.journal old.tick (Tick ticks) (packed_in old) (record (packed_in old) { moving = moving })
+none_said_then old ticks moving = record {
+  notices = still (keys_in old.transport.notices);
+  messages = still (keys_in old.transport.messages);
+  routes = still (keys_in old.routes.messages);
+  made = omega arith;
+}
+
+pub elapse_done : (old : NetNow) (moving : Moving) (ticks : ℕ) → StaysAsItWas → StayAsTheyWere → IsLawful old.topology → IsNet old →
+    MayBeDone old (Tick ticks) [] → moving ≡ record old.moving { delivered = None } →
+    Goes old (record old { journal = pushed old.journal old.tick (Tick ticks); moving = moving }) (Tick ticks) []
+elapse_done old moving ticks stays stay lawful is may begun =
+    let s : Step = Tick ticks in
+    let t : Network = old.topology in
+    let es : List JournalEntry = old.journal in
+    goes old (record old { journal = pushed es old.tick s; moving = moving }) s [] 0 0 0 is may refl refl refl (omega arith) (counts_begun _ _ begun)
+    (omega arith) (omega arith) (no_more _ is.bytes) (λ ps h. record {
+      works = h.works;
+      transport = stays t es old.tick s old.transport lawful refl h.transport;
+      routes = stay t es old.tick s old.routes lawful refl h.routes;
+      tally = counts_as_it_did t es old.tick s [] ps old.tally lawful h.stands.lawful h.stands.each refl refl h.tally;
+      stands = unmoved t es old.tick s [] ps (packed_in old) (record (packed_in old) { moving = moving }) h.stands (may_step old s [] lawful is may ps h)
+          refl (none_said_then old ticks moving) begun;
+    })

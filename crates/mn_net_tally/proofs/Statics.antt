@@ -11,7 +11,7 @@ use Rattle.mn_prefix.specs.Prefix.{AddressBlock, same_prefix}
 use Rattle.mn_topo.specs.Network.{Network}
 use Rattle.mn_topo.specs.declared.steps.Step.{Step}
 use Rattle.mn_topo.specs.declared.steps.Step.TheVariants.{LinkUp, LinkDown, Learn, LdpAdmin, HearLdp, BgpUp, BgpDown, HearBgp, AddRoute, DelRoute, Import}
-use Rattle.mn_topo.specs.declared.steps.Step.TheVariants.{Export, Attach, Detach, Inject, Carry, Lose}
+use Rattle.mn_topo.specs.declared.steps.Step.TheVariants.{Export, Attach, Detach, Inject, Carry, Lose, Tick}
 use Rattle.mn_ledger.specs.declared.refused.Refused.{Refused}
 use Rattle.mn_ledger.specs.declared.refused.Refused.TheVariants.{RoutesFull, NoRouteThere}
 use Rattle.mn_ledger.specs.Places.{vrf_of}
@@ -40,6 +40,7 @@ statics_stay c (HearBgp a b) h = refl
 statics_stay c (Inject s n) h = refl
 statics_stay c (Carry l d n) h = refl
 statics_stay c (Lose l d n) h = refl
+statics_stay c (Tick ticks) h = refl
 
 -- one more, where there is room
 pub one_static_more : (c : Config) (s : SiteNo) (p : AddressBlock) → length (config_after c (AddRoute s p)).statics ≡ length c.statics + 1

@@ -41,6 +41,7 @@ still t l w (step.HearLdp k d) routed e h = record { works = h.works; edges = h.
 still t l w (step.Inject s k) routed e h = record { works = h.works; edges = h.edges; sessions = h.sessions; messages = h.messages }
 still t l w (step.Carry k d n) routed e h = record { works = h.works; edges = h.edges; sessions = h.sessions; messages = h.messages }
 still t l w (step.Lose k d n) routed e h = record { works = h.works; edges = h.edges; sessions = h.sessions; messages = h.messages }
+still t l w (step.Tick ticks) routed e h = record { works = h.works; edges = h.edges; sessions = h.sessions; messages = h.messages }
 still t l w _ routed e h = cc
 
 pub stay : StayAsTheyWere

@@ -56,6 +56,7 @@ keeps t w (step.Export v x on) e = record { views = refl; sessions = refl; ups =
 keeps t w (step.Inject s k) e = record { views = refl; sessions = refl; ups = refl; ldp = refl; attached = refl; node = λ n. refl; none = λ n. refl }
 keeps t w (step.Carry l d k) e = record { views = refl; sessions = refl; ups = refl; ldp = refl; attached = refl; node = λ n. refl; none = λ n. refl }
 keeps t w (step.Lose l d k) e = record { views = refl; sessions = refl; ups = refl; ldp = refl; attached = refl; node = λ n. refl; none = λ n. refl }
+keeps t w (step.Tick ticks) e = record { views = refl; sessions = refl; ups = refl; ldp = refl; attached = refl; node = λ n. refl; none = λ n. refl }
 keeps t w _ e = cc
 
 pub as-it-was : (t : Network) (es : List JournalEntry) (tick : ℕ) (s : Step) (carried : Carried) → IsLawful t → touches s ≡ false →
