@@ -84,13 +84,13 @@ module _ (wiring : Wiring) (joins : JoinsNodes wiring) (differ : EndsDiffer wiri
   row_b : end_b < length half.kept
   row_b = subst (λ n. end_b < n) (sym half_rows) b_within
 
-  at_b : has new_world end_b end_b ≡ Some two
+  pub at_b : has new_world end_b end_b ≡ Some two
   at_b = has_kept half end_b two row_b (subst (λ n. end_b < n) (sym (half_columns end_b b_within)) b_within)
 
   not_b : (x o : ℕ) → Elsewhere end_b end_b x o → has new_world x o ≡ has half x o
   not_b x o apart = has_still half end_b two row_b x o apart
 
-  at_a : has new_world end_a end_a ≡ Some one
+  pub at_a : has new_world end_a end_a ≡ Some one
   at_a = not_b end_a end_a (inl (differ l within))
       ∙ has_kept now end_a one row_a (subst (λ n. end_a < n) (sym (flood.columns end_a a_within)) a_within)
 

@@ -37,6 +37,9 @@ module _ (wiring : Wiring) where
   first_itself : (node : ℕ) → first_of node node ≡ Some (record { origin = node; number = 0; links = [] })
   first_itself node = ap (λ b. if b then Some (record { origin = node; number = 0; links = [] }) else None) (same_test node)
 
+  pub first_age : (node : ℕ) → node < length wiring.loopbacks → age (has (start wiring) node node) ≡ 1
+  first_age node h = ap age (has_first node node h h ∙ first_itself node)
+
   own_alone : (node origin : ℕ) (advert : Advert) → first_of node origin ≡ Some advert → origin ≡ node
   own_alone node origin advert e = elim (eqb_tells origin node) [
     | inl q ↦ q.1

@@ -1,0 +1,4 @@
+pub mod Queue
+pub mod Links
+pub mod World
+pub mod Floods
