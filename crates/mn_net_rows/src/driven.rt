@@ -14,10 +14,8 @@ fn go(net: &mut Net, step: Step, packet: &[u8]) -> Result<(), Refused> {
     if !net.topology().fits(&step) {
         return Err(Refused::NoMemory);
     }
-    match net.step(step, packet) {
-        Ok(_) => Ok(()),
-        Err(why) => Err(why),
-    }
+    net.step(step, packet)?;
+    Ok(())
 }
 
 /// The notice that comes next and, where none flies, the message of a session.
@@ -34,10 +32,7 @@ fn drain(net: &mut Net, most: u32) -> Result<(), Refused> {
         let Some(item) = next_news(net) else {
             return Ok(());
         };
-        match go(net, item.step, &[]) {
-            Ok(()) => {}
-            Err(why) => return Err(why),
-        }
+        go(net, item.step, &[])?;
     }
     Ok(())
 }
@@ -82,10 +77,7 @@ pub(crate) fn add_routes(net: &mut Net, count: u32) -> Result<(), Refused> {
         let Some(prefix) = Prefix::new(0x0A00_0000 | number, 32) else {
             return Err(Refused::NoMemory);
         };
-        match go(net, Step::AddRoute(SiteNo(0), prefix), &[]) {
-            Ok(()) => {}
-            Err(why) => return Err(why),
-        }
+        go(net, Step::AddRoute(SiteNo(0), prefix), &[])?;
     }
     Ok(())
 }

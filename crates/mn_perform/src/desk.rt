@@ -166,13 +166,8 @@ impl Desk {
             PartPut (notes ++ last_text net.now self.old how (packets_of net.now.topology net.now.journal inputs)) before (O.written out.new)) }
         ensures cause { SinkBlamed (O.faults out.old) (O.faults out.new) result }
     {
-        match self.tell_end(out, net, how) {
-            Ok(()) => {}
-            Err(fault) => return Err(fault),
-        }
-        match self.page.end(out) {
-            Ok(()) => Ok(()),
-            Err(bad) => Err(Fault::from(bad)),
-        }
+        self.tell_end(out, net, how)?;
+        self.page.end(out)?;
+        Ok(())
     }
 }

@@ -21,7 +21,7 @@ use mn_sched::Stopped;
 use mn_script::{Command, Line};
 
 /// Plays a line that isn't a table, and notes what became of it.
-fn play_steps<S: Shelf, O: Sink>(
+fn perform_steps<S: Shelf, O: Sink>(
     net: &mut Net,
     line: &Line,
     shelf: &mut S,
@@ -50,10 +50,10 @@ fn play_steps<S: Shelf, O: Sink>(
         (S.read_faults shelf.new, S.write_faults shelf.new, O.faults out.new) result }
 {
     match record_line(net, &line.command, shelf, books, capture) {
-        Ok(played) => match desk.note(out, net.topology(), line, played) {
-            Ok(()) => Ok(Ended::All),
-            Err(fault) => Err(fault),
-        },
+        Ok(played) => {
+            desk.note(out, net.topology(), line, played)?;
+            Ok(Ended::All)
+        }
         Err(Stopped::TooManySteps) => Ok(Ended::TooManySteps),
         Err(Stopped::Read) => Err(Fault::Read),
         Err(Stopped::Write) => Err(Fault::Write),
@@ -62,7 +62,7 @@ fn play_steps<S: Shelf, O: Sink>(
 }
 
 /// Plays a line, or puts the table that it asks for.
-fn play_line<S: Shelf, O: Sink>(
+fn perform_line<S: Shelf, O: Sink>(
     net: &mut Net,
     line: &Line,
     shelf: &mut S,
@@ -90,16 +90,16 @@ fn play_line<S: Shelf, O: Sink>(
         (S.read_faults shelf.new, S.write_faults shelf.new, O.faults out.new) result }
 {
     match line.command {
-        Command::Show(table) => match desk.show(out, net, table) {
-            Ok(()) => Ok(Ended::All),
-            Err(fault) => Err(fault),
-        },
-        _ => play_steps(net, line, shelf, out, books, capture, desk),
+        Command::Show(table) => {
+            desk.show(out, net, table)?;
+            Ok(Ended::All)
+        }
+        _ => perform_steps(net, line, shelf, out, books, capture, desk),
     }
 }
 
 /// Plays the lines of a script, until one meets a full journal.
-pub(crate) fn play_lines<S: Shelf, O: Sink>(
+pub(crate) fn perform_lines<S: Shelf, O: Sink>(
     net: &mut Net,
     lines: &[Line],
     shelf: &mut S,
@@ -129,10 +129,9 @@ pub(crate) fn play_lines<S: Shelf, O: Sink>(
             return Err(Fault::NoMemory);
         }
         net.laws();
-        match play_line(net, line, shelf, out, books, capture, desk) {
-            Ok(Ended::All) => {}
-            Ok(Ended::TooManySteps) => return Ok(Ended::TooManySteps),
-            Err(fault) => return Err(fault),
+        match perform_line(net, line, shelf, out, books, capture, desk)? {
+            Ended::All => {}
+            Ended::TooManySteps => return Ok(Ended::TooManySteps),
         }
     }
     Ok(Ended::All)

@@ -39,18 +39,13 @@ impl MemoryCapture {
         ensures packets { IfOk result (λ capture. packets_of bytes.items ≡ Ok (packets_at capture)) }
         ensures refused { IfErr result (λ bad. bad ≢ NoMemory → packets_of bytes.items ≡ Err bad) }
     {
-        let link = match read_header(&bytes) {
-            Ok(form) => form.link,
-            Err(bad) => return Err(bad),
-        };
-        match records(alloc, &bytes) {
-            Ok(places) => Ok(MemoryCapture {
-                bytes,
-                link,
-                places,
-            }),
-            Err(bad) => Err(bad),
-        }
+        let form = read_header(&bytes)?;
+        let places = records(alloc, &bytes)?;
+        Ok(MemoryCapture {
+            bytes,
+            link: form.link,
+            places,
+        })
     }
 
     /// The packet of a record, numbered from 1.

@@ -21,7 +21,7 @@ ghost use Rattle.mn_perform.specs.Whole.{ForRun, ForPackets, FilesOf, TextOf, En
 
 use crate::desk::Desk;
 use crate::ended::{Ended, Fault};
-use crate::lines::play_lines;
+use crate::lines::perform_lines;
 use mn_capture::Capture;
 use mn_edge::{Shelf, Sink};
 use mn_net::Net;
@@ -56,18 +56,13 @@ fn finish<S: Shelf, O: Sink>(
     ensures cause { Blamed (S.read_faults shelf.old, S.write_faults shelf.old, O.faults out.old)
         (S.read_faults shelf.new, S.write_faults shelf.new, O.faults out.new) result }
 {
-    match books.close(shelf, net) {
-        Ok(()) => {}
-        Err(bad) => return Err(Fault::from(bad)),
-    }
-    match desk.end(out, net, how) {
-        Ok(()) => Ok(how),
-        Err(fault) => Err(fault),
-    }
+    books.close(shelf, net)?;
+    desk.end(out, net, how)?;
+    Ok(how)
 }
 
 /// Plays a script on a network at its start, with the files begun and an empty desk.
-fn run<S: Shelf, O: Sink>(
+fn perform_script<S: Shelf, O: Sink>(
     net: &mut Net,
     lines: &[Line],
     shelf: &mut S,
@@ -97,10 +92,8 @@ fn run<S: Shelf, O: Sink>(
     ensures cause { Blamed (S.read_faults shelf.old, S.write_faults shelf.old, O.faults out.old)
         (S.read_faults shelf.new, S.write_faults shelf.new, O.faults out.new) result }
 {
-    match play_lines(net, lines, shelf, out, books, capture, desk) {
-        Ok(how) => finish(net, how, shelf, out, books, desk),
-        Err(fault) => Err(fault),
-    }
+    let how = perform_lines(net, lines, shelf, out, books, capture, desk)?;
+    finish(net, how, shelf, out, books, desk)
 }
 
 /// Plays the lines of a script on the network of a topology, over the packets of a capture. Writes the files of the
@@ -135,15 +128,12 @@ pub fn perform<S: Shelf, O: Sink>(
     ensures cause { Blamed (S.read_faults shelf.old, S.write_faults shelf.old, O.faults out.old)
         (S.read_faults shelf.new, S.write_faults shelf.new, O.faults out.new) result }
 {
-    let mut books = match Books::open(alloc, shelf, &topology, folder) {
-        Ok(books) => books,
-        Err(bad) => return Err(Fault::from(bad)),
-    };
+    let mut books = Books::open(alloc, shelf, &topology, folder)?;
     let Ok(mut desk) = Desk::new(alloc) else {
         return Err(Fault::NoMemory);
     };
     let Ok(mut net) = Net::new(alloc, topology) else {
         return Err(Fault::NoMemory);
     };
-    run(&mut net, lines, shelf, out, &mut books, capture, &mut desk)
+    perform_script(&mut net, lines, shelf, out, &mut books, capture, &mut desk)
 }

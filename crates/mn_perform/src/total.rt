@@ -26,7 +26,7 @@ use mn_topo::Topology;
 use std::alloc::{AllocError, Global};
 
 /// Plays a line that isn't a table, and counts it where it is refused.
-fn play_steps(
+fn tally_steps(
     net: &mut Net,
     line: &Line,
     capture: &MemoryCapture,
@@ -64,7 +64,7 @@ fn play_steps(
 }
 
 /// Plays a line, and counts it where it is refused. A table is passed over.
-fn play_line(
+fn tally_line(
     net: &mut Net,
     line: &Line,
     capture: &MemoryCapture,
@@ -83,12 +83,12 @@ fn play_line(
 {
     match line.command {
         Command::Show(_) => Ok(Ended::All),
-        _ => play_steps(net, line, capture, refused),
+        _ => tally_steps(net, line, capture, refused),
     }
 }
 
 /// Plays the lines of a script, until one meets a full journal, and counts those that are refused.
-fn play_lines(
+fn tally_lines(
     net: &mut Net,
     lines: &[Line],
     capture: &MemoryCapture,
@@ -109,10 +109,9 @@ fn play_lines(
             return Err(AllocError);
         }
         net.laws();
-        match play_line(net, line, capture, refused) {
-            Ok(Ended::All) => {}
-            Ok(Ended::TooManySteps) => return Ok(Ended::TooManySteps),
-            Err(bad) => return Err(bad),
+        match tally_line(net, line, capture, refused)? {
+            Ended::All => {}
+            Ended::TooManySteps => return Ok(Ended::TooManySteps),
         }
     }
     Ok(Ended::All)
@@ -127,10 +126,10 @@ fn head<O: Sink>(out: &mut O, desk: &mut Desk, how: Ended, heading: &[u8]) -> Re
     ensures cause { SinkBlamed (O.faults out.old) (O.faults out.new) result }
 {
     match how {
-        Ended::All => match desk.page.put(out, heading) {
-            Ok(()) => Ok(()),
-            Err(bad) => Err(Fault::from(bad)),
-        },
+        Ended::All => {
+            desk.page.put(out, heading)?;
+            Ok(())
+        }
         Ended::TooManySteps => Ok(()),
     }
 }
@@ -153,10 +152,8 @@ fn tell<O: Sink>(
         return Err(Fault::NoMemory);
     };
     desk.refused = refused;
-    match head(out, &mut desk, how, heading) {
-        Ok(()) => desk.end(out, net, how),
-        Err(fault) => Err(fault),
-    }
+    head(out, &mut desk, how, heading)?;
+    desk.end(out, net, how)
 }
 
 /// Plays the lines of a script on the network of a topology, over a capture in memory. No file is written, and no
@@ -183,12 +180,7 @@ pub fn tally<O: Sink>(
         return Err(Fault::NoMemory);
     };
     let mut refused = 0;
-    let how = match play_lines(&mut net, lines, capture, &mut refused) {
-        Ok(how) => how,
-        Err(_) => return Err(Fault::NoMemory),
-    };
-    match tell(alloc, out, &net, how, heading, refused) {
-        Ok(()) => Ok(how),
-        Err(fault) => Err(fault),
-    }
+    let how = tally_lines(&mut net, lines, capture, &mut refused)?;
+    tell(alloc, out, &net, how, heading, refused)?;
+    Ok(how)
 }

@@ -86,7 +86,7 @@ impl<S: Shelf> Watch for Recorder<'_, S> {
 }
 
 /// Plays a line: the recorder goes on with the same shelf and the same files.
-fn play_on<S: Shelf>(
+fn record_with<S: Shelf>(
     net: &mut Net,
     command: &Command,
     recorder: &mut Recorder<'_, S>,
@@ -147,7 +147,7 @@ pub(crate) fn record_on<S: Shelf>(
         capture,
         fetched,
     };
-    play_on(net, command, &mut recorder)
+    record_with(net, command, &mut recorder)
 }
 
 /// Does a line, and writes what each of its steps adds to the files.

@@ -92,10 +92,7 @@ fn write_items<S: Shelf>(
     ensures reads { S.read_faults shelf.new ≡ S.read_faults shelf.old }
 {
     for number in made.first..made.end {
-        match write_item(net, tick, number, shelf, output) {
-            Ok(()) => {}
-            Err(bad) => return Err(bad),
-        }
+        write_item(net, tick, number, shelf, output)?;
     }
     Ok(())
 }

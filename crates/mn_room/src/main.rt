@@ -57,10 +57,8 @@ fn done(net: &mut Net, step: Step, packet: &[u8]) -> Result<(), Refused>
     if !net.topology().fits(&step) {
         return Err(Refused::Empty);
     }
-    match net.step(step, packet) {
-        Ok(_) => Ok(()),
-        Err(why) => Err(why),
-    }
+    net.step(step, packet)?;
+    Ok(())
 }
 
 /// What is due next: a notice, or else a message.

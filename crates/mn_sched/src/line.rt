@@ -174,17 +174,11 @@ fn deliver<W: Watch>(
 {
     let mut left = 0;
     for turn in 0..most {
-        match keep_room(net, arrivals, left) {
-            Ok(steps) => left = steps,
-            Err(stopped) => return Err(stopped),
-        }
+        left = keep_room(net, arrivals, left)?;
         let Some(item) = next_arrival(net, arrivals) else {
             return Ok(());
         };
-        match deliver_one(net, arrivals, item, watch) {
-            Ok(()) => {}
-            Err(stopped) => return Err(stopped),
-        }
+        deliver_one(net, arrivals, item, watch)?;
     }
     Ok(())
 }
@@ -192,10 +186,8 @@ fn deliver<W: Watch>(
 fn as_played(arrived: Result<(), Stopped>) -> Result<Played, Stopped>
     ensures { result ≡ as_played arrived }
 {
-    match arrived {
-        Ok(()) => Ok(Played::All),
-        Err(stopped) => Err(stopped),
-    }
+    arrived?;
+    Ok(Played::All)
 }
 
 /// More items than a journal has room for.
@@ -268,7 +260,7 @@ fn step_plainly<W: Watch>(net: &mut Net, step: Step, watch: &mut W) -> Result<Pl
 }
 
 /// Ticks pass, and what is due in them arrives.
-fn run<W: Watch>(net: &mut Net, ticks: u32, watch: &mut W) -> Result<Played, Stopped>
+fn pass_ticks<W: Watch>(net: &mut Net, ticks: u32, watch: &mut W) -> Result<Played, Stopped>
     requires few { ticks ≤ 1000000 }
     requires early { net.old.tick ≤ 2 ^ 61 }
     requires together { Together net.old (W.packets watch.old) (W.stands watch.old) }
@@ -286,13 +278,9 @@ fn run<W: Watch>(net: &mut Net, ticks: u32, watch: &mut W) -> Result<Played, Sto
     ensures cause { Caused (W.reads watch.old, W.writes watch.old) (W.reads watch.new, W.writes watch.new) result }
 {
     let end = net.tick() + u64::from(ticks);
-    match deliver(net, Arrivals::DueBy(end), all_items(), watch) {
-        Ok(()) => {
-            net.advance(net.tick().max(end));
-            Ok(Played::All)
-        }
-        Err(stopped) => Err(stopped),
-    }
+    deliver(net, Arrivals::DueBy(end), all_items(), watch)?;
+    net.advance(net.tick().max(end));
+    Ok(Played::All)
 }
 
 /// Notices are learned, and once none is in flight messages are heard: so many in all, or until none is in flight.
@@ -350,7 +338,7 @@ pub fn play<W: Watch>(net: &mut Net, command: &Command, watch: &mut W) -> Result
             Step::Inject(_, number) => inject(net, step, number, watch),
             _ => step_plainly(net, step, watch),
         },
-        Command::Run(ticks) => run(net, ticks, watch),
+        Command::Run(ticks) => pass_ticks(net, ticks, watch),
         Command::Drain(most) => drain(net, most, watch),
         Command::Flush => as_played(deliver(net, Arrivals::AllFrames, all_items(), watch)),
         Command::Show(_) => Ok(Played::All),

@@ -3,7 +3,7 @@ use Rattle.mn_net.specs.Told.{told_at}
 use Rattle.mn_edge.specs.KeptLaws.{framed_same}
 use Rattle.mn_files.specs.Numbers.{file_at}
 use Rattle.mn_record.specs.Parts.{by_number, item_part, items_part}
-use Rattle.mn_record.proofs.Adding.{both_add, second_may, adds_as, may_as, may_more, none_add, framed_then, still_for}
+use Rattle.mn_record.proofs.Adding.{on_err, both_add, second_may, adds_as, may_as, may_more, none_add, framed_then, still_for}
 use Rattle.mn_record.proofs.Same.{next_item, items_more}
 use Rattle.mn_record.proofs.step.write_items.Goals as goal
 
@@ -45,17 +45,17 @@ loop-number-preserved g c =
           (by_number c.args.net.now.topology
           (item_part c.args.tick (told_at c.args.net.now.topology c.args.net.now.journal inputs c.loop-number.number))) c.args.output.now
           c.loop-number.output c.write_item.new.output _ _ _ (i.adds inputs stands for)
-          (c.in-Ok.ensures.adds inputs stands (still_for c.args.output.now c.loop-number.output c.args.net.now.topology i.names i.places for)));
+          (c.in_ok-write_item.ensures.adds inputs stands (still_for c.args.output.now c.loop-number.output c.args.net.now.topology i.names i.places for)));
       within = omega (arith, c.loop-number-test.true);
-      names = c.in-Ok.ensures.names ∙ i.names;
-      places = c.in-Ok.ensures.places ∙ i.places;
-      framed = framed_then c.args.output.now.names c.loop-number.output.names _ _ _ i.names i.framed c.in-Ok.ensures.framed;
-      reads = c.in-Ok.ensures.reads ∙ i.reads;
-      writes = c.in-Ok.ensures.writes ∙ i.writes;
+      names = c.in_ok-write_item.ensures.names ∙ i.names;
+      places = c.in_ok-write_item.ensures.places ∙ i.places;
+      framed = framed_then c.args.output.now.names c.loop-number.output.names _ _ _ i.names i.framed c.in_ok-write_item.ensures.framed;
+      reads = c.in_ok-write_item.ensures.reads ∙ i.reads;
+      writes = c.in_ok-write_item.ensures.writes ∙ i.writes;
     }
 
-pub returns-in-Err-clause-may : goal.returns-in-Err-clause-may
-returns-in-Err-clause-may g c = λ inputs stands for.
+pub returns-in_err-write_item-clause-may : goal.returns-in_err-write_item-clause-may
+returns-in_err-write_item-clause-may g c = on_err c.from_residual.result _ (λ inputs stands for.
     let i = c.loop-number.invariant in
     let first : c.args.made.first ≤ c.loop-number.number = c.loop-number.auto.number in
     let below : c.loop-number.number < c.args.made.end = c.loop-number-test.true in
@@ -79,11 +79,11 @@ returns-in-Err-clause-may g c = λ inputs stands for.
     (items_part c.args.net.now.topology c.args.net.now.journal inputs c.args.tick c.args.made.first (c.loop-number.number - c.args.made.first)))
     (by_number c.args.net.now.topology (item_part c.args.tick (told_at c.args.net.now.topology c.args.net.now.journal inputs c.loop-number.number)))
     c.args.output.now c.loop-number.output c.write_item.new.output _ _ _ (i.adds inputs stands for)
-    (c.in-Err.ensures.may inputs stands (still_for c.args.output.now c.loop-number.output c.args.net.now.topology i.names i.places for))))
+    (c.in_err-write_item.ensures.may inputs stands (still_for c.args.output.now c.loop-number.output c.args.net.now.topology i.names i.places for)))))
 
-pub returns-in-Err-clause-framed : goal.returns-in-Err-clause-framed
-returns-in-Err-clause-framed g c =
-    framed_then c.args.output.now.names c.loop-number.output.names _ _ _ c.loop-number.invariant.names c.loop-number.invariant.framed c.in-Err.ensures.framed
+pub returns-in_err-write_item-clause-framed : goal.returns-in_err-write_item-clause-framed
+returns-in_err-write_item-clause-framed g c =
+    framed_then c.args.output.now.names c.loop-number.output.names _ _ _ c.loop-number.invariant.names c.loop-number.invariant.framed c.in_err-write_item.ensures.framed
 
 pub returns-clause-adds : goal.returns-clause-adds
 returns-clause-adds g c = λ inputs stands for.

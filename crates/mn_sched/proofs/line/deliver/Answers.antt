@@ -1,4 +1,5 @@
 use Rattle.std.proofs.Common.{◌≡◌, Some, None, Err, sym, ◌∙◌, ap, refl, subst, ◌-◌, ◌+◌, arith, length}
+use Rattle.std.proofs.lemmas.Result.{err_from_is_err_and}
 use Rattle.mn_course.specs.Course.{Past, Course, deliver, next_now, inputs_of, is_journal_full, one_by_one}
 use Rattle.mn_sched.specs.Playing.{past_of, Arrives, IsFirstPart}
 use Rattle.mn_sched.proofs.Delivering.{first_part_refl, first_part_trans, next_turn, one_then, one_stops, deliver_more, told_now, keeps}
@@ -39,7 +40,7 @@ loop-turn-preserved g c =
     let journal : net.journal ≡ l.net.journal = ap (λ (p : Past). p.entries) past in
     let many : length net.journal ≡ length l.net.journal = ap length journal in
     let tick : net.tick ≡ l.net.tick = ap (λ (p : Past). p.clock) past in
-    let done = c.in-Ok-deliver_one.ensures in
+    let done = c.in_ok-deliver_one.ensures in
     record {
       course = λ all told.
           let rest : Past → Course = λ later. deliver c.args.net.now.topology all c.args.arrivals (c.args.most - (l.turn + 1)) later in
@@ -65,8 +66,8 @@ loop-turn-preserved g c =
       writes = done.cause.1 ∙ l.invariant.writes;
     }
 
-pub returns-in-Err-deliver_one-clause-course : goal.returns-in-Err-deliver_one-clause-course
-returns-in-Err-deliver_one-clause-course g c = λ all told.
+pub returns-in_err-deliver_one-clause-course : goal.returns-in_err-deliver_one-clause-course
+returns-in_err-deliver_one-clause-course g c = λ all told.
     let l = c.loop-turn in
     let net = c.keep_room.new.net in
     let past : past_of net ≡ past_of l.net = c.keep_room.ensures.past in
@@ -76,20 +77,23 @@ returns-in-Err-deliver_one-clause-course g c = λ all told.
     let some : next_now c.args.net.now.topology all c.args.arrivals (past_of l.net) ≡ Some c.in-Some.item =
     told_now c.args.net.now.topology all c.args.arrivals net l.net (Some c.in-Some.item) past (c.keep_room.ensures.topology ∙ l.invariant.topology)
     (sym (c.next_arrival.ensures.value (inputs_of all net.journal) stands.0) ∙ c.in-Some.is) in
-    subst (λ x. Arrives x c.deliver_one.new.net (Err c.in-Err-deliver_one.stopped))
+    let handed = err_from_is_err_and c.from_residual-in_err-deliver_one.result c.from_residual-in_err-deliver_one.ensures.1 in
+    rw (handed.1, handed.2)
+    (subst (λ x. Arrives x c.deliver_one.new.net (Err c.in_err-deliver_one.field-0.0))
     (ap (λ p. one_by_one c.args.arrivals rest p (is_journal_full p) (Some c.in-Some.item)) past
     ∙ sym (next_turn c.args.net.now.topology all c.args.arrivals c.args.most l.turn (past_of l.net) (Some c.in-Some.item) c.loop-turn-test.true some)
     ∙ l.invariant.course all told)
-    (one_stops c.args.arrivals rest (past_of net) (is_journal_full (past_of net)) c.in-Some.item c.deliver_one.new.net c.in-Err-deliver_one.stopped
+    (one_stops c.args.arrivals rest (past_of net) (is_journal_full (past_of net)) c.in-Some.item c.deliver_one.new.net c.in_err-deliver_one.field-0.0
     (λ later. deliver_more c.args.net.now.topology all c.args.arrivals (c.args.most - (l.turn + 1)) later)
-    (c.in-Err-deliver_one.ensures.course all (l.invariant.packets ∙ told)))
+    (c.in_err-deliver_one.ensures.course all (l.invariant.packets ∙ told))))
 
-pub returns-in-Err-clause-course : goal.returns-in-Err-clause-course
-returns-in-Err-clause-course g c = λ all told.
+pub returns-in_err-left-clause-course : goal.returns-in_err-left-clause-course
+returns-in_err-left-clause-course g c = λ all told.
     let l = c.loop-turn in
     let net = c.keep_room.new.net in
     let past : past_of net ≡ past_of l.net = c.keep_room.ensures.past in
-    subst (λ why. Arrives (deliver c.args.net.now.topology all c.args.arrivals c.args.most (past_of c.args.net.now)) net (Err why)) (sym c.in-Err.ensures.memory)
+    let handed = err_from_is_err_and c.from_residual.result c.from_residual.ensures.1 in
+    rw (handed.1, handed.2, c.in_err-left.ensures.memory)
     (subst (λ (x : Course). IsFirstPart net.journal x.past.entries) (l.invariant.course all told)
     (subst (λ (p : Past). IsFirstPart p.entries (deliver c.args.net.now.topology all c.args.arrivals (c.args.most - l.turn) (past_of l.net)).past.entries) (sym past)
     (deliver_more c.args.net.now.topology all c.args.arrivals (c.args.most - l.turn) (past_of l.net))))
@@ -113,15 +117,15 @@ loop-turn-init g c = record {
   writes = refl;
 }
 
-pub returns-in-Err-clause-grown : goal.returns-in-Err-clause-grown
-returns-in-Err-clause-grown g c =
+pub returns-in_err-left-clause-grown : goal.returns-in_err-left-clause-grown
+returns-in_err-left-clause-grown g c =
     let l = c.loop-turn in
     subst (λ (p : Past). IsFirstPart c.args.net.now.journal p.entries) (sym c.keep_room.ensures.past) l.invariant.grown
 
-pub returns-in-Err-deliver_one-clause-goes_on : goal.returns-in-Err-deliver_one-clause-goes_on
-returns-in-Err-deliver_one-clause-goes_on g c = g.met.W.Watch.onward _ _ _ c.loop-turn.invariant.goes_on c.in-Err-deliver_one.ensures.goes_on
+pub returns-in_err-deliver_one-clause-goes_on : goal.returns-in_err-deliver_one-clause-goes_on
+returns-in_err-deliver_one-clause-goes_on g c = g.met.W.Watch.onward _ _ _ c.loop-turn.invariant.goes_on c.in_err-deliver_one.ensures.goes_on
 
-pub returns-in-Err-deliver_one-clause-grown : goal.returns-in-Err-deliver_one-clause-grown
-returns-in-Err-deliver_one-clause-grown g c =
+pub returns-in_err-deliver_one-clause-grown : goal.returns-in_err-deliver_one-clause-grown
+returns-in_err-deliver_one-clause-grown g c =
     let journal = ap (λ (p : Past). p.entries) c.keep_room.ensures.past in
-    first_part_trans _ _ _ c.loop-turn.invariant.grown (subst (λ es. IsFirstPart es c.deliver_one.new.net.journal) journal c.in-Err-deliver_one.ensures.grown)
+    first_part_trans _ _ _ c.loop-turn.invariant.grown (subst (λ es. IsFirstPart es c.deliver_one.new.net.journal) journal c.in_err-deliver_one.ensures.grown)

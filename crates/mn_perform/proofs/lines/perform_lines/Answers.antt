@@ -6,7 +6,8 @@ use Rattle.mn_record.specs.Recorded.{told_packets}
 use Rattle.mn_perform.specs.declared.ended.Ended.TheVariants.{All, TooManySteps}
 use Rattle.mn_perform.proofs.Ending.{stands_at, still_for}
 use Rattle.mn_perform.proofs.Script.{line_went, goes_on, stops, breaks, all_gone}
-use Rattle.mn_perform.proofs.lines.play_lines.Goals as goal
+use Rattle.mn_perform.proofs.Results.{err_is}
+use Rattle.mn_perform.proofs.lines.perform_lines.Goals as goal
 
 pub loop-line-init : goal.loop-line-init
 loop-line-init g c = record {
@@ -28,71 +29,72 @@ returns-then-not-works-clause-went g c = λ all told.
     let at = c.loop-line.invariant.at all told in
     absurd (let e : false ≡ true = c.if-not-works.ensures ∙ ap not at.keeps.stands.works in cc)
 
-pub play_line-requires-clause-stands : goal.play_line-requires-clause-stands
-play_line-requires-clause-stands g c = λ all told.
+pub perform_line-requires-clause-stands : goal.perform_line-requires-clause-stands
+perform_line-requires-clause-stands g c = λ all told.
     let l = c.loop-line in
     let at = l.invariant.at all (sym l.invariant.told ∙ ap (λ n. told_packets (g.S.Shelf.files l.shelf) n c.args.capture.now) (sym l.invariant.names) ∙ told) in
     stands_at _ _ _ _ _ _ _ _ _ at.keeps
 
-pub returns-in-Ok-TooManySteps-clause-framed : goal.returns-in-Ok-TooManySteps-clause-framed
-returns-in-Ok-TooManySteps-clause-framed g c =
+pub returns-in-TooManySteps-clause-framed : goal.returns-in-TooManySteps-clause-framed
+returns-in-TooManySteps-clause-framed g c =
     let l = c.loop-line in
     framed_both _ _ _ _ l.invariant.framed
-    (subst (λ n. Framed n (g.S.Shelf.files l.shelf) (g.S.Shelf.files c.play_line.new.shelf)) l.invariant.names c.play_line.ensures.framed)
+    (subst (λ n. Framed n (g.S.Shelf.files l.shelf) (g.S.Shelf.files c.perform_line.new.shelf)) l.invariant.names c.perform_line.ensures.framed)
 
-pub returns-in-Err-clause-framed : goal.returns-in-Err-clause-framed
-returns-in-Err-clause-framed g c =
+pub returns-in_err-perform_line-clause-framed : goal.returns-in_err-perform_line-clause-framed
+returns-in_err-perform_line-clause-framed g c =
     let l = c.loop-line in
     framed_both _ _ _ _ l.invariant.framed
-    (subst (λ n. Framed n (g.S.Shelf.files l.shelf) (g.S.Shelf.files c.play_line.new.shelf)) l.invariant.names c.play_line.ensures.framed)
+    (subst (λ n. Framed n (g.S.Shelf.files l.shelf) (g.S.Shelf.files c.perform_line.new.shelf)) l.invariant.names c.perform_line.ensures.framed)
 
-pub returns-in-Ok-TooManySteps-clause-went : goal.returns-in-Ok-TooManySteps-clause-went
-returns-in-Ok-TooManySteps-clause-went g c = λ all told.
+pub returns-in-TooManySteps-clause-went : goal.returns-in-TooManySteps-clause-went
+returns-in-TooManySteps-clause-went g c = λ all told.
     let l = c.loop-line in
     let at = l.invariant.at all told in
     let told_now = ap (λ n. told_packets (g.S.Shelf.files l.shelf) n c.args.capture.now) l.invariant.names ∙ l.invariant.told ∙ told in
     stops _ _ _ c.args.lines.now l.line-index c.line-item.result c.loop-line-test.true c.line-item.is at.run at.running at.rest _ _ _ _ _
-    (line_went _ _ _ _ at.run c.line-item.result _ _ _ _ _ c.play_line.new.net c.play_line.new.books c.play_line.new.desk
-    (g.S.Shelf.files c.play_line.new.shelf)
-    (g.O.Sink.written c.play_line.new.out) (Ok TooManySteps) l.invariant.topology
-    (rw c.in-Ok-TooManySteps.field-0-is at (c.in-Ok-TooManySteps.ensures.went all told_now)) at.running at.keeps)
+    (line_went _ _ _ _ at.run c.line-item.result _ _ _ _ _ c.perform_line.new.net c.perform_line.new.books c.perform_line.new.desk
+    (g.S.Shelf.files c.perform_line.new.shelf)
+    (g.O.Sink.written c.perform_line.new.out) (Ok TooManySteps) l.invariant.topology
+    (rw c.in-TooManySteps.is at (c.in_ok-perform_line.ensures.went all told_now)) at.running at.keeps)
 
-pub returns-in-Err-clause-went : goal.returns-in-Err-clause-went
-returns-in-Err-clause-went g c = λ all told.
+pub returns-in_err-perform_line-clause-went : goal.returns-in_err-perform_line-clause-went
+returns-in_err-perform_line-clause-went g c = λ all told.
     let l = c.loop-line in
     let at = l.invariant.at all told in
     let told_now = ap (λ n. told_packets (g.S.Shelf.files l.shelf) n c.args.capture.now) l.invariant.names ∙ l.invariant.told ∙ told in
-    breaks _ _ _ c.args.lines.now l.line-index c.line-item.result c.loop-line-test.true c.line-item.is at.run at.running at.rest c.play_line.new.net
-    c.play_line.new.books c.play_line.new.desk _ _
-    c.in-Err.fault
-    (line_went _ _ _ _ at.run c.line-item.result _ _ _ _ _ c.play_line.new.net c.play_line.new.books c.play_line.new.desk _ _
-    (Err c.in-Err.fault) l.invariant.topology
-    (c.in-Err.ensures.went all told_now) at.running at.keeps)
+    rw (err_is c.from_residual.result c.in_err-perform_line.field-0.0 c.from_residual.ensures.1)
+    (breaks _ _ _ c.args.lines.now l.line-index c.line-item.result c.loop-line-test.true c.line-item.is at.run at.running at.rest c.perform_line.new.net
+    c.perform_line.new.books c.perform_line.new.desk _ _
+    c.in_err-perform_line.field-0.0
+    (line_went _ _ _ _ at.run c.line-item.result _ _ _ _ _ c.perform_line.new.net c.perform_line.new.books c.perform_line.new.desk _ _
+    (Err c.in_err-perform_line.field-0.0) l.invariant.topology
+    (c.in_err-perform_line.ensures.went all told_now) at.running at.keeps))
 
 pub loop-line-preserved : goal.loop-line-preserved
 loop-line-preserved g c =
     let l = c.loop-line in
-    let done = c.in-Ok-All.ensures in
-    let paced = done.clock c.in-Ok-All.field-0-is in
+    let done = c.in_ok-perform_line.ensures in
+    let paced = done.clock c.in-All.is in
     record {
-      names = c.play_line.ensures.names ∙ l.invariant.names;
-      places = c.play_line.ensures.places ∙ l.invariant.places;
-      topology = c.play_line.ensures.topology ∙ l.invariant.topology;
+      names = c.perform_line.ensures.names ∙ l.invariant.names;
+      places = c.perform_line.ensures.places ∙ l.invariant.places;
+      topology = c.perform_line.ensures.topology ∙ l.invariant.topology;
       framed = framed_both _ _ _ _ l.invariant.framed
-          (subst (λ n. Framed n (g.S.Shelf.files l.shelf) (g.S.Shelf.files c.play_line.new.shelf)) l.invariant.names c.play_line.ensures.framed);
+          (subst (λ n. Framed n (g.S.Shelf.files l.shelf) (g.S.Shelf.files c.perform_line.new.shelf)) l.invariant.names c.perform_line.ensures.framed);
       told = subst
-          (λ n. told_packets (g.S.Shelf.files c.play_line.new.shelf) n c.args.capture.now ≡ told_packets (g.S.Shelf.files l.shelf) n c.args.capture.now)
+          (λ n. told_packets (g.S.Shelf.files c.perform_line.new.shelf) n c.args.capture.now ≡ told_packets (g.S.Shelf.files l.shelf) n c.args.capture.now)
           l.invariant.names
-          c.play_line.ensures.told ∙ l.invariant.told;
+          c.perform_line.ensures.told ∙ l.invariant.told;
       clock = omega (arith, paced.0, paced.1, l.invariant.clock);
       refused = omega (arith, done.refused, l.invariant.refused);
       at = λ all told.
           let at = l.invariant.at all told in
           let told_now = ap (λ n. told_packets (g.S.Shelf.files l.shelf) n c.args.capture.now) l.invariant.names ∙ l.invariant.told ∙ told in
           goes_on _ _ _ c.args.lines.now l.line-index c.line-item.result c.loop-line-test.true c.line-item.is at.run at.running at.rest _ _ _ _ _
-          (line_went _ _ _ _ at.run c.line-item.result _ _ _ _ _ c.play_line.new.net c.play_line.new.books c.play_line.new.desk
-          (g.S.Shelf.files c.play_line.new.shelf)
-          (g.O.Sink.written c.play_line.new.out) (Ok All) l.invariant.topology (rw c.in-Ok-All.field-0-is at (done.went all told_now)) at.running at.keeps);
+          (line_went _ _ _ _ at.run c.line-item.result _ _ _ _ _ c.perform_line.new.net c.perform_line.new.books c.perform_line.new.desk
+          (g.S.Shelf.files c.perform_line.new.shelf)
+          (g.O.Sink.written c.perform_line.new.out) (Ok All) l.invariant.topology (rw c.in-All.is at (done.went all told_now)) at.running at.keeps);
       reads = done.cause.0 ∙ l.invariant.reads;
       writes = done.cause.1 ∙ l.invariant.writes;
       faults = done.cause.2 ∙ l.invariant.faults;
@@ -105,5 +107,5 @@ returns-clause-went g c = λ all told.
     omega (arith, l.auto.line-index-end, c.loop-line-test.false) in e)
     (l.invariant.at all told)
 
-pub play_line-requires-clause-files : goal.play_line-requires-clause-files
-play_line-requires-clause-files g c = still_for _ _ _ _ c.loop-line.invariant.names c.loop-line.invariant.places c.loop-line.invariant.topology c.requires.files
+pub perform_line-requires-clause-files : goal.perform_line-requires-clause-files
+perform_line-requires-clause-files g c = still_for _ _ _ _ c.loop-line.invariant.names c.loop-line.invariant.places c.loop-line.invariant.topology c.requires.files

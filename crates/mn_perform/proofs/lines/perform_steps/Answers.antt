@@ -1,22 +1,24 @@
 use Rattle.mn_perform.specs.declared.ended.Fault.TheVariants.{Read, Write, NoMemory}
 use Rattle.mn_perform.proofs.Played.{line_noted, line_cut, line_stopped, line_broken}
-use Rattle.mn_perform.proofs.lines.play_steps.Goals as goal
+use Rattle.mn_perform.proofs.Results.{err_is}
+use Rattle.mn_perform.proofs.lines.perform_steps.Goals as goal
 
 pub record_line-requires-clause-together : goal.record_line-requires-clause-together
 record_line-requires-clause-together g c = λ all told. let s = c.requires.stands all told in (s.stands, s.holds)
 
-pub returns-in-Ok-note-clause-went : goal.returns-in-Ok-note-clause-went
-returns-in-Ok-note-clause-went g c = λ all told begun run running keeps.
+pub returns-in_ok-note-in-Ok-clause-went : goal.returns-in_ok-note-in-Ok-clause-went
+returns-in_ok-note-in-Ok-clause-went g c = λ all told begun run running keeps.
     line_noted _ _ _ _ c.args.line.now _ c.record_line.new.net _ c.record_line.new.books _ c.note.new.self _ _ _ _ running keeps c.in-Ok.played c.requires.shows
     (c.in-Ok.ensures.course all told) c.record_line.ensures.topology (c.in-Ok.ensures.after all told)
-    (rw c.record_line.ensures.topology at (rw c.topology.ensures at c.in-Ok-note.ensures.noted))
+    (rw c.record_line.ensures.topology at (rw c.topology.ensures at c.in_ok-note-in-Ok.ensures.noted))
 
-pub returns-in-Err-clause-went : goal.returns-in-Err-clause-went
-returns-in-Err-clause-went g c = λ all told begun run running keeps.
-    line_cut _ _ _ _ c.args.line.now _ c.record_line.new.net _ c.record_line.new.books _ c.args.desk.now _ _ _ _ running keeps c.in-Err.fault c.in-Ok.played
+pub returns-in_err-note-in-Ok-clause-went : goal.returns-in_err-note-in-Ok-clause-went
+returns-in_err-note-in-Ok-clause-went g c = λ all told begun run running keeps.
+    rw (err_is c.from_residual.result c.in_err-note-in-Ok.field-0.0 c.from_residual.ensures.1)
+    (line_cut _ _ _ _ c.args.line.now _ c.record_line.new.net _ c.record_line.new.books _ c.args.desk.now _ _ _ _ running keeps c.in_err-note-in-Ok.field-0.0 c.in-Ok.played
     c.requires.shows
     (c.in-Ok.ensures.course all told) c.record_line.ensures.topology (c.in-Ok.ensures.after all told)
-    (rw c.record_line.ensures.topology at (rw c.topology.ensures at c.in-Err.ensures.part))
+    (rw c.record_line.ensures.topology at (rw c.topology.ensures at c.in_err-note-in-Ok.ensures.part)))
 
 pub returns-in-Err-TooManySteps-clause-went : goal.returns-in-Err-TooManySteps-clause-went
 returns-in-Err-TooManySteps-clause-went g c = λ all told begun run running keeps.

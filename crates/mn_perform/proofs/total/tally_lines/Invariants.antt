@@ -1,7 +1,7 @@
 use Rattle.std.proofs.Common.{◌≡◌, ◌≤◌, ◌+◌, ◌*◌, length}
 use Rattle.mn_perform.specs.Memory.{packets_at}
 use Rattle.mn_perform.specs.Total.{PlaysAt}
-use Rattle.mn_perform.proofs.total.play_lines.Given as goal
+use Rattle.mn_perform.proofs.total.tally_lines.Given as goal
 
 abbrev pub invariant-loop-line : goal.invariant-loop-line
 invariant-loop-line l = record {

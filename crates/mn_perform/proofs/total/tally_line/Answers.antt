@@ -4,7 +4,7 @@ use Rattle.mn_perform.specs.declared.ended.Ended.TheVariants.{All}
 use Rattle.mn_perform.specs.Memory.{packets_at}
 use Rattle.mn_perform.specs.Total.{PlayedTo}
 use Rattle.mn_perform.proofs.Totals.{table_passed}
-use Rattle.mn_perform.proofs.total.play_line.Goals as goal
+use Rattle.mn_perform.proofs.total.tally_line.Goals as goal
 
 pub returns-in-Show-clause-played : goal.returns-in-Show-clause-played
 returns-in-Show-clause-played c = λ run running plays.

@@ -3,7 +3,7 @@ use Rattle.std.specs.Option.{ForSome}
 use Rattle.mn_edge.specs.Kept.{Framed}
 use Rattle.mn_record.specs.Recorded.{told_packets}
 use Rattle.mn_perform.specs.Running.{IsAt}
-use Rattle.mn_perform.proofs.lines.play_lines.Given as goal
+use Rattle.mn_perform.proofs.lines.perform_lines.Given as goal
 
 abbrev pub invariant-loop-line : goal.invariant-loop-line
 invariant-loop-line g l = record {

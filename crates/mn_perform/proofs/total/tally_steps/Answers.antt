@@ -1,7 +1,7 @@
 use Rattle.std.proofs.Common.{refl, arith}
 use Rattle.mn_sched.specs.declared.line.Played.TheVariants.{All, Refused, NoRecord}
 use Rattle.mn_perform.proofs.Totals.{line_counted, line_met_full}
-use Rattle.mn_perform.proofs.total.play_steps.Goals as goal
+use Rattle.mn_perform.proofs.total.tally_steps.Goals as goal
 
 pub returns-in-Ok-All-clause-played : goal.returns-in-Ok-All-clause-played
 returns-in-Ok-All-clause-played c = λ run running plays.
