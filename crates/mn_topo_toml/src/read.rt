@@ -32,19 +32,17 @@ fn read_network(alloc: Global, top: &Table) -> Result<Topology, TopoBad>
     let nodes = read_nodes(alloc, head.nodes)?;
     let links = read_links(alloc, &nodes, head.links)?;
     let vrfs = read_vrfs(alloc, &nodes, head.vrfs)?;
-    match read_sites(alloc, &vrfs, head.sites) {
-        Ok(sites) => Ok(Topology::of(Parts {
-            asn: head.asn,
-            notice_delay: head.notice_delay,
-            bgp_delay: head.bgp_delay,
-            nodes,
-            links,
-            vrfs,
-            sites,
-            resolve: false,
-        })),
-        Err(bad) => Err(bad),
-    }
+    let sites = read_sites(alloc, &vrfs, head.sites)?;
+    Ok(Topology::of(Parts {
+        asn: head.asn,
+        notice_delay: head.notice_delay,
+        bgp_delay: head.bgp_delay,
+        nodes,
+        links,
+        vrfs,
+        sites,
+        resolve: false,
+    }))
 }
 
 fn text_of(bytes: &[u8]) -> Option<&str>
