@@ -309,6 +309,7 @@ module _ (p : Parts) (st : Stands p) (e : Event) (counts : List ℕ) (es : List 
         lfib =
             uses;
         attached = p.attached;
+        links = p.links;
       })
   stands-then v mended sessions bindings uses view_is as_many mended_is lib_is ends_is ways others =
       let of : Learned → Bindings → Parts =
@@ -323,6 +324,7 @@ module _ (p : Parts) (st : Stands p) (e : Event) (counts : List ℕ) (es : List 
         lfib =
             uses;
         attached = p.attached;
+        links = p.links;
       } in
       subst (λ x. Stands (of x bindings)) (sym view_is)
       (subst (λ y. Stands (of (record { nodes = p.view.nodes; ends = p.view.ends; counts = counts }) y)) (sym lib_is) (record {
@@ -338,6 +340,7 @@ module _ (p : Parts) (st : Stands p) (e : Event) (counts : List ℕ) (es : List 
         given = st.given;
         few = st.few;
         attached = st.attached;
+        links = st.links;
         table = table-then (length p.loopbacks.items) p.me.0 p.labels.given (lib.usable p.lib) (lib.usable b) p.lfib uses st.given st.table ways others;
       }))
 
@@ -354,6 +357,7 @@ module _ (p : Parts) (st : Stands p) (e : Event) (counts : List ℕ) (es : List 
         lfib =
             uses;
         attached = p.attached;
+        links = p.links;
       }) ≡ after w n e
   node-of v mended sessions bindings uses view_is lib_is ends_is =
       ap (λ x. node_in (record {
@@ -367,6 +371,7 @@ module _ (p : Parts) (st : Stands p) (e : Event) (counts : List ℕ) (es : List 
         lfib =
             uses;
         attached = p.attached;
+        links = p.links;
       })) view_is
       ∙ ap (λ y. with_ends w p.me.0 y counts sessions.items) lib_is ∙ ap (with_ends w p.me.0 b counts) ends_is ∙ node-then
 
@@ -385,6 +390,7 @@ module _ (p : Parts) (st : Stands p) (e : Event) (counts : List ℕ) (es : List 
         lfib =
             p.lfib;
         attached = p.attached;
+        links = p.links;
       }) withdrawn es
   may-follow v mended sessions withdrawn view_is as_many may =
       subst (λ x. MayFollow (record {
@@ -398,11 +404,12 @@ module _ (p : Parts) (st : Stands p) (e : Event) (counts : List ℕ) (es : List 
         lfib =
             p.lfib;
         attached = p.attached;
+        links = p.links;
       }) withdrawn es) (sym view_is) (record {
         few = st.wired.spelled.few;
-        few_links = st.wired.few_links;
         me = st.me;
         joins = st.wired.joins;
+        links = st.links;
         one_each = as_many;
         view_nodes = st.nodes;
         lib_nodes = st.tied.one_each;

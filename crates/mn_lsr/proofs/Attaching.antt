@@ -121,6 +121,7 @@ module _ (p : Parts) (st : Stands p) where
         lfib =
             uses;
         attached = counts;
+        links = p.links;
       })
   attached site label number labels uses counts label_is room given_is fresh means others used uses_others so_many = record {
     view = st.view;
@@ -140,6 +141,7 @@ module _ (p : Parts) (st : Stands p) where
     few = subst (λ (gs : List Bind). length gs ≤ 1048560) (sym given_is)
         (subst (λ n. n ≤ 1048560) (sym (length-append p.labels.given (bind.Site site number ∷ []))) (up (length p.labels.given) st.few room));
     attached = so_many;
+    links = st.links;
     table = λ at. elim (eqb_tells at label) [
       | inl e ↦ subst (λ k. IsUseOf (lib.usable p.lib) (meaning_of labels.given k) (use_of uses k)) (sym e.1)
           (subst (λ m. IsUseOf (lib.usable p.lib) m (use_of uses label)) (sym means)
@@ -172,6 +174,7 @@ module _ (p : Parts) (st : Stands p) where
         lfib =
             uses;
         attached = p.attached;
+        links = p.links;
       })
   detached label uses is ended others = record {
     view = st.view;
@@ -186,6 +189,7 @@ module _ (p : Parts) (st : Stands p) where
     given = st.given;
     few = st.few;
     attached = st.attached;
+    links = st.links;
     table = λ at. elim (eqb_tells at label) [
       | inl e ↦ subst (λ k. IsUseOf (lib.usable p.lib) (meaning_of p.labels.given k) (use_of uses k)) (sym e.1)
           (subst (IsUseOf (lib.usable p.lib) (meaning_of p.labels.given label)) (sym ended) (over (meaning_of p.labels.given label) is))

@@ -7,6 +7,7 @@ use Rattle.std.proofs.lemmas.Bool.Decides.{eqb_tells}
 use Rattle.mn_wiring.specs.Wiring.{Wiring, JoinsNodes}
 use Rattle.mn_wiring.specs.Paths.{IsNext, next}
 use Rattle.mn_base.specs.declared.numbers.NodeNo.{NodeNo}
+use Rattle.mn_base.specs.declared.numbers.LinkNo.{LinkNo}
 use Rattle.mn_wiring.proofs.Next.{next_is}
 use Rattle.mn_linkdb.specs.Trees.{hop_alone}
 use Rattle.mn_lib.specs.Bindings.{nothing_heard}
@@ -33,6 +34,7 @@ use Rattle.mn_lsr.specs.Standing.{IsWired, IsMendedFor, AreGiven, IsUseOf, fecs_
 use Rattle.mn_lsr.specs.Parts.{FitsLabel, machines_of, node_in, Stands}
 use Rattle.mn_lsr.proofs.Given.{are_given, few_given, no_site, none_attached}
 use Rattle.mn_lsr.specs.Ties.{AreTied}
+use Rattle.mn_lsr.specs.Telling.{AreLinks}
 use Rattle.mn_lsr.proofs.Following.{no_next}
 
 none_there : {A : Type 0} (n k : ℕ) → (let o : Option A = slice_index_or (replicate n None) k None in o) ≡ None
@@ -100,10 +102,11 @@ no_machines (suc n) = ap (λ ss. let o : List (Option Machine) = None ∷ ss in 
 
 -- the parts of a node that has learned nothing stand
 module _ (me : NodeNo) (loopbacks : Vec ℕ Global) (ends : List LinkEnds) (mended : Mended) (sessions : Vec (Option Open) Global) (labels : LabelTable)
-    (attached : Vec ℕ Global)
+    (attached : Vec ℕ Global) (links : Vec (Option LinkNo) Global)
     (below : me.0 < length loopbacks.items) (wired : IsWired (record { loopbacks = loopbacks.items; ends = ends }))
     (sessions_are : sessions.items ≡ replicate (length ends) None)
-    (given_are : labels.given ≡ fecs_given (length loopbacks.items) me.0) (none_attached_yet : attached.items ≡ []) where
+    (given_are : labels.given ≡ fecs_given (length loopbacks.items) me.0) (none_attached_yet : attached.items ≡ [])
+    (links_are : AreLinks (record { loopbacks = loopbacks.items; ends = ends }) me.0 links.items) where
   abbrev pub w : Wiring
   w = record { loopbacks = loopbacks.items; ends = ends }
 
@@ -118,6 +121,7 @@ module _ (me : NodeNo) (loopbacks : Vec ℕ Global) (ends : List LinkEnds) (mend
     labels = labels;
     lfib = [];
     attached = attached;
+    links = links;
   }
 
   pub node-is : node_in parts ≡ fresh_node w me.0
@@ -149,6 +153,7 @@ module _ (me : NodeNo) (loopbacks : Vec ℕ Global) (ends : List LinkEnds) (mend
     attached =
         λ site. ap (λ xs. slice_index_or xs site 0) none_attached_yet
         ∙ sym (ap (attachments site) given_are ∙ none_attached site (length loopbacks.items) me.0);
+    links = links_are;
     table = λ label. unused label (meaning_of labels.given label) refl;
   }
     where
@@ -179,6 +184,7 @@ pub record IsMade (root : NodeNo) (addresses : List ℕ) (links : List LinkEnds)
   pub given : p.labels.given ≡ fecs_given (length addresses) root.0
   pub uses : p.lfib ≡ []
   pub attached : p.attached.items ≡ []
+  pub links_are : AreLinks (record { loopbacks = addresses; ends = links }) root.0 p.links.items
 
 module _ (me : NodeNo) (loopbacks : List ℕ) (ends : List LinkEnds) (p : Parts) (below : me.0 < length loopbacks)
     (wired : IsWired (record { loopbacks = loopbacks; ends = ends })) (h : IsMade me loopbacks ends p) where
@@ -211,8 +217,11 @@ module _ (me : NodeNo) (loopbacks : List ℕ) (ends : List LinkEnds) (p : Parts)
       none_odd zero = refl
       none_odd (suc n) = ap (λ ups. false ∷ ups) (none_odd n)
 
+  links-are : AreLinks (record { loopbacks = p.loopbacks.items; ends = ends }) me.0 p.links.items
+  links-are = subst (λ xs. AreLinks (record { loopbacks = xs; ends = ends }) me.0 p.links.items) (sym h.loopbacks) h.links_are
+
   abbrev as_made : Parts
-  as_made = parts me p.loopbacks ends p.mended p.sessions p.labels p.attached here wired-here h.sessions given-is h.attached
+  as_made = parts me p.loopbacks ends p.mended p.sessions p.labels p.attached p.links here wired-here h.sessions given-is h.attached links-are
 
   made-is : p ≡ as_made
   made-is =
@@ -228,6 +237,7 @@ module _ (me : NodeNo) (loopbacks : List ℕ) (ends : List LinkEnds) (p : Parts)
         lfib =
             p.lfib;
         attached = p.attached;
+        links = p.links;
       } in o) h.me
       ∙ ap (λ (v : Learned). let o : Parts =
       record {
@@ -241,15 +251,16 @@ module _ (me : NodeNo) (loopbacks : List ℕ) (ends : List LinkEnds) (p : Parts)
         lfib =
             p.lfib;
         attached = p.attached;
+        links = p.links;
       } in o) view-is
       ∙ ap (λ (b : Bindings). let o : Parts = record as_made { lib = b; lfib = p.lfib } in o) lib-is
       ∙ ap (λ (us : List (ℕ × Use)). let o : Parts = record as_made { lfib = us } in o) h.uses
 
   pub made-stands : Stands p
   made-stands =
-      subst Stands (sym made-is) (stands me p.loopbacks ends p.mended p.sessions p.labels p.attached here wired-here h.sessions given-is h.attached mended-is)
+      subst Stands (sym made-is) (stands me p.loopbacks ends p.mended p.sessions p.labels p.attached p.links here wired-here h.sessions given-is h.attached links-are mended-is)
 
   pub made-node : node_in p ≡ fresh_node (record { loopbacks = loopbacks; ends = ends }) me.0
   made-node =
-      ap node_in made-is ∙ node-is me p.loopbacks ends p.mended p.sessions p.labels p.attached here wired-here h.sessions given-is h.attached
+      ap node_in made-is ∙ node-is me p.loopbacks ends p.mended p.sessions p.labels p.attached p.links here wired-here h.sessions given-is h.attached links-are
       ∙ ap (λ xs. fresh_node (record { loopbacks = xs; ends = ends }) me.0) h.loopbacks

@@ -1,5 +1,5 @@
 -- The parts once a session has changed, its answers are said, and the bindings are followed.
-use Rattle.std.proofs.Common.{Bool, true, false, ℕ, ◌≡◌, ◌≢◌, ◌<◌, List, [], ◌++◌, length, refl, sym, ◌∙◌, ap, subst, append-nil, Option, Vec, Global}
+use Rattle.std.proofs.Common.{ℕ, ◌≡◌, ◌≢◌, ◌<◌, List, [], ◌++◌, length, refl, sym, ◌∙◌, ap, subst, append-nil, Option, Vec, Global}
 use Rattle.std.specs.List.{flat_map}
 use Rattle.std.proofs.lemmas.List.{append_assoc}
 use Rattle.mn_lfib.specs.Uses.{use_of, fec_use}
@@ -78,6 +78,7 @@ module _ (p : Parts) (st : Stands p) (e : Event) (es : List LibEvent) (ends : Li
             x.labels;
         lfib = r.lfib;
         attached = x.attached;
+        links = x.links;
       } in
       record {
         stands = subst Stands (sym t.others)

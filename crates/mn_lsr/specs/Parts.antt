@@ -21,7 +21,7 @@ use Rattle.mn_ldp_session.specs.Spelling.{Pdu, pdu}
 use Rattle.mn_lsr.specs.declared.parts.Open.{Open}
 use Rattle.mn_lsr.specs.declared.parts.Parts.{Parts}
 use Rattle.mn_lsr.specs.Standing.{IsWired, IsMendedFor, AreGiven, IsUseOf, sessions_from, attachments}
-use Rattle.mn_lsr.specs.Telling.{MayTell}
+use Rattle.mn_lsr.specs.Telling.{MayTell, AreLinks}
 use Rattle.mn_lsr.specs.Ties.{AreTied}
 
 abbrev pub wiring_in : Parts → Wiring
@@ -62,6 +62,7 @@ pub record Stands (p : Parts) : Type 0 where
   pub given : AreGiven (length p.loopbacks.items) p.me.0 p.labels.given
   pub few : length p.labels.given ≤ most_labels
   pub attached : (site : ℕ) → slice_index_or p.attached.items site 0 ≡ attachments site p.labels.given
+  pub links : AreLinks (wiring_in p) p.me.0 p.links.items
   pub table : (label : ℕ) → IsUseOf (lib.usable p.lib) (meaning_of p.labels.given label) (use_of p.lfib label)
 
 -- something may be said on each link
@@ -74,9 +75,9 @@ pub record MaySpeak (p : Parts) : Type 0 where
 -- these events may be followed, where a Release brings this label
 pub record MayFollow (p : Parts) (withdrawn : ℕ) (events : List LibEvent) : Type 0 where
   pub few : length p.loopbacks.items ≤ 256
-  pub few_links : length p.view.ends ≤ 1024
   pub me : p.me.0 < length p.loopbacks.items
   pub joins : JoinsNodes (wiring_in p)
+  pub links : AreLinks (wiring_in p) p.me.0 p.links.items
   pub one_each : length p.sessions.items ≡ length p.view.ends
   pub view_nodes : p.view.nodes ≡ length p.loopbacks.items
   pub lib_nodes : lib.nodes p.lib ≡ length p.loopbacks.items

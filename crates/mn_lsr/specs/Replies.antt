@@ -1,5 +1,5 @@
 -- What a session replies, and what its end means to the bindings.
-use Rattle.std.specs.Prelude.{ℕ, Bool, true, false, ◌++◌, if◌then◌else◌, List, [], ◌∷◌, Option, Some, None}
+use Rattle.std.specs.Prelude.{ℕ, Bool, true, ◌++◌, if◌then◌else◌, List, [], ◌∷◌, Option, Some, None}
 use Rattle.mn_base.specs.declared.numbers.NodeNo.{NodeNo}
 use Rattle.mn_states.specs.declared.states.LdpState.{LdpState}
 use Rattle.mn_states.specs.declared.states.LdpState.TheVariants.{OpenSent, Operational}

@@ -1,6 +1,8 @@
 -- What the bindings tell, said on the links that join the node with its neighbours.
-use Rattle.std.specs.Prelude.{ℕ, ◌<◌, ◌==◌, ◌&&◌, ◌||◌, Bool, if◌then◌else◌, List, [], ◌∷◌, ⊤}
+use Rattle.std.specs.Prelude.{ℕ, ◌≡◌, ◌<◌, ◌==◌, if◌then◌else◌, List, [], ◌∷◌, length, slice_index_or, Option, Some, None, option_map, ⊤}
+use Rattle.std.specs.Option.{option_to_list}
 use Rattle.std.specs.List.{flat_map}
+use Rattle.mn_base.specs.declared.numbers.LinkNo.{LinkNo}
 use Rattle.mn_wiring.specs.Wiring.{Wiring, joining}
 use Rattle.mn_wiring.specs.declared.links.LinkEnds.{LinkEnds}
 use Rattle.mn_ldp_wire.specs.Grammar.{IsLabel}
@@ -9,12 +11,17 @@ use Rattle.mn_lib.specs.declared.event.Tell.{Tell}
 use Rattle.mn_lib.specs.declared.event.TellKind.{TellKind}
 use Rattle.mn_lib.specs.declared.event.TellKind.TheVariants as tells
 
--- the link's other end, and whether it joins the node with this neighbour
+-- the link's other end
 abbrev pub other_end : LinkEnds → ℕ → ℕ
 other_end link me = if link.a.0 == me then link.b.0 else link.a.0
 
-abbrev pub joins_with : LinkEnds → ℕ → ℕ → Bool
-joins_with link me to = ((link.a.0 == me) || (link.b.0 == me)) && (other_end link me == to)
+abbrev pub as_number : LinkNo → ℕ
+as_number link = link.0
+
+-- by neighbour, the link that joins the node with it, where one does
+pub record AreLinks (wiring : Wiring) (me : ℕ) (links : List (Option LinkNo)) : Type 0 where
+  pub there : (to : ℕ) (link : LinkNo) → slice_index_or links to None ≡ Some link → link.0 < length wiring.ends
+  pub join : (to : ℕ) → joining wiring me to ≡ option_to_list (option_map as_number (slice_index_or links to None))
 
 abbrev pub message_of : TellKind → ℕ → Message
 message_of tells.Map fec = Mapping fec

@@ -18,13 +18,14 @@
 //!
 //! - `lsr`: the node, in the words of its contract; `refusal`: why it refuses
 //! - `parts`, `hearing`, `making`, `sites`: its parts, and what each change does to them
-//! - `message`, `speaking`, `said`: what is said, as PDUs on links
+//! - `message`, `speaking`, `said`: what is said, as PDUs on links; `links`: the link to each neighbour
 //! - `ways`: the labels of FECs and their uses
 //! - `laws`: what is said and heard where both ends of a session are nodes
 #![tactic(auto)]
 
 mod hearing;
 mod laws;
+mod links;
 mod lsr;
 mod making;
 mod message;

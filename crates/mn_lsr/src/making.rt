@@ -3,6 +3,7 @@ ghost use Rattle.mn_node.specs.Machine.{fresh_node};
 ghost use Rattle.mn_lsr.specs.Standing.{IsWired, fecs_given};
 ghost use Rattle.mn_lsr.specs.Parts.{wiring_in, node_in, Stands};
 
+use crate::links::links_by_neighbour;
 use crate::parts::{Open, Parts};
 use mn_base::NodeNo;
 use mn_labels::{Bind, LabelBad, Labels};
@@ -64,6 +65,7 @@ impl Parts {
         let lib = Lib::new(alloc, me, nodes)?;
         let mut labels = Labels::new(alloc);
         give_fecs(&mut labels, me, nodes)?;
+        let links = links_by_neighbour(alloc, me, loopbacks, ends)?;
         let loopbacks = Vec::from_slice(alloc, loopbacks)?;
         let sessions = no_sessions(alloc, ends.len())?;
         Ok(Parts {
@@ -76,6 +78,7 @@ impl Parts {
             labels,
             lfib: Lfib::new(alloc),
             attached: Vec::new(alloc),
+            links,
         })
     }
 }

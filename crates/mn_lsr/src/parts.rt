@@ -54,6 +54,8 @@ pub struct Parts {
     pub lfib: Lfib,
     /// By site, how often it was attached; none past the end.
     pub attached: Vec<u32>,
+    /// By neighbour, the link that joins the node with it.
+    pub links: Vec<Option<LinkNo>>,
 }
 
 /// Whether two next hops are the same.
@@ -126,6 +128,7 @@ impl Parts {
             self.me,
             &self.loopbacks,
             self.view.ends(),
+            &self.links,
             withdrawn,
             &tells,
             &mut self.sessions,

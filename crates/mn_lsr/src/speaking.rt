@@ -4,10 +4,11 @@ ghost use Rattle.mn_wiring.specs.Wiring.{joining, JoinsNodes};
 ghost use Rattle.mn_ldp_session.specs.Spelling.{pdu};
 ghost use Rattle.mn_node.specs.Ldp.{said_on};
 ghost use Rattle.mn_lsr.specs.Message.{meaning, NamesNode, HasLabel};
-ghost use Rattle.mn_lsr.specs.Telling.{said_by_tell, message_of, MayBring, MayTell, other_end, joins_with};
+ghost use Rattle.mn_lsr.specs.Telling.{said_by_tell, message_of, MayBring, MayTell, other_end, AreLinks};
 ghost use Rattle.mn_lsr.specs.Said.{pdu_of};
 ghost use Rattle.mn_lsr.specs.Parts.{pdus_by, ends_after, said_in, bumped};
 
+use crate::links::link_to;
 use crate::message::{Message, pdu_bytes};
 use crate::parts::Open;
 use crate::said::Said;
@@ -21,13 +22,6 @@ pub(crate) fn across(link: &LinkEnds, me: NodeNo) -> NodeNo
     ensures { result.0 ≡ other_end link.now me.0 }
 {
     if link.a == me { link.b } else { link.a }
-}
-
-/// Whether a link joins the node with a neighbour.
-fn joins(link: &LinkEnds, me: NodeNo, to: NodeNo) -> bool
-    ensures { result ≡ joins_with link.now me.0 to.0 }
-{
-    (link.a == me || link.b == me) && across(link, me) == to
 }
 
 /// Says a message on a link, with the next number of the session there, and counts it.
@@ -77,6 +71,7 @@ pub(crate) fn say_to(
     me: NodeNo,
     loopbacks: &[u32],
     ends: &[LinkEnds],
+    links: &[Option<LinkNo>],
     withdrawn: u32,
     to: NodeNo,
     message: Message,
@@ -84,9 +79,9 @@ pub(crate) fn say_to(
     out: &mut Vec<Said>,
 ) -> Result<(), AllocError>
     requires few { length loopbacks.now ≤ 256 }
-    requires few_links { length ends.now ≤ 1024 }
     requires me { me.0 < length loopbacks.now }
     requires joins { JoinsNodes (record { loopbacks = loopbacks.now; ends = ends.now }) }
+    requires links { AreLinks (record { loopbacks = loopbacks.now; ends = ends.now }) me.0 links.now }
     requires one_each { length sessions.old.items ≡ length ends.now }
     requires fec { NamesNode (length loopbacks.now) message }
     requires label { HasLabel withdrawn message }
@@ -95,15 +90,12 @@ pub(crate) fn say_to(
     ensures counted { OnOk result (sessions.new.items ≡ ends_after sessions.old.items
         (flat_map (λ l. said_on l me.0 (meaning message ∷ [])) (joining (record { loopbacks = loopbacks.now; ends = ends.now }) me.0 to.0))) }
 {
-    for at in 0..ends.len() {
-        if joins(&ends[at], me, to) {
-            let link = LinkNo(at as u16);
-            say(
-                alloc, me, loopbacks, ends, withdrawn, link, message, sessions, out,
-            )?;
-        }
+    match link_to(links, to) {
+        None => Ok(()),
+        Some(link) => say(
+            alloc, me, loopbacks, ends, withdrawn, link, message, sessions, out,
+        ),
     }
-    Ok(())
 }
 
 /// The message that a tell asks for.
@@ -125,15 +117,16 @@ pub(crate) fn say_all(
     me: NodeNo,
     loopbacks: &[u32],
     ends: &[LinkEnds],
+    links: &[Option<LinkNo>],
     withdrawn: u32,
     tells: &[Tell],
     sessions: &mut Vec<Option<Open>>,
     out: &mut Vec<Said>,
 ) -> Result<(), AllocError>
     requires few { length loopbacks.now ≤ 256 }
-    requires few_links { length ends.now ≤ 1024 }
     requires me { me.0 < length loopbacks.now }
     requires joins { JoinsNodes (record { loopbacks = loopbacks.now; ends = ends.now }) }
+    requires links { AreLinks (record { loopbacks = loopbacks.now; ends = ends.now }) me.0 links.now }
     requires one_each { length sessions.old.items ≡ length ends.now }
     requires may { MayTell (length loopbacks.now) withdrawn tells.now }
     ensures said { OnOk result (map pdu_of out.new.items ≡ map pdu_of out.old.items ++ pdus_by (record { loopbacks = loopbacks.now; ends = ends.now }) me.0 withdrawn sessions.old.items
@@ -143,7 +136,7 @@ pub(crate) fn say_all(
     for tell in tells {
         let message = message_of(tell);
         say_to(
-            alloc, me, loopbacks, ends, withdrawn, tell.to, message, sessions, out,
+            alloc, me, loopbacks, ends, links, withdrawn, tell.to, message, sessions, out,
         )?;
     }
     Ok(())

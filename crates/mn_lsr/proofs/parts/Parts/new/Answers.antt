@@ -19,6 +19,7 @@ returns-clause-stands c =
       given = c.in_ok-give_fecs.ensures;
       uses = c.new-4.ensures;
       attached = c.new-5.ensures.items;
+      links_are = c.in_ok-links.ensures;
     } in
     made-stands c.args.me c.args.loopbacks.now c.args.ends.now _ c.requires.me c.requires.wired made
 
@@ -34,6 +35,7 @@ returns-clause-node c =
       labels = c.give_fecs.new.labels;
       lfib = c.new-4.result;
       attached = c.new-5.result;
+      links = c.in_ok-links.links;
     } in
     let made : IsMade c.args.me c.args.loopbacks.now c.args.ends.now p = record {
       me = refl;
@@ -49,5 +51,6 @@ returns-clause-node c =
       given = c.in_ok-give_fecs.ensures;
       uses = c.new-4.ensures;
       attached = c.new-5.ensures.items;
+      links_are = c.in_ok-links.ensures;
     } in
     made-node c.args.me c.args.loopbacks.now c.args.ends.now p c.requires.me c.requires.wired made
