@@ -109,6 +109,7 @@ class Item:
     sender) of a message of LDP or a frame; of a frame its token and its number among those sent in its direction."""
 
     number: int
+    sent: int
     due: int
     kind: str
     channel: tuple
@@ -167,7 +168,7 @@ class Network:
     # Items
 
     def make(self, kind, channel, delay, token=None, nth=0):
-        self.in_flight.append(Item(self.made, self.tick + delay, kind, channel, token, nth))
+        self.in_flight.append(Item(self.made, self.tick, self.tick + delay, kind, channel, token, nth))
         self.made += 1
 
     def on(self, kind, channel):
@@ -457,7 +458,7 @@ class Network:
         return verb in ("carry", "lose") and given[2] >= len(self.on("frame", (given[0], given[1])))
 
     def is_full(self, verb, bytes_):
-        if verb in ("learn", "hear ldp", "hear bgp", "carry", "lose"):
+        if verb in ("learn", "hear ldp", "hear bgp", "carry", "lose", "tick"):
             return False
         flying = [len(item.token.bytes) for item in self.in_flight if item.kind == "frame"]
         too_long = verb == "inject" and sum(flying) + len(bytes_) > PACKET_BYTES
@@ -590,6 +591,14 @@ class Network:
     def lose(self, link, sender, place):
         self.end_frame("Lost", link, sender, place)
 
+    def let_time_pass(self, ticks):
+        """Nothing arrives; each frame that was sent on its link longer ago than the link's life ends."""
+        self.tick += ticks
+        for item in [item for item in self.in_flight if item.kind == "frame"]:
+            link, sender = item.channel
+            if self.tick - item.sent > self.links[link].life:
+                self.end_frame("Overdue", link, sender, self.on("frame", item.channel).index(item))
+
     def end_frame(self, rule, link, sender, place):
         token = self.take("frame", (link, sender), place).token
         self.packets[token.packet].verdict = f"dropped {rule} at {self.topology.nodes[sender].name}"
@@ -606,6 +615,7 @@ METHODS = {
     "import del": "change_import",
     "export add": "change_export",
     "export del": "change_export",
+    "tick": "let_time_pass",
 }
 
 
@@ -856,6 +866,8 @@ def step_words(topology, step):
         return [verb, sites[given[0]], prefix_text(given[1])]
     if verb in ("import add", "import del", "export add", "export del"):
         return [verb, vrfs[given[0]], target_text(given[1])]
+    if verb == "tick":
+        return [verb, str(given[0])]
     return [verb, sites[given[0]], *map(str, given[1:])]
 
 

@@ -298,6 +298,7 @@ def read_site(topology, table, refused):
 # Script: a command is a tuple, the words that say what it is and then its numbers
 
 PLACE, RECORD, TICKS, BOUND = (0, 2**32 - 1), (1, 2**32 - 1), (0, 1_000_000), (0, 4_000_000)
+PASSING = (1, 1_000_000)
 FORMS = {
     "link up": ["node", "node"],
     "link down": ["node", "node"],
@@ -319,6 +320,7 @@ FORMS = {
     "inject": ["site", RECORD],
     "carry": ["node", "node", PLACE],
     "lose": ["node", "node", PLACE],
+    "tick": [PASSING],
     "run": [TICKS],
     "drain": [BOUND],
     "flush": [],

@@ -7,6 +7,7 @@ most lines ask for something that can be done: in any order, though, and not for
 import random
 import struct
 import sys
+from functools import partial
 from pathlib import Path
 
 sys.path.insert(0, str(Path(__file__).resolve().parents[1] / "examples"))
@@ -28,8 +29,8 @@ NAMES = ["pe1", "p", "pe2", "a", "b", "A", "n-1", "n_2", "n.pcap", "up", "x" * 3
 VERBS = {  # how often each is drawn
     "link up": 24, "link down": 2, "learn": 12, "ldp on": 12, "ldp off": 1, "hear ldp": 20, "hear bgp": 20,
     "bgp up": 24, "bgp down": 1, "route add": 6, "route del": 2, "import add": 6, "import del": 1, "export add": 6,
-    "export del": 1, "site up": 12, "site down": 2, "inject": 40, "carry": 40, "lose": 4, "run": 8, "drain": 14,
-    "flush": 6, "show links": 2, "show tree": 3, "show ldp": 3, "show bgp": 2, "show vrf": 5, "show flight": 4,
+    "export del": 1, "site up": 12, "site down": 2, "inject": 40, "carry": 40, "lose": 4, "tick": 4, "run": 8,
+    "drain": 14, "flush": 6, "show links": 2, "show tree": 3, "show ldp": 3, "show bgp": 2, "show vrf": 5, "show flight": 4,
 }  # fmt: skip
 
 
@@ -65,7 +66,8 @@ def random_links(rng, nodes):
         link = {"a": a, "b": b} if rng.random() < 0.6 else {"a": b, "b": a}
         link = some(rng, link, 0.4, cost=lambda: rng.choice([1, 2, 3, 10, 20, 65535]))
         link = some(rng, link, 0.4, delay=lambda: rng.choice([1, 2, 3, 7, 1000]))
-        link = some(rng, link, 0.1, life=lambda: rng.choice([1000, 2000, 1000000]))
+        delay = link.get("delay", 1)
+        link = some(rng, link, 0.2, life=partial(rng.choice, [delay, delay + 1, 1000, 2000, 1000000]))
         yield some(rng, link, 0.2, loss=lambda: rng.choice([0, 1, 2, 3, 65535]))
 
 
@@ -161,6 +163,16 @@ def words_in_flight(rng, verb, network):
     return reference.step_words(network.topology, step)[1:]
 
 
+def ticks_for(rng, network):
+    """Ticks that pass: often so many that a frame in flight is then just as old as it may be, or older."""
+    frames = [item for item in network.in_flight if item.kind == "frame"]
+    if not frames or rng.random() < 0.2:
+        return rng.choice([1, 1, 2, 5, 100, 1000, 2001, 1000000])
+    item = rng.choice(frames)
+    left = item.sent + network.links[item.channel[0]].life - network.tick
+    return min(max(left + rng.choice([-1, 0, 0, 1]), 1), 1000000)
+
+
 def words_for(rng, verb, top, records, network):
     """The words behind the verb, which name what there is but for a few."""
     if verb in ("learn", "hear ldp", "hear bgp", "carry", "lose") and rng.random() < 0.9:
@@ -191,6 +203,8 @@ def words_for(rng, verb, top, records, network):
         return [rng.choice(sites), str(rng.randint(1, records + 1 if rng.random() < 0.1 else max(records, 1)))]
     if verb == "run":
         return [str(rng.choice([0, 1, 1, 2, 3, 5, 10, 100, 1000, 1000000]))]
+    if verb == "tick":
+        return [str(ticks_for(rng, network))]
     if verb == "drain":
         return [] if rng.random() < 0.5 else [str(rng.choice([0, 1, 2, 3, 5, 8, 13, 1000, 4000000]))]
     return {"show tree": [rng.choice(nodes)], "show vrf": [rng.choice(vrfs)]}.get(verb, [])

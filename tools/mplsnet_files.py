@@ -214,9 +214,9 @@ class Run:
 
 JOURNAL = re.compile(
     r"link (?:up|down) \S+ \S+|learn \S+ \S+ \S+|ldp (?:on|off) \S+ \S+|hear (?:ldp|bgp) \S+ \S+|bgp (?:up|down) \S+ \S+"
-    r"|route (?:add|del) \S+ \S+|import (?:add|del) \S+ \S+|export (?:add|del) \S+ \S+|site (?:up|down) \S+|inject \S+ \d+|(?:carry|lose) \S+ \S+ \d+"
+    r"|route (?:add|del) \S+ \S+|import (?:add|del) \S+ \S+|export (?:add|del) \S+ \S+|site (?:up|down) \S+|inject \S+ \d+|(?:carry|lose) \S+ \S+ \d+|tick \d+"
 )
-KINDS = {"link", "learn", "ldp", "hear", "bgp", "route", "import", "export", "site", "inject", "carry", "lose"}
+KINDS = {"link", "learn", "ldp", "hear", "bgp", "route", "import", "export", "site", "inject", "carry", "lose", "tick"}
 NUMBER = re.compile(r"0|[1-9]\d*")
 OLDER = "an older run's? It isn't removed when another run writes into the folder"
 
@@ -269,12 +269,26 @@ def misnamed(run, joined, words):
         return None if name in run.node_of else f"labels.txt has no site '{name}'"
     if kind == "bgp" or words[:2] == ("hear", "bgp"):
         return next((f"labels.txt has no node '{name}'" for name in rest[1:] if name not in run.loopbacks), None)
-    if kind not in KINDS or kind in ("import", "export"):
+    if kind not in KINDS or kind in ("import", "export", "tick"):
         return None
     if kind == "learn" and rest[0] not in run.nodes:
         return f"labels.txt has no node '{rest[0]}'"
     ends = rest[:2] if kind in ("carry", "lose") else rest[-2:]
     return None if frozenset(ends) in joined else f"there is no {'+'.join(ends)}.pcap"
+
+
+LIFE = 2000  # ticks for which a frame may be on a link of which the topology names no life
+
+
+def lives_of(net):
+    """Of each link of a topology's tables, by its ends, its life."""
+    lives = {(link["a"], link["b"]): link.get("life", LIFE) for link in net["link"]}
+    return {link: life if type(life) is int else LIFE for link, life in lives.items()}
+
+
+def passed(words):
+    """The ticks that pass by the step itself."""
+    return int(words[1]) if words[0] == "tick" else 0
 
 
 def read_journal(run):
@@ -295,6 +309,7 @@ def read_journal(run):
             raise Fault(f"{path}: line {number}: before the tick of the line above: {line[:100]}")
         last = last if when == last else when
         run.steps.append((last, words))
+        last += passed(words)
 
 
 def read_labels(run):

@@ -8,7 +8,7 @@ docs/FORMATS.md has the rules of a packet, docs/LEDGER.md what nodes say and whe
 from dataclasses import dataclass, field
 from heapq import heappop, heappush
 
-from mplsnet_files import Fault
+from mplsnet_files import Fault, lives_of
 from mplsnet_words import attributes
 
 INITIALIZATION, KEEPALIVE, ADDRESS, MAPPING, WITHDRAW, RELEASE = 0x0200, 0x0201, 0x0300, 0x0400, 0x0402, 0x0403
@@ -39,6 +39,7 @@ class Net:
         self.by_loopback = {address: at for at, address in enumerate(self.loopbacks)}
         self.links = [(self.number[link["a"]], self.number[link["b"]], self.cost(at, link)) for at, link in enumerate(tables["link"])]
         self.losses = [link.get("loss", 0) for link in tables["link"]]
+        self.lives = lives_of(tables)  # by their ends
         self.link_of, self.neighbours = {}, [[] for _ in self.nodes]
         for at, (a, b, _) in enumerate(self.links):
             self.link_of[a, b] = self.link_of[b, a] = at
@@ -222,7 +223,7 @@ class Knowledge:
         """Does the step that the words of the journal say."""
         self.did += 1
         kind = words[0]
-        if kind in ("carry", "lose", "inject"):
+        if kind in ("carry", "lose", "inject", "tick"):
             return
         try:
             if kind == "learn":

@@ -250,6 +250,8 @@ function drawMove(before, after, step, share) {
   if (step.k === "link") {
     const {a, b} = links[step.l], place = between(nodes[a], nodes[b], .5), cut = (step.cut || []).map(flight => `#${packets[flights[flight].p].n}`);
     if (cut.length) mark({x: place.x, y: place.y - 14 * form.size}, `\u2715 LinkCut: ${cut.slice(0, 6).join(" ")}${cut.length > 6 ? " \u2026" : ""}`, "poor");
+  } else if (step.k === "tick") {
+    drawOverdue(step.cut || []);
   } else if (step.k === "learn") {
     const one = nodes[step.n], more = (4 + 14 * share) * form.size, [wide, high] = [one.wide + more, one.high + more];
     make("rect", {x: one.x - wide, y: one.y - high, width: 2 * wide, height: 2 * high, rx: 14 * form.size + more, class: "ring", opacity: 1 - share * .55}, layer.moving);
@@ -262,6 +264,16 @@ function drawMove(before, after, step, share) {
     make("text", {y: 4}, group, words);
   } else if (step.p !== undefined) {
     drawPacket(before, after, step, share);
+  }
+}
+
+function drawOverdue(late) {
+  const ends = flight => `${flights[flight].a} ${flights[flight].b}`;
+  for (const way of new Set(late.map(ends))) {
+    const [a, b] = way.split(" ").map(at => nodes[at]), place = between(a, b, .45), away = side(a, b);
+    const names = late.filter(flight => ends(flight) === way).map(flight => `#${packets[flights[flight].p].n}`);
+    const words = `\u2715 Overdue: ${names.slice(0, 6).join(" ")}${names.length > 6 ? " \u2026" : ""}`;
+    mark({x: place.x + away.x * 22 * form.size, y: place.y + away.y * 22 * form.size}, words, "poor");
   }
 }
 

@@ -42,7 +42,7 @@ function end(state, packet, kind, words, step) {
 }
 
 function apply(state, step, number) {
-  state.tick = step.t;
+  state.tick = step.t + (step.ticks || 0);
   if (step.ends !== undefined) delete state.living[pair(...sessions[step.ends])];
   if (step.begins !== undefined) state.living[pair(...sessions[step.begins])] = step.begins;
   if (step.k === "link") { state.up[step.l] = step.on; state.changes[step.l] += 1; state.behind = state.behind.map(left => left + 1); }
@@ -53,7 +53,7 @@ function apply(state, step, number) {
   for (const flight of step.cut || []) {
     const {p, a} = flights[flight];
     leave(state, flight);
-    end(state, p, "dropped", `LinkCut at ${nodes[a].name}`, number);
+    end(state, p, "dropped", `${step.k === "tick" ? "Overdue" : "LinkCut"} at ${nodes[a].name}`, number);
   }
   if (step.k === "inject") { state.ways[step.p] = {path: [step.n]}; state.sent += 1; }
   if (step.f !== undefined && (step.k === "carry" || step.k === "lose")) leave(state, step.f);

@@ -3,15 +3,22 @@
 Nothing of the protocols is done anew. What a step hears is the next message of the stream; which frame an `inject` or
 a `carry` sends is looked up in the links' captures, by its tick, its packet and its labels, and by the packet's path
 where the report is there. A step that fits several frames is decided by the steps after it.
+
+Which frames a `tick` makes overdue goes by the lives of their links, which the topology has. Without it a link's life is
+any that fits the steps so far, 2000 where that fits; of a frame that is overdue by one of several `tick` the files alone
+don't tell which.
 """
 
 from bisect import bisect_left, bisect_right, insort
 from dataclasses import dataclass, field
+from itertools import product
 
-from mplsnet_files import Fault
+from mplsnet_files import LIFE, Fault, passed
 
 MOST_TRIES = 200_000
 AHEAD = 60  # how many of the frames that a node has still to send are looked at
+MOST_LIFE = 1_000_000
+MOST_WAYS = 1000  # in which time may pass on the links whose lives aren't known
 
 
 # Sessions.
@@ -135,7 +142,8 @@ class Move:
     """A step that moves packets, and what it did.
 
     `took` are the flights that end by it, and `sent` is the one that begins; `end` is how the packet ends otherwise:
-    ("delivered", copy from 1), ("dropped",) or, for those of a link that goes down and a frame that is lost, ("lost",).
+    ("delivered", copy from 1), ("dropped",) or, for those of a link that goes down, those that are overdue and a frame
+    that is lost, ("lost",). `before` is what a `tick` changed, as it was.
     """
 
     step: int
@@ -145,13 +153,19 @@ class Move:
     took: tuple = ()
     sent: Flight | None = None
     end: tuple | None = None
+    before: tuple | None = None
 
 
 class Frames:
-    """Finds the frame that each step sends, over the links' captures in order."""
+    """Finds the frame that each step sends, over the links' captures in order.
 
-    def __init__(self, run, ways=None):
+    ways: of each packet, where the report is there; lives: of each link its life, where the topology is (`lives_of` of mplsnet_files).
+    """
+
+    def __init__(self, run, ways=None, lives=None):
         self.run, self.ways = run, ways
+        # Of each link the least and the greatest that its life may be.
+        self.lives = {link: (lives[link],) * 2 if lives and link in lives else (1, MOST_LIFE) for link in run.links}
         self.link_of = {pair: link for link in run.links for pair in (link, link[::-1])}
         self.neighbours = {node: [] for node in run.nodes}
         for a, b in run.links:
@@ -162,9 +176,10 @@ class Frames:
         self.flying = {pair: [] for pair in self.link_of}
         self.moves, packets = [], 0
         for step, (tick, words) in enumerate(run.steps):
-            if words[0] in ("inject", "carry", "lose") or words[:2] == ("link", "down"):
+            if words[0] in ("inject", "carry", "lose", "tick") or words[:2] == ("link", "down"):
                 packets += words[0] == "inject"
                 self.moves.append(Move(step, tick, words, packets if words[0] == "inject" else None))
+        self.last_tick = max((at for at, move in enumerate(self.moves) if move.words[0] == "tick"), default=None)
         if ways is not None and len(ways) != packets:
             raise Fault(f"the report has {len(ways)} packets, and by the journal {packets} were sent")
         if ways is None:
@@ -186,6 +201,8 @@ class Frames:
                 for pair in self.both(rest):
                     self.epochs[pair].append([])
                     taken[pair] = 0
+                continue
+            if kind == "tick":
                 continue
             if kind != "inject":
                 pair, place = (rest[0], rest[1]), int(rest[2])
@@ -241,7 +258,7 @@ class Frames:
         """The next of the choices after which all can still be sent in time."""
         while untried:
             choice = untried.pop()
-            if self.ways is not None or choice[0] in ("lose", "end") or self.is_in_time(at, choice):
+            if self.ways is not None or choice[0] in ("lose", "end", "pass") or self.is_in_time(at, choice):
                 return choice
         return None
 
@@ -251,16 +268,19 @@ class Frames:
         waiting += [when for when, _ in self.run.delivered[self.delivered : self.delivered + 1]]
         return not waiting or tick is not None and min(waiting) >= tick
 
-    # What a step may have done: ("send", node, node), ("deliver",), ("drop",) or ("lose",).
+    # What a step may have done: ("send", node, node), ("deliver",), ("drop",), ("lose",) or ("pass", of each link the
+    # least age of its frames that are overdue by it, and what its life may be then).
 
     def choices(self, at):
         """What the move may have done, the likeliest last."""
         if at == len(self.moves):
-            return [("end",)] if self.is_used_before(None) else NONE
+            return [("end",)] if self.is_used_before(None) and self.flies_on() else NONE
         move = self.moves[at]
         kind, *rest = move.words
         if (at == 0 or self.moves[at - 1].tick < move.tick) and not self.is_used_before(move.tick):
             return NONE
+        if kind == "tick":
+            return self.passing(at, move)
         if kind == "link":
             cut = [flight for pair in self.both(rest) for flight in self.flying[pair]]
             return [LOSE] if all(self.ends_as(flight, "LinkCut") for flight in cut) else NONE
@@ -274,6 +294,35 @@ class Frames:
         if kind == "lose":
             return [LOSE] if self.ends_as(flight, "Lost") else NONE
         return self.onward(move, rest[1], flight) if self.was_at(flight.packet, flight.nodes, rest[1]) else NONE
+
+    def flies_on(self):
+        """What flies at the end is what the report says of it."""
+        return self.ways is None or all(self.ways[flight.packet - 1].end == "flying" for flights in self.flying.values() for flight in flights)
+
+    def passing(self, at, move):
+        """Which frames may be overdue by a `tick`: of each link those of some age and more, the likeliest way last."""
+        clock, links = move.tick + passed(move.words), []
+        for link in self.run.links:
+            if flights := [flight for pair in self.both(link) for flight in self.flying[pair]]:
+                links.append([(link, *way) for way in self.passing_on(link, flights, clock, at == self.last_tick)])
+        if not all(links):
+            return NONE
+        ways = [dict((link, (age, life)) for link, age, life in way) for _, way in zip(range(MOST_WAYS), product(*links))]
+        return [("pass", way) for way in reversed(ways)]
+
+    def passing_on(self, link, flights, clock, is_last):
+        """The ways in which the time may pass for the frames of a link, the likeliest first."""
+        least, most = self.lives[link]
+        ages = sorted({clock - flight.frame.tick for flight in flights})
+        may_end = {age: all(self.ends_as(flight, "Overdue") for flight in flights if clock - flight.frame.tick == age) for age in ages}
+        ways = []
+        for place, age in enumerate([*ages, MOST_LIFE + clock]):
+            low, high = max(least, ages[place - 1] if place else 1), min(most, age - 1)
+            if low <= high and all(may_end[later] for later in ages[place:]):
+                ways.append((age, (low, high)))
+        if self.ways is not None and is_last:
+            return ways[:1]
+        return sorted(ways, key=lambda way: not way[1][0] <= LIFE <= way[1][1])
 
     def was_at(self, packet, place, node):
         """The packet's path may have the node at the place."""
@@ -301,7 +350,7 @@ class Frames:
                 receivers, may_end = [way.words[1]], []
             elif way.end == "delivered":
                 receivers, may_end = [], [DELIVER] if int(way.words[2]) == self.delivered + 1 else []
-            elif way.words[0] in ("Lost", "LinkCut"):
+            elif way.words[0] in ("Lost", "LinkCut", "Overdue"):
                 may_end = []
             else:
                 receivers, may_end = [], [DROP]
@@ -370,6 +419,8 @@ class Frames:
             move.took = tuple(flight for pair in self.both(rest) for flight in self.flying[pair])
             for pair in self.both(rest):
                 self.flying[pair] = []
+        elif kind == "tick":
+            self.let_pass(move, choice[1])
         elif kind != "inject":
             move.took = (self.flying[rest[0], rest[1]].pop(int(rest[2])),)
         if choice[0] == "send":
@@ -383,9 +434,19 @@ class Frames:
             self.delivered += 1
             move.end = ("delivered", self.delivered)
         else:
-            move.end = LOST if choice[0] == "lose" else DROPPED
+            move.end = DROPPED if choice[0] == "drop" else LOST
         if self.ways is None:
             self.count(move, +1)
+
+    def let_pass(self, move, way):
+        """The frames of a `tick` that are overdue by it end."""
+        clock = move.tick + passed(move.words)
+        pairs = [(pair, least) for link, (least, _) in way.items() for pair in self.both(link)]
+        move.took = tuple(flight for pair, least in pairs for flight in self.flying[pair] if clock - flight.frame.tick >= least)
+        move.before = {pair: self.flying[pair] for pair, _ in pairs}, {link: self.lives[link] for link in way}
+        for pair, least in pairs:
+            self.flying[pair] = [flight for flight in self.flying[pair] if clock - flight.frame.tick < least]
+        self.lives |= {link: life for link, (_, life) in way.items()}
 
     def undo(self, move):
         """Undoes what was done last, for this step."""
@@ -400,9 +461,12 @@ class Frames:
         if kind == "link":
             for flight in move.took:
                 self.flying[flight.sender, flight.receiver].append(flight)
+        elif kind == "tick":
+            self.flying |= move.before[0]
+            self.lives |= move.before[1]
         elif move.took:
             self.flying[rest[0], rest[1]].insert(int(rest[2]), move.took[0])
-        move.took, move.sent, move.end = (), None, None
+        move.took, move.sent, move.end, move.before = (), None, None, None
 
     def count(self, move, by):
         """Counts what the move sent, and the epochs that it began; or counts back."""

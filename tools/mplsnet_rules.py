@@ -36,7 +36,7 @@ RANGES = {"as": (1, 65_535), "notice_delay": (1, 1000), "bgp_delay": (1, 1000)}
 FIGURES = {"cost": (11, 1, 65_535, 10), "delay": (12, 1, 1000, 1), "loss": (12, 0, 65_535, 0), "life": (12, 1, 1_000_000, 2000)}
 
 # The lines of a script: kinds of names, texts and ranges of numbers behind the first words; what may be absent stands in brackets.
-NUMBERS = {"K": (1, 4_294_967_295), "PLACE": (0, 4_294_967_295), "T": (0, 1_000_000), "N": (0, 4_000_000)}
+NUMBERS = {"K": (1, 4_294_967_295), "PLACE": (0, 4_294_967_295), "T": (0, 1_000_000), "TICKS": (1, 1_000_000), "N": (0, 4_000_000)}
 NAMED = {"NODE": "node", "SITE": "site", "VRF": "vrf"}
 LINK, EDGES = ["NODE", "NODE"], ["NODE", "NODE"]
 FORMS = {
@@ -44,7 +44,7 @@ FORMS = {
     "hear bgp": EDGES, "bgp up": EDGES, "bgp down": EDGES, "route add": ["SITE", "PREFIX"], "route del": ["SITE", "PREFIX"],
     "import add": ["VRF", "TARGET"], "import del": ["VRF", "TARGET"], "export add": ["VRF", "TARGET"], "export del": ["VRF", "TARGET"],
     "site up": ["SITE"], "site down": ["SITE"], "inject": ["SITE", "K"], "carry": [*LINK, "PLACE"], "lose": [*LINK, "PLACE"],
-    "run": ["T"], "drain": ["[N]"], "flush": [], "show links": [], "show tree": ["NODE"], "show ldp": [], "show bgp": [],
+    "tick": ["TICKS"], "run": ["T"], "drain": ["[N]"], "flush": [], "show links": [], "show tree": ["NODE"], "show ldp": [], "show bgp": [],
     "show vrf": ["VRF"], "show flight": [],
 }  # fmt: skip
 OF_LINKS = {"link up": 0, "link down": 0, "learn": 1, "ldp on": 0, "ldp off": 0, "hear ldp": 0, "carry": 0, "lose": 0}

@@ -39,8 +39,9 @@ FIELDS = {
     "inject": ("site", "record"),
     "carry": ("a", "b", "place"),
     "lose": ("a", "b", "place"),
+    "tick": ("ticks",),
 }
-STEP = ("step", "tick", "kind", "what", "a", "b", "node", "site", "vrf", "prefix", "target", "record", "place", "words")
+STEP = ("step", "tick", "kind", "what", "a", "b", "node", "site", "vrf", "prefix", "target", "record", "place", "ticks", "words")
 PACKET = ("packet", "line", "site", "record", "verdict", "rule", "node", "to", "ttl", "copy", "hops", "path", "sent", "ended", "tick", "ended_tick")
 LDP_TYPES = {0x0001: "notification", 0x0200: "initialization", 0x0201: "keepalive", 0x0300: "address", 0x0400: "mapping", 0x0402: "withdraw", 0x0403: "release"}
 MESSAGE = ("protocol", "session", "sender", "receiver", "number", "type", "fec", "label", "rd", "prefix", "targets", "heard", "tick", "bytes", "words")
@@ -67,7 +68,7 @@ KEYS = {
     "tables": TABLE,
     "refused": ("line", "rule", "site"),
 }
-NUMBERS = {"cost", "changes", "label", "count", "record", "place"}
+NUMBERS = {"cost", "changes", "label", "count", "record", "place", "ticks"}
 
 
 def filled(keys, values):

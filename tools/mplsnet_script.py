@@ -2,7 +2,7 @@
 
 import re
 
-from mplsnet_files import Fault, bytes_of
+from mplsnet_files import Fault, bytes_of, passed
 
 ARRIVALS = ("learn", "hear", "carry", "lose")
 
@@ -109,7 +109,7 @@ class Lines:
                 end += 1
             return [(end, max(clock, self.steps[end - 1][0] if end > at else 0))]
         if at < len(self.steps) and is_asked(words, self.steps[at][1]) and self.steps[at][0] == clock:
-            return [(at + 1, clock)]
+            return [(at + 1, clock + passed(words))]
         return []
 
     def played(self, place, first, end):

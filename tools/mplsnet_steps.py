@@ -1,5 +1,6 @@
 """The steps of a run as a page or a picture of it needs them: what changes by each, a sentence, and the state that they leave."""
 
+from mplsnet_files import lives_of, passed
 from mplsnet_replay import Frames, sessions_of
 from mplsnet_words import bgp_words, ldp_words, packet_words
 
@@ -20,7 +21,7 @@ class State:
 
     def apply(self, step):
         """What the step changes."""
-        kind, self.tick = step["k"], step["t"]
+        kind, self.tick = step["k"], step["t"] + step.get("ticks", 0)
         if "ends" in step:
             self.living.pop(self.pair(step["ends"]), None)
         if "begins" in step:
@@ -99,7 +100,7 @@ class Steps:
         self.lives, self.talk = sessions_of(run)
         self.session_at = {session: at for at, session in enumerate(self.lives)}
         self.sessions = [[one.protocol, self.nodes[one.opener], self.nodes[one.other]] for one in self.lives]
-        self.moves = {move.step: move for move in Frames(run, ways).found()}
+        self.moves = {move.step: move for move in Frames(run, ways, lives_of(net)).found()}
         self.flights, self.flight_at, self.packets, self.flown = {}, {}, {}, 0
 
     def state(self):
@@ -120,16 +121,19 @@ class Steps:
             told = self.switched(words)
         elif kind in ("inject", "carry", "lose"):
             told = self.moved(self.moves[at])
+        elif kind == "tick":
+            told = self.ticks(tick, words)
         else:
             told = {"learn": self.learn, "hear": self.hear, "bgp": self.bgp, "site": self.site}.get(kind, self.configured)(at, words)
         for what, session, *_ in self.talk.get(at, ()):
             if what != "hears":
                 step[what] = self.session_at[session]
-        if kind == "link" and words[1] == "down":
+        if kind == "tick" or kind == "link" and words[1] == "down":
             step["gone"] = [(self.flight_at.pop(flight), flight.packet - 1) for flight in self.moves[at].took]
             step["cut"] = [flight for flight, _ in step["gone"]]
             if step["cut"]:
-                told["x"] += f" What flies on it is cut: {', '.join(f'packet {packet + 1}' for _, packet in step['gone'])}."
+                said = "What flies on it is cut" if kind == "link" else "Overdue, each sent on its link longer ago than the link's life"
+                told["x"] += f" {said}: {', '.join(f'packet {packet + 1}' for _, packet in step['gone'])}."
         if "ends" in step:
             told["x"] += self.unheard(self.lives[step["ends"]])
         return step | told
@@ -147,6 +151,10 @@ class Steps:
         else:
             said = f"LDP is switched {what} for the link between {a} and {b}."
         return {"k": kind, "l": self.links[a, b], "on": on, "x": said}
+
+    def ticks(self, tick, words):
+        ticks = passed(words)
+        return {"k": "tick", "ticks": ticks, "x": f"Time passes, {ticks} tick{'s' * (ticks != 1)} up to tick {tick + ticks}, and nothing arrives."}
 
     def learn(self, _, words):
         _, node, a, b = words

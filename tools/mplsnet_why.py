@@ -10,7 +10,7 @@ holds up to the drop, or None where it holds from the start. What is told last i
 from collections import Counter
 from dataclasses import dataclass, field
 
-from mplsnet_files import Fault
+from mplsnet_files import Fault, passed
 from mplsnet_knowledge import Knowledge, Net, address_text, contains, latest, prefix_text
 from mplsnet_replay import Frames
 
@@ -76,6 +76,8 @@ WORDS = {
     "lost by link": lambda link, loss, nth: f"link {link} loses each frame in a direction whose number is a multiple of {loss}, and this is number {nth}",
     "lost by line": lambda: "a line of the script loses the frame",
     "cut": lambda link: f"link {link} went down under the frame",
+    "sent": lambda link, tick: f"the frame flies on {link}, where it was sent at tick {tick}",
+    "overdue": lambda link, life, sent, tick: f"at tick {tick} a frame that was sent at tick {sent} is past {link}'s life of {life}",
 }
 
 
@@ -310,7 +312,7 @@ def drops_of(run, report, net, records=None, lines=None, only=None):
     """
     net = net if isinstance(net, Net) else Net("the topology", net)
     ways = report[1]
-    moves = Frames(run, ways).found()
+    moves = Frames(run, ways, net.lives).found()
     sent, ended, addresses = {}, {}, {}
     for move in moves:
         if move.words[0] == "inject":
@@ -341,6 +343,7 @@ class Told:
             self.by_record.setdefault(int(sent[number].words[2]), address)
         self.explainer = Explainer(net, run.labels, run.ldp, run.bgp)
         counts, self.nth = Counter(), {}  # of each frame its number among those sent in its direction
+        self.sent_by = {move.sent: move.step + 1 for move in moves if move.sent}
         for move in moves:
             if move.sent:
                 counts[move.sent.sender, move.sent.receiver] += 1
@@ -399,6 +402,8 @@ class Told:
             drop.facts = self.spent(way, flight)
         elif rule == "SiteGone":
             drop.facts = self.gone(flight, sent)
+        elif rule == "Overdue":
+            drop.facts = self.overdue(flight, move)
         elif rule == "LinkCut":
             drop.facts = [Fact("cut", (f"{move.words[2]}-{move.words[3]}",), step + 1)]
         else:
@@ -424,6 +429,13 @@ class Told:
         fact = Fact("attachment ended", (site, attachment), ended)
         sender = self.run.node_of[sent.words[1]]
         return [Fact("pushed unheard", (sender,), is_dated=False) if ended <= sent.step else Fact("ended in flight", (), is_dated=False), fact]
+
+    def overdue(self, flight, move):
+        """When the frame was sent, and by which step it was on its link for too long."""
+        link = self.net.link_of[self.net.number[flight.sender], self.net.number[flight.receiver]]
+        name, life = self.net.link_name(link), self.net.lives[tuple(self.net.nodes[end] for end in self.net.links[link][:2])]
+        sent, now = flight.frame.tick, move.tick + passed(move.words)
+        return [Fact("sent", (name, sent), self.sent_by[flight]), Fact("overdue", (name, life, sent, now), move.step + 1)]
 
     def lost(self, flight, step):
         link = self.net.link_of[self.net.number[flight.sender], self.net.number[flight.receiver]]

@@ -8,7 +8,7 @@ import unittest
 from pathlib import Path
 
 EXAMPLES = Path(__file__).resolve().parents[2] / "examples"
-NAMES = "first two-links overlap hub-and-spoke extranet micro-loop ordered-control site-moves loss ring".split()
+NAMES = "first two-links overlap hub-and-spoke extranet micro-loop ordered-control site-moves loss late ring".split()
 PARTS = ["README.md", "topology.toml", "script.txt", "capture.py", "capture.pcap", "drawing.svg", "expected/report.txt"]
 
 

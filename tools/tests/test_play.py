@@ -16,6 +16,7 @@ from provider import made
 ROOT = Path(__file__).resolve().parents[2]
 TOOL = ROOT / "tools/mplsnet-play"
 LINKS = ROOT / "examples/two-links"
+LATE = ROOT / "examples/late"
 RUNS = sorted(file.parents[1] for file in ROOT.glob("examples/*/expected/journal.txt"))
 
 # What a reader of the page sees of each packet at the end, as the report says it.
@@ -91,6 +92,15 @@ class Play(unittest.TestCase):
         ):
             self.assertIn(words, said)
 
+    def test_time_that_passes(self):
+        data = self.data(self.made(LATE / "expected", LATE / "topology.toml"))
+        steps = [step for step in data["steps"] if step["k"] == "tick"]
+        self.assertEqual([(0, 10, []), (10, 1, [1]), (112, 4, [6])], [(step["t"], step["ticks"], step["cut"]) for step in steps])
+        self.assertEqual("Time passes, 10 ticks up to tick 10, and nothing arrives.", steps[0]["x"])
+        self.assertTrue(steps[1]["x"].endswith(" Overdue, each sent on its link longer ago than the link's life: packet 2."), steps[1]["x"])
+        start = self.data(self.made(LATE / "expected", LATE / "topology.toml", "--from", 45))["start"]
+        self.assertEqual((11, {"1 2": [0]}, 1), (start["tick"], start["queues"], start["dropped"]))
+
     def test_names_that_look_like_marks_of_html(self):
         topology = self.folder / "net.toml"
         topology.write_text((LINKS / "topology.toml").read_text().replace('prefixes = ["10.1.0.0/16"]', 'prefixes = ["</script><b>"]'))
@@ -150,6 +160,7 @@ class Play(unittest.TestCase):
             (LINKS / "expected", LINKS / "topology.toml", 40, ["step 40, tick 0: inject a 1", ">17<", ">18<", ">site a<", ">192.0.2.2<"]),
             (LINKS / "expected", LINKS / "topology.toml", 42, ["#1 delivered, TTL 61"]),
             (ROOT / "examples/loss/expected", ROOT / "examples/loss/topology.toml", 1, [">step 1, tick 0: link up"]),
+            (LATE / "expected", LATE / "topology.toml", 51, ["step 51, tick 112: tick 4", "Overdue: #4"]),
         ):
             self.out = self.folder / "picture.svg"
             picture = self.made(run, topology, "--svg", "--at", at)

@@ -15,6 +15,7 @@ from runs import ROOT
 from mplsnet_run import KEYS, KINDS, Run
 
 LINKS = ROOT / "examples/two-links/expected"
+LATE = ROOT / "examples/late/expected"
 LOSS = ROOT / "examples/loss/expected"
 LOOP = ROOT / "examples/micro-loop"
 RUNS = sorted(file.parent for file in ROOT.glob("examples/*/expected/journal.txt"))
@@ -56,6 +57,13 @@ class Data(unittest.TestCase):
         mapped = [message for message in run.messages if message["type"] == "mapping" and message["sender"] == "p" and message["receiver"] == "pe1"]
         self.assertEqual({("192.0.2.2/32", 3), ("192.0.2.1/32", 16), ("192.0.2.3/32", 17)}, {(message["fec"], message["label"]) for message in mapped})
         self.assertEqual([1, 1, 2, 2, 3, 3, 4, 5, 5, 6, 6, 6], [entry["table"] for entry in run.tables])
+
+    def test_time_that_passes(self):
+        run = Run(LATE)
+        passed = [(step["step"], step["tick"], step["ticks"]) for step in run.steps if step["kind"] == "tick"]
+        self.assertEqual([(42, 0, 10), (44, 10, 1), (51, 112, 4)], passed)
+        dropped = [(one["packet"], one["rule"], one["node"], one["ended"], one["ended_tick"]) for one in run.packets if one["verdict"] == "dropped"]
+        self.assertEqual([(2, "Overdue", "pe1", 44, 10), (4, "Overdue", "p", 51, 112)], dropped)
 
     def test_csv_and_json_say_the_same(self):
         for kind in KINDS:

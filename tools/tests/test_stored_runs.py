@@ -52,7 +52,7 @@ class StoredRuns(unittest.TestCase):
         names = [f"examples/{path.parent.name}" for path in sorted(ROOT.glob("examples/*/expected"))]
         names += [f"runs/{path.parent.name}" for path in sorted((ROOT / CRATE / "data/runs").glob("*/expected"))]
         self.assertEqual(names, (ROOT / CRATE / "stdin").read_text().split())
-        self.assertEqual(47, len(names))
+        self.assertEqual(49, len(names))
 
     def test_rows_have_status_and_number_of_files(self):
         self.assertEqual((0, ""), self.called())

@@ -144,7 +144,7 @@ class Predicates:
 
 
 AT_THE_DROP = {"on its way": "is_in_flight", "untold": "is_told", "route": "is_best"}
-BY_RULE = {"form", "ttl at entry", "ttl spent", "went round", "pushed unheard", "ended in flight", "lost by link", "lost by line", "cut"}
+BY_RULE = {"form", "ttl at entry", "ttl spent", "went round", "pushed unheard", "ended in flight", "lost by link", "lost by line", "cut", "sent", "overdue"}
 UNBROKEN = set(WORDS) - BY_RULE - {"route", "untold", "address unknown"}
 
 
@@ -277,7 +277,7 @@ class Why(unittest.TestCase):
         return set(kinds)
 
 
-CONTROL, LOSS, RING, HUB, LINKS = (ROOT / "examples" / name for name in ("ordered-control", "loss", "ring", "hub-and-spoke", "two-links"))
+CONTROL, LATE, LOSS, RING, HUB, LINKS = (ROOT / "examples" / name for name in ("ordered-control", "late", "loss", "ring", "hub-and-spoke", "two-links"))
 SIXTH = """\
 packet 6 (line 52, site a, to 10.2.0.1) dropped NoLsp at pe1, path pe1; step 50, tick 4
   route: 10.2.0.0/16 of site b at pe2, since step 15 (line 15: hear bgp pe2 pe1)
@@ -285,6 +285,13 @@ packet 6 (line 52, site a, to 10.2.0.1) dropped NoLsp at pe1, path pe1; step 50,
   and pe1 has heard p's Withdraw of pe2, since step 49 (line 51: hear ldp p pe1)
   and p's next hop to pe2 is pe2, since step 8 (line 8: learn p p pe2)
   and LDP is off on p-pe2, since step 46 (line 48: ldp off p pe2)
+"""
+
+
+FOURTH = """\
+packet 4 (line 16, site a, to 10.2.0.1) dropped Overdue at p, path pe1 p; step 51, tick 112
+  because the frame flies on p-pe2, where it was sent at tick 112, since step 50 (line 17: carry pe1 p 0)
+  and at tick 116 a frame that was sent at tick 112 is past p-pe2's life of 3, since step 51 (line 18: tick 4)
 """
 
 
@@ -312,6 +319,10 @@ class Tool(unittest.TestCase):
 
     def test_a_chain_with_its_steps_and_lines(self):
         self.assertEqual(SIXTH, self.of(CONTROL, 6))
+
+    def test_one_that_is_overdue(self):
+        self.assertEqual(FOURTH, self.of(LATE, 4))
+        self.assertIn("1 Overdue at pe1: at tick 11 a frame that was sent at tick 0 is past pe1-p's life of 10, since step 44 (line 9: tick 1)\n", self.of(LATE))
 
     def test_one_that_arrived(self):
         self.assertRegex(self.of(CONTROL, 4), r"^packet 4 line 44 .* delivered b .*\n  it isn't dropped: it arrived\n$")

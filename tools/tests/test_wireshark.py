@@ -226,6 +226,20 @@ class Wireshark(unittest.TestCase):
         (run / "journal.txt").write_bytes(b"5 inject a 1\n6 inject a 1\n7 carry pe1 pe2 1\n")
         self.refused(1, "journal.txt: line 2: this step fits no frame of the links' captures (the report would help)", run, self.out)
 
+    def test_which_frames_are_overdue(self):
+        """By the lives of links where the topology is there; else as the report and the steps that follow have it."""
+        sys.path.insert(0, str(TOOL.parent))
+        self.addCleanup(sys.path.remove, str(TOOL.parent))
+        from mplsnet_files import lives_of, read_report, read_run, read_topology
+        from mplsnet_replay import Frames
+
+        late = ROOT / "examples/late"
+        ways, lives = read_report(late / "expected/report.txt")[1], lives_of(read_topology(late / "topology.toml"))
+        self.assertEqual({("pe1", "p"): 10, ("p", "pe2"): 3}, lives)
+        for known, overdue in (((ways, lives), [[], [2], [4]]), ((None, lives), [[], [2], [4]]), ((ways, None), [[], [2], [4]]), ((None, None), [[], [2], []])):
+            moves = Frames(read_run(late / "expected"), *known).found()
+            self.assertEqual(overdue, [[flight.packet for flight in move.took] for move in moves if move.words[0] == "tick"])
+
     def test_a_provider_with_and_without_its_report(self):
         # Links go down and come up: each time all packets go another way, and frames that fly are cut.
         made(self.folder, 4, 8, failures=6)
@@ -268,6 +282,8 @@ class Wireshark(unittest.TestCase):
         for said, changed in (
             ("journal.txt: line 2: not a step: 0 link upp p pe2", {"journal__txt": journal.replace(b"up p pe2", b"upp p pe2")}),
             ("journal.txt: line 41: before the tick of the line above", {"journal__txt": journal.replace(b"0 inject", b"3 inject")}),
+            ("journal.txt: line 41: before the tick of the line above", {"journal__txt": journal.replace(b"0 inject", b"0 tick 1\n0 inject")}),
+            ("journal.txt: line 1: not a step: 0 tick x", {"journal__txt": b"0 tick x\n"}),
             ("journal.txt: line 1: hears where no session lives", {"journal__txt": b"0 hear ldp p pe1\n"}),
             ("journal.txt: line 1: there is no pe1+pe2.pcap", {"journal__txt": b"0 learn p pe1 pe2\n"}),
             ("journal.txt: line 1: labels.txt has no node 'q'", {"journal__txt": b"0 bgp up pe1 q\n"}),

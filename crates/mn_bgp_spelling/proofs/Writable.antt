@@ -25,7 +25,7 @@ use Rattle.mn_ledger.specs.World.{Config, Export, Telling, Open, BgpKeepAlive, A
 use Rattle.mn_ledger.specs.Exports.{exports_of}
 use Rattle.mn_ledger.specs.Bgp.{Told, tellings_of, told_to, reply, bgp_replies, is_for, same_export, withdrawn, announced, changed, steady_peers}
 use Rattle.mn_ledger.specs.Bgp.{route_news, told_in, bgp_counted, peerings_after}
-use Rattle.mn_ledger.specs.Ledger.{with_target, ascending, config_after, after, start, no_packets, next_of, left_by, world_from, world_of}
+use Rattle.mn_ledger.specs.Ledger.{with_target, ascending, config_after, after, start, no_packets, next_of, left_by, world_from, world_of, packets_by}
 use Rattle.mn_ledger.specs.Packets.{Packets, packets_after}
 use Rattle.mn_ledger.specs.Refusal.{is_targets_full}
 use Rattle.mn_ledger.specs.Lawful.{IsLawfulFrom, IsLawfulJournal}
@@ -34,6 +34,7 @@ use Rattle.mn_ledger.proofs.Statics.{HasForms, first_forms, forms_go}
 use Rattle.mn_ledger.proofs.Tellings.{Behind, exported_by, in_tellings, in_cleared}
 use Rattle.mn_bgp_spelling.specs.Spelling.{Labels, as_targets, IsWritable}
 use Rattle.mn_bgp_spelling.specs.Laws.{AreLabels}
+use Rattle.mn_ledger.specs.Time.{clock_after}
 
 -- 1. Sets of targets
 
@@ -243,7 +244,7 @@ good_from t (e ∷ es) tick w k n ps lawful fit good =
       forms = forms_go t w e.step lawful.0 fit.forms;
       sets = sets_go t w.config e.step lawful.0 (free t w k n e.step (next_of ps) lawful.2).targets fit.sets;
     } in
-    good_from t es e.tick (after t w e.step) (packets_after t (after t w e.step) k e.step (next_of ps)) (n + 1) (left_by e.step ps) lawful.3 next
+    good_from t es (clock_after e) (after t w e.step) (packets_by t (after t w e.step) k e (next_of ps)) (n + 1) (left_by e.step ps) lawful.3 next
     (tellings_go t w e.step fit next good)
 
 good_told_all : (t : Network) (es : List JournalEntry) (ps : List (List ℕ)) → IsLawful t → IsLawfulJournal t es ps → AllGood t (world_of t es).peerings

@@ -38,7 +38,7 @@ use Rattle.mn_course.specs.Lawful.{IsLawfulPast}
 use Rattle.mn_course.specs.Next.{IsNext, ComesNext}
 use Rattle.mn_course.specs.Paced.{HaveArrived}
 use Rattle.mn_course.proofs.Emptied.{due_ever, all_have_arrived}
-use Rattle.mn_course.proofs.Going.{Has, CanCome, next_can_come, arrived_goes, deliver_goes}
+use Rattle.mn_course.proofs.Going.{Has, Comes, next_can_come, arrived_goes, deliver_goes}
 use Rattle.mn_course.proofs.Made.{same_on}
 use Rattle.mn_course.proofs.Nexts.{none_kept, what_is_next}
 
@@ -175,7 +175,7 @@ module _ (t : Network) (lawful : IsLawful t) (capture : List (List ℕ)) where
       by (is_journal_full past) (next_now t capture News past) refl (next_can_come t lawful capture News past h) (next_drains past h early)
       (λ later g e. line_drains most later g e)
     where
-      by : (full : Bool) (o : Option Coming) → is_journal_full past ≡ full → Has (CanCome t lawful capture past) o → Has (Steps past) o
+      by : (full : Bool) (o : Option Coming) → is_journal_full past ≡ full → Has (Comes t lawful capture News past) o → Has (Steps past) o
           → ((later : Past) → IsLawfulPast t capture later → later.clock ≤ 2 ^ 61 → Drained most later (deliver t capture News most later))
           → Drained (suc most) past (one_by_one News (λ later. deliver t capture News most later) past full o)
       by full None f c d rest = none_done (suc most) past
@@ -192,13 +192,16 @@ module _ (t : Network) (lawful : IsLawful t) (capture : List (List ℕ)) where
           let s : Step = delivery item in
           let later : Past = with_step past s in
           let e : JournalEntry = record { tick = past.clock; step = s; damaged = Undamaged } in
-          let more : Drained most later (deliver t capture News most later) = rest later (arrived_goes t lawful capture News past item h c f) early in
+          let more : Drained most later (deliver t capture News most later) =
+          rest later (arrived_goes t lawful capture News past item h c f) (omega (arith, early, c.can.still)) in
+          let same : later.clock ≡ past.clock = omega (arith, c.can.still) in
           let after_it : world later ≡ after t (world past) s = world_from-push t past.entries (start t) e in
           record {
             steps = s ∷ more.steps;
             drain = (d, subst (λ w. IsDrain t w more.steps) after_it more.drain);
-            made = more.made ∙ append_assoc past.entries (e ∷ []) (map (λ step. record { tick = past.clock; step = step; damaged = Undamaged }) more.steps);
-            clock = more.clock;
+            made = more.made ∙ ap (λ tick. later.entries ++ map (λ step. record { tick = tick; step = step; damaged = Undamaged }) more.steps) same
+                ∙ append_assoc past.entries (e ∷ []) (map (λ step. record { tick = past.clock; step = step; damaged = Undamaged }) more.steps);
+            clock = more.clock ∙ same;
             later = more.later ∙ ap (λ w. after_steps t w more.steps) after_it;
             over = more.over;
             full = λ stopped. let g = more.full stopped in (g.0, (g.1.0, subst (λ w. IsDrainStep t (after_steps t w more.steps) g.1.0) after_it g.1.1));

@@ -24,19 +24,10 @@ use Rattle.mn_course.specs.Paced.{HaveArrived}
 use Rattle.mn_course.proofs.Going.{deliver_goes}
 use Rattle.mn_course.proofs.Left.{none_left_of_all}
 use Rattle.mn_course.proofs.Made.{due_soon}
-use Rattle.mn_course.proofs.Nexts.{what_is_next}
+use Rattle.mn_course.proofs.Nexts.{neither_comes, what_is_next}
 use Rattle.mn_course.proofs.Pace.{deliver_paced}
 
 -- 1. None of some
-
-pub neither_comes : (a b : Option Coming) → earlier a b ≡ None → (a ≡ None) × (b ≡ None)
-neither_comes None b h = (refl, h)
-neither_comes (Some x) None h = absurd (cc)
-neither_comes (Some x) (Some y) h = by (is_due_before y.due y.number x.due x.number) h
-  where
-    by : (b : Bool) → (if b then Some y else Some x) ≡ None → (Some x ≡ None) × (Some y ≡ None)
-    by true e = cc
-    by false e = cc
 
 pub none_else : (a b : Option Coming) → or_else a b ≡ None → (a ≡ None) × (b ≡ None)
 none_else None b h = (refl, h)
@@ -81,7 +72,7 @@ module _ (t : Network) (lawful : IsLawful t) (capture : List (List ℕ)) where
   due_ever past h early x c =
       let soon = due_soon t lawful past.entries (inputs_of capture past.entries) h.journal x c
       ((flies_as_counted t past.entries (inputs_of capture past.entries) lawful h.journal).channels x c) in
-      at_most_is x.due ever (omega (arith, soon, h.late, early))
+      at_most_is x.due ever (omega (arith, soon, h.forward.later, early))
 
   pub emptied : (arrivals : Arrivals) (past : Past) → IsLawfulPast t capture past → past.clock ≤ 2 ^ 61 + 4000001000 → next_now t capture arrivals past ≡ None
       → HaveArrived arrivals (items_of past)

@@ -1,7 +1,7 @@
 -- What a line, and a script, makes of a lawful journal is lawful.
 use Rattle.std.proofs.Common.{ℕ, zero, suc, ◌≡◌, ◌+◌, ◌≤◌, inl, inr, Bool, true, false, List, [], ◌∷◌, ◌++◌, length, refl, arith, sym, ap, ◌∙◌, subst}
-use Rattle.std.proofs.Common.{Option, Some, None}
-use Rattle.std.specs.Prelude.{if◌then◌else◌, ⊤}
+use Rattle.std.proofs.Common.{Option, Some, None, ◌<◌}
+use Rattle.std.specs.Prelude.{if◌then◌else◌, ⊤, max, nat_le}
 use Rattle.std.specs.List.{Contains}
 use Rattle.std.proofs.Math.Nat.{le-max_left}
 use Rattle.mn_base.proofs.Members.{In, in_contained, contained_in, in_append}
@@ -21,13 +21,13 @@ use Rattle.mn_script.specs.Script.{AllFit}
 use Rattle.mn_ledger.specs.declared.refused.Refused.{Refused}
 use Rattle.mn_ledger.specs.declared.refused.Refused.TheVariants as cause
 use Rattle.mn_ledger.specs.Ledger.{start, no_packets, injects, world_of, packets_of}
-use Rattle.mn_ledger.specs.Lawful.{IsLawfulJournal}
+use Rattle.mn_ledger.specs.Lawful.{IsLawfulJournal, GoesForward}
 use Rattle.mn_ledger.specs.OneMore.{added, with_packet, tick_from}
 use Rattle.mn_ledger.specs.Refusal.{refusal_at, where_holds}
 use Rattle.mn_ledger.specs.Verdicts.{injections, one_if}
-use Rattle.mn_ledger.specs.Items.{Channel, Notices, Messages, Routes, Frames}
+use Rattle.mn_ledger.specs.Items.{Channel, Notices, Messages, Routes, Frames, Item, flight_of}
 use Rattle.mn_ledger.proofs.More.{lawful_from-push}
-use Rattle.mn_laws.specs.Flight.{delivering, IsOpen}
+use Rattle.mn_laws.specs.Flight.{delivering, IsOpen, is_frame}
 use Rattle.mn_course.specs.declared.coming.Kind.{Kind}
 use Rattle.mn_course.specs.declared.coming.Kind.TheVariants.{Notice, Message, Frame}
 use Rattle.mn_course.specs.declared.coming.Coming.{Coming}
@@ -35,14 +35,22 @@ use Rattle.mn_course.specs.declared.coming.Arrivals.{Arrivals}
 use Rattle.mn_course.specs.declared.coming.Arrivals.TheVariants.{DueBy, News, AllFrames}
 use Rattle.mn_course.specs.declared.coming.Ending.{Ending}
 use Rattle.mn_course.specs.declared.coming.Ending.TheVariants as ending
-use Rattle.mn_course.specs.Coming.{is_due_before, lost, delivery, coming, earlier, or_else, ever}
+use Rattle.mn_course.specs.Coming.{is_due_before, lost, delivery, coming, earlier, or_else, ever, kind_of, is_kind, is_due}
 use Rattle.mn_course.specs.Course.{Past, Course, with_step, on_to, record_of, bytes_of, input_before, inputs_of, tried, refusal_now, injected, stepped}
 use Rattle.mn_course.specs.Course.{arrived, is_journal_full, one_by_one, next_now, deliver, all, until, most_of, played}
 use Rattle.mn_course.specs.Expansion.{Note, Refusal, Missing, Table, Expansion, table_by, after_line, with_line, unless_stopped, expanded_from, start_of}
 use Rattle.mn_course.specs.Expansion.{expanded}
-use Rattle.mn_course.specs.Next.{IsNext}
+use Rattle.mn_course.specs.Next.{IsNext, first_due}
 use Rattle.mn_course.specs.Lawful.{IsLawfulPast, IsLawfulRun}
-use Rattle.mn_course.proofs.Nexts.{what_is_next}
+use Rattle.mn_course.proofs.Nexts.{what_is_next, neither_comes, frames_first}
+use Rattle.mn_ledger.specs.Time.{clock_after, ticks_in}
+use Rattle.mn_ledger.specs.Packets.{Packets}
+use Rattle.mn_laws.proofs.Due.{none_due}
+use Rattle.mn_ledger.proofs.Refusals.{few_entries}
+use Rattle.mn_course.proofs.Leasts.{not_before}
+use Rattle.mn_course.proofs.Left.{none_left_of_all}
+use Rattle.mn_base.proofs.Bools.{no, clash, two_ways, and_on, and_parts, or_left, or_right, at_most_is, at_most_tells, not_at_most_tells}
+use Rattle.std.proofs.lemmas.Bool.Decides.{leb_tells}
 
 -- 1. The packets of a journal with one entry more
 
@@ -76,9 +84,9 @@ pub a_packet_each : (capture : List (List ℕ)) (es : List JournalEntry) → len
 a_packet_each capture [] = refl
 a_packet_each capture (x ∷ es) = one_input capture x.step (inputs_of capture es) ∙ ap (λ n. one_if (injects x.step) + n) (a_packet_each capture es)
 
-last_tick : (tick : ℕ) (es : List JournalEntry) (e : JournalEntry) → tick_from tick (es ++ e ∷ []) ≡ e.tick
+last_tick : (tick : ℕ) (es : List JournalEntry) (e : JournalEntry) → tick_from tick (es ++ e ∷ []) ≡ clock_after e
 last_tick tick [] e = refl
-last_tick tick (x ∷ es) e = last_tick x.tick es e
+last_tick tick (x ∷ es) e = last_tick (clock_after x) es e
 
 -- 2. What comes can be delivered, and injects nothing
 
@@ -91,6 +99,17 @@ injects_nothing capture t (Messages l n) true = refl
 injects_nothing capture t (Messages l n) false = refl
 injects_nothing capture t (Routes x y) true = refl
 injects_nothing capture t (Routes x y) false = refl
+
+-- and moves no clock
+moves_no_clock : (t : Network) (on : Channel) (b : Bool) → ticks_in (lost b (delivering t on 0)) ≡ 0
+moves_no_clock t (Frames l d) true = refl
+moves_no_clock t (Frames l d) false = refl
+moves_no_clock t (Notices l n) true = refl
+moves_no_clock t (Notices l n) false = refl
+moves_no_clock t (Messages l n) true = refl
+moves_no_clock t (Messages l n) false = refl
+moves_no_clock t (Routes x y) true = refl
+moves_no_clock t (Routes x y) false = refl
 
 abbrev pub Has : (Coming → Type 0) → Option Coming → Type 0
 Has P None = ⊤
@@ -109,6 +128,42 @@ has_or_else : (P : Coming → Type 0) (a b : Option Coming) → Has P a → Has 
 has_or_else P None b h g = g
 has_or_else P (Some x) b h g = h
 
+has_any : (o : Option Coming) → Has (λ item. ⊤) o
+has_any None = tt
+has_any (Some x) = tt
+
+has_map : (P Q : Coming → Type 0) (o : Option Coming) → ((x : Coming) → P x → Q x) → Has P o → Has Q o
+has_map P Q None f h = tt
+has_map P Q (Some x) f h = f x h
+
+-- a tick that isn't past what comes, if anything does
+abbrev pub NoLater : ℕ → Option Coming → Type 0
+NoLater due None = ⊤
+NoLater due (Some item) = due ≤ item.due
+
+pub earliest : (a b : Option Coming) → Has (λ r. NoLater r.due b) (earlier a b)
+earliest None None = tt
+earliest None (Some y) = omega arith
+earliest (Some x) None = tt
+earliest (Some x) (Some y) = by (is_due_before y.due y.number x.due x.number) refl
+  where
+    by : (test : Bool) → is_due_before y.due y.number x.due x.number ≡ test → Has (λ r. NoLater r.due (Some y)) (if test then Some y else Some x)
+    by true h = omega arith
+    by false h = (not_before y.due y.number x.due x.number h).0
+
+pub no_later_last : (a b : Option Coming) (due : ℕ) → NoLater due (earlier a b) → NoLater due b
+no_later_last None b due h = h
+no_later_last (Some x) None due h = tt
+no_later_last (Some x) (Some y) due h = by (is_due_before y.due y.number x.due x.number) refl h
+  where
+    by : (test : Bool) → is_due_before y.due y.number x.due x.number ≡ test → NoLater due (if test then Some y else Some x) → due ≤ y.due
+    by true e g = g
+    by false e g = let later : x.due ≤ y.due = (not_before y.due y.number x.due x.number e).0 in omega (arith, g, later)
+
+pub no_later_first : (due limit : ℕ) (o : Option Coming) → due ≤ limit → NoLater due o → due ≤ first_due limit o
+no_later_first due limit None h g = omega (arith, h)
+no_later_first due limit (Some x) h g = g
+
 module _ (t : Network) (lawful : IsLawful t) (capture : List (List ℕ)) where
   abbrev pub IsGood : Past → Type 0
   IsGood past = IsLawfulPast t capture past
@@ -117,6 +172,7 @@ module _ (t : Network) (lawful : IsLawful t) (capture : List (List ℕ)) where
   pub record CanCome (past : Past) (item : Coming) : Type 0 where
     pub delivered : IsOpen t past.entries (inputs_of capture past.entries) (delivery item)
     pub quiet : packet_at capture (delivery item) ≡ []
+    pub still : ticks_in (delivery item) ≡ 0
     pub soon : item.due ≤ tick_from 0 past.entries + 1000
 
   can_come : (past : Past) → IsGood past → (kind : Kind) (limit : ℕ) → Has (CanCome past) (coming t past.entries (inputs_of capture past.entries) kind limit)
@@ -129,20 +185,90 @@ module _ (t : Network) (lawful : IsLawful t) (capture : List (List ℕ)) where
       by (Some item) g = record {
         delivered = g.delivered;
         quiet = ap (λ s. packet_at capture (lost item.lossy s)) g.step ∙ injects_nothing capture t g.item.on item.lossy;
+        still = ap (λ s. ticks_in (lost item.lossy s)) g.step ∙ moves_no_clock t g.item.on item.lossy;
         soon = g.soon;
       }
 
-  pub next_can_come : (arrivals : Arrivals) (past : Past) → IsGood past → Has (CanCome past) (next_now t capture arrivals past)
-  next_can_come (DueBy end) past h =
+  next_can : (arrivals : Arrivals) (past : Past) → IsGood past → Has (CanCome past) (next_now t capture arrivals past)
+  next_can (DueBy end) past h =
       has_earlier (CanCome past) (coming t past.entries (inputs_of capture past.entries) Notice end) _ (can_come past h Notice end)
       (has_earlier (CanCome past) (coming t past.entries (inputs_of capture past.entries) Message end) _ (can_come past h Message end)
       (can_come past h Frame end))
-  next_can_come News past h =
+  next_can News past h =
       has_or_else (CanCome past) (coming t past.entries (inputs_of capture past.entries) Notice ever) _ (can_come past h Notice ever)
       (can_come past h Message ever)
-  next_can_come AllFrames past h = can_come past h Frame ever
+  next_can AllFrames past h = can_come past h Frame ever
 
-  -- 3. A step more, and ticks that pass
+  -- 3. What comes by its tick comes before all frames
+
+  abbrev items_now : Past → List Item
+  items_now past = (flight_of t past.entries (inputs_of capture past.entries)).items
+
+  -- no frame in flight is due before the tick
+  abbrev pub NoneDue : ℕ → Past → Type 0
+  NoneDue tick past = (x : Item) → In (items_now past) x → is_frame x.on ≡ true → tick ≤ x.due
+
+  abbrev pub IsFirst : Arrivals → Past → Coming → Type 0
+  IsFirst News past item = ⊤
+  IsFirst (DueBy end) past item = NoneDue item.due past
+  IsFirst AllFrames past item = NoneDue item.due past
+
+  -- it can be delivered, and time can go on to it
+  pub record Comes (arrivals : Arrivals) (past : Past) (item : Coming) : Type 0 where
+    pub can : CanCome past item
+    pub first : IsFirst arrivals past item
+
+  abbrev IsNextNow : Past → Kind → ℕ → Option Coming → Type 0
+  IsNextNow past kind limit o = IsNext t past.entries (inputs_of capture past.entries) kind limit o
+
+  next_is : (past : Past) → IsGood past → (kind : Kind) (limit : ℕ) → IsNextNow past kind limit (coming t past.entries (inputs_of capture past.entries) kind limit)
+  next_is past h kind limit = what_is_next t lawful past.entries (inputs_of capture past.entries) h.journal kind limit
+
+  by_limit : (past : Past) (kind : Kind) (limit : ℕ) (o : Option Coming) → IsNextNow past kind limit o → Has (λ item. item.due ≤ limit) o
+  by_limit past kind limit None g = tt
+  by_limit past kind limit (Some item) g =
+      let by : g.item.due ≤ limit = at_most_tells g.item.due limit (and_parts (is_kind kind (kind_of g.item.on)) (nat_le g.item.due limit) g.least.in_time).1 in
+      omega (arith, by, g.due)
+
+  -- no frame is due before a tick by the limit that isn't past the first frame's
+  frames_later : (past : Past) (limit : ℕ) (o : Option Coming) (due : ℕ) → IsNextNow past Frame limit o → due ≤ limit → NoLater due o → NoneDue due past
+  frames_later past limit o due next by first x i frame =
+      let one : first_due limit o ≤ x.due = frames_first t past.entries (inputs_of capture past.entries) limit o next x i frame in
+      let two : due ≤ first_due limit o = no_later_first due limit o by first in
+      omega (arith, one, two)
+
+  next_first : (arrivals : Arrivals) (past : Past) → IsGood past → Has (IsFirst arrivals past) (next_now t capture arrivals past)
+  next_first News past h = has_any (next_now t capture News past)
+  next_first AllFrames past h = by (coming t past.entries (inputs_of capture past.entries) Frame ever) (next_is past h Frame ever)
+    where
+      by : (o : Option Coming) → IsNextNow past Frame ever o → Has (IsFirst AllFrames past) o
+      by None g = tt
+      by (Some item) g = frames_later past ever (Some item) item.due g (by_limit past Frame ever (Some item) g) (omega arith)
+  next_first (DueBy end) past h =
+      let n = coming t past.entries (inputs_of capture past.entries) Notice end in
+      let m = coming t past.entries (inputs_of capture past.entries) Message end in
+      let f = coming t past.entries (inputs_of capture past.entries) Frame end in
+      by f (earlier n (earlier m f)) (next_is past h Frame end)
+      (has_earlier (λ item. item.due ≤ end) n (earlier m f) (by_limit past Notice end n (next_is past h Notice end))
+      (has_earlier (λ item. item.due ≤ end) m f (by_limit past Message end m (next_is past h Message end)) (by_limit past Frame end f (next_is past h Frame end))))
+      (has_map (λ r. NoLater r.due (earlier m f)) (λ r. NoLater r.due f) (earlier n (earlier m f)) (λ r. no_later_last m f r.due) (earliest n (earlier m f)))
+    where
+      by : (f o : Option Coming) → IsNextNow past Frame end f → Has (λ item. item.due ≤ end) o → Has (λ item. NoLater item.due f) o → Has (IsFirst (DueBy end) past) o
+      by f None g by_end first = tt
+      by f (Some item) g by_end first = frames_later past end f item.due g by_end first
+
+  pub next_can_come : (arrivals : Arrivals) (past : Past) → IsGood past → Has (Comes arrivals past) (next_now t capture arrivals past)
+  next_can_come arrivals past h = both (next_now t capture arrivals past) (next_can arrivals past h) (next_first arrivals past h)
+    where
+      both : (o : Option Coming) → Has (CanCome past) o → Has (IsFirst arrivals past) o → Has (Comes arrivals past) o
+      both None c f = tt
+      both (Some item) c f = record { can = c; first = f }
+
+  -- 4. A step more, and ticks that pass
+
+  -- the clock stands where the last step left it
+  at_once : (clock : ℕ) {tick : ℕ} {k : Packets} → tick ≡ clock → GoesForward t tick k clock
+  at_once clock e = record { later = omega (arith, e); due = or_left _ _ (at_most_is clock _ (omega (arith, e))) }
 
   pub step_more : (past : Past) (s : Step) → IsGood past → fits t s ≡ true → refusal_now t capture past s (packet_at capture s) ≡ None
       → IsGood (with_step past s)
@@ -151,14 +277,32 @@ module _ (t : Network) (lawful : IsLawful t) (capture : List (List ℕ)) where
       let e : JournalEntry = record { tick = past.clock; step = s; damaged = Undamaged } in
       record {
         journal = subst (IsLawfulJournal t (es ++ e ∷ [])) (sym (inputs_more capture es e))
-            (lawful_from-push t es e (packet_at capture s) 0 (start t) no_packets 0 (inputs_of capture es) h.each h.journal fit h.late
+            (lawful_from-push t es e (packet_at capture s) 0 (start t) no_packets 0 (inputs_of capture es) h.each h.journal fit h.forward
             (subst (λ n. refusal_at t (world_of t es) (packets_of t es (inputs_of capture es)) n s (packet_at capture s) ≡ None) (omega arith) r));
-        late = subst (λ n. n ≤ past.clock) (sym (last_tick 0 es e)) (omega arith);
+        forward = at_once (past.clock + ticks_in s) (last_tick 0 es e);
         each = a_packet_each capture (es ++ e ∷ []);
       }
 
-  pub time_passes : (tick : ℕ) (past : Past) → IsGood past → IsGood (on_to tick past)
-  time_passes tick past h = record { journal = h.journal; late = omega (arith, h.late, le-max_left past.clock tick); each = h.each }
+  pub time_passes : (tick : ℕ) (past : Past) → IsGood past → NoneDue tick past → IsGood (on_to tick past)
+  time_passes tick past h none = record {
+    journal = h.journal;
+    forward = elim (leb_tells tick past.clock) [
+      | inl q ↦ subst (GoesForward t (tick_from 0 past.entries) (packets_of t past.entries (inputs_of capture past.entries)))
+          (sym (max_left past.clock tick q.1)) h.forward
+      | inr q ↦ subst (GoesForward t (tick_from 0 past.entries) (packets_of t past.entries (inputs_of capture past.entries)))
+          (sym (max_right past.clock tick q.1)) (record {
+            later = omega (arith, h.forward.later, q.1);
+            due = or_right _ _ (none_due t past.entries (inputs_of capture past.entries) tick lawful h.journal none);
+          })
+    ];
+    each = h.each;
+  }
+    where
+      max_left : (a b : ℕ) → b ≤ a → max a b ≡ a
+      max_left a b h = omega (arith, h)
+
+      max_right : (a b : ℕ) → a < b → max a b ≡ b
+      max_right a b h = omega (arith, h)
 
   -- 4. A step line
 
@@ -193,20 +337,22 @@ module _ (t : Network) (lawful : IsLawful t) (capture : List (List ℕ)) where
       (ap (refusal_now t capture past (delivery item)) c.quiet ∙ c.delivered.refused ∙ unrefused (is_journal_full past) cause.TooManySteps room)
 
   on_its_tick : (tick : ℕ) (past : Past) (item : Coming) → CanCome past item → CanCome (on_to tick past) item
-  on_its_tick tick past item c = record { delivered = c.delivered; quiet = c.quiet; soon = c.soon }
+  on_its_tick tick past item c = record { delivered = c.delivered; quiet = c.quiet; still = c.still; soon = c.soon }
 
-  pub arrived_goes : (arrivals : Arrivals) (past : Past) (item : Coming) → IsGood past → CanCome past item → is_journal_full past ≡ false
+  pub arrived_goes : (arrivals : Arrivals) (past : Past) (item : Coming) → IsGood past → Comes arrivals past item → is_journal_full past ≡ false
       → IsGood (arrived arrivals past item)
-  arrived_goes News past item h c room = arrives past item h c room
-  arrived_goes (DueBy end) past item h c room = arrives (on_to item.due past) item (time_passes item.due past h) (on_its_tick item.due past item c) room
-  arrived_goes AllFrames past item h c room = arrives (on_to item.due past) item (time_passes item.due past h) (on_its_tick item.due past item c) room
+  arrived_goes News past item h c room = arrives past item h c.can room
+  arrived_goes (DueBy end) past item h c room =
+      arrives (on_to item.due past) item (time_passes item.due past h c.first) (on_its_tick item.due past item c.can) room
+  arrived_goes AllFrames past item h c room =
+      arrives (on_to item.due past) item (time_passes item.due past h c.first) (on_its_tick item.due past item c.can) room
 
   pub deliver_goes : (arrivals : Arrivals) (most : ℕ) (past : Past) → IsGood past → IsGood (deliver t capture arrivals most past).past
   deliver_goes arrivals zero past h = h
   deliver_goes arrivals (suc more) past h =
       by (is_journal_full past) (next_now t capture arrivals past) refl (next_can_come arrivals past h) (λ later g. deliver_goes arrivals more later g)
     where
-      by : (full : Bool) (o : Option Coming) → is_journal_full past ≡ full → Has (CanCome past) o
+      by : (full : Bool) (o : Option Coming) → is_journal_full past ≡ full → Has (Comes arrivals past) o
           → ((later : Past) → IsGood later → IsGood (deliver t capture arrivals more later).past)
           → IsGood (one_by_one arrivals (λ later. deliver t capture arrivals more later) past full o).past
       by full None f c rest = h
@@ -215,17 +361,28 @@ module _ (t : Network) (lawful : IsLawful t) (capture : List (List ℕ)) where
 
   -- 6. A line
 
-  until_goes : (end : ℕ) (past : Past) (how : Ending) → IsGood past → IsGood (until end past how).past
-  until_goes end past ending.All h = time_passes end past h
-  until_goes end past (ending.Refused why) h = h
-  until_goes end past ending.NoRecord h = h
-  until_goes end past ending.TooManySteps h = h
+  until_goes : (end : ℕ) (past : Past) (how : Ending) → IsGood past → (how ≡ ending.All → NoneDue end past) → IsGood (until end past how).past
+  until_goes end past ending.All h none = time_passes end past h (none refl)
+  until_goes end past (ending.Refused why) h none = h
+  until_goes end past ending.NoRecord h none = h
+  until_goes end past ending.TooManySteps h none = h
+
+  -- all that was due by the end has come
+  none_by_end : (end : ℕ) (past : Past) → IsGood past → IsGood (deliver t capture (DueBy end) all past).past
+      → (deliver t capture (DueBy end) all past).ending ≡ ending.All → NoneDue end (deliver t capture (DueBy end) all past).past
+  none_by_end end past h last over =
+      let now : Past = (deliver t capture (DueBy end) all past).past in
+      let one = neither_comes (coming t now.entries (inputs_of capture now.entries) Notice end) _
+      (none_left_of_all t capture (DueBy end) past (few_entries t past.entries (inputs_of capture past.entries) h.journal) over) in
+      let two = neither_comes (coming t now.entries (inputs_of capture now.entries) Message end) _ one.1 in
+      frames_later now end None end (subst (IsNextNow now Frame end) two.1 (next_is now last Frame end)) (omega arith) tt
 
   pub played_goes : (past : Past) (command : Command) → IsGood past → command_fits t command ≡ true → IsGood (played t capture past command).past
   played_goes past (Do s) h fit = stepped_goes past s h fit
   played_goes past (Run ticks) h fit =
       let course : Course = deliver t capture (DueBy (past.clock + ticks)) all past in
-      until_goes (past.clock + ticks) course.past course.ending (deliver_goes (DueBy (past.clock + ticks)) all past h)
+      let last : IsGood course.past = deliver_goes (DueBy (past.clock + ticks)) all past h in
+      until_goes (past.clock + ticks) course.past course.ending last (none_by_end (past.clock + ticks) past h last)
   played_goes past (Drain most) h fit = deliver_goes News (most_of most) past h
   played_goes past Flush h fit = deliver_goes AllFrames all past h
   played_goes past (Show table) h fit = h
@@ -298,4 +455,4 @@ module _ (t : Network) (lawful : IsLawful t) (capture : List (List ℕ)) where
   pub expanded_goes : (lines : List Line) → AllFit t lines → IsGoodRun (expanded t capture lines)
   expanded_goes lines fit =
       script_goes (start_of (record { clock = 0; entries = [] })) lines
-      (record { past = record { journal = tt; late = omega arith; each = refl }; tables = λ table then_ c. absurd (no_notes (Table table then_) c) }) fit
+      (record { past = record { journal = tt; forward = at_once 0 refl; each = refl }; tables = λ table then_ c. absurd (no_notes (Table table then_) c) }) fit

@@ -13,7 +13,7 @@ use Rattle.mn_course.specs.Coming.{is_due_before, lesser, least}
 abbrev pub NotBefore : ℕ → ℕ → ℕ → ℕ → Type 0
 NotBefore due number other_due other = (other_due ≤ due) × (due ≡ other_due → other ≤ number)
 
-not_before : (d n e m : ℕ) → is_due_before d n e m ≡ false → NotBefore d n e m
+pub not_before : (d n e m : ℕ) → is_due_before d n e m ≡ false → NotBefore d n e m
 not_before d n e m h =
     let off = or_off (nat_lt d e) ((d == e) && nat_lt n m) h in
     (not_less_tells d e off.0, λ same. by (nat_lt n m) refl (test_same d e same) off.1)

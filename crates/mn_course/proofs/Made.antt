@@ -12,7 +12,7 @@ use Rattle.mn_topo.specs.declared.steps.JournalEntry.{JournalEntry}
 use Rattle.mn_topo.proofs.Wirings.{passes_at}
 use Rattle.mn_ledger.specs.World.{World}
 use Rattle.mn_ledger.specs.Packets.{Packets, channel, packets_after}
-use Rattle.mn_ledger.specs.Ledger.{after, start, no_packets, next_of, left_by}
+use Rattle.mn_ledger.specs.Ledger.{after, start, no_packets, next_of, left_by, packets_by}
 use Rattle.mn_ledger.specs.Lawful.{IsLawfulFrom, IsLawfulJournal}
 use Rattle.mn_ledger.specs.OneMore.{tick_from}
 use Rattle.mn_ledger.specs.Items.{Channel, Notices, Messages, Routes, Frames, Load, Notice, Says, Tells, Carries, Item, same_channel, delay_on, numbered}
@@ -21,6 +21,7 @@ use Rattle.mn_ledger.proofs.Channels.{same_chan}
 use Rattle.mn_ledger.proofs.Flows.{in_flight}
 use Rattle.mn_laws.specs.Flight.{AreAscending, AreMadeInOrder, IsOfChannel}
 use Rattle.mn_laws.proofs.Fates.{one_link}
+use Rattle.mn_ledger.specs.Time.{clock_after, timed}
 
 -- 1. Channels
 
@@ -91,19 +92,19 @@ ticks_rise : (t : Network) (es : List JournalEntry) (tick : ℕ) (w : World) (k 
 ticks_rise t [] tick w k i ps lawful = omega arith
 ticks_rise t (e ∷ es) tick w k i ps lawful =
     let v : World = after t w e.step in
-    let later : e.tick ≤ tick_from e.tick es = ticks_rise t es e.tick v (packets_after t v k e.step (next_of ps)) (i + 1) (left_by e.step ps) lawful.3 in
-    omega (arith, later, lawful.1)
+    let later : clock_after e ≤ tick_from (clock_after e) es = ticks_rise t es (clock_after e) v (packets_by t v k e (next_of ps)) (i + 1) (left_by e.step ps) lawful.3 in
+    omega (arith, later, lawful.1.later)
 
 made_by_then : (t : Network) (es : List JournalEntry) (tick : ℕ) (w : World) (k : Packets) (i n : ℕ) (ps : List (List ℕ)) → IsLawfulFrom t tick w k i es ps
     → (x : Item) → In (made_from t w k n es ps) x → x.due ≤ tick_from tick es + delay_on t x.on
 made_by_then t [] tick w k i n ps lawful x j = absurd j
 made_by_then t (e ∷ es) tick w k i n ps lawful x j =
     let v : World = after t w e.step in
-    let q : Packets = packets_after t v k e.step (next_of ps) in
-    let new : List (Channel × Load) = made_in t w v k q e.step in
+    let q : Packets = packets_by t v k e (next_of ps) in
+    let new : List (Channel × Load) = made_in t w v (timed t e k) q e.step in
     elim (in_append (numbered t e.tick n new) (made_from t v q (n + length new) es (left_by e.step ps)) x j) [
-      | inl f ↦ omega (arith, on_time t e.tick n new x f, ticks_rise t es e.tick v q (i + 1) (left_by e.step ps) lawful.3)
-      | inr g ↦ made_by_then t es e.tick v q (i + 1) (n + length new) (left_by e.step ps) lawful.3 x g
+      | inl f ↦ omega (arith, on_time t e.tick n new x f, ticks_rise t es (clock_after e) v q (i + 1) (left_by e.step ps) lawful.3)
+      | inr g ↦ made_by_then t es (clock_after e) v q (i + 1) (n + length new) (left_by e.step ps) lawful.3 x g
     ]
 
 -- 4. A delay is at most 1,000

@@ -1,22 +1,34 @@
 -- What comes next is first on its channel, is due soon, and can be delivered.
 use Rattle.std.proofs.Common.{ℕ, ◌≡◌, ◌<◌, ◌≤◌, ◌⊎◌, inl, inr, Bool, true, false, cond, List, [], ◌∷◌, filter, length, refl, arith, sym, ap, ◌∙◌, subst}
 use Rattle.std.proofs.Common.{Option, Some, None}
-use Rattle.std.specs.Prelude.{◌&&◌, nat_lt, nat_le}
+use Rattle.std.specs.Prelude.{◌&&◌, nat_lt, nat_le, if◌then◌else◌, ◌+◌}
 use Rattle.std.specs.List.{Contains}
-use Rattle.mn_base.proofs.Bools.{two_ways, and_parts, and_on, at_most_is, at_most_tells, less_tells}
+use Rattle.mn_base.proofs.Bools.{two_ways, and_parts, and_on, at_most_is, at_most_tells, less_tells, no, clash, not_at_most_tells}
 use Rattle.mn_base.proofs.Members.{In, in_contained, contained_in, in_filter, filter_in}
 use Rattle.mn_topo.specs.Lawful.{IsLawful}
 use Rattle.mn_topo.specs.Network.{Network}
 use Rattle.mn_topo.specs.declared.steps.JournalEntry.{JournalEntry}
 use Rattle.mn_ledger.specs.Lawful.{IsLawfulJournal}
-use Rattle.mn_ledger.specs.Items.{Channel, Notices, Messages, Routes, Frames, Item, same_channel, items_on, delay_on, flight_of}
-use Rattle.mn_laws.specs.Flight.{delivering, IsOpen, FliesAsCounted}
+use Rattle.mn_ledger.specs.Items.{Channel, Notices, Messages, Routes, Frames, Item, same_channel, items_on, delay_on, flight_of, in_time}
+use Rattle.mn_laws.specs.Flight.{delivering, IsOpen, FliesAsCounted, is_frame}
 use Rattle.mn_laws.proofs.Counted.{flies_as_counted}
 use Rattle.mn_course.specs.declared.coming.Kind.{Kind}
-use Rattle.mn_course.specs.Coming.{kind_of, is_kind, is_due, due_by, least, place_of, is_lost, coming_by, coming, lost}
-use Rattle.mn_course.specs.Next.{IsNext}
-use Rattle.mn_course.proofs.Leasts.{earlier_is, NoneBefore, IsLeastOf, least_is}
+use Rattle.mn_course.specs.Coming.{kind_of, is_kind, is_due, due_by, least, place_of, is_lost, coming_by, coming, lost, is_due_before, earlier}
+use Rattle.mn_course.specs.Next.{IsNext, first_due}
+use Rattle.mn_course.proofs.Leasts.{earlier_is, NoneBefore, IsLeastOf, least_is, not_before}
 use Rattle.mn_course.proofs.Made.{same_on, on_itself, made_before, due_soon}
+use Rattle.mn_course.specs.declared.coming.Coming.{Coming}
+use Rattle.mn_course.specs.declared.coming.Kind.TheVariants.{Frame}
+
+-- where the earlier of two doesn't come, neither does
+pub neither_comes : (a b : Option Coming) → earlier a b ≡ None → (a ≡ None) × (b ≡ None)
+neither_comes None b h = (refl, h)
+neither_comes (Some x) None h = absurd (cc)
+neither_comes (Some x) (Some y) h = by (is_due_before y.due y.number x.due x.number) h
+  where
+    by : (b : Bool) → (if b then Some y else Some x) ≡ None → (Some x ≡ None) × (Some y ≡ None)
+    by true e = cc
+    by false e = cc
 
 pub none_kept : {A : Type 0} (p : A → Bool) (xs : List A) → ((x : A) → In xs x → p x ≡ false) → length (filter p xs) ≡ 0
 none_kept p [] h = refl
@@ -102,3 +114,31 @@ module _ (t : Network) (lawful : IsLawful t) (es : List JournalEntry) (ps : List
             delivered = open_there x.on (is_lost t es ps x.on x) (place_of items x)
                 (subst (λ n. n < length (items_on x.on items)) (sym place) (first_there x f.0));
           }
+
+-- 4. Frames are due no earlier than the first
+
+frame_kind : (on : Channel) → is_frame on ≡ true → is_kind Frame (kind_of on) ≡ true
+frame_kind (Frames l d) h = refl
+frame_kind (Notices l n) h = absurd (no h)
+frame_kind (Messages l n) h = absurd (no h)
+frame_kind (Routes a b) h = absurd (no h)
+
+pub frames_first : (t : Network) (es : List JournalEntry) (ps : List (List ℕ)) (limit : ℕ) (o : Option Coming) → IsNext t es ps Frame limit o
+    → (x : Item) → In (flight_of t es ps).items x → is_frame x.on ≡ true → first_due limit o ≤ x.due
+frames_first t es ps limit o next x i frame = elim (two_ways (nat_le x.due limit)) [
+  | inl q ↦ in_time o next (and_on (is_kind Frame (kind_of x.on)) (nat_le x.due limit) (frame_kind x.on frame) q)
+  | inr q ↦ late o next (not_at_most_tells x.due limit q)
+]
+  where
+    in_time : (o : Option Coming) → IsNext t es ps Frame limit o → is_due Frame limit x ≡ true → first_due limit o ≤ x.due
+    in_time None g q = absurd (clash (sym q ∙ g x (contained_in (flight_of t es ps).items x i)))
+    in_time (Some f) g q =
+        let later : g.item.due ≤ x.due = (not_before x.due x.number g.item.due g.item.number
+        (g.least.least x (contained_in (flight_of t es ps).items x i) q)).0 in
+        omega (arith, later, g.due)
+
+    late : (o : Option Coming) → IsNext t es ps Frame limit o → limit < x.due → first_due limit o ≤ x.due
+    late None g h = omega (arith, h)
+    late (Some f) g h =
+        let by : g.item.due ≤ limit = at_most_tells g.item.due limit (and_parts (is_kind Frame (kind_of g.item.on)) (nat_le g.item.due limit) g.least.in_time).1 in
+        omega (arith, by, h, g.due)

@@ -2,12 +2,12 @@
 use Rattle.std.proofs.Common.{ℕ, zero, suc, ◌≡◌, ◌+◌, ◌*◌, ◌≤◌, Bool, true, false, List, [], ◌∷◌, length, length-append, refl, arith, sym, subst, Option}
 use Rattle.std.proofs.Common.{Some, None, max}
 use Rattle.std.proofs.Math.Nat.{le-max_left, max-le}
-use Rattle.mn_base.proofs.Bools.{at_most_tells}
+use Rattle.mn_base.proofs.Bools.{at_most_tells, and_parts}
 use Rattle.mn_topo.specs.Lawful.{IsLawful}
 use Rattle.mn_topo.specs.declared.steps.Damaged.TheVariants.{Undamaged}
 use Rattle.mn_topo.specs.Network.{Network}
 use Rattle.mn_topo.specs.declared.steps.Step.{Step}
-use Rattle.mn_topo.specs.declared.steps.Step.TheVariants.{Inject}
+use Rattle.mn_topo.specs.declared.steps.Step.TheVariants.{Inject, Tick}
 use Rattle.mn_script.specs.declared.command.Command.{Command}
 use Rattle.mn_script.specs.declared.command.Command.TheVariants.{Do, Run, Drain, Flush, Show}
 use Rattle.mn_script.specs.declared.command.Line.{Line}
@@ -27,7 +27,10 @@ use Rattle.mn_course.specs.Course.{deliver, all, until, most_of, played}
 use Rattle.mn_course.specs.Expansion.{Expansion, after_line, with_line, unless_stopped, expanded_from, start_of, expanded}
 use Rattle.mn_course.specs.Lawful.{IsLawfulPast}
 use Rattle.mn_course.specs.Paced.{ticks_of, IsPaced}
-use Rattle.mn_course.proofs.Going.{Has, CanCome, next_can_come, arrived_goes, played_goes}
+use Rattle.mn_course.proofs.Going.{Has, Comes, next_can_come, arrived_goes, played_goes}
+use Rattle.mn_ledger.specs.Time.{ticks_in}
+use Rattle.mn_topo.specs.Steps.{fits}
+use Rattle.std.specs.Prelude.{nat_le}
 
 -- 1. Paces
 
@@ -41,18 +44,18 @@ then_pace ticks a b c h g = record {
   within = omega (arith, h.within, g.within);
 }
 
-one_step : (past : Past) (s : Step) → IsPaced 0 past (with_step past s)
+one_step : (past : Past) (s : Step) → IsPaced (ticks_in s) past (with_step past s)
 one_step past s =
     let long = length-append past.entries (record { tick = past.clock; step = s; damaged = Undamaged } ∷ []) in
     record { onward = omega arith; longer = omega (arith, long); within = omega (arith, long) }
 
 -- at most 1,000 ticks, and a step
-one_arrival : (past : Past) (due : ℕ) (s : Step) → due ≤ past.clock + 1000 → IsPaced 0 past (with_step (on_to due past) s)
-one_arrival past due s soon =
+one_arrival : (past : Past) (due : ℕ) (s : Step) → due ≤ past.clock + 1000 → ticks_in s ≡ 0 → IsPaced 0 past (with_step (on_to due past) s)
+one_arrival past due s soon still =
     let long = length-append past.entries (record { tick = max past.clock due; step = s; damaged = Undamaged } ∷ []) in
     let back : past.clock ≤ max past.clock due = le-max_left past.clock due in
     let few : max past.clock due ≤ past.clock + 1000 = max-le (omega arith) soon in
-    record { onward = back; longer = omega (arith, long); within = omega (arith, long, few) }
+    record { onward = omega (arith, back, still); longer = omega (arith, long); within = omega (arith, long, few, still) }
 
 -- the clock goes on to an end
 to_end : (past later : Past) (ticks : ℕ) → IsPaced 0 past later → IsPaced ticks past (on_to (past.clock + ticks) later)
@@ -67,11 +70,11 @@ to_end past later ticks h =
 module _ (t : Network) (lawful : IsLawful t) (capture : List (List ℕ)) where
   -- 2. A line
 
-  arrived_paced : (arrivals : Arrivals) (past : Past) (item : Coming) → IsLawfulPast t capture past → CanCome t lawful capture past item
+  arrived_paced : (arrivals : Arrivals) (past : Past) (item : Coming) → IsLawfulPast t capture past → Comes t lawful capture arrivals past item
       → IsPaced 0 past (arrived arrivals past item)
-  arrived_paced News past item h c = one_step past (delivery item)
-  arrived_paced (DueBy end) past item h c = one_arrival past item.due (delivery item) (omega (arith, c.soon, h.late))
-  arrived_paced AllFrames past item h c = one_arrival past item.due (delivery item) (omega (arith, c.soon, h.late))
+  arrived_paced News past item h c = subst (λ n. IsPaced n past (with_step past (delivery item))) c.can.still (one_step past (delivery item))
+  arrived_paced (DueBy end) past item h c = one_arrival past item.due (delivery item) (omega (arith, c.can.soon, h.forward.later)) c.can.still
+  arrived_paced AllFrames past item h c = one_arrival past item.due (delivery item) (omega (arith, c.can.soon, h.forward.later)) c.can.still
 
   pub deliver_paced : (arrivals : Arrivals) (most : ℕ) (past : Past) → IsLawfulPast t capture past → IsPaced 0 past (deliver t capture arrivals most past).past
   deliver_paced arrivals zero past h = same_pace past
@@ -79,7 +82,7 @@ module _ (t : Network) (lawful : IsLawful t) (capture : List (List ℕ)) where
       by (is_journal_full past) (next_now t capture arrivals past) refl (next_can_come t lawful capture arrivals past h)
       (λ later g. deliver_paced arrivals more later g)
     where
-      by : (full : Bool) (o : Option Coming) → is_journal_full past ≡ full → Has (CanCome t lawful capture past) o
+      by : (full : Bool) (o : Option Coming) → is_journal_full past ≡ full → Has (Comes t lawful capture arrivals past) o
           → ((later : Past) → IsLawfulPast t capture later → IsPaced 0 later (deliver t capture arrivals more later).past)
           → IsPaced 0 past (one_by_one arrivals (λ later. deliver t capture arrivals more later) past full o).past
       by full None f c rest = same_pace past
@@ -89,21 +92,21 @@ module _ (t : Network) (lawful : IsLawful t) (capture : List (List ℕ)) where
           then_pace 0 past later (deliver t capture arrivals more later).past (arrived_paced arrivals past item h c)
           (rest later (arrived_goes t lawful capture arrivals past item h c f))
 
-  tried_paced : (past : Past) (s : Step) (o : Option Refused) → IsPaced 0 past (tried past s o).past
-  tried_paced past s None = one_step past s
-  tried_paced past s (Some cause.TooManySteps) = same_pace past
-  tried_paced past s (Some _) = same_pace past
-
-  injected_paced : (past : Past) (s : Step) (o : Option (List ℕ)) → IsPaced 0 past (injected t capture past s o).past
-  injected_paced past s None = same_pace past
-  injected_paced past s (Some bytes) = tried_paced past s (refusal_now t capture past s bytes)
-
-  stepped_paced : (past : Past) (s : Step) → IsPaced 0 past (stepped t capture past s).past
-  stepped_paced past (Inject s number) = injected_paced past (Inject s number) (record_of capture number)
-  stepped_paced past s = tried_paced past s (refusal_now t capture past s [])
-
   some_ticks : (ticks : ℕ) (a b : Past) → IsPaced 0 a b → IsPaced ticks a b
   some_ticks ticks a b h = record { onward = h.onward; longer = h.longer; within = omega (arith, h.within) }
+
+  tried_paced : (past : Past) (s : Step) (o : Option Refused) → IsPaced (ticks_in s) past (tried past s o).past
+  tried_paced past s None = one_step past s
+  tried_paced past s (Some cause.TooManySteps) = some_ticks (ticks_in s) past past (same_pace past)
+  tried_paced past s (Some _) = some_ticks (ticks_in s) past past (same_pace past)
+
+  injected_paced : (past : Past) (s : Step) (o : Option (List ℕ)) → IsPaced (ticks_in s) past (injected t capture past s o).past
+  injected_paced past s None = some_ticks (ticks_in s) past past (same_pace past)
+  injected_paced past s (Some bytes) = tried_paced past s (refusal_now t capture past s bytes)
+
+  stepped_paced : (past : Past) (s : Step) → IsPaced (ticks_in s) past (stepped t capture past s).past
+  stepped_paced past (Inject s number) = injected_paced past (Inject s number) (record_of capture number)
+  stepped_paced past s = tried_paced past s (refusal_now t capture past s [])
 
   until_paced : (past later : Past) (ticks : ℕ) (how : Ending) → IsPaced 0 past later → IsPaced ticks past (until (past.clock + ticks) later how).past
   until_paced past later ticks ending.All h = to_end past later ticks h
@@ -122,9 +125,13 @@ module _ (t : Network) (lawful : IsLawful t) (capture : List (List ℕ)) where
 
   -- 3. A script
 
+  few_in : (s : Step) → fits t s ≡ true → ticks_in s ≤ 1000000
+  few_in (Tick ticks) fit = at_most_tells ticks 1000000 (and_parts (nat_le 1 ticks) (nat_le ticks 1000000) fit).1
+  few_in _ fit = omega arith
+
   few_ticks : (command : Command) → command_fits t command ≡ true → ticks_of command ≤ 1000000
   few_ticks (Run ticks) fit = at_most_tells ticks 1000000 fit
-  few_ticks (Do s) fit = omega arith
+  few_ticks (Do s) fit = few_in s fit
   few_ticks (Drain most) fit = omega arith
   few_ticks Flush fit = omega arith
   few_ticks (Show table) fit = omega arith
@@ -170,4 +177,4 @@ module _ (t : Network) (lawful : IsLawful t) (capture : List (List ℕ)) where
 
   pub expanded_paced : (lines : List Line) → AllFit t lines
       → IsPaced (1000000 * length lines) (record { clock = 0; entries = [] }) (expanded t capture lines).past
-  expanded_paced lines fit = script_paced (start_of (record { clock = 0; entries = [] })) lines (record { journal = tt; late = omega arith; each = refl }) fit
+  expanded_paced lines fit = script_paced (start_of (record { clock = 0; entries = [] })) lines (record { journal = tt; forward = record { later = omega arith; due = refl }; each = refl }) fit

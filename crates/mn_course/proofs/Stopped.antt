@@ -28,7 +28,7 @@ use Rattle.mn_course.specs.Course.{Past, Course, ends, with_step, record_of, inp
 use Rattle.mn_course.specs.Course.{next_now, deliver, all, until, most_of, played}
 use Rattle.mn_course.specs.Endings.{EndsWell}
 use Rattle.mn_course.specs.Lawful.{IsLawfulPast}
-use Rattle.mn_course.proofs.Going.{Has, CanCome, next_can_come, arrived_goes}
+use Rattle.mn_course.proofs.Going.{Has, Comes, next_can_come, arrived_goes}
 
 -- 1. A step that is refused for too many steps meets a full journal
 
@@ -152,7 +152,7 @@ module _ (t : Network) (lawful : IsLawful t) (capture : List (List ℕ)) where
       by (course.is_journal_full past) (next_now t capture arrivals past) refl (next_can_come t lawful capture arrivals past h)
       (λ later g. deliver_ends arrivals most later g)
     where
-      by : (full : Bool) (o : Option Coming) → course.is_journal_full past ≡ full → Has (CanCome t lawful capture past) o
+      by : (full : Bool) (o : Option Coming) → course.is_journal_full past ≡ full → Has (Comes t lawful capture arrivals past) o
           → ((later : Past) → IsLawfulPast t capture later → Ends (deliver t capture arrivals most later))
           → Ends (one_by_one arrivals (λ later. deliver t capture arrivals most later) past full o)
       by full None f c rest = inl refl

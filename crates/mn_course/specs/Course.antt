@@ -17,6 +17,7 @@ use Rattle.mn_course.specs.declared.coming.Arrivals.TheVariants.{DueBy, News, Al
 use Rattle.mn_course.specs.declared.coming.Ending.{Ending}
 use Rattle.mn_course.specs.declared.coming.Ending.TheVariants as ending
 use Rattle.mn_course.specs.Coming.{next_arrival, delivery}
+use Rattle.mn_ledger.specs.Time.{ticks_in}
 
 -- 1. What has happened
 
@@ -33,9 +34,12 @@ pub record Course : Type 0 where
 abbrev pub ends : Ending → Past → Course
 ends how past = record { past = past; ending = how }
 
--- one step more, at the present tick
+-- one step more, at the present tick; a step in which time passes moves the clock
 abbrev pub with_step : Past → Step → Past
-with_step past step = record { clock = past.clock; entries = past.entries ++ record { tick = past.clock; step = step; damaged = Undamaged } ∷ [] }
+with_step past step = record {
+  clock = past.clock + ticks_in step;
+  entries = past.entries ++ record { tick = past.clock; step = step; damaged = Undamaged } ∷ [];
+}
 
 -- the clock goes on to a tick, and never back
 abbrev pub on_to : ℕ → Past → Past

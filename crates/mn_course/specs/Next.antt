@@ -3,7 +3,7 @@ use Rattle.std.specs.Prelude.{◌≡◌, ◌≤◌, ℕ, ◌+◌, true, false, L
 use Rattle.std.specs.List.{Contains}
 use Rattle.mn_topo.specs.Network.{Network}
 use Rattle.mn_topo.specs.declared.steps.JournalEntry.{JournalEntry}
-use Rattle.mn_ledger.specs.Items.{Item, flight_of}
+use Rattle.mn_ledger.specs.Items.{Item, flight_of, in_time}
 use Rattle.mn_ledger.specs.OneMore.{tick_from}
 use Rattle.mn_laws.specs.Flight.{delivering, IsOpen}
 use Rattle.mn_course.specs.declared.coming.Kind.{Kind}
@@ -27,6 +27,11 @@ pub record ComesNext (topology : Network) (entries : List JournalEntry) (inputs 
   pub lossy : coming.lossy ≡ is_lost topology entries inputs item.on item
   pub soon : coming.due ≤ tick_from 0 entries + 1000
   pub delivered : IsOpen topology entries inputs (delivery coming)
+
+-- the tick at which the first that is due by the limit comes, and the one after the limit where none is
+abbrev pub first_due : ℕ → Option Coming → ℕ
+first_due limit None = limit + 1
+first_due limit (Some coming) = coming.due
 
 -- nothing comes exactly where no item of the kind is due by the limit
 abbrev pub IsNext : Network → List JournalEntry → List (List ℕ) → Kind → ℕ → Option Coming → Type 0

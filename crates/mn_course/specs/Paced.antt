@@ -2,18 +2,20 @@
 use Rattle.std.specs.Prelude.{◌≡◌, ◌≤◌, ℕ, ◌+◌, ◌*◌, Bool, false, not, nat_le, List, length}
 use Rattle.std.specs.List.{Contains}
 use Rattle.mn_script.specs.declared.command.Command.{Command}
-use Rattle.mn_script.specs.declared.command.Command.TheVariants.{Run}
+use Rattle.mn_script.specs.declared.command.Command.TheVariants.{Do, Run}
 use Rattle.mn_ledger.specs.Items.{Item}
 use Rattle.mn_laws.specs.Flight.{is_frame}
 use Rattle.mn_course.specs.declared.coming.Arrivals.{Arrivals}
 use Rattle.mn_course.specs.declared.coming.Arrivals.TheVariants.{DueBy, News, AllFrames}
 use Rattle.mn_course.specs.Course.{Past}
+use Rattle.mn_ledger.specs.Time.{ticks_in}
 
 -- 1. The clock
 
 -- the ticks that a line asks for
 abbrev pub ticks_of : Command → ℕ
 ticks_of (Run ticks) = ticks
+ticks_of (Do step) = ticks_in step
 ticks_of _ = 0
 
 -- the journal grew, and the clock went on by no more than these ticks, and 1,000 for each entry more

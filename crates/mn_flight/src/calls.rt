@@ -51,6 +51,11 @@ pub trait Flight<T> {
         ensures channels { channels self.new ≡ channels self.old }
         ensures flight { IsFlight (channels self.new) (items self.new) };
 
+    /// The first item of a channel; `None` where it has none.
+    fn first(&self, channel: u32) -> Option<&Item<T>>
+        ensures value { option_copied result ≡ slice_get (on_channel channel (items self.now)) 0 }
+        ensures flight { IsFlight (channels self.now) (items self.now) };
+
     /// Of the items that are due at a tick `limit` or before it, the one of least due tick and, among these, of least
     /// number; `None` where none is due by then.
     fn earliest(&self, limit: u64) -> Option<&Item<T>>

@@ -113,6 +113,11 @@ impl<T: Drop> Flight<T> for ListFlight<T> {
         Some(self.items.remove(i))
     }
 
+    fn first(&self, channel: u32) -> Option<&Item<T>> {
+        let i = nth_place(&self.items, channel, 0)?;
+        Some(&self.items[i])
+    }
+
     fn earliest(&self, limit: u64) -> Option<&Item<T>> {
         let i = earliest_place(&self.items, limit)?;
         Some(&self.items[i])

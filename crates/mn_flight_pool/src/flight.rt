@@ -71,6 +71,11 @@ impl<T: Drop> Flight<T> for PoolFlight<T> {
         self.pool.take(node)
     }
 
+    fn first(&self, channel: u32) -> Option<&Item<T>> {
+        let node = self.pool.node_on(channel, 0)?;
+        self.pool.item(node)
+    }
+
     fn earliest(&self, limit: u64) -> Option<&Item<T>> {
         let node = self.pool.first_due(limit)?;
         self.pool.item(node)

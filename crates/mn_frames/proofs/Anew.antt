@@ -18,7 +18,7 @@ use Rattle.mn_ledger.specs.Places.{home_of, sites_at}
 use Rattle.mn_ledger.specs.World.{World, Config}
 use Rattle.mn_ledger.specs.Packets.{Packets, packets_after}
 use Rattle.mn_ledger.specs.Lawful.{IsLawfulFrom, IsLawfulJournal}
-use Rattle.mn_ledger.specs.Ledger.{config_after, first_config, after, start, no_packets, world_from, world_of, next_of, left_by}
+use Rattle.mn_ledger.specs.Ledger.{config_after, first_config, after, start, no_packets, world_from, world_of, next_of, left_by, packets_by}
 use Rattle.mn_ledger.specs.Refusal.{labels_given}
 use Rattle.mn_ledger.proofs.Members.{In, in_contained, contained_in, in_append, in_front, in_rest, in_map, in_filter, filter_in, in_range}
 use Rattle.mn_ledger.proofs.GoingBy.{pair_here, pair_off}
@@ -31,6 +31,7 @@ use Rattle.mn_frames.proofs.Numbers.{place_behind, site_place}
 use Rattle.mn_frames.proofs.Attaching.{place_last, site_of, number_of}
 use Rattle.mn_frames.proofs.Spent.{total, total_is, step_gives, none_attached, others_within}
 use Rattle.mn_laws.proofs.Announced.{attaches_grow}
+use Rattle.mn_ledger.specs.Time.{clock_after}
 
 -- 1. Attachments are counted up
 
@@ -116,7 +117,7 @@ from_only t node tick w packets count [] inputs site k lawful i = absurd i
 from_only t node tick w packets count (e ∷ es) inputs site k lawful i = elim (in_append (given_in t node w.config e.step) _ (attachment_of site k) i) [
   | inl j ↦ (let here = step_only t node w.config e.step site k lawful.0 j in
       (here.0, here.1, here.2, omega (arith, here.3, grows t es (after t w e.step) site)))
-  | inr j ↦ (let later = from_only t node e.tick (after t w e.step) (packets_after t (after t w e.step) packets e.step (next_of inputs)) (count + 1) es
+  | inr j ↦ (let later = from_only t node (clock_after e) (after t w e.step) (packets_by t (after t w e.step) packets e (next_of inputs)) (count + 1) es
       (left_by e.step inputs) site k lawful.3 j in
       (later.0, later.1, omega (arith, later.2, attaches_grow w.config e.step site), later.3))
 ]
@@ -273,7 +274,7 @@ has_table t node tick w packets count [] inputs l binds lawful h = subst (HasTab
 has_table t node tick w packets count (e ∷ es) inputs l binds lawful h =
     subst (HasTable t node (world_from t (after t w e.step) es).config (labels_from t (config_after w.config e.step) (labels_after t w.config l e.step) es))
     (append_assoc binds (given_in t node w.config e.step) (given_from t node (config_after w.config e.step) es))
-    (has_table t node e.tick (after t w e.step) (packets_after t (after t w e.step) packets e.step (next_of inputs)) (count + 1) es (left_by e.step inputs)
+    (has_table t node (clock_after e) (after t w e.step) (packets_by t (after t w e.step) packets e (next_of inputs)) (count + 1) es (left_by e.step inputs)
     (labels_after t w.config l e.step) (binds ++ given_in t node w.config e.step) lawful.3 (one_more t node w.config l binds e.step lawful.0 h))
 
 pub by_table : AttachmentsByTable

@@ -10,7 +10,7 @@ use Rattle.mn_topo.specs.Lawful.{IsLawful}
 use Rattle.mn_ledger.specs.World.{World}
 use Rattle.mn_ledger.specs.Transport.{usable}
 use Rattle.mn_ledger.specs.Held.{HeldRoute}
-use Rattle.mn_ledger.specs.Packets.{Packets, bound, hop_over, away_from}
+use Rattle.mn_ledger.specs.Packets.{Packets, bound, hop_over, away_from, stamped}
 use Rattle.mn_frames.specs.Given.{Labelling, label_for}
 use Rattle.mn_frames.specs.Frames.{entry, inner}
 use Rattle.mn_frames.specs.Entries.{IsPushed, outer_over}
@@ -29,7 +29,7 @@ outer_stack g route bytes packet hop false = refl
 departs : (t : Network) (g : Labelling) (w : World) (k : Packets) (packet : ℕ) (route : HeldRoute) (bytes : List ℕ) (node : ℕ) (frame : Labelled)
     (found : Option (ℕ × ℕ)) →
     IsLawful t → node < length t.loopbacks → node ≢ route.edge → IsPushed t g route bytes frame → usable t w.config w.views w.sessions node route.edge ≡ found →
-    Departs t g k (bound packet route bytes) node (hop_over t k (bound packet route bytes) node rule.NoLsp found) (outer_over g route.edge found) frame
+    Departs t g k (bound packet route bytes) node (hop_over t k (stamped k (bound packet route bytes)) node rule.NoLsp found) (outer_over g route.edge found) frame
 departs t g w k packet route bytes node frame None lawful there apart pushed is = refl
 departs t g w k packet route bytes node frame (Some hop) lawful there apart pushed is = (
   links,
@@ -54,7 +54,7 @@ departs t g w k packet route bytes node frame (Some hop) lawful there apart push
     leads = hop_leads t w node route.edge hop lawful there apart is
 
     links : (l : ℕ) (dir : Dir) → Leads t node hop.0 l dir →
-        hop_over t k (bound packet route bytes) node rule.NoLsp (Some hop) ≡ sent k (bound packet route bytes) l dir
+        hop_over t k (stamped k (bound packet route bytes)) node rule.NoLsp (Some hop) ≡ sent k (stamped k (bound packet route bytes)) l dir
     links l dir other = let one = only_link t node hop.0 l hop.1 dir (away_from t hop.1 node) lawful other leads in rw (one.1, one.0) refl
 
 pub leaves_as_told : LeavesAsTold

@@ -283,7 +283,7 @@ the_first_table_of_pe2 = record {
 -- 4. The packet on its way, and its frames
 
 abbrev pub token : Token
-token = record { packet = 0; edge = 2; site = 1; attachment = 1; pushed = 63; ttl = 63; bytes = aged packet 1 }
+token = record { packet = 0; edge = 2; site = 1; attachment = 1; pushed = 63; ttl = 63; sent = 0; bytes = aged packet 1 }
 
 pub the_packet_flies : flying_on (packets_of two_links on_its_way (packet ∷ [])) 0 Forth ≡ token ∷ []
 unfolding next knowledge_of news sessions_after peerings_after held packets_after is_not_ipv4 is_malformed is_truncated has_bad_checksum good checksum_for

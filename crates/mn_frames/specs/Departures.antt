@@ -11,7 +11,7 @@ use Rattle.mn_topo.specs.Links.{are_joined}
 use Rattle.mn_topo.specs.Lawful.{IsLawful}
 use Rattle.mn_ledger.specs.World.{World}
 use Rattle.mn_ledger.specs.Held.{HeldRoute}
-use Rattle.mn_ledger.specs.Packets.{Token, Packets, bound, drop_at, deliver, hop_on}
+use Rattle.mn_ledger.specs.Packets.{Token, Packets, bound, drop_at, deliver, hop_on, stamped}
 use Rattle.mn_frames.specs.Given.{Labelling}
 use Rattle.mn_frames.specs.Frames.{IsFrameOf, IsSound}
 use Rattle.mn_frames.specs.Entries.{IsPushed, IsAged, outer_for}
@@ -28,7 +28,7 @@ with_outer (Some label) (top ∷ below) = pushed (top ∷ below) label top.ttl
 abbrev pub Departs : Network → Labelling → Packets → Token → ℕ → Packets → Option (NodeNo × Option ℕ) → Labelled → Type 0
 Departs topology given packets token node later None frame = later ≡ drop_at packets token.packet rule.NoLsp node
 Departs topology given packets token node later (Some out) frame =
-    ((l : ℕ) (dir : Dir) → Leads topology node out.0.0 l dir → later ≡ sent packets token l dir)
+    ((l : ℕ) (dir : Dir) → Leads topology node out.0.0 l dir → later ≡ sent packets (stamped packets token) l dir)
     × IsFrameOf given token out.0.0 (record frame { entries = with_outer out.1 frame.entries })
     × IsSound topology given token
     × (are_joined topology.links node out.0.0 ≡ true)

@@ -1,12 +1,12 @@
 -- The words of an entry's text, and the entry for which they ask.
-use Rattle.std.proofs.Common.{◌≡◌, ◌<◌, ◌≤◌, ◌+◌, ◌^◌, ℕ, zero, suc, Bool, true, false, List, [], ◌∷◌, ◌++◌, length, take, Some, None, Result, Ok, Err, refl, ap}
+use Rattle.std.proofs.Common.{◌≡◌, ◌<◌, ◌+◌, ◌^◌, ℕ, zero, suc, Bool, true, false, List, [], ◌∷◌, ◌++◌, length, take, Some, None, Result, Ok, Err, refl, ap}
 use Rattle.std.proofs.Common.{sym, ◌∙◌, arith, append-nil, append_assoc}
 use Rattle.std.specs.Prelude.{nat_lt, nat_le, ◌-◌, map, slice_index, not, cond, ◌&&◌, ◌==◌, All, filter, take_while, if◌then◌else◌, Option}
 use Rattle.std.specs.List.{flat_map, list_all, slice_split}
 use Rattle.std.specs.Str.Lines.{lines, lines_of_parts}
 use Rattle.std.proofs.lemmas.List.Folds.{list_all-append}
 use Rattle.std.specs.Str.Parse.{digits_value}
-use Rattle.std.proofs.lemmas.Bool.{and_parts, and_from, leb-true}
+use Rattle.std.proofs.lemmas.Bool.{and_parts, and_from}
 use Rattle.std.proofs.lemmas.Bool.Decides.{nat_tests}
 use Rattle.std.proofs.lemmas.List.Splits.{slice_split_none, slice_split_at, length-slice_split}
 use Rattle.std.proofs.lemmas.List.Sums.{take_while-cons}
@@ -17,18 +17,14 @@ use Rattle.mn_text.specs.declared.refusal.TextBad.TheVariants.{NotANumber, TooGr
 use Rattle.mn_text.proofs.Again.{number_again}
 use Rattle.mn_topo.specs.Lawful.{IsLawful}
 use Rattle.mn_topo.specs.Network.{Network}
-use Rattle.mn_topo.specs.Steps.{fits}
-use Rattle.mn_topo.specs.declared.steps.Step.{Step}
-use Rattle.mn_topo.specs.declared.steps.Step.TheVariants.{Tick}
 use Rattle.mn_topo.specs.declared.steps.JournalEntry.{JournalEntry}
 use Rattle.mn_script.specs.declared.command.Command.TheVariants.{Do}
-use Rattle.mn_script.specs.Lines.{line_says, command_line, do_line}
-use Rattle.mn_script.specs.Spelled.{step_words, IsStep}
-use Rattle.mn_script.specs.Steps.{step_line}
+use Rattle.mn_script.specs.Lines.{line_says}
+use Rattle.mn_script.specs.Spelled.{step_words}
 use Rattle.mn_script.specs.Words.{is_comment}
 use Rattle.mn_script.proofs.Again.{command_again}
 use Rattle.mn_journal.specs.Lines.{spaced, text_of, line_of, IsEntry}
-use Rattle.mn_journal.specs.Reading.{step_of, some_ticks, tick_said, or_tick, step_said, entry_with, asked_by}
+use Rattle.mn_journal.specs.Reading.{step_of, entry_with, asked_by}
 use Rattle.mn_journal.proofs.Plain.{all_of, is_plain_byte, is_plain, AllPlain, number_plain, step_plain}
 use Rattle.mn_text.proofs.Parts.{feed_step}
 
@@ -87,38 +83,15 @@ tick_again n h =
 
 -- 3. The entry for which its text asks
 
--- no line of a script says a Tick
-tick_unsaid : (network : Network) (ticks : ℕ) → step_of (line_says network (step_words network (Tick ticks))) ≡ None
-unfolding line_says command_line do_line step_line
-tick_unsaid network ticks = refl
-
-ticks_again : (network : Network) (ticks : ℕ) → fits network (Tick ticks) ≡ true → tick_said (step_words network (Tick ticks)) ≡ Some (Tick ticks)
-ticks_again network ticks fit =
-    let both = and_parts (nat_le 1 ticks) (nat_le ticks 1000000) fit in
-    let most : ticks ≤ 1000000 = leb-true ticks 1000000 both.1 in
-    ap some_ticks (from_of (is_number (number_text ticks)) (digits_value 10 (number_text ticks)) 1000000 ticks
-    (number_again ticks 1000000 (omega arith) most))
-    ∙ ap (λ b. cond b (Some (Tick ticks)) None) both.0
-
--- the step that its words say
-said_again : (network : Network) (step : Step) → IsLawful network → fits network step ≡ true → IsStep step →
-    step_said network (step_words network step) ≡ Some step
-said_again network (Tick ticks) lawful fit is =
-    ap (λ ws. or_tick (step_of (line_says network ws)) (step_words network (Tick ticks)))
-    (no_comments (step_words network (Tick ticks)) (step_plain network (Tick ticks) lawful fit is))
-    ∙ ap (λ said. or_tick said (step_words network (Tick ticks))) (tick_unsaid network ticks)
-    ∙ ticks_again network ticks fit
-said_again network step lawful fit is =
-    ap (λ ws. or_tick (step_of (line_says network ws)) (step_words network step)) (no_comments (step_words network step) (step_plain network step lawful fit is))
-    ∙ ap (λ said. or_tick (step_of said) (step_words network step)) (command_again network (Do step) lawful fit is)
-
 pub asked_again : (network : Network) (entry : JournalEntry) → IsLawful network → IsEntry network entry →
     asked_by network (words (text_of network entry)) ≡ Some entry
 asked_again network entry lawful is =
     let plain = step_plain network entry.step lawful is.fit is.step in
     ap (asked_by network) (words_of (number_text entry.tick) (step_words network entry.step) (number_plain entry.tick is.tick) plain)
-    ∙ ap (λ found. entry_with found (step_said network (step_words network entry.step))) (tick_again entry.tick is.tick)
-    ∙ ap (entry_with (Some entry.tick)) (said_again network entry.step lawful is.fit is.step)
+    ∙ ap (λ found. entry_with found (step_of (line_says network (take_while (λ word. not (is_comment word)) (step_words network entry.step)))))
+    (tick_again entry.tick is.tick)
+    ∙ ap (λ ws. entry_with (Some entry.tick) (step_of (line_says network ws))) (no_comments (step_words network entry.step) plain)
+    ∙ ap (λ said. entry_with (Some entry.tick) (step_of said)) (command_again network (Do entry.step) lawful is.fit is.step)
     ∙ ap (λ mark. let found : JournalEntry = record { tick = entry.tick; step = entry.step; damaged = mark } in Some found) (sym is.undamaged)
 
 -- the text is that of one entry alone

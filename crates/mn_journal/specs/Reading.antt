@@ -1,7 +1,6 @@
 -- What a journal is read as.
 use Rattle.std.specs.Prelude.{◌≡◌, ◌+◌, ℕ, Bool, true, false, not, take_while, List, [], ◌∷◌, ◌++◌, All, length, map, Option, Some, None, Result, Ok, Err}
-use Rattle.std.specs.Prelude.{Vec, ⊤, cond, codes, nat_le}
-use Rattle.std.specs.Str.{bytes_eq}
+use Rattle.std.specs.Prelude.{Vec, ⊤}
 use Rattle.std.specs.Str.Lines.{lines}
 use Rattle.std.specs.declared.alloc.Global.{Global}
 use Rattle.mn_topo.specs.Network.{Network}
@@ -11,7 +10,6 @@ use Rattle.mn_topo.specs.declared.steps.Damaged.TheVariants.{Undamaged}
 use Rattle.mn_text.specs.Numbers.{number_up_to}
 use Rattle.mn_text.specs.Words.{words}
 use Rattle.mn_topo.specs.declared.steps.Step.{Step}
-use Rattle.mn_topo.specs.declared.steps.Step.TheVariants.{Tick}
 use Rattle.mn_script.specs.Lines.{line_says}
 use Rattle.mn_script.specs.Words.{is_comment}
 use Rattle.mn_script.specs.declared.command.Command.{Command}
@@ -31,32 +29,15 @@ step_of (Ok (Some (Show table))) = None
 step_of (Ok None) = None
 step_of (Err rule) = None
 
--- `tick` and a number of ticks from 1 to 1,000,000, which no line of a script says yet
-abbrev pub some_ticks : Option ℕ → Option Step
-some_ticks (Some ticks) = cond (nat_le 1 ticks) (Some (Tick ticks)) None
-some_ticks None = None
-
-abbrev pub tick_said : List (List ℕ) → Option Step
-tick_said (word ∷ ticks ∷ []) = cond (bytes_eq word (codes "tick")) (some_ticks (number_up_to ticks 1000000)) None
-tick_said _ = None
-
-abbrev pub or_tick : Option Step → List (List ℕ) → Option Step
-or_tick (Some step) ws = Some step
-or_tick None ws = tick_said ws
-
--- the step that words say: that of a script's line, or a Tick
-abbrev pub step_said : Network → List (List ℕ) → Option Step
-step_said network ws = or_tick (step_of (line_says network (take_while (λ word. not (is_comment word)) ws))) ws
-
 abbrev pub entry_with : Option ℕ → Option Step → Option JournalEntry
 entry_with (Some tick) (Some step) = Some (record { tick = tick; step = step; damaged = Undamaged })
 entry_with (Some tick) None = None
 entry_with None step = None
 
--- the entry for which a line's words ask: a tick, and a step
+-- the entry for which a line's words ask: a tick, and a step as in a script
 abbrev pub asked_by : Network → List (List ℕ) → Option JournalEntry
 asked_by network [] = None
-asked_by network (tick ∷ ws) = entry_with (number_up_to tick 18446744073709551615) (step_said network ws)
+asked_by network (tick ∷ ws) = entry_with (number_up_to tick 18446744073709551615) (step_of (line_says network (take_while (λ word. not (is_comment word)) ws)))
 
 -- the line is the text of the entry, for which it asks and whose step the topology has room for
 pub record IsText (network : Network) (line : List ℕ) (entry : JournalEntry) : Type 0 where

@@ -10,8 +10,8 @@
 //! ```
 //!
 //! A line on a link or on LDP names the link's ends as the topology does, `hear`, `carry` and `lose` name sender and
-//! then receiver, and `bgp` the node of lesser number first. A Tick is `tick T`, which no line of a script is yet. So
-//! each entry has one line, and a line is read as an entry only where it is the entry's line, byte by byte.
+//! then receiver, and `bgp` the node of lesser number first. So each entry has one line, and a line is read as an entry
+//! only where it is the entry's line, byte by byte.
 //!
 //! - `text`: prefixes and targets, on the stack
 //! - `write`: from an entry to its line

@@ -4,11 +4,10 @@ ghost use Rattle.std.specs.List.{flat_map};
 ghost use Rattle.mn_text.specs.Words.{words};
 ghost use Rattle.mn_script.specs.Lines.{line_says};
 ghost use Rattle.mn_script.specs.Words.{line_words, texts};
-ghost use Rattle.mn_topo.specs.Network.{Network};
 ghost use Rattle.mn_topo.specs.Steps.{fits};
 ghost use Rattle.mn_topo.specs.declared.steps.JournalEntry.{JournalEntry};
 ghost use Rattle.mn_journal.specs.Lines.{line_of, IsEntry};
-ghost use Rattle.mn_journal.specs.Reading.{asked_by, step_of, step_said, tick_said, Again, Says, Reads, Takes};
+ghost use Rattle.mn_journal.specs.Reading.{asked_by, step_of, Again, Says, Reads, Takes};
 
 use crate::JournalBad;
 use crate::write::put_text;
@@ -37,36 +36,6 @@ fn step_in(alloc: Global, topology: &Topology, line: &[u8]) -> Result<Option<Ste
     Ok(step_of(topology, &words))
 }
 
-/// Ticks of one step.
-const MOST_TICKS: u64 = 1_000_000;
-
-/// The Tick that a line says, if it says one.
-fn tick_said(line: &[u8]) -> Option<Step>
-    ensures value { result ≡ tick_said (words line.now) }
-    ensures fits { (network : Network) → IfSome result (λ step. fits network step ≡ true) }
-{
-    let (word, rest) = first_word(line)?;
-    let (ticks, rest) = first_word(rest)?;
-    if first_word(rest).is_some() || word != "tick".as_bytes() {
-        return None;
-    }
-    match number_up_to(ticks, MOST_TICKS) {
-        Some(ticks) if ticks >= 1 => Some(Step::Tick(ticks as u32)),
-        _ => None,
-    }
-}
-
-/// The step that a line says, if it says one.
-fn step_said(alloc: Global, topology: &Topology, line: &[u8]) -> Result<Option<Step>, AllocError>
-    ensures value { IfOk result (λ step. step ≡ step_said topology.now (words line.now)) }
-    ensures fits { IfOk result (λ step. IfSome step (λ step. fits topology.now step ≡ true)) }
-{
-    match step_in(alloc, topology, line)? {
-        Some(step) => Ok(Some(step)),
-        None => Ok(tick_said(line)),
-    }
-}
-
 /// The entry for which a line's words ask.
 fn asked(
     alloc: Global,
@@ -82,7 +51,7 @@ fn asked(
     let Some(tick) = number_up_to(word, u64::MAX) else {
         return Ok(None);
     };
-    match step_said(alloc, topology, rest)? {
+    match step_in(alloc, topology, rest)? {
         Some(step) => {
             let damaged = Damaged::Undamaged;
             Ok(Some(JournalEntry {

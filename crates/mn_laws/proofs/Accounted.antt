@@ -259,9 +259,9 @@ edge_at t v h = at t.vrfs v (record { node = record { 0 = 0 }; rd = record { 0 =
 -- the frame of a packet that flies
 frame_good : (t : Network) (es : List JournalEntry) (ps : List (List ℕ)) (s : Sending) (l : LinkNo) → IsLawful t → IsSent es ps s
     → IsLawfulJournal t es ps → (k : IsKnown t es ps s (length es)) → (f : Flies t es ps s (length es) l) → s.packet < length (packets_of t es ps).verdicts
-    → ((i : ℕ) → slice_index s.bytes i < 256)
-    → IsGoodFrame t (world_at t es (length es)).config (packets_of t es ps) l.0 (frame_of s f.route (path_of (packets_at t es ps (length es)) s.packet))
-frame_good t es ps s l lawful sent journal k f inside bytes =
+    → ((i : ℕ) → slice_index s.bytes i < 256) → (tick : ℕ)
+    → IsGoodFrame t (world_at t es (length es)).config (packets_of t es ps) l.0 (frame_of s f.route (path_of (packets_at t es ps (length es)) s.packet) tick)
+frame_good t es ps s l lawful sent journal k f inside bytes tick =
     let fine : IsTrue (good s.bytes) = f.bound.is_good in
     let holds : HoldsSites t es = sites_held t lawful es ps journal in
     let before : s.place < length es = slice_get_within es s.place sent.entry sent.there in
@@ -314,9 +314,9 @@ frames_good t es ps lawful journal each bytes l d token c = on_link (packets_who
         let flies : verdict_on (packets_at t es ps (length es)) s.0.packet ≡ Flying (record { 0 = l }) d = ap (λ q. verdict_on q s.0.packet) whole
         ∙ ap (verdict_on (packets_of t es ps)) s.1 ∙ is in
         let f : Flies t es ps s.0 (length es) (record { 0 = l }) = subst (FateIs t es ps s.0 (length es)) flies k.fate in
-        let frame : Token = frame_of s.0 f.route (path_of (packets_at t es ps (length es)) s.0.packet) in
+        let frame : Token = frame_of s.0 f.route (path_of (packets_at t es ps (length es)) s.0.packet) token.sent in
         let same : token ≡ frame = f.frames (channel l d) token (subst (λ q. In (q.flying (channel l d)) token) (sym whole) i) (sym s.1) in
         subst (IsGoodFrame t (world_of t es).config (packets_of t es ps) l) (sym {a = token} {b = frame} same)
         (subst (λ (w : World). IsGoodFrame t w.config (packets_of t es ps) l frame) (world_whole t es (length es) (omega arith))
         (frame_good t es ps s.0 (record { 0 = l }) lawful s.2 journal k f (subst (λ j. j < length (packets_of t es ps).verdicts) (sym s.1) inside)
-        (bytes s.0.packet s.0.bytes s.2.content)))
+        (bytes s.0.packet s.0.bytes s.2.content) token.sent))

@@ -12,15 +12,17 @@ use Rattle.mn_ledger.specs.World.{World}
 use Rattle.mn_ledger.proofs.More.{unlooked, goes_on, none_more}
 use Rattle.mn_laws.specs.Deliveries.{Delivery, delivery_at, deliveries_from, deliveries_of}
 use Rattle.mn_laws.specs.OneMore.{AddsToItsLists}
+use Rattle.mn_ledger.specs.Ledger.{packets_by}
+use Rattle.mn_ledger.specs.Time.{timed}
 
 -- 1. The last entry's delivery comes last
 
 deliveries_end : (t : Network) (es : List JournalEntry) (e : JournalEntry) (w : World) (k : Packets) (ps : List (List ℕ))
     → deliveries_from t w k (es ++ e ∷ []) ps ≡ deliveries_from t w k es ps ++ delivery_at e.tick (packets_from t w k (es ++ e ∷ []) ps).delivered
-deliveries_end t [] e w k ps = append-nil (delivery_at e.tick (packets_after t (after t w e.step) k e.step (next_of ps)).delivered)
+deliveries_end t [] e w k ps = append-nil (delivery_at e.tick (packets_by t (after t w e.step) k e (next_of ps)).delivered)
 deliveries_end t (x ∷ es) e w k ps =
     let v : World = after t w x.step in
-    let q : Packets = packets_after t v k x.step (next_of ps) in
+    let q : Packets = packets_by t v k x (next_of ps) in
     ap (λ r. delivery_at x.tick q.delivered ++ r) (deliveries_end t es e v q (left_by x.step ps))
     ∙ sym (append_assoc (delivery_at x.tick q.delivered) (deliveries_from t v q es (left_by x.step ps))
     (delivery_at e.tick (packets_from t v q (es ++ e ∷ []) (left_by x.step ps)).delivered))
@@ -41,7 +43,7 @@ one_unlooked : (f : Bool) (t : Network) (x : JournalEntry) (es : List JournalEnt
 one_unlooked true t x es qs ih e w k [] h = absurd (none_more (injections es) (h ∙ ap (λ b. one_if b + injections es) e))
 one_unlooked true t x es qs ih e w k (p ∷ ps) h =
     let v : World = after t w x.step in
-    let q : Packets = packets_after t v k x.step p in
+    let q : Packets = packets_by t v k x p in
     ap (onward t v x es q) (taken (p ∷ (ps ++ qs))) ∙ ap (λ r. delivery_at x.tick q.delivered ++ r) (ih v q ps (omega (arith, h, ap one_if e)))
     ∙ sym (ap (onward t v x es q) (taken (p ∷ ps)))
   where
@@ -49,9 +51,9 @@ one_unlooked true t x es qs ih e w k (p ∷ ps) h =
     taken ps = rw e refl
 one_unlooked false t x es qs ih e w k ps h =
     let v : World = after t w x.step in
-    let q : Packets = packets_after t v k x.step (next_of ps) in
-    ap (onward t v x es (packets_after t v k x.step (next_of (ps ++ qs)))) (kept (ps ++ qs))
-    ∙ ap (λ r. onward t v x es r (ps ++ qs)) (unlooked t v k x.step (next_of (ps ++ qs)) (next_of ps) e)
+    let q : Packets = packets_by t v k x (next_of ps) in
+    ap (onward t v x es (packets_by t v k x (next_of (ps ++ qs)))) (kept (ps ++ qs))
+    ∙ ap (λ r. onward t v x es r (ps ++ qs)) (unlooked t v (timed t x k) x.step (next_of (ps ++ qs)) (next_of ps) e)
     ∙ ap (λ r. delivery_at x.tick q.delivered ++ r) (ih v q ps (omega (arith, h, ap one_if e)))
     ∙ sym (ap (onward t v x es q) (kept ps))
   where
@@ -73,12 +75,12 @@ pub adds_to_its_lists : (t : Network) (es : List JournalEntry) (ps : List (List 
     → AddsToItsLists t es ps e b
 adds_to_its_lists t es ps e b each =
     let one = goes_on t es ps e b each in
-    let then : Packets = packets_after t (after t (world_of t es) e.step) (packets_of t es ps) e.step b in
+    let then : Packets = packets_by t (after t (world_of t es) e.step) (packets_of t es ps) e b in
     record {
       deliveries = deliveries_end t es e (start t) no_packets (with_packet e.step b ps)
           ∙ ap (λ r. r ++ delivery_at e.tick (packets_of t (es ++ e ∷ []) (with_packet e.step b ps)).delivered) (with_more (injects e.step) t es ps b each)
           ∙ ap (λ (q : Packets). deliveries_of t es ps ++ delivery_at e.tick q.delivered) one.packets;
       frames = λ l d. ap (filter (λ (item : Item). same_channel (Frames l d) item.on)) one.made
           ∙ filter-append (λ (item : Item). same_channel (Frames l d) item.on) (made_by t es ps)
-          (numbered t e.tick (length (made_by t es ps)) (made_then t (world_of t es) (packets_of t es ps) e.step b));
+          (numbered t e.tick (length (made_by t es ps)) (made_then t (world_of t es) (packets_of t es ps) e b));
     }

@@ -14,6 +14,8 @@ use Rattle.mn_ledger.specs.Refusal.{refusal_at}
 use Rattle.mn_ledger.specs.Lawful.{IsLawfulFrom, IsLawfulJournal}
 use Rattle.mn_ledger.proofs.More.{unlooked, none_more}
 use Rattle.mn_laws.specs.Accounts.{world_at, packets_at}
+use Rattle.mn_ledger.specs.Ledger.{packets_by}
+use Rattle.mn_ledger.specs.Time.{clock_after, timed}
 
 -- 1. The bytes of an injection
 
@@ -62,7 +64,7 @@ world_step t es n e h = world_goes t es n e (start t) h
 
 -- the packets after a step that is done with these packets before it
 abbrev pub stepped_to : Network → World → Packets → JournalEntry → List ℕ → Packets
-stepped_to t w k e b = packets_after t (after t w e.step) k e.step b
+stepped_to t w k e b = packets_by t (after t w e.step) k e b
 
 packets_go : (t : Network) (es : List JournalEntry) (n : ℕ) (e : JournalEntry) (w : World) (k : Packets) (ps : List (List ℕ)) → slice_get es n ≡ Some e
     → packets_from t w k (take (suc n) es) ps ≡ stepped_to t (world_from t w (take n es)) (packets_from t w k (take n es) ps) e
@@ -71,7 +73,7 @@ packets_go t [] n e w k ps h = absurd (no_entry e h)
 packets_go t (x ∷ es) zero e w k ps h = ap (λ y. stepped_to t w k y (next_of ps)) (same_entry x e h) ∙ ap (stepped_to t w k e) (next_is ps)
 packets_go t (x ∷ es) (suc n) e w k ps h =
     let v : World = after t w x.step in
-    let q : Packets = packets_after t v k x.step (next_of ps) in
+    let q : Packets = packets_by t v k x (next_of ps) in
     packets_go t es n e v q (left_by x.step ps) h
     ∙ ap (stepped_to t (world_from t v (take n es)) (packets_from t v q (take n es) (left_by x.step ps)) e) (left_is x.step ps (injections (take n es)))
 
@@ -105,12 +107,12 @@ lawful_goes t (x ∷ es) zero e tick w k i ps h lawful =
     none i = omega arith
 lawful_goes t (x ∷ es) (suc n) e tick w k i ps h lawful =
     let v : World = after t w x.step in
-    let q : Packets = packets_after t v k x.step (next_of ps) in
+    let q : Packets = packets_by t v k x (next_of ps) in
     subst (λ m. IsDone t (world_from t v (take n es)) (packets_from t v q (take n es) (left_by x.step ps)) m e.step
     (bytes_of ps (one_if (injects x.step) + injections (take n es)))) (one i n)
     (subst (IsDone t (world_from t v (take n es)) (packets_from t v q (take n es) (left_by x.step ps)) (i + 1 + n) e.step)
     (left_is x.step ps (injections (take n es)))
-    (lawful_goes t es n e x.tick v q (i + 1) (left_by x.step ps) h lawful.3))
+    (lawful_goes t es n e (clock_after x) v q (i + 1) (left_by x.step ps) h lawful.3))
   where
     one : (i n : ℕ) → i + 1 + n ≡ i + suc n
     one i n = omega arith
@@ -132,7 +134,7 @@ lawful_front t (x ∷ es) (suc n) tick w k i ps h = (
   h.0,
   h.1,
   h.2,
-  lawful_front t es n x.tick (after t w x.step) (packets_after t (after t w x.step) k x.step (next_of ps)) (i + 1) (left_by x.step ps) h.3,
+  lawful_front t es n (clock_after x) (after t w x.step) (packets_by t (after t w x.step) k x (next_of ps)) (i + 1) (left_by x.step ps) h.3,
 )
 
 pub lawful_at : (t : Network) (es : List JournalEntry) (ps : List (List ℕ)) (n : ℕ) → IsLawfulJournal t es ps → IsLawfulJournal t (take n es) ps
@@ -156,17 +158,17 @@ one_unlooked : (f : Bool) (t : Network) (x : JournalEntry) (es : List JournalEnt
 one_unlooked true t x es qs ih e w k [] h = absurd (none_more (injections es) (h ∙ ap (λ b. one_if b + injections es) e))
 one_unlooked true t x es qs ih e w k (p ∷ ps) h =
     let v : World = after t w x.step in
-    let q : Packets = packets_after t v k x.step p in
+    let q : Packets = packets_by t v k x p in
     ap (packets_from t v q es) (taken (p ∷ (ps ++ qs))) ∙ ih v q ps (omega (arith, h, ap one_if e)) ∙ sym (ap (packets_from t v q es) (taken (p ∷ ps)))
   where
     taken : (ps : List (List ℕ)) → left_by x.step ps ≡ but_next ps
     taken ps = rw e refl
 one_unlooked false t x es qs ih e w k ps h =
     let v : World = after t w x.step in
-    ap (packets_from t v (packets_after t v k x.step (next_of (ps ++ qs))) es) (kept (ps ++ qs))
-    ∙ ap (λ q. packets_from t v q es (ps ++ qs)) (unlooked t v k x.step (next_of (ps ++ qs)) (next_of ps) e)
-    ∙ ih v (packets_after t v k x.step (next_of ps)) ps (omega (arith, h, ap one_if e))
-    ∙ sym (ap (packets_from t v (packets_after t v k x.step (next_of ps)) es) (kept ps))
+    ap (packets_from t v (packets_by t v k x (next_of (ps ++ qs))) es) (kept (ps ++ qs))
+    ∙ ap (λ q. packets_from t v q es (ps ++ qs)) (unlooked t v (timed t x k) x.step (next_of (ps ++ qs)) (next_of ps) e)
+    ∙ ih v (packets_by t v k x (next_of ps)) ps (omega (arith, h, ap one_if e))
+    ∙ sym (ap (packets_from t v (packets_by t v k x (next_of ps)) es) (kept ps))
   where
     kept : (ps : List (List ℕ)) → left_by x.step ps ≡ ps
     kept ps = rw e refl

@@ -30,15 +30,18 @@ use Rattle.mn_ledger.specs.Ledger.{config_after, after, start, no_packets, next_
 use Rattle.mn_ledger.specs.Lawful.{IsLawfulFrom, IsLawfulJournal}
 use Rattle.mn_ledger.specs.Items.{Channel, Notices, Messages, Frames, Load, Notice, Says, Carries, Item, Flight, notices_in, message_of, messages_in}
 use Rattle.mn_ledger.specs.Items.{route_of, routes_in, frame_by, frame_after, frames_in, last_of, made_in, numbered, left_in_flight, with_made, flight_from}
-use Rattle.mn_ledger.specs.Items.{flight_of}
+use Rattle.mn_ledger.specs.Items.{flight_of, in_time, in_time_by, is_late}
 use Rattle.mn_ledger.proofs.Members.{In, in_append, in_map, in_filter, in_flat_map, in_range, in_contained}
 use Rattle.mn_ledger.proofs.Turning.{opener, dir_ends}
 use Rattle.mn_ledger.proofs.GoingBy.{pair_here, pair_off}
 use Rattle.mn_ledger.proofs.Peers.{same_numbers}
 use Rattle.mn_ledger.proofs.Flows.{in_left}
 use Rattle.mn_laws.specs.Flight.{IsOfChannel}
-use Rattle.mn_laws.proofs.Linked.{IsLinked, AreLinked, linked_step, none_linked}
+use Rattle.mn_laws.proofs.Linked.{IsLinked, AreLinked, linked_step, none_linked, timed_linked}
 use Rattle.mn_ledger.proofs.Quiet.{opener_end}
+use Rattle.mn_ledger.specs.Ledger.{packets_by}
+use Rattle.mn_ledger.specs.Time.{clock_after, timed}
+use Rattle.mn_topo.specs.declared.steps.Step.TheVariants.{Tick}
 
 -- 1. What is said is said on a link, by one of its ends
 
@@ -249,20 +252,27 @@ numbered-on t tick n (m ∷ ms) h x i = elim i [
   | inr j ↦ numbered-on t tick (n + 1) ms (λ y k. h y (inr k)) x j
 ]
 
+-- what is still in flight as time goes on was
+pub in_time_in : (t : Network) (clock : ℕ) (s : Step) (flight : Flight) (x : Item) → In (in_time_by t clock s flight).items x → In flight.items x
+in_time_in t clock (Tick ticks) flight x i = (in_filter (λ item. not (is_late t clock item.on item.load)) flight.items x i).0
+in_time_in t clock _ flight x i = i
+
 channels-on : (t : Network) → IsLawful t
     → (es : List JournalEntry) (tick : ℕ) (w : World) (k : Packets) (i : ℕ) (flight : Flight) (ps : List (List ℕ)) → IsLawfulFrom t tick w k i es ps
     → JoinEdges t w.config → AreLinked t k → AllOn t flight.items → AllOn t (flight_from t w k flight es ps).items
 channels-on t fine [] tick w k i flight ps lawful joins linked h = h
 channels-on t fine (e ∷ es) tick w k i flight ps lawful joins linked h =
     let then_world : World = after t w e.step in
-    let packets : Packets = packets_after t then_world k e.step (next_of ps) in
-    let new : List (Channel × Load) = made_in t w then_world k packets e.step in
-    let later : AreLinked t packets = linked_step t w k e.step (next_of ps) fine lawful.0 linked in
-    channels-on t fine es e.tick then_world packets (i + 1) (with_made t e.tick new e.step flight) (left_by e.step ps) lawful.3
+    let now : Packets = timed t e k in
+    let packets : Packets = packets_by t then_world k e (next_of ps) in
+    let new : List (Channel × Load) = made_in t w then_world now packets e.step in
+    let left : Flight = in_time t e flight in
+    let later : AreLinked t packets = linked_step t w now e.step (next_of ps) fine lawful.0 (timed_linked t (clock_after e) e.step k linked) in
+    channels-on t fine es (clock_after e) then_world packets (i + 1) (with_made t e.tick new e.step left) (left_by e.step ps) lawful.3
     (joins-step t w.config e.step lawful.0 joins) later
-    (λ x j. elim (in_append (left_in_flight t e.step flight.items) (numbered t e.tick flight.made new) x j) [
-      | inl m ↦ h x (in_left t e.step flight.items x m)
-      | inr m ↦ numbered-on t e.tick flight.made new (step-made t w then_world k packets e.step fine.ends_differ lawful.0 joins later) x m
+    (λ x j. elim (in_append (left_in_flight t e.step left.items) (numbered t e.tick left.made new) x j) [
+      | inl m ↦ h x (in_time_in t (clock_after e) e.step flight x (in_left t e.step left.items x m))
+      | inr m ↦ numbered-on t e.tick left.made new (step-made t w then_world now packets e.step fine.ends_differ lawful.0 joins later) x m
     ])
 
 pub channels_are : (t : Network) (es : List JournalEntry) (ps : List (List ℕ)) (item : Item) → IsLawful t → IsLawfulJournal t es ps
@@ -328,7 +338,7 @@ none_from : (t : Network) (es : List JournalEntry) (tick : ℕ) (w : World) (k :
     → JoinEdges t w.config → NoneToItself w.peerings → NoneToItself (world_from t w es).peerings
 none_from t [] tick w k i ps lawful joins h = h
 none_from t (e ∷ es) tick w k i ps lawful joins h =
-    none_from t es e.tick (after t w e.step) (packets_after t (after t w e.step) k e.step (next_of ps)) (i + 1) (left_by e.step ps) lawful.3
+    none_from t es (clock_after e) (after t w e.step) (packets_by t (after t w e.step) k e (next_of ps)) (i + 1) (left_by e.step ps) lawful.3
     (joins-step t w.config e.step lawful.0 joins) (none_go t w e.step lawful.0 joins h)
 
 pub none_to_itself : (t : Network) (es : List JournalEntry) (ps : List (List ℕ)) → IsLawfulJournal t es ps → (edge : ℕ)

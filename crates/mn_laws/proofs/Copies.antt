@@ -2,10 +2,10 @@
 use Rattle.std.proofs.Common.{ℕ, zero, suc, ◌≡◌, ◌≢◌, ◌+◌, ◌-◌, ◌<◌, ◌≤◌, ◌⊎◌, inl, inr, true, false, List, [], ◌∷◌, ◌++◌, length, take, refl, arith, sym}
 use Rattle.std.proofs.Common.{◌∙◌, ap, subst, Option, Some, None}
 use Rattle.std.specs.Prelude.{◌==◌, slice_get}
-use Rattle.std.proofs.lemmas.Bool.Decides.{eqb_tells}
+use Rattle.std.proofs.lemmas.Bool.Decides.{eqb_tells, leb_tells}
 use Rattle.std.proofs.lemmas.List.{length-append, length-set, length_push}
 use Rattle.std.proofs.lemmas.Option.{same_Some}
-use Rattle.mn_base.proofs.Bools.{none_below, no}
+use Rattle.mn_base.proofs.Bools.{none_below, no, two_ways}
 use Rattle.mn_drops.specs.declared.drops.Rule.{Rule}
 use Rattle.mn_drops.specs.declared.drops.Rule.TheVariants as rule
 use Rattle.mn_wiring.specs.declared.links.Dir.{Dir}
@@ -13,7 +13,7 @@ use Rattle.mn_wiring.specs.declared.links.Dir.TheVariants.{Forth, Back}
 use Rattle.mn_wiring.specs.Wiring.{sender, receiver}
 use Rattle.mn_topo.specs.Network.{Network, wiring_of}
 use Rattle.mn_topo.specs.declared.steps.Step.{Step}
-use Rattle.mn_topo.specs.declared.steps.Step.TheVariants.{LinkDown, Inject, Carry, Lose}
+use Rattle.mn_topo.specs.declared.steps.Step.TheVariants.{LinkDown, Inject, Carry, Lose, Tick}
 use Rattle.mn_topo.specs.declared.steps.JournalEntry.{JournalEntry}
 use Rattle.mn_ledger.specs.declared.verdict.Verdict.{Verdict}
 use Rattle.mn_ledger.specs.declared.verdict.Verdict.TheVariants.{Delivered, Dropped, Flying}
@@ -22,19 +22,23 @@ use Rattle.mn_ledger.specs.Tables.{put}
 use Rattle.mn_ledger.specs.Places.{home_of, vrf_of}
 use Rattle.mn_ledger.specs.World.{World}
 use Rattle.mn_ledger.specs.Packets.{Token, Packets, channel, flying_on, judged, drop_at, visited, deliver, hop_over, bound, entry_rules, enter_by, one_more}
-use Rattle.mn_ledger.specs.Packets.{taken, carry, lose, cut_each, cut, before_step, packets_after}
+use Rattle.mn_ledger.specs.Packets.{taken, carry, lose, cut_each, cut, before_step, packets_after, stamped}
 use Rattle.mn_ledger.specs.Ledger.{after, start, no_packets, injects, next_of, left_by, packets_from, packets_of}
 use Rattle.mn_ledger.specs.Verdicts.{one_if, verdict_on, AreInOnePlace}
 use Rattle.mn_ledger.proofs.Members.{In}
-use Rattle.mn_ledger.proofs.OnePlace.{loosen, stepped}
+use Rattle.mn_ledger.proofs.OnePlace.{loosen, stepped, timed_places}
 use Rattle.mn_ledger.proofs.Peers.{same_numbers, same_test, two_ways}
 use Rattle.mn_laws.specs.Deliveries.{Delivery, delivery_at, deliveries_from, deliveries_of}
 use Rattle.mn_laws.specs.Accounts.{is_copy}
 use Rattle.mn_laws.proofs.Elsewhere.{judged_off, judged_here, push_other, cut_counts, cut_others}
 use Rattle.mn_laws.proofs.Entering.{enters}
 use Rattle.mn_laws.proofs.Moving.{after_step, injected_is, carried_is, lost_is, cut_is, arrives}
-use Rattle.mn_laws.proofs.Fates.{where_it_flies, flying_inside, in_get}
+use Rattle.mn_laws.proofs.Fates.{where_it_flies, flying_inside, in_get, where_flying, the_frame, some_frame, no_frame}
 use Rattle.mn_laws.proofs.At.{no_entry}
+use Rattle.mn_ledger.specs.Ledger.{packets_by}
+use Rattle.mn_ledger.specs.Time.{timed, timed_by, clock_after, is_overdue}
+use Rattle.mn_base.specs.declared.numbers.LinkNo.{LinkNo}
+use Rattle.mn_laws.proofs.Expired.{timed_off, timed_here, timed_older}
 
 -- 1. A step that delivers nothing, and one that delivers a packet
 
@@ -153,7 +157,7 @@ entered t v k site b =
       delivered = λ x p m e. inr (delivers k u (length k.verdicts) x.site _ b ready);
       flies = λ x hop p m e q. inl
           (quiet_verdict k u (length k.verdicts) _ ready (λ c. refl)
-          (hop_over t u (bound (length k.verdicts) x b) (home_of t site) rule.NoLsp (Some hop)) refl refl refl);
+          (hop_over t u (stamped u (bound (length k.verdicts) x b)) (home_of t site) rule.NoLsp (Some hop)) refl refl refl);
     })
 
 -- the packet of a frame was not delivered
@@ -193,7 +197,7 @@ carried t v k count l d place y (Some f) one at =
       gone = λ a b c. inl (dropped k u f.packet rule.SiteGone y ready);
       stuck = λ a b c. inl (dropped k u f.packet rule.NoEntry y ready);
       flies = λ a b hop c. inl
-          (quiet_verdict k u f.packet _ ready (λ n. refl) (hop_over t u (record f { ttl = f.ttl - 1 }) y rule.NoEntry (Some hop)) refl refl refl);
+          (quiet_verdict k u f.packet _ ready (λ n. refl) (hop_over t u (stamped u (record f { ttl = f.ttl - 1 })) y rule.NoEntry (Some hop)) refl refl refl);
     })
 
 lost : (k : Packets) (count l : ℕ) (d : Dir) (place n : ℕ) (o : Option Token) → AreInOnePlace k count → slice_get (flying_on k l d) place ≡ o
@@ -335,14 +339,70 @@ delivers_numbered k w d h = record { upper = upper; each = each; once = once }
 numbered_step : (k w : Packets) → Goes k w → AreNumbered k → AreNumbered w
 numbered_step k w g h = elim g [ inl q ↦ quiet_numbered k w q h | inr d ↦ delivers_numbered k w d h ]
 
+-- as time goes on no packet becomes a copy, or is one no more
+record AreAlike (k w : Packets) : Type 0 where
+  copies : w.copies ≡ k.copies
+  as_many : length w.verdicts ≡ length k.verdicts
+  same : (n j : ℕ) → is_copy n (verdict_on w j) ≡ is_copy n (verdict_on k j)
+
+as_numbered : (k w : Packets) → AreAlike k w → AreNumbered k → AreNumbered w
+as_numbered k w a h = record {
+  upper = λ c j g e. let le = h.upper c j (inside j g) (sym (a.same c j) ∙ e) in (le.0, omega (arith, le.1, a.copies));
+  each = λ c low high. let old = h.each c low (omega (arith, high, a.copies)) in (old.0, subst (λ n. old.0 < n) (sym a.as_many) old.1, a.same c old.0 ∙ old.2);
+  once = λ c i j g f e d. h.once c i j (inside i g) (inside j f) (sym (a.same c i) ∙ e) (sym (a.same c j) ∙ d);
+}
+  where
+    inside : (j : ℕ) → j < length w.verdicts → j < length k.verdicts
+    inside j g = subst (λ n. j < n) a.as_many g
+
+-- a packet that flies is no copy, nor is one whose frame was overdue
+ticked_copy : (t : Network) (clock ticks : ℕ) (k : Packets) (count n j : ℕ) → AreInOnePlace k count
+    → is_copy n (verdict_on (timed_by t clock (Tick ticks) k) j) ≡ is_copy n (verdict_on k j)
+ticked_copy t clock ticks k count n j one = elim (where_flying (verdict_on k j)) [
+  | inl q ↦ ap (is_copy n) (timed_off t clock ticks j k (λ l d f there i same. absurd (no_frame k count j (channel l d) f one q i same))).verdict
+  | inr q ↦ of_frame q.0 q.1 q.2 (some_frame k count j q.0 q.1 one q.2)
+]
+  where
+    of_frame : (l : LinkNo) (d : Dir) → verdict_on k j ≡ Flying l d → (x : Token) × In (k.flying (channel l.0 d)) x × (x.packet ≡ j)
+        → is_copy n (verdict_on (timed_by t clock (Tick ticks) k) j) ≡ is_copy n (verdict_on k j)
+    of_frame l d is x = elim (two_ways (is_overdue t clock l.0 x.0)) [
+      | inr early ↦ ap (is_copy n) (timed_off t clock ticks j k (λ m b f there i same.
+          let at = the_frame k count j l (record { 0 = m }) d b f x.0 one is x.1 x.2 i same in
+          ap (λ a. is_overdue t clock a f) at.0 ∙ ap (is_overdue t clock l.0) at.2 ∙ early)).verdict
+      | inl late ↦ elim (leb_tells (length t.links) l.0) [
+        | inl past ↦ ap (is_copy n) (timed_off t clock ticks j k (λ m b f there i same.
+            let at = the_frame k count j l (record { 0 = m }) d b f x.0 one is x.1 x.2 i same in
+            absurd (beyond m l.0 (length t.links) at.0 there past.1))).verdict
+        | inr there ↦ ap (λ i. is_copy n (verdict_on (timed_by t clock (Tick ticks) k) i)) (sym x.2)
+            ∙ ap (is_copy n) (timed_here t clock ticks l.0 d x.0 k there.1 x.1 late
+            (subst (λ i. i < length k.verdicts) (sym x.2) (flying_inside k j l d is))
+            (λ m b f i same. let at = the_frame k count j l (record { 0 = m }) d b f x.0 one is x.1 x.2 i (same ∙ x.2) in
+            ap (λ a. sender (wiring_of t) a b) at.0 ∙ ap (sender (wiring_of t) l.0) at.1))
+            ∙ sym (ap (is_copy n) is)
+      ]
+    ]
+      where
+        beyond : (m l n : ℕ) → m ≡ l → m < n → n ≤ l → ⊥
+        beyond m l n e h g = omega (arith, e, h, g)
+
+timed_alike : (t : Network) (clock : ℕ) (s : Step) (k : Packets) (count : ℕ) → AreInOnePlace k count → AreAlike k (timed_by t clock s k)
+timed_alike t clock (Tick ticks) k count one = let old = timed_older t clock ticks k in record {
+  copies = old.copies;
+  as_many = old.verdicts;
+  same = λ n j. ticked_copy t clock ticks k count n j one;
+}
+timed_alike t clock _ k count one = record { copies = refl; as_many = refl; same = λ n j. refl }
+
 numbered_from : (t : Network) (es : List JournalEntry) (w : World) (k : Packets) (count : ℕ) (ps : List (List ℕ)) → AreInOnePlace k count
     → AreNumbered k → AreNumbered (packets_from t w k es ps)
 numbered_from t [] w k count ps one h = h
 numbered_from t (e ∷ es) w k count ps one h =
     let v : World = after t w e.step in
-    let q : Packets = packets_after t v k e.step (next_of ps) in
-    numbered_from t es v q (one_if (injects e.step) + count) (left_by e.step ps) (stepped t v k e.step (next_of ps) count one)
-    (numbered_step k q (goes t w k count e.step (next_of ps) one) h)
+    let q : Packets = packets_by t v k e (next_of ps) in
+    let now : Packets = timed t e k in
+    let placed : AreInOnePlace now count = timed_places t e k count one in
+    numbered_from t es v q (one_if (injects e.step) + count) (left_by e.step ps) (stepped t v now e.step (next_of ps) count placed)
+    (numbered_step now q (goes t w now count e.step (next_of ps) placed) (as_numbered k now (timed_alike t (clock_after e) e.step k count one) h))
 
 none_numbered : AreNumbered no_packets
 none_numbered = record {
@@ -355,7 +415,7 @@ none_numbered = record {
     none : (c : ℕ) → 1 ≤ c → c ≤ 0 → ⊥
     none c h g = omega (arith, h, g)
 
-nowhere : AreInOnePlace no_packets 0
+pub nowhere : AreInOnePlace no_packets 0
 nowhere = record { places = λ j c. refl; verdicts = refl; paths = refl }
 
 pub numbered : (t : Network) (es : List JournalEntry) (ps : List (List ℕ)) → AreNumbered (packets_of t es ps)
@@ -374,11 +434,14 @@ as_many_from : (t : Network) (es : List JournalEntry) (w : World) (k : Packets) 
 as_many_from t [] w k count ps one = omega arith
 as_many_from t (e ∷ es) w k count ps one =
     let v : World = after t w e.step in
-    let q : Packets = packets_after t v k e.step (next_of ps) in
+    let q : Packets = packets_by t v k e (next_of ps) in
+    let now : Packets = timed t e k in
+    let placed : AreInOnePlace now count = timed_places t e k count one in
     omega (
       arith,
-      as_many_from t es v q (one_if (injects e.step) + count) (left_by e.step ps) (stepped t v k e.step (next_of ps) count one),
-      counted_step k q e.tick (goes t w k count e.step (next_of ps) one),
+      as_many_from t es v q (one_if (injects e.step) + count) (left_by e.step ps) (stepped t v now e.step (next_of ps) count placed),
+      (timed_alike t (clock_after e) e.step k count one).copies,
+      counted_step now q e.tick (goes t w now count e.step (next_of ps) placed),
       length-append (delivery_at e.tick q.delivered) (deliveries_from t v q es (left_by e.step ps)),
     )
 
@@ -402,12 +465,12 @@ listed_from : (t : Network) (es : List JournalEntry) (n : ℕ) (e : JournalEntry
 listed_from t [] n e b w k ps h d = absurd (no_entry e h)
 listed_from t (x ∷ es) zero e b w k ps h d =
     let v : World = after t w x.step in
-    let q : Packets = packets_after t v k x.step (next_of ps) in
+    let q : Packets = packets_by t v k x (next_of ps) in
     ap (λ o. slice_get (delivery_at x.tick o ++ deliveries_from t v q es (left_by x.step ps)) 0) d
     ∙ ap (λ (y : JournalEntry). Some (record { tick = y.tick; bytes = b })) (same_Some x e h)
 listed_from t (x ∷ es) (suc n) e b w k ps h d =
     let v : World = after t w x.step in
-    let q : Packets = packets_after t v k x.step (next_of ps) in
+    let q : Packets = packets_by t v k x (next_of ps) in
     let here : List Delivery = delivery_at x.tick q.delivered in
     ap (slice_get (here ++ deliveries_from t v q es (left_by x.step ps))) (length-append here (deliveries_from t v q (take n es) (left_by x.step ps)))
     ∙ get_past here (deliveries_from t v q es (left_by x.step ps)) (length (deliveries_from t v q (take n es) (left_by x.step ps)))

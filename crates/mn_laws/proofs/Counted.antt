@@ -30,6 +30,7 @@ use Rattle.mn_laws.proofs.Ordered.{numbers_ascend, flies_in_order}
 use Rattle.mn_laws.proofs.Sums.{total, sum-append, sum-map, sum-flat, total-same}
 use Rattle.mn_laws.proofs.Tallies.{weigh, by_notices, by_messages, by_routes, AllOn, others_weighed, frames_weighed, as_many_on, loads_weigh, filter_counts}
 use Rattle.mn_laws.proofs.Tallies.{lengths_of_frames}
+use Rattle.mn_laws.proofs.Due.{due_as_sent}
 
 module _ (t : Network) (lawful : IsLawful t) (es : List JournalEntry) (ps : List (List ℕ)) (journal : IsLawfulJournal t es ps) where
   abbrev items : List Item
@@ -185,6 +186,7 @@ pub flies_as_counted : (t : Network) (es : List JournalEntry) (ps : List (List �
 flies_as_counted t es ps lawful journal = record {
   ascending = numbers_ascend t es ps;
   in_order = flies_in_order t es ps journal;
+  due = due_as_sent t es ps;
   channels = λ item c. channels_are t es ps item lawful journal c;
   delivered = delivered_open t lawful es ps journal;
   lost = lost_open t lawful es ps journal;

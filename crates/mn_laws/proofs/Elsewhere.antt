@@ -14,7 +14,7 @@ use Rattle.mn_ledger.specs.Tables.{put}
 use Rattle.mn_ledger.specs.World.{World}
 use Rattle.mn_ledger.specs.Transport.{usable}
 use Rattle.mn_ledger.specs.Packets.{Token, Packets, channel, flying_on, away_from, judged, drop_at, visited, deliver, hop_over, one_more, without_place}
-use Rattle.mn_ledger.specs.Packets.{taken, is_attachment, leave, arrive, cut_each}
+use Rattle.mn_ledger.specs.Packets.{taken, is_attachment, leave, arrive, cut_each, stamped}
 use Rattle.mn_ledger.specs.Verdicts.{verdict_on}
 use Rattle.mn_ledger.proofs.GoingBy.{put_here, put_off}
 use Rattle.mn_ledger.proofs.Members.{In, in_append}
@@ -148,7 +148,7 @@ pub arrived_off : (t : Network) (v : World) (w : Packets) (k : Token) (y j : ℕ
 arrived_off t v w k y j h =
     arms_by (λ x. Same j w x) (nat_le k.ttl 1) _ _ (λ e. judged_off w k.packet (Dropped rule.TtlExpired (record { 0 = y })) j h)
     (λ e. arms_by (λ x. Same j w x) (y == k.edge) _ _ (λ e. left_off v w k y j h)
-    (λ e. hop_off t w (record k { ttl = k.ttl - 1 }) y rule.NoEntry (usable t v.config v.views v.sessions y k.edge) j h))
+    (λ e. hop_off t w (stamped w (record k { ttl = k.ttl - 1 })) y rule.NoEntry (usable t v.config v.views v.sessions y k.edge) j h))
 
 -- 5. A link that is cut
 

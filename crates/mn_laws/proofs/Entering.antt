@@ -17,7 +17,7 @@ use Rattle.mn_ledger.specs.Transport.{usable}
 use Rattle.mn_ledger.specs.Held.{HeldRoute, best}
 use Rattle.mn_ledger.specs.Best.{IsBest, NamesTheBest}
 use Rattle.mn_ledger.specs.Packets as packets
-use Rattle.mn_ledger.specs.Packets.{Packets, bound, hop_over, drop_at, deliver, route_by, enter_by}
+use Rattle.mn_ledger.specs.Packets.{Packets, bound, hop_over, drop_at, deliver, route_by, enter_by, stamped}
 use Rattle.mn_ledger.proofs.Members.{in_contained, filter_in, passes_none}
 use Rattle.mn_ledger.proofs.Peers.{two_ways}
 use Rattle.mn_ledger.proofs.Choice.{in_first, from_unbeaten, none_matches}
@@ -196,12 +196,12 @@ pub record AtEntry (P : Packets → Type 0) (t : Network) (w : World) (u : Packe
   pub delivered : (x : HeldRoute) → Passes t w site b → IsBestFor t w site b x → (x.edge == home_of t site) ≡ true → P (deliver u j x.site (ttl_of b - 1) b)
   pub flies : (x : HeldRoute) (hop : ℕ × ℕ) → Passes t w site b → IsBestFor t w site b x → (x.edge == home_of t site) ≡ false
       → usable t w.config w.views w.sessions (home_of t site) x.edge ≡ Some hop
-      → P (hop_over t u (bound j x b) (home_of t site) rule.NoLsp (Some hop))
+      → P (hop_over t u (stamped u (bound j x b)) (home_of t site) rule.NoLsp (Some hop))
 
 hops : (P : Packets → Type 0) (t : Network) (w : World) (u : Packets) (j site : ℕ) (b : List ℕ) (x : HeldRoute) → AtEntry P t w u j site b
     → Passes t w site b → best (routes_at t w site) (destination_of b) ≡ Some x
     → (x.edge == home_of t site) ≡ false → (o : Option (ℕ × ℕ)) → usable t w.config w.views w.sessions (home_of t site) x.edge ≡ o
-    → P (hop_over t u (bound j x b) (home_of t site) rule.NoLsp o)
+    → P (hop_over t u (stamped u (bound j x b)) (home_of t site) rule.NoLsp o)
 hops P t w u j site b x h p is far None e = h.falls rule.NoLsp (no_lsp t w site b x p is far e)
 hops P t w u j site b x h p is far (Some hop) e = h.flies x hop p is far e
 

@@ -15,7 +15,7 @@ use Rattle.mn_base.specs.declared.numbers.SiteNo.{SiteNo}
 use Rattle.mn_ipv4.specs.Header.{ttl_of, aged}
 use Rattle.mn_topo.specs.Network.{Network}
 use Rattle.mn_topo.specs.declared.steps.Step.{Step}
-use Rattle.mn_topo.specs.declared.steps.Step.TheVariants.{LinkDown, Carry, Lose}
+use Rattle.mn_topo.specs.declared.steps.Step.TheVariants.{LinkDown, Carry, Lose, Tick}
 use Rattle.mn_topo.specs.declared.steps.JournalEntry.{JournalEntry}
 use Rattle.mn_ledger.specs.declared.verdict.Verdict.{Verdict}
 use Rattle.mn_ledger.specs.declared.verdict.Verdict.TheVariants.{Delivered, Dropped, Flying}
@@ -30,12 +30,13 @@ use Rattle.mn_laws.specs.Accounts.{world_at, packets_at, Sending, IsSent, IsBoun
 use Rattle.mn_laws.proofs.At.{bytes_of, packets_step, injections_step}
 use Rattle.mn_laws.proofs.Elsewhere.{Same}
 use Rattle.mn_laws.proofs.Moving.{Leaves, same_step}
+use Rattle.mn_ledger.specs.Time.{clock_after}
 
 -- 1. What is known
 
--- the frame of the packet that was at these nodes, bound for the route
-abbrev pub frame_of : Sending → HeldRoute → List ℕ → Token
-frame_of s route path =
+-- the frame of the packet that was at these nodes, bound for the route, sent on its link at the tick
+abbrev pub frame_of : Sending → HeldRoute → List ℕ → ℕ → Token
+frame_of s route path tick =
     record {
       packet = s.packet;
       edge = route.edge;
@@ -44,6 +45,7 @@ frame_of s route path =
       pushed = ttl_of s.bytes - 1;
       ttl = ttl_of s.bytes
           - length path;
+      sent = tick;
       bytes = aged s.bytes 1;
     }
 
@@ -59,7 +61,7 @@ pub record Flies (t : Network) (es : List JournalEntry) (ps : List (List ℕ)) (
   pub there : l.0 < length t.links
   pub left : length (path_of (packets_at t es ps n) s.packet) < ttl_of s.bytes
   pub frames : (c : ℕ) (k : Token) → In ((packets_at t es ps n).flying c) k → k.packet ≡ s.packet
-      → k ≡ frame_of s route (path_of (packets_at t es ps n) s.packet)
+      → k ≡ frame_of s route (path_of (packets_at t es ps n) s.packet) k.sent
   pub flown : HasFlown t es ps s n
 
 -- the step that gave it this verdict
@@ -120,6 +122,19 @@ pub in_paths : (t : Network) (es : List JournalEntry) (ps : List (List ℕ)) (s 
     → s.packet < length (packets_at t es ps n).paths
 in_paths t es ps s n h below = omega (arith, sent_before es ps s n h below, (placed t es ps n).paths)
 
+-- a verdict by whether it flies
+pub where_flying : (v : Verdict) → (is_flying v ≡ false) ⊎ ((l : LinkNo) × (d : Dir) × (v ≡ Flying l d))
+where_flying (Flying l d) = inr (l, d, refl)
+where_flying (Delivered site ttl copy) = inl refl
+where_flying (Dropped cause node) = inl refl
+
+-- where a packet flies is one direction of one link
+pub one_way : (a b : LinkNo) (c f : Dir) → Flying a c ≡ Flying b f → (a.0 ≡ b.0) × (c ≡ f)
+one_way a b c f h = (
+  ap (λ v. elim v as (λ _. ℕ) [ Flying x y ↦ x.0 | Delivered x y z ↦ 0 | Dropped x y ↦ 0 ]) h,
+  ap (λ v. elim v as (λ _. Dir) [ Flying x y ↦ y | Delivered x y z ↦ c | Dropped x y ↦ c ]) h,
+)
+
 -- 3. Its frames
 
 pub in_counts : (j : ℕ) (ks : List Token) (k : Token) → In ks k → k.packet ≡ j → 1 ≤ times_in j ks
@@ -128,6 +143,26 @@ in_counts j (x ∷ xs) k i e = elim i [
   | inl q ↦ omega (arith, ap (λ (y : Token). one_if (y.packet == j)) q, ap (λ m. one_if (m == j)) e, one_same j)
   | inr m ↦ omega (arith, in_counts j xs k m e)
 ]
+
+-- one that is counted once is the only one
+pub only_one : (j : ℕ) (ks : List Token) (k x : Token) → times_in j ks ≡ 1 → In ks k → In ks x → k.packet ≡ j → x.packet ≡ j → k ≡ x
+only_one j [] k x h i m e f = absurd i
+only_one j (y ∷ ys) k x h i m e f = elim i [
+  | inl q ↦ elim m [
+    | inl r ↦ sym q ∙ r
+    | inr r ↦ absurd (twice (one_if (y.packet == j)) (times_in j ys) (ap (λ (z : Token). one_if (z.packet == j)) q ∙ ap (λ n. one_if (n == j)) e ∙ one_same j) (in_counts j ys x r f) h)
+  ]
+  | inr q ↦ elim m [
+    | inl r ↦ absurd (twice (one_if (y.packet == j)) (times_in j ys) (ap (λ (z : Token). one_if (z.packet == j)) r ∙ ap (λ n. one_if (n == j)) f ∙ one_same j) (in_counts j ys k q e) h)
+    | inr r ↦ only_one j ys k x (rest (one_if (y.packet == j)) (times_in j ys) (in_counts j ys k q e) h) q r e f
+  ]
+]
+  where
+    twice : (a b : ℕ) → a ≡ 1 → 1 ≤ b → a + b ≡ 1 → ⊥
+    twice a b p q r = omega (arith, p, q, r)
+
+    rest : (a b : ℕ) → 1 ≤ b → a + b ≡ 1 → b ≡ 1
+    rest a b q r = omega (arith, q, r)
 
 some_counted : (j : ℕ) (ks : List Token) → 1 ≤ times_in j ks → (k : Token) × In ks k × (k.packet ≡ j)
 some_counted j [] h = absurd (none_below 0 h)
@@ -185,6 +220,18 @@ some_frame w count j l d one h =
     some_counted j (w.flying (channel l.0 d))
     (subst (λ n. 1 ≤ n) (sym (one.places j (channel l.0 d) ∙ ap (λ v. times_by v (channel l.0 d)) h ∙ one_same (channel l.0 d))) (omega arith))
 
+-- of a packet that flies this is the only frame
+pub the_frame : (w : Packets) (count j : ℕ) (l m : LinkNo) (d b : Dir) (k x : Token) → AreInOnePlace w count → verdict_on w j ≡ Flying l d
+    → In (w.flying (channel l.0 d)) x → x.packet ≡ j → In (w.flying (channel m.0 b)) k → k.packet ≡ j → (m.0 ≡ l.0) × (b ≡ d) × (k ≡ x)
+the_frame w count j l m d b k x one is on e at f =
+    let way = one_way m l b d (sym (where_it_flies w count m b k one at) ∙ ap (verdict_on w) f ∙ is) in (
+      way.0,
+      way.1,
+      only_one j (w.flying (channel l.0 d)) k x
+          (one.places j (channel l.0 d) ∙ ap (λ v. times_by v (channel l.0 d)) is ∙ one_same (channel l.0 d))
+          (subst (λ c. In (w.flying (channel l.0 c)) k) way.1 (subst (λ a. In (w.flying (channel a b)) k) way.0 at)) on f e,
+    )
+
 -- a frame of a packet that is still to be sent isn't there
 past_flying : (t : Network) (es : List JournalEntry) (ps : List (List ℕ)) (n j : ℕ) → injections (take n es) ≤ j
     → is_flying (verdict_on (packets_at t es ps n) j) ≡ false
@@ -202,11 +249,11 @@ in_get (y ∷ ys) zero x h = inl (same_Some y x h)
 in_get (y ∷ ys) (suc i) x h = inr (in_get ys i x h)
 
 same_at : (t : Network) (es : List JournalEntry) (ps : List (List ℕ)) (s : Sending) (n : ℕ) (e : JournalEntry) → IsSent es ps s → s.place < n
-    → slice_get es n ≡ Some e → Leaves s.packet (packets_at t es ps n) e.step
+    → slice_get es n ≡ Some e → Leaves t (clock_after e) s.packet (packets_at t es ps n) e.step
     → Same s.packet (packets_at t es ps n) (packets_at t es ps (suc n))
 same_at t es ps s n e sent below there leaves =
     subst (Same s.packet (packets_at t es ps n)) (sym (packets_step t es ps n e there))
-    (same_step t (world_at t es n) (packets_at t es ps n) e.step (bytes_of ps (injections (take n es))) s.packet (in_verdicts t es ps s n sent below)
+    (same_step t (clock_after e) (world_at t es n) (packets_at t es ps n) e.step (bytes_of ps (injections (take n es))) s.packet (in_verdicts t es ps s n sent below)
     (in_paths t es ps s n sent below) leaves)
 
 -- an end that stands, one step later
@@ -270,7 +317,7 @@ same_fate t es ps s n l d same is f = record {
   home = f.home;
   there = f.there;
   left = subst (λ p. length p < ttl_of s.bytes) (sym same.path) f.left;
-  frames = λ c k i e. f.frames c k (same.frames c k i e) e ∙ ap (frame_of s f.route) (sym same.path);
+  frames = λ c k i e. f.frames c k (same.frames c k i e) e ∙ ap (λ p. frame_of s f.route p k.sent) (sym same.path);
   flown = flown_on t es ps s n f.flown (ap is_flying (same.verdict ∙ is));
 }
 
@@ -289,7 +336,7 @@ stays_known t es ps s n same h = record {
 
 -- a step that takes none of its frames leaves it
 pub left_known : (t : Network) (es : List JournalEntry) (ps : List (List ℕ)) (s : Sending) (n : ℕ) (e : JournalEntry) → IsSent es ps s → s.place < n
-    → slice_get es n ≡ Some e → Leaves s.packet (packets_at t es ps n) e.step
+    → slice_get es n ≡ Some e → Leaves t (clock_after e) s.packet (packets_at t es ps n) e.step
     → IsKnown t es ps s n → IsKnown t es ps s (suc n)
 left_known t es ps s n e sent below there leaves h = stays_known t es ps s n (same_at t es ps s n e sent below there leaves) h
 
@@ -297,7 +344,7 @@ left_known t es ps s n e sent below there leaves h = stays_known t es ps s n (sa
 
 -- clash step takes a frame of a packet that doesn't fly
 pub leaves_ended : (t : Network) (es : List JournalEntry) (ps : List (List ℕ)) (j n : ℕ) (e : JournalEntry)
-    → is_flying (verdict_on (packets_at t es ps n) j) ≡ false → Leaves j (packets_at t es ps n) e.step
+    → is_flying (verdict_on (packets_at t es ps n) j) ≡ false → Leaves t (clock_after e) j (packets_at t es ps n) e.step
 leaves_ended t es ps j n e ended = by_step e.step
   where
     off : (c : ℕ) (k : Token) → In ((packets_at t es ps n).flying c) k → k.packet ≢ j
@@ -306,10 +353,11 @@ leaves_ended t es ps j n e ended = by_step e.step
     taken : (c place : ℕ) (k : Token) → slice_get ((packets_at t es ps n).flying c) place ≡ Some k → j ≢ k.packet
     taken c place k h q = off c k (in_get ((packets_at t es ps n).flying c) place k h) (sym q)
 
-    by_step : (x : Step) → Leaves j (packets_at t es ps n) x
+    by_step : (x : Step) → Leaves t (clock_after e) j (packets_at t es ps n) x
     by_step (Carry l d place) = taken (channel l.0 d) place
     by_step (Lose l d place) = taken (channel l.0 d) place
     by_step (LinkDown l) = λ d. off (channel l.0 d)
+    by_step (Tick ticks) = λ l d k there i same. absurd (off (channel l d) k i same)
     by_step _ = tt
 
 -- from one place on

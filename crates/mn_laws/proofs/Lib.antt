@@ -1,5 +1,6 @@
 pub mod At
 pub mod Elsewhere
+pub mod Expired
 pub mod Entering
 pub mod Moving
 pub mod There
@@ -13,6 +14,7 @@ pub mod Accounted
 pub mod Linked
 pub mod Channels
 pub mod Ordered
+pub mod Due
 pub mod Opening
 pub mod Sums
 pub mod Tallies

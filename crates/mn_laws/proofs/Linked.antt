@@ -7,12 +7,12 @@ use Rattle.mn_drops.specs.declared.drops.Rule.{Rule}
 use Rattle.mn_drops.specs.declared.drops.Rule.TheVariants as rule
 use Rattle.mn_wiring.specs.declared.links.Dir.{Dir}
 use Rattle.mn_wiring.specs.declared.links.Dir.TheVariants.{Forth, Back}
-use Rattle.mn_wiring.specs.Wiring.{sender, receiver}
+use Rattle.mn_wiring.specs.Wiring.{sender, receiver, links_of}
 use Rattle.mn_topo.specs.Lawful.{IsLawful}
 use Rattle.mn_topo.specs.Network.{Network, wiring_of}
 use Rattle.mn_topo.specs.Steps.{fits}
 use Rattle.mn_topo.specs.declared.steps.Step.{Step}
-use Rattle.mn_topo.specs.declared.steps.Step.TheVariants.{LinkDown, Inject, Carry, Lose}
+use Rattle.mn_topo.specs.declared.steps.Step.TheVariants.{LinkDown, Inject, Carry, Lose, Tick}
 use Rattle.mn_ledger.specs.declared.verdict.Verdict.{Verdict}
 use Rattle.mn_ledger.specs.declared.verdict.Verdict.TheVariants.{Dropped, Flying}
 use Rattle.mn_ledger.specs.Entry.{first_rule}
@@ -20,13 +20,16 @@ use Rattle.mn_ledger.specs.Tables.{put}
 use Rattle.mn_ledger.specs.Places.{home_of, vrf_of}
 use Rattle.mn_ledger.specs.World.{World}
 use Rattle.mn_ledger.specs.Packets.{Token, Packets, channel, flying_on, away_from, judged, drop_at, visited, deliver, hop_over, bound, entry_rules}
-use Rattle.mn_ledger.specs.Packets.{enter_by, one_more, taken, carry, lose, cut_each, cut, before_step, packets_after}
+use Rattle.mn_ledger.specs.Packets.{enter_by, one_more, taken, carry, lose, cut_each, cut, before_step, packets_after, fall}
 use Rattle.mn_ledger.specs.Ledger.{no_packets}
 use Rattle.mn_ledger.specs.Verdicts.{verdict_on}
-use Rattle.mn_laws.proofs.Elsewhere.{set_verdict}
+use Rattle.mn_laws.proofs.Elsewhere.{set_verdict, arms_by}
 use Rattle.mn_laws.proofs.Entering.{enters}
 use Rattle.mn_laws.proofs.Moving.{after_step, injected_is, carried_is, lost_is, cut_is, arrives}
 use Rattle.mn_laws.proofs.There.{home_there, receiver_there, hop_is}
+use Rattle.mn_ledger.specs.Time.{is_overdue, expire_from, expire_on, expire_over, timed_by}
+use Rattle.mn_laws.proofs.Expired.{later}
+use Rattle.std.proofs.Common.{◌+◌}
 
 abbrev pub IsLinked : Network → Verdict → Type 0
 IsLinked t (Flying l d) = l.0 < length t.links
@@ -108,6 +111,31 @@ cut_linked t (f ∷ ks) w c n h =
     let u : Packets = record w { flying = put w.flying c ks } in
     cut_linked t ks (drop_at u f.packet rule.LinkCut n) c n
     (judged_linked t u f.packet (Dropped rule.LinkCut (record { 0 = n })) h tt (drop_at u f.packet rule.LinkCut n) refl)
+
+-- a packet whose frame ends is on no link
+fall_linked : (t : Network) (w : Packets) (l : ℕ) (d : Dir) (n node : ℕ) (o : Option Token) → AreLinked t w → AreLinked t (fall rule.Overdue (taken w l d n) node o)
+fall_linked t w l d n node None h = same_linked t w (taken w l d n) refl h
+fall_linked t w l d n node (Some f) h =
+    judged_linked t (taken w l d n) f.packet (Dropped rule.Overdue (record { 0 = node })) (same_linked t w (taken w l d n) refl h) tt
+    (drop_at (taken w l d n) f.packet rule.Overdue node) refl
+
+from_linked : (t : Network) (clock l : ℕ) (d : Dir) (ks : List Token) (n : ℕ) (w : Packets) → AreLinked t w → AreLinked t (expire_from t clock l d n ks w)
+from_linked t clock l d [] n w h = h
+from_linked t clock l d (k ∷ ks) n w h =
+    arms_by (AreLinked t) (is_overdue t clock l k) _ _
+    (λ e. from_linked t clock l d ks n _ (fall_linked t w l d n (sender (wiring_of t) l d) (slice_get (flying_on w l d) n) h))
+    (λ e. from_linked t clock l d ks (n + 1) w h)
+
+over_linked : (t : Network) (clock : ℕ) (ls : List ℕ) (w : Packets) → AreLinked t w → AreLinked t (expire_over t clock ls w)
+over_linked t clock [] w h = h
+over_linked t clock (l ∷ ls) w h =
+    let first : Packets = expire_on t clock l Forth w in
+    over_linked t clock ls (expire_on t clock l Back first)
+    (from_linked t clock l Back (flying_on first l Back) 0 first (from_linked t clock l Forth (flying_on w l Forth) 0 w h))
+
+pub timed_linked : (t : Network) (clock : ℕ) (s : Step) (w : Packets) → AreLinked t w → AreLinked t (timed_by t clock s w)
+timed_linked t clock (Tick ticks) w h = over_linked t clock (links_of (wiring_of t)) (later w clock) h
+timed_linked t clock _ w h = h
 
 pub linked_step : (t : Network) (w : World) (k : Packets) (s : Step) (b : List ℕ) → IsLawful t → fits t s ≡ true → AreLinked t k
     → AreLinked t (after_step t w k s b)

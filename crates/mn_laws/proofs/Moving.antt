@@ -9,7 +9,7 @@ use Rattle.mn_base.specs.declared.numbers.SiteNo.{SiteNo}
 use Rattle.mn_wiring.specs.Wiring.{sender, receiver}
 use Rattle.mn_topo.specs.Network.{Network, wiring_of}
 use Rattle.mn_topo.specs.declared.steps.Step.{Step}
-use Rattle.mn_topo.specs.declared.steps.Step.TheVariants.{LinkDown, Inject, Carry, Lose}
+use Rattle.mn_topo.specs.declared.steps.Step.TheVariants.{LinkDown, Inject, Carry, Lose, Tick}
 use Rattle.mn_ledger.specs.declared.verdict.Verdict.TheVariants.{Dropped}
 use Rattle.mn_ledger.specs.Entry.{first_rule}
 use Rattle.mn_ledger.specs.Places.{home_of, vrf_of}
@@ -17,18 +17,24 @@ use Rattle.mn_ledger.specs.World.{World}
 use Rattle.mn_ledger.specs.Transport.{usable, sessions_after}
 use Rattle.mn_ledger.specs.Bgp.{peerings_after}
 use Rattle.mn_ledger.specs.Packets.{Token, Packets, channel, flying_on, drop_at, visited, deliver, hop_over, bound, entry_rules, enter_by, one_more, taken}
-use Rattle.mn_ledger.specs.Packets.{is_attachment, arrive, carry, lose, cut, before_step, packets_after}
+use Rattle.mn_ledger.specs.Packets.{is_attachment, arrive, carry, lose, cut, before_step, packets_after, stamped}
 use Rattle.mn_ledger.specs.Ledger.{after}
 use Rattle.mn_ledger.proofs.Members.{In}
 use Rattle.mn_laws.proofs.Elsewhere.{Same, same_on, judged_off, deliver_off, visited_off, taken_same, hop_off, one_more_off, arms_by, arrived_off, cut_off}
+use Rattle.mn_laws.proofs.Expired.{IsYoung, later, timed_off}
 use Rattle.mn_laws.proofs.Entering.{enters}
 use Rattle.mn_ledger.proofs.Ended.{other_than}
+use Rattle.mn_ledger.specs.Time.{timed_by}
 
 -- 1. The steps that move packets change no world
 
 -- once the step is done, whatever its entry
 abbrev pub after_step : Network → World → Packets → Step → List ℕ → Packets
 after_step t w k s b = packets_after t (after t w s) k s b
+
+-- and time has gone on before
+abbrev pub after_time : Network → ℕ → World → Packets → Step → List ℕ → Packets
+after_time t clock w k s b = after_step t w (timed_by t clock s k) s b
 
 pub injected_is : (t : Network) (w : World) (k : Packets) (r : SiteNo) (number : ℕ) (b : List ℕ)
     → after_step t w k (Inject r number) b
@@ -52,17 +58,23 @@ pub cut_is : (t : Network) (w : World) (k : Packets) (l : LinkNo) (b : List ℕ)
 unfolding packets_after
 cut_is t w k l b = refl
 
+pub ticked_is : (t : Network) (clock : ℕ) (w : World) (k : Packets) (ticks : ℕ) (b : List ℕ)
+    → after_time t clock w k (Tick ticks) b ≡ before_step (timed_by t clock (Tick ticks) k)
+unfolding packets_after
+ticked_is t clock w k ticks b = refl
+
 -- 2. Packets that a step leaves as they were
 
--- the step doesn't take a frame of the packet
-abbrev pub Leaves : ℕ → Packets → Step → Type 0
-Leaves j w (Carry l d place) = (k : Token) → slice_get (flying_on w l.0 d) place ≡ Some k → j ≢ k.packet
-Leaves j w (Lose l d place) = (k : Token) → slice_get (flying_on w l.0 d) place ≡ Some k → j ≢ k.packet
-Leaves j w (LinkDown l) = (d : Dir) (k : Token) → In (flying_on w l.0 d) k → k.packet ≢ j
-Leaves j w _ = ⊤
+-- the step, by which the clock comes to this tick, doesn't take a frame of the packet
+abbrev pub Leaves : Network → ℕ → ℕ → Packets → Step → Type 0
+Leaves t clock j w (Carry l d place) = (k : Token) → slice_get (flying_on w l.0 d) place ≡ Some k → j ≢ k.packet
+Leaves t clock j w (Lose l d place) = (k : Token) → slice_get (flying_on w l.0 d) place ≡ Some k → j ≢ k.packet
+Leaves t clock j w (LinkDown l) = (d : Dir) (k : Token) → In (flying_on w l.0 d) k → k.packet ≢ j
+Leaves t clock j w (Tick ticks) = IsYoung t clock j w
+Leaves t clock j w _ = ⊤
 
-begun : (j : ℕ) (w : Packets) → Same j w (before_step w)
-begun j w = record { verdict = refl; path = refl; frames = λ c k i e. i }
+begun : (j : ℕ) (w : Packets) (clock : ℕ) → Same j w (before_step (later w clock))
+begun j w clock = record { verdict = refl; path = refl; frames = λ c k i e. i }
 
 entered_off : (t : Network) (v : World) (w : Packets) (site : ℕ) (b : List ℕ) (j : ℕ) → j < length w.verdicts → j < length w.paths
     → Same j w (enter_by t v (one_more w (home_of t site)) (length w.verdicts) b (home_of t site) (vrf_of t site)
@@ -74,7 +86,7 @@ entered_off t v w site b j h g =
     enters (Same j w) t v u (length w.verdicts) site b (record {
       falls = λ cause f. same_on j w u _ first (judged_off u (length w.verdicts) (Dropped cause (record { 0 = home_of t site })) j apart);
       delivered = λ x p m e. same_on j w u _ first (deliver_off u (length w.verdicts) x.site _ b j apart);
-      flies = λ x hop p m e q. same_on j w u _ first (hop_off t u (bound (length w.verdicts) x b) (home_of t site) rule.NoLsp (Some hop) j apart);
+      flies = λ x hop p m e q. same_on j w u _ first (hop_off t u (stamped u (bound (length w.verdicts) x b)) (home_of t site) rule.NoLsp (Some hop) j apart);
     })
 
 carried_off : (t : Network) (v : World) (w : Packets) (l : ℕ) (d : Dir) (place y j : ℕ) (o : Option Token) → ((k : Token) → o ≡ Some k → j ≢ k.packet)
@@ -99,22 +111,25 @@ both_cut t w l j h =
     let first : Same j w (cut t w l Forth) = one_cut t w l Forth j (h Forth) in
     same_on j w (cut t w l Forth) _ first (one_cut t (cut t w l Forth) l Back j (λ k i e. h Back k (first.frames (channel l Back) k i e) e))
 
-pub same_step : (t : Network) (w : World) (k : Packets) (s : Step) (b : List ℕ) (j : ℕ) → j < length k.verdicts → j < length k.paths → Leaves j k s
-    → Same j k (after_step t w k s b)
+pub same_step : (t : Network) (clock : ℕ) (w : World) (k : Packets) (s : Step) (b : List ℕ) (j : ℕ) → j < length k.verdicts → j < length k.paths
+    → Leaves t clock j k s → Same j k (after_time t clock w k s b)
 unfolding packets_after
-same_step t w k (Inject r number) b j h g n = subst (Same j k) (sym (injected_is t w k r number b))
-    (same_on j k (before_step k) _ (begun j k) (entered_off t w (before_step k) r.0 b j h g))
-same_step t w k (Carry l d place) b j h g n =
-    subst (Same j k) (sym (carried_is t w k l d place b))
-    (same_on j k (before_step k) _ (begun j k)
-    (carried_off t w (before_step k) l.0 d place (receiver (wiring_of t) l.0 d) j (slice_get (flying_on k l.0 d) place) n))
-same_step t w k (Lose l d place) b j h g n =
-    subst (Same j k) (sym (lost_is t w k l d place b))
-    (same_on j k (before_step k) _ (begun j k)
-    (lost_off (before_step k) l.0 d place (sender (wiring_of t) l.0 d) j (slice_get (flying_on k l.0 d) place) n))
-same_step t w k (LinkDown l) b j h g n = subst (Same j k) (sym (cut_is t w k l b))
-    (same_on j k (before_step k) _ (begun j k) (both_cut t (before_step k) l.0 j n))
-same_step t w k _ b j h g n = begun j k
+same_step t clock w k (Inject r number) b j h g n = subst (Same j k) (sym (injected_is t w (later k clock) r number b))
+    (same_on j k (before_step (later k clock)) _ (begun j k clock) (entered_off t w (before_step (later k clock)) r.0 b j h g))
+same_step t clock w k (Carry l d place) b j h g n =
+    subst (Same j k) (sym (carried_is t w (later k clock) l d place b))
+    (same_on j k (before_step (later k clock)) _ (begun j k clock)
+    (carried_off t w (before_step (later k clock)) l.0 d place (receiver (wiring_of t) l.0 d) j (slice_get (flying_on k l.0 d) place) n))
+same_step t clock w k (Lose l d place) b j h g n =
+    subst (Same j k) (sym (lost_is t w (later k clock) l d place b))
+    (same_on j k (before_step (later k clock)) _ (begun j k clock)
+    (lost_off (before_step (later k clock)) l.0 d place (sender (wiring_of t) l.0 d) j (slice_get (flying_on k l.0 d) place) n))
+same_step t clock w k (LinkDown l) b j h g n = subst (Same j k) (sym (cut_is t w (later k clock) l b))
+    (same_on j k (before_step (later k clock)) _ (begun j k clock) (both_cut t (before_step (later k clock)) l.0 j n))
+same_step t clock w k (Tick ticks) b j h g n =
+    let off : Same j k (timed_by t clock (Tick ticks) k) = timed_off t clock ticks j k n in
+    record { verdict = off.verdict; path = off.path; frames = off.frames }
+same_step t clock w k _ b j h g n = begun j k clock
 
 -- 3. A frame that arrives
 
@@ -127,11 +142,11 @@ pub record AtArrival (P : Packets → Type 0) (t : Network) (w : World) (u : Pac
       → P (drop_at u k.packet rule.SiteGone y)
   pub stuck : nat_le k.ttl 1 ≡ false → (y == k.edge) ≡ false → usable t w.config w.views w.sessions y k.edge ≡ None → P (drop_at u k.packet rule.NoEntry y)
   pub flies : nat_le k.ttl 1 ≡ false → (y == k.edge) ≡ false → (hop : ℕ × ℕ) → usable t w.config w.views w.sessions y k.edge ≡ Some hop
-      → P (hop_over t u (record k { ttl = k.ttl - 1 }) y rule.NoEntry (Some hop))
+      → P (hop_over t u (stamped u (record k { ttl = k.ttl - 1 })) y rule.NoEntry (Some hop))
 
 hops : (P : Packets → Type 0) (t : Network) (w : World) (u : Packets) (k : Token) (y : ℕ) → AtArrival P t w u k y → nat_le k.ttl 1 ≡ false
     → (y == k.edge) ≡ false
-    → (o : Option (ℕ × ℕ)) → usable t w.config w.views w.sessions y k.edge ≡ o → P (hop_over t u (record k { ttl = k.ttl - 1 }) y rule.NoEntry o)
+    → (o : Option (ℕ × ℕ)) → usable t w.config w.views w.sessions y k.edge ≡ o → P (hop_over t u (stamped u (record k { ttl = k.ttl - 1 })) y rule.NoEntry o)
 hops P t w u k y h a b None e = h.stuck a b e
 hops P t w u k y h a b (Some hop) e = h.flies a b hop e
 

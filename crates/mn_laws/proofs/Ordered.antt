@@ -4,16 +4,19 @@ use Rattle.std.specs.List.{AllByRecursion}
 use Rattle.mn_wiring.specs.Wiring.{sender}
 use Rattle.mn_topo.specs.Network.{Network, wiring_of}
 use Rattle.mn_topo.specs.declared.steps.Step.{Step}
-use Rattle.mn_topo.specs.declared.steps.Step.TheVariants.{LinkUp, LinkDown, Learn, LdpAdmin, HearLdp, BgpUp, BgpDown, HearBgp, Carry, Lose}
+use Rattle.mn_topo.specs.declared.steps.Step.TheVariants.{LinkUp, LinkDown, Learn, LdpAdmin, HearLdp, BgpUp, BgpDown, HearBgp, Carry, Lose, Tick}
 use Rattle.mn_topo.specs.declared.steps.JournalEntry.{JournalEntry}
 use Rattle.mn_ledger.specs.World.{World}
 use Rattle.mn_ledger.specs.Packets.{Packets, packets_after}
 use Rattle.mn_ledger.specs.Ledger.{after, start, no_packets, next_of, left_by}
 use Rattle.mn_ledger.specs.Lawful.{IsLawfulFrom, IsLawfulJournal}
 use Rattle.mn_ledger.specs.Items.{Channel, Notices, Messages, Routes, Frames, Load, Item, Flight, same_channel, delay_on, numbered, without, is_session_of}
-use Rattle.mn_ledger.specs.Items.{is_between, left_in_flight, made_in, with_made, flight_from, flight_of}
+use Rattle.mn_ledger.specs.Items.{is_between, left_in_flight, made_in, with_made, flight_from, flight_of, in_time, in_time_by, is_late}
 use Rattle.mn_ledger.proofs.Ascending.{Ascend, flight_ascends}
 use Rattle.mn_laws.specs.Flight.{AreAscending, AreMadeInOrder}
+use Rattle.mn_ledger.specs.Ledger.{packets_by}
+use Rattle.mn_ledger.specs.Time.{timed, clock_after}
+use Rattle.std.specs.Prelude.{not}
 
 -- 1. Numbers ascend
 
@@ -136,18 +139,26 @@ left_order t now (BgpUp a b) xs h = filtered t now (λ item. not (is_between a.0
 left_order t now (BgpDown a b) xs h = filtered t now (λ item. not (is_between a.0 b.0 item.on)) xs h
 left_order t now _ xs h = h
 
+in_time_order : (t : Network) (now clock : ℕ) (s : Step) (f : Flight) → FliesInOrder t now f.items → FliesInOrder t now (in_time_by t clock s f).items
+in_time_order t now clock (Tick ticks) f h = filtered t now (λ item. not (is_late t clock item.on item.load)) f.items h
+in_time_order t now clock _ f h = h
+
 order_from : (t : Network) (es : List JournalEntry) (tick : ℕ) (w : World) (k : Packets) (i : ℕ) (f : Flight) (ps : List (List ℕ))
     → IsLawfulFrom t tick w k i es ps → FliesInOrder t tick f.items → AreMadeInOrder t (flight_from t w k f es ps).items
 order_from t [] tick w k i f ps lawful h = h.1
 order_from t (e ∷ es) tick w k i f ps lawful h =
     let v : World = after t w e.step in
-    let q : Packets = packets_after t v k e.step (next_of ps) in
-    let new : List (Channel × Load) = made_in t w v k q e.step in
-    let left : FliesInOrder t tick (left_in_flight t e.step f.items) = left_order t tick e.step f.items h in
-    order_from t es e.tick v q (i + 1) (with_made t e.tick new e.step f) (left_by e.step ps) lawful.3 (
-      all_both (λ item. item.due ≤ e.tick + delay_on t item.on) (left_in_flight t e.step f.items) (numbered t e.tick f.made new)
-          (by_later t tick e.tick (left_in_flight t e.step f.items) lawful.1 left.0) (made_now_by t e.tick f.made new),
-      order_both t tick e.tick f.made (left_in_flight t e.step f.items) new lawful.1 left.0 left.1,
+    let q : Packets = packets_by t v k e (next_of ps) in
+    let now : Packets = timed t e k in
+    let new : List (Channel × Load) = made_in t w v now q e.step in
+    let young : Flight = in_time t e f in
+    let left : FliesInOrder t tick (left_in_flight t e.step young.items) = left_order t tick e.step young.items
+    (in_time_order t tick (clock_after e) e.step f h) in
+    order_from t es (clock_after e) v q (i + 1) (with_made t e.tick new e.step young) (left_by e.step ps) lawful.3 (
+      by_later t e.tick (clock_after e) (left_in_flight t e.step young.items ++ numbered t e.tick young.made new) (omega arith)
+          (all_both (λ item. item.due ≤ e.tick + delay_on t item.on) (left_in_flight t e.step young.items) (numbered t e.tick young.made new)
+          (by_later t tick e.tick (left_in_flight t e.step young.items) lawful.1.later left.0) (made_now_by t e.tick young.made new)),
+      order_both t tick e.tick young.made (left_in_flight t e.step young.items) new lawful.1.later left.0 left.1,
     )
 
 pub flies_in_order : (t : Network) (es : List JournalEntry) (ps : List (List ℕ)) → IsLawfulJournal t es ps → AreMadeInOrder t (flight_of t es ps).items

@@ -28,6 +28,8 @@ use Rattle.mn_ledger.proofs.GoingBy.{put_here, put_off}
 use Rattle.mn_ledger.proofs.InTurn.{in_turn}
 use Rattle.mn_laws.specs.Ids.{ids_after, ids_of, SaysWithIds}
 use Rattle.mn_ledger.proofs.Flows.{if_none, no_notices}
+use Rattle.mn_ledger.specs.Ledger.{packets_by}
+use Rattle.mn_ledger.specs.Time.{timed}
 
 -- 1. What a step makes for an end of a link
 
@@ -123,9 +125,10 @@ unfolding AllSaid GoesOn
 all_said t [] w k n ps l node = ([], refl, [], append-nil (w.sessions.said l node))
 all_said t (e ∷ es) w k n ps l node =
     let v : World = after t w e.step in
-    let q : Packets = packets_after t v k e.step (next_of ps) in
-    let new : List (Channel × Load) = made_in t w v k q e.step in
-    let here = step_goes t w k q e.step l node in
+    let q : Packets = packets_by t v k e (next_of ps) in
+    let now : Packets = timed t e k in
+    let new : List (Channel × Load) = made_in t w v now q e.step in
+    let here = step_goes t w now q e.step l node in
     let rest = all_said t es v q (n + length new) (left_by e.step ps) l node in (
       here.0 ++ rest.0,
       loads_append (Messages l node) (numbered t e.tick n new) (made_from t v q (n + length new) es (left_by e.step ps))

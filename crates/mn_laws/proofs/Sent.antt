@@ -10,13 +10,13 @@ use Rattle.mn_drops.specs.declared.drops.Rule.{Rule}
 use Rattle.mn_drops.specs.declared.drops.Rule.TheVariants as rule
 use Rattle.mn_wiring.specs.declared.links.Dir.{Dir}
 use Rattle.mn_base.specs.declared.numbers.LinkNo.{LinkNo}
-use Rattle.mn_base.proofs.Bools.{clash}
+use Rattle.mn_base.proofs.Bools.{clash, two_ways}
 use Rattle.mn_ipv4.specs.Header.{ttl_of, destination_of, aged}
 use Rattle.mn_topo.specs.Lawful.{IsLawful}
 use Rattle.mn_topo.specs.Network.{Network}
 use Rattle.mn_topo.specs.Steps.{fits}
 use Rattle.mn_topo.specs.declared.steps.Step.{Step}
-use Rattle.mn_topo.specs.declared.steps.Step.TheVariants.{LinkDown, Inject, Carry, Lose}
+use Rattle.mn_topo.specs.declared.steps.Step.TheVariants.{LinkDown, Inject, Carry, Lose, Tick}
 use Rattle.mn_topo.specs.declared.steps.JournalEntry.{JournalEntry}
 use Rattle.mn_ledger.specs.declared.verdict.Verdict.{Verdict}
 use Rattle.mn_ledger.specs.declared.verdict.Verdict.TheVariants.{Delivered, Dropped, Flying}
@@ -26,8 +26,8 @@ use Rattle.mn_ledger.specs.Places.{home_of, vrf_of}
 use Rattle.mn_ledger.specs.Transport.{usable}
 use Rattle.mn_ledger.specs.Held.{HeldRoute}
 use Rattle.mn_ledger.specs.Packets as packets
-use Rattle.mn_ledger.specs.Packets.{Token, Packets, channel, away_from, drop_at, deliver, hop_over, bound, enter_by, one_more, before_step}
-use Rattle.mn_ledger.specs.Verdicts.{injections, verdict_on}
+use Rattle.mn_ledger.specs.Packets.{Token, Packets, channel, away_from, drop_at, deliver, hop_over, bound, enter_by, one_more, before_step, flying_on}
+use Rattle.mn_ledger.specs.Verdicts.{injections, verdict_on, times_by}
 use Rattle.mn_ledger.specs.Best.{NamesTheBest}
 use Rattle.mn_ledger.proofs.Choice.{names_best}
 use Rattle.mn_ledger.proofs.Members.{In, in_contained}
@@ -37,10 +37,15 @@ use Rattle.mn_laws.specs.Named.{NamesItsSite}
 use Rattle.mn_laws.proofs.At.{bytes_of, packets_step, lawful_step, lawful_at}
 use Rattle.mn_laws.proofs.Elsewhere.{judged_here, in_pushed, push_here}
 use Rattle.mn_laws.proofs.Entering.{Falls, may_enter, enters}
-use Rattle.mn_laws.proofs.Moving.{after_step, injected_is, Leaves}
+use Rattle.mn_laws.proofs.Moving.{injected_is, Leaves, after_time}
 use Rattle.mn_laws.proofs.There.{home_there, IsHop, hop_is}
-use Rattle.mn_laws.proofs.Fates.{frame_of, HasFlown, IsKnown, placed, none_yet, left_known, leaves_ended, where_it_flies, in_get}
-use Rattle.mn_laws.proofs.Travelling.{HoldsSites, known_by, passed, takes, carried_known, lost_known, cut_known}
+use Rattle.mn_laws.proofs.Fates.{frame_of, HasFlown, IsKnown, placed, none_yet, left_known, leaves_ended, where_it_flies, in_get, some_frame}
+use Rattle.mn_laws.proofs.Travelling.{HoldsSites, known_by, passed, takes, carried_known, lost_known, cut_known, expired_known}
+use Rattle.mn_ledger.specs.Packets.{stamped}
+use Rattle.mn_ledger.specs.Time.{clock_after, is_overdue}
+use Rattle.mn_ledger.proofs.OnePlace.{one_same}
+use Rattle.mn_laws.proofs.Expired.{later}
+use Rattle.mn_laws.proofs.Fates.{only_one, where_flying, the_frame}
 
 -- 1. The step in which it is sent
 
@@ -54,7 +59,7 @@ module _ (t : Network) (lawful : IsLawful t) (es : List JournalEntry) (ps : List
 
   -- the packets with one more, at the edge of the site
   abbrev with_it : Packets
-  with_it = one_more (before_step before) home
+  with_it = one_more (before_step (later before (clock_after sent.entry))) home
 
   number_is : length before.verdicts ≡ s.packet
   number_is = (placed t es ps s.place).verdicts ∙ sent.earlier
@@ -79,9 +84,9 @@ module _ (t : Network) (lawful : IsLawful t) (es : List JournalEntry) (ps : List
       (first_rule (packets.entry_rules ((world_at t es s.place).config.attached s.site) s.bytes))
   entered_to =
       packets_step t es ps s.place sent.entry sent.there
-      ∙ ap (λ x. after_step t (world_at t es s.place) before x (bytes_of ps (injections (take s.place es)))) sent.injects
-      ∙ ap (after_step t (world_at t es s.place) before (Inject (record { 0 = s.site }) sent.number)) bytes_are
-      ∙ injected_is t (world_at t es s.place) before (record { 0 = s.site }) sent.number s.bytes
+      ∙ ap (λ x. after_time t (clock_after sent.entry) (world_at t es s.place) before x (bytes_of ps (injections (take s.place es)))) sent.injects
+      ∙ ap (after_time t (clock_after sent.entry) (world_at t es s.place) before (Inject (record { 0 = s.site }) sent.number)) bytes_are
+      ∙ injected_is t (world_at t es s.place) (later before (clock_after sent.entry)) (record { 0 = s.site }) sent.number s.bytes
       ∙ ap (λ j. enter_by t (world_at t es s.place) with_it j s.bytes home (vrf_of t s.site)
       (first_rule (packets.entry_rules ((world_at t es s.place).config.attached s.site) s.bytes))) number_is
 
@@ -155,11 +160,11 @@ module _ (t : Network) (lawful : IsLawful t) (es : List JournalEntry) (ps : List
 
   flies_off : (x : HeldRoute) (hop : ℕ × ℕ) → MayEnter t (world_at t es s.place) s.site s.bytes x → (x.edge == home) ≡ false
       → usable t (world_at t es s.place).config (world_at t es s.place).views (world_at t es s.place).sessions home x.edge ≡ Some hop
-      → packets_at t es ps (suc s.place) ≡ hop_over t with_it (bound s.packet x s.bytes) home rule.NoLsp (Some hop) → IsKnown t es ps s (suc s.place)
+      → packets_at t es ps (suc s.place) ≡ hop_over t with_it (stamped with_it (bound s.packet x s.bytes)) home rule.NoLsp (Some hop) → IsKnown t es ps s (suc s.place)
   flies_off x hop may far can now =
       let to : IsHop t home hop = hop_is t (world_at t es s.place) home x.edge hop lawful (home_there t s.site lawful site_there) (apart x.edge home far) can in
       let v : Verdict = Flying (record { 0 = hop.1 }) (away_from t hop.1 home) in
-      let q : Packets = hop_over t with_it (bound s.packet x s.bytes) home rule.NoLsp (Some hop) in
+      let q : Packets = hop_over t with_it (stamped with_it (bound s.packet x s.bytes)) home rule.NoLsp (Some hop) in
       let first : verdict_on q s.packet ≡ v = judged_here with_it s.packet v inside in
       let now_path : path_of (packets_at t es ps (suc s.place)) s.packet ≡ home ∷ [] = ap (λ w. path_of w s.packet) now ∙ path_is in
       let site = names x may in
@@ -170,7 +175,7 @@ module _ (t : Network) (lawful : IsLawful t) (es : List JournalEntry) (ps : List
         home = site.home;
         there = to.there;
         left = omega (arith, may.lives, ap length now_path);
-        frames = λ c k i same. only_frame c k (subst (λ w. In (w.flying c) k) now i) same ∙ ap (frame_of s x) (sym now_path);
+        frames = λ c k i same. only_frame c k (subst (λ w. In (w.flying c) k) now i) same ∙ ap (λ p. frame_of s x p k.sent) (sym now_path);
         flown = λ count low high. subst (λ m. is_flying (verdict_on (packets_at t es ps m) s.packet) ≡ true)
             (sym (one_more_is count s.place low high)) (ap (λ w. is_flying (verdict_on w s.packet)) now ∙ ap is_flying first);
       })
@@ -181,12 +186,12 @@ module _ (t : Network) (lawful : IsLawful t) (es : List JournalEntry) (ps : List
       one_more_is : (m n : ℕ) → n < m → m ≤ suc n → m ≡ suc n
       one_more_is m n h g = omega (arith, h, g)
 
-      only_frame : (c : ℕ) (k : Token) → In ((hop_over t with_it (bound s.packet x s.bytes) home rule.NoLsp (Some hop)).flying c) k
-          → k.packet ≡ s.packet → k ≡ frame_of s x (home ∷ [])
-      only_frame c k i same = by_place (in_pushed with_it.flying (channel hop.1 (away_from t hop.1 home)) (bound s.packet x s.bytes) c k i)
+      only_frame : (c : ℕ) (k : Token) → In ((hop_over t with_it (stamped with_it (bound s.packet x s.bytes)) home rule.NoLsp (Some hop)).flying c) k
+          → k.packet ≡ s.packet → k ≡ frame_of s x (home ∷ []) k.sent
+      only_frame c k i same = by_place (in_pushed with_it.flying (channel hop.1 (away_from t hop.1 home)) (stamped with_it (bound s.packet x s.bytes)) c k i)
         where
-          by_place : In (before.flying c) k ⊎ (bound s.packet x s.bytes ≡ k) → k ≡ frame_of s x (home ∷ [])
-          by_place h = elim h [ inl j ↦ absurd (none_yet t es ps s.place s.packet c k (at_most sent.earlier) j same) | inr q ↦ sym q ]
+          by_place : In (before.flying c) k ⊎ (stamped with_it (bound s.packet x s.bytes) ≡ k) → k ≡ frame_of s x (home ∷ []) k.sent
+          by_place h = elim h [ inl j ↦ absurd (none_yet t es ps s.place s.packet c k (at_most sent.earlier) j same) | inr q ↦ sym q ∙ ap (λ (y : Token). frame_of s x (home ∷ []) y.sent) q ]
             where
               at_most : {m n : ℕ} → m ≡ n → m ≤ n
               at_most q = omega (arith, q)
@@ -204,12 +209,6 @@ module _ (t : Network) (lawful : IsLawful t) (es : List JournalEntry) (ps : List
 
 -- 2. Every step
 
--- a verdict by whether it flies
-where_flying : (v : Verdict) → (is_flying v ≡ false) ⊎ ((l : LinkNo) × (d : Dir) × (v ≡ Flying l d))
-where_flying (Flying l d) = inr (l, d, refl)
-where_flying (Delivered site ttl copy) = inl refl
-where_flying (Dropped cause node) = inl refl
-
 pub none_at : (k : Token) → None ≡ Some k → ⊥
 none_at k h = cc
 
@@ -223,8 +222,8 @@ module _ (t : Network) (lawful : IsLawful t) (es : List JournalEntry) (ps : List
       → (l : LinkNo) (d : Dir) → verdict_on (packets_at t es ps n) s.packet ≡ Flying l d → IsKnown t es ps s (suc n)
   flying_step s n e (Carry k b place) is sent below there h l d flies = by_frame (frame_at (slice_get ((packets_at t es ps n).flying (channel k.0 b)) place))
     where
-      leave : Leaves s.packet (packets_at t es ps n) (Carry k b place) → IsKnown t es ps s (suc n)
-      leave g = left_known t es ps s n e sent below there (subst (Leaves s.packet (packets_at t es ps n)) (sym is) g) h
+      leave : Leaves t (clock_after e) s.packet (packets_at t es ps n) (Carry k b place) → IsKnown t es ps s (suc n)
+      leave g = left_known t es ps s n e sent below there (subst (Leaves t (clock_after e) s.packet (packets_at t es ps n)) (sym is) g) h
 
       taken : (f : Token) → slice_get ((packets_at t es ps n).flying (channel k.0 b)) place ≡ Some f → f.packet ≡ s.packet → IsKnown t es ps s (suc n)
       taken f at same =
@@ -232,7 +231,7 @@ module _ (t : Network) (lawful : IsLawful t) (es : List JournalEntry) (ps : List
           let it_flies : verdict_on (packets_at t es ps n) s.packet ≡ Flying k b = ap (verdict_on (packets_at t es ps n)) (sym same)
           ∙ where_it_flies (packets_at t es ps n) (injections (take n es)) k b f (placed t es ps n) on in
           let takes_it = takes t es ps s n e k b sent below there h it_flies in
-          carried_known t lawful es ps s n e k b place takes_it is (at ∙ ap Some (takes_it.flies.frames (channel k.0 b) f on same))
+          carried_known t lawful es ps s n e k b place f.sent takes_it is (at ∙ ap Some (takes_it.flies.frames (channel k.0 b) f on same))
 
       by_frame : (slice_get ((packets_at t es ps n).flying (channel k.0 b)) place ≡ None) ⊎
           ((f : Token) × (slice_get ((packets_at t es ps n).flying (channel k.0 b)) place ≡ Some f)) → IsKnown t es ps s (suc n)
@@ -245,8 +244,8 @@ module _ (t : Network) (lawful : IsLawful t) (es : List JournalEntry) (ps : List
       ]
   flying_step s n e (Lose k b place) is sent below there h l d flies = by_frame (frame_at (slice_get ((packets_at t es ps n).flying (channel k.0 b)) place))
     where
-      leave : Leaves s.packet (packets_at t es ps n) (Lose k b place) → IsKnown t es ps s (suc n)
-      leave g = left_known t es ps s n e sent below there (subst (Leaves s.packet (packets_at t es ps n)) (sym is) g) h
+      leave : Leaves t (clock_after e) s.packet (packets_at t es ps n) (Lose k b place) → IsKnown t es ps s (suc n)
+      leave g = left_known t es ps s n e sent below there (subst (Leaves t (clock_after e) s.packet (packets_at t es ps n)) (sym is) g) h
 
       taken : (f : Token) → slice_get ((packets_at t es ps n).flying (channel k.0 b)) place ≡ Some f → f.packet ≡ s.packet → IsKnown t es ps s (suc n)
       taken f at same =
@@ -268,7 +267,7 @@ module _ (t : Network) (lawful : IsLawful t) (es : List JournalEntry) (ps : List
     | inl p ↦
         let link : l ≡ k = ap (λ m. record { 0 = m }) p.1 in
         cut_known t es ps s n e l d (takes t es ps s n e l d sent below there h flies) (is ∙ ap LinkDown (sym link))
-    | inr p ↦ left_known t es ps s n e sent below there (subst (Leaves s.packet (packets_at t es ps n)) (sym is) (λ b f i same. p.1 (other b f i same))) h
+    | inr p ↦ left_known t es ps s n e sent below there (subst (Leaves t (clock_after e) s.packet (packets_at t es ps n)) (sym is) (λ b f i same. p.1 (other b f i same))) h
   ]
     where
       one_link : (a b : LinkNo) (c f : Dir) → Flying a c ≡ Flying b f → a.0 ≡ b.0
@@ -278,7 +277,29 @@ module _ (t : Network) (lawful : IsLawful t) (es : List JournalEntry) (ps : List
       other b f i same = one_link l k d b
           (sym flies ∙ ap (verdict_on (packets_at t es ps n)) (sym same)
           ∙ where_it_flies (packets_at t es ps n) (injections (take n es)) k b f (placed t es ps n) i)
-  flying_step s n e x is sent below there h l d flies = left_known t es ps s n e sent below there (subst (Leaves s.packet (packets_at t es ps n)) (sym is) tt) h
+  flying_step s n e (Tick ticks) is sent below there h l d flies = by_age (two_ways (is_overdue t (clock_after e) l.0 frame.0))
+    where
+      frame : (k : Token) × In ((packets_at t es ps n).flying (channel l.0 d)) k × (k.packet ≡ s.packet)
+      frame = some_frame (packets_at t es ps n) (injections (take n es)) s.packet l d (placed t es ps n) flies
+
+      only : (m : ℕ) (b : Dir) (k : Token) → In (flying_on (packets_at t es ps n) m b) k → k.packet ≡ s.packet → (m ≡ l.0) × (b ≡ d) × (k ≡ frame.0)
+      only m b k i same = the_frame (packets_at t es ps n) (injections (take n es)) s.packet l (record { 0 = m }) d b k frame.0 (placed t es ps n) flies
+          frame.1 frame.2 i same
+
+      by_age : (is_overdue t (clock_after e) l.0 frame.0 ≡ true) ⊎ (is_overdue t (clock_after e) l.0 frame.0 ≡ false) → IsKnown t es ps s (suc n)
+      by_age o = elim o [
+        | inl late ↦ expired_known t es ps s n e l d (takes t es ps s n e l d sent below there h flies) ticks frame.0 is frame.1 frame.2 late
+            (λ m b k i same. let at = only m b k i same in (at.0, at.1))
+        | inr early ↦ left_known t es ps s n e sent below there
+            (subst (Leaves t (clock_after e) s.packet (packets_at t es ps n)) (sym is) (λ m b k there i same. young m b k i same early)) h
+      ]
+        where
+          young : (m : ℕ) (b : Dir) (k : Token) → In (flying_on (packets_at t es ps n) m b) k → k.packet ≡ s.packet
+              → is_overdue t (clock_after e) l.0 frame.0 ≡ false → is_overdue t (clock_after e) m k ≡ false
+          young m b k i same early =
+              let at = only m b k i same in
+              ap (λ a. is_overdue t (clock_after e) a k) at.0 ∙ ap (is_overdue t (clock_after e) l.0) at.2 ∙ early
+  flying_step s n e x is sent below there h l d flies = left_known t es ps s n e sent below there (subst (Leaves t (clock_after e) s.packet (packets_at t es ps n)) (sym is) tt) h
 
   one_step : (s : Sending) (n : ℕ) (e : JournalEntry) → IsSent es ps s → s.place < n → slice_get es n ≡ Some e → IsKnown t es ps s n → IsKnown t es ps s (suc n)
   one_step s n e sent below there h = elim (where_flying (verdict_on (packets_at t es ps n) s.packet)) [

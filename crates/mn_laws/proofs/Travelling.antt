@@ -10,13 +10,14 @@ use Rattle.mn_wiring.specs.declared.links.Dir.{Dir}
 use Rattle.mn_wiring.specs.declared.links.Dir.TheVariants.{Forth, Back}
 use Rattle.mn_base.specs.declared.numbers.LinkNo.{LinkNo}
 use Rattle.mn_base.specs.declared.numbers.NodeNo.{NodeNo}
-use Rattle.mn_wiring.specs.Wiring.{sender, receiver}
-use Rattle.mn_base.proofs.Bools.{clash}
+use Rattle.mn_wiring.specs.Wiring.{link, sender, receiver}
+use Rattle.mn_base.proofs.Bools.{clash, less_tells}
+use Rattle.mn_base.proofs.Members.{contained_in}
 use Rattle.mn_ipv4.specs.Header.{good, ttl_of, aged}
 use Rattle.mn_ipv4.proofs.Laws.{IsGood-from_good, length-aged, ttl_of-aged, get_or-aged, good-aged, aged-aged}
 use Rattle.mn_topo.specs.Lawful.{IsLawful}
 use Rattle.mn_topo.specs.Network.{Network, wiring_of}
-use Rattle.mn_topo.specs.declared.steps.Step.TheVariants.{LinkDown, Carry, Lose}
+use Rattle.mn_topo.specs.declared.steps.Step.TheVariants.{LinkDown, Carry, Lose, Tick}
 use Rattle.mn_topo.specs.declared.steps.JournalEntry.{JournalEntry}
 use Rattle.mn_ledger.specs.declared.verdict.Verdict.{Verdict}
 use Rattle.mn_ledger.specs.declared.verdict.Verdict.TheVariants.{Delivered, Dropped, Flying}
@@ -25,20 +26,22 @@ use Rattle.mn_ledger.specs.World.{World}
 use Rattle.mn_ledger.specs.Transport.{usable}
 use Rattle.mn_ledger.specs.Held.{HeldRoute}
 use Rattle.mn_ledger.specs.Packets.{Token, Packets, channel, flying_on, away_from, drop_at, visited, deliver, hop_over, taken, is_attachment, arrive, carry}
-use Rattle.mn_ledger.specs.Packets.{lose, cut, before_step}
+use Rattle.mn_ledger.specs.Packets.{lose, cut, before_step, stamped}
 use Rattle.mn_ledger.specs.Verdicts.{injections, verdict_on}
 use Rattle.mn_ledger.proofs.Members.{In}
 use Rattle.mn_ledger.proofs.OnePlace.{loosen}
 use Rattle.mn_ledger.proofs.Peers.{same_numbers}
 use Rattle.mn_laws.specs.Accounts.{world_at, packets_at, Sending, IsSent, routes_at, AreJoined, GoesOver, path_of, IsItsPath, node_of, is_flying, ttl_left}
-use Rattle.mn_laws.specs.Accounts.{IsPassedOn, FallsTo, arrival_rules, applies_at_arrival, EndsInFlight}
+use Rattle.mn_laws.specs.Accounts.{IsPassedOn, FallsTo, arrival_rules, applies_at_arrival, EndsInFlight, HasOutlived}
 use Rattle.mn_laws.specs.Named.{NamesItsSite}
 use Rattle.mn_laws.proofs.At.{bytes_of, packets_step}
 use Rattle.mn_laws.proofs.Elsewhere.{judged_here, visited_here, cut_here, cut_others, cut_paths, cut_counts, cut_off, in_pushed}
-use Rattle.mn_laws.proofs.Moving.{after_step, carried_is, lost_is, cut_is, arrives}
+use Rattle.mn_laws.proofs.Expired.{later, timed_here, timed_older}
+use Rattle.mn_laws.proofs.Moving.{after_time, carried_is, lost_is, cut_is, ticked_is, arrives}
 use Rattle.mn_laws.proofs.There.{receiver_there, joined_over, IsHop, hop_is, goes_further}
 use Rattle.mn_laws.proofs.Fates as fates
 use Rattle.mn_laws.proofs.Fates.{frame_of, HasFlown, Flies, FateIs, IsKnown, placed, in_verdicts, in_paths, in_counts, where_it_flies, some_frame, flown_on}
+use Rattle.mn_ledger.specs.Time.{clock_after, is_overdue, timed_by}
 
 -- 1. The packet that arrives
 
@@ -158,22 +161,33 @@ falls_now : (t : Network) (es : List JournalEntry) (ps : List (List ℕ)) (s : S
     (node : NodeNo) → (k : Takes t es ps s n e l d)
     → verdict_on (packets_at t es ps (suc n)) s.packet ≡ Dropped cause node
     → EndsInFlight t (world_at t es n) e.step l d k.flies.route (ttl_left s (path_of (packets_at t es ps n) s.packet)) cause node
+    → (cause ≡ rule.Overdue → HasOutlived t (packets_at t es ps n) e l d s.packet)
     → fates.Falls t es ps s (suc n) cause node
-falls_now t es ps s n e l d cause node k first how = record {
+falls_now t es ps s n e l d cause node k first how overdue = record {
   ends = record { when = n; entry = e; there = k.there; sent = omega (arith, k.below); past = omega arith; flown = k.flies.flown; first = first };
-  how = inr (record { route = k.flies.route; bound = k.flies.bound; link = l; dir = d; flew = k.is; by_step = how });
+  how = inr (record { route = k.flies.route; bound = k.flies.bound; link = l; dir = d; flew = k.is; by_step = how; overdue = overdue });
 }
 
 length_more : (p : List ℕ) (y : ℕ) → length (p ++ y ∷ []) ≡ length p + 1
 length_more p y = length-append p (y ∷ [])
 
+not_overdue : (t : Network) (w : World) (x : HeldRoute) (node ttl : ℕ) (cause : Rule) → FallsTo arrival_rules (applies_at_arrival t w x node ttl) cause
+    → cause ≡ rule.Overdue → ⊥
+not_overdue t w x node ttl cause f q = clash (sym f.here ∙ ap (applies_at_arrival t w x node ttl) q)
+
+lost_in_time : rule.Lost ≡ rule.Overdue → ⊥
+lost_in_time q = cc
+
+cut_in_time : rule.LinkCut ≡ rule.Overdue → ⊥
+cut_in_time q = cc
+
 -- 4. A frame that is carried
 
 module _ (t : Network) (lawful : IsLawful t) (es : List JournalEntry) (ps : List (List ℕ)) (s : Sending) (n : ℕ) (e : JournalEntry) (l : LinkNo)
-    (d : Dir) (place : ℕ) (k : Takes t es ps s n e l d)
+    (d : Dir) (place sent_at : ℕ) (k : Takes t es ps s n e l d)
     (carries : e.step ≡ Carry l d place)
     (at_place : slice_get ((packets_at t es ps n).flying (channel l.0 d)) place ≡ Some
-    (frame_of s k.flies.route (path_of (packets_at t es ps n) s.packet))) where
+    (frame_of s k.flies.route (path_of (packets_at t es ps n) s.packet) sent_at)) where
   abbrev path : List ℕ
   path = path_of (packets_at t es ps n) s.packet
 
@@ -182,16 +196,16 @@ module _ (t : Network) (lawful : IsLawful t) (es : List JournalEntry) (ps : List
 
   -- the packets once the frame has left the link, and its packet is at the node
   abbrev there_now : Packets
-  there_now = visited (taken (before_step (packets_at t es ps n)) l.0 d place) s.packet node
+  there_now = visited (taken (before_step (later (packets_at t es ps n) (clock_after e))) l.0 d place) s.packet node
 
   abbrev frame : Token
-  frame = frame_of s k.flies.route path
+  frame = frame_of s k.flies.route path sent_at
 
   inside : s.packet < length (packets_at t es ps n).verdicts
   inside = in_verdicts t es ps s n k.sent k.below
 
   path_now : path_of there_now s.packet ≡ path ++ node ∷ []
-  path_now = visited_here (taken (before_step (packets_at t es ps n)) l.0 d place) s.packet node (in_paths t es ps s n k.sent k.below)
+  path_now = visited_here (taken (before_step (later (packets_at t es ps n) (clock_after e))) l.0 d place) s.packet node (in_paths t es ps s n k.sent k.below)
 
   joined : AreJoined t (sender (wiring_of t) l.0 d) node
   joined = joined_over t l.0 d lawful k.flies.there
@@ -204,7 +218,8 @@ module _ (t : Network) (lawful : IsLawful t) (es : List JournalEntry) (ps : List
       known_by t es ps s (suc n) v (path ++ node ∷ []) (drop_at there_now s.packet cause node) now first path_now
       (further t s.site (Flying l d) v path node k.way joined refl)
       (falls_now t es ps s n e l d cause (record { 0 = node }) k (ap (λ w. verdict_on w s.packet) now ∙ first)
-      (subst (λ x. EndsInFlight t (world_at t es n) x l d k.flies.route frame.ttl cause (record { 0 = node })) (sym carries) (refl, refl, refl, falls)))
+      (subst (λ x. EndsInFlight t (world_at t es n) x l d k.flies.route frame.ttl cause (record { 0 = node })) (sym carries) (refl, refl, refl, falls))
+      (λ q. absurd (not_overdue t (world_at t es n) k.flies.route node frame.ttl cause falls q)))
 
   delivered_there : nat_le frame.ttl 1 ≡ false → (node == k.flies.route.edge) ≡ true
       → is_attachment ((world_at t es n).config.attached k.flies.route.site) k.flies.route.attachment ≡ true
@@ -243,14 +258,14 @@ module _ (t : Network) (lawful : IsLawful t) (es : List JournalEntry) (ps : List
   -- it flies on
   flies_there : nat_le frame.ttl 1 ≡ false → (node == k.flies.route.edge) ≡ false → (hop : ℕ × ℕ)
       → usable t (world_at t es n).config (world_at t es n).views (world_at t es n).sessions node k.flies.route.edge ≡ Some hop
-      → packets_at t es ps (suc n) ≡ hop_over t there_now (record frame { ttl = frame.ttl - 1 }) node rule.NoEntry (Some hop) → IsKnown t es ps s (suc n)
+      → packets_at t es ps (suc n) ≡ hop_over t there_now (stamped there_now (record frame { ttl = frame.ttl - 1 })) node rule.NoEntry (Some hop) → IsKnown t es ps s (suc n)
   flies_there lives far hop can now =
       let to : IsHop t node hop = hop_is t (world_at t es n) node k.flies.route.edge hop lawful (receiver_there t l.0 d lawful k.flies.there)
       (apart node k.flies.route.edge far) can in
       let dir : Dir = away_from t hop.1 node in
       let link : LinkNo = record { 0 = hop.1 } in
       let v : Verdict = Flying link dir in
-      let q : Packets = hop_over t there_now (record frame { ttl = frame.ttl - 1 }) node rule.NoEntry (Some hop) in
+      let q : Packets = hop_over t there_now (stamped there_now (record frame { ttl = frame.ttl - 1 })) node rule.NoEntry (Some hop) in
       let two : 2 ≤ ttl_of s.bytes - length path = two_left frame.ttl lives in
       let first : verdict_on q s.packet ≡ v = judged_here there_now s.packet v inside in
       let now_path : path_of (packets_at t es ps (suc n)) s.packet ≡ path ++ node ∷ [] = ap (λ w. path_of w s.packet) now ∙ path_now in
@@ -262,7 +277,7 @@ module _ (t : Network) (lawful : IsLawful t) (es : List JournalEntry) (ps : List
         home = k.flies.home;
         there = to.there;
         left = omega (arith, two, ap length now_path, length_more path node);
-        frames = λ c x i same. new_frame c x (subst (λ w. In (w.flying c) x) now i) same ∙ frame_now (sym now_path);
+        frames = λ c x i same. let j = subst (λ w. In (w.flying c) x) now i in new_frame c x j same ∙ frame_now (sym now_path) ∙ own_tick c x j same;
         flown = flown_now flies_now;
       })
     where
@@ -276,9 +291,10 @@ module _ (t : Network) (lawful : IsLawful t) (es : List JournalEntry) (ps : List
       one_less all len more h = omega (arith, h)
 
       frame_now : path ++ node ∷ [] ≡ path_of (packets_at t es ps (suc n)) s.packet
-          → record frame { ttl = frame.ttl - 1 } ≡ frame_of s k.flies.route (path_of (packets_at t es ps (suc n)) s.packet)
+          → stamped there_now (record frame { ttl = frame.ttl - 1 })
+          ≡ frame_of s k.flies.route (path_of (packets_at t es ps (suc n)) s.packet) (clock_after e)
       frame_now h =
-          ap (λ m. record (frame_of s k.flies.route path) { ttl = m })
+          ap (λ m. record (frame_of s k.flies.route path (clock_after e)) { ttl = m })
           (one_less (ttl_of s.bytes) (length path) (length (path_of (packets_at t es ps (suc n)) s.packet)) (ap length (sym h) ∙ length_more path node))
 
       none_left : (c : ℕ) (x : Token) → In (there_now.flying c) x → x.packet ≢ s.packet
@@ -290,19 +306,25 @@ module _ (t : Network) (lawful : IsLawful t) (es : List JournalEntry) (ps : List
           none_counted : 1 ≤ 0 → ⊥
           none_counted h = omega (arith, h)
 
-      new_frame : (c : ℕ) (x : Token) → In ((hop_over t there_now (record frame { ttl = frame.ttl - 1 }) node rule.NoEntry (Some hop)).flying c) x
-          → x.packet ≡ s.packet → x ≡ record frame { ttl = frame.ttl - 1 }
-      new_frame c x i same = by_place (in_pushed there_now.flying (channel hop.1 (away_from t hop.1 node)) (record frame { ttl = frame.ttl - 1 }) c x i)
+      new_frame : (c : ℕ) (x : Token) → In ((hop_over t there_now (stamped there_now (record frame { ttl = frame.ttl - 1 })) node rule.NoEntry (Some hop)).flying c) x
+          → x.packet ≡ s.packet → x ≡ stamped there_now (record frame { ttl = frame.ttl - 1 })
+      new_frame c x i same = by_place (in_pushed there_now.flying (channel hop.1 (away_from t hop.1 node)) (stamped there_now (record frame { ttl = frame.ttl - 1 })) c x i)
         where
-          by_place : In (there_now.flying c) x ⊎ (record frame { ttl = frame.ttl - 1 } ≡ x) → x ≡ record frame { ttl = frame.ttl - 1 }
+          by_place : In (there_now.flying c) x ⊎ (stamped there_now (record frame { ttl = frame.ttl - 1 }) ≡ x)
+              → x ≡ stamped there_now (record frame { ttl = frame.ttl - 1 })
           by_place h = elim h [ inl j ↦ absurd (none_left c x j same) | inr q ↦ sym q ]
+
+      own_tick : (c : ℕ) (x : Token) → In ((hop_over t there_now (stamped there_now (record frame { ttl = frame.ttl - 1 })) node rule.NoEntry (Some hop)).flying c) x
+          → x.packet ≡ s.packet → frame_of s k.flies.route (path_of (packets_at t es ps (suc n)) s.packet) (clock_after e)
+          ≡ frame_of s k.flies.route (path_of (packets_at t es ps (suc n)) s.packet) x.sent
+      own_tick c x i same = ap (λ (y : Token). frame_of s k.flies.route (path_of (packets_at t es ps (suc n)) s.packet) y.sent) (sym (new_frame c x i same))
 
   carried_to : packets_at t es ps (suc n) ≡ arrive t (world_at t es n) there_now frame node
   carried_to =
       packets_step t es ps n e k.there
-      ∙ ap (λ x. after_step t (world_at t es n) (packets_at t es ps n) x (bytes_of ps (injections (take n es)))) carries
-      ∙ carried_is t (world_at t es n) (packets_at t es ps n) l d place (bytes_of ps (injections (take n es)))
-      ∙ ap (carry t (world_at t es n) (taken (before_step (packets_at t es ps n)) l.0 d place) node) at_place
+      ∙ ap (λ x. after_time t (clock_after e) (world_at t es n) (packets_at t es ps n) x (bytes_of ps (injections (take n es)))) carries
+      ∙ carried_is t (world_at t es n) (later (packets_at t es ps n) (clock_after e)) l d place (bytes_of ps (injections (take n es)))
+      ∙ ap (carry t (world_at t es n) (taken (before_step (later (packets_at t es ps n) (clock_after e))) l.0 d place) node) at_place
 
   pub carried_known : IsKnown t es ps s (suc n)
   carried_known = arrives (λ w. packets_at t es ps (suc n) ≡ w → IsKnown t es ps s (suc n)) t (world_at t es n) there_now frame node (record {
@@ -326,54 +348,79 @@ module _ (t : Network) (es : List JournalEntry) (ps : List (List ℕ)) (s : Send
   -- it is dropped by the node that sent it
   dropped_on_link : (cause : Rule) (q : Packets) → packets_at t es ps (suc n) ≡ q → verdict_on q s.packet ≡ Dropped cause (record { 0 = sender_of })
       → path_of q s.packet ≡ path_before
-      → EndsInFlight t (world_at t es n) e.step l d k.flies.route (ttl_left s path_before) cause (record { 0 = sender_of }) → IsKnown t es ps s (suc n)
-  dropped_on_link cause q now first same how =
+      → EndsInFlight t (world_at t es n) e.step l d k.flies.route (ttl_left s path_before) cause (record { 0 = sender_of })
+      → (cause ≡ rule.Overdue → HasOutlived t (packets_at t es ps n) e l d s.packet) → IsKnown t es ps s (suc n)
+  dropped_on_link cause q now first same how overdue =
       known_by t es ps s (suc n) (Dropped cause (record { 0 = sender_of })) path_before q now first same
       (there_too t s.site (Flying l d) (Dropped cause (record { 0 = sender_of })) path_before k.way refl)
-      (falls_now t es ps s n e l d cause (record { 0 = sender_of }) k (ap (λ w. verdict_on w s.packet) now ∙ first) how)
+      (falls_now t es ps s n e l d cause (record { 0 = sender_of }) k (ap (λ w. verdict_on w s.packet) now ∙ first) how overdue)
 
   pub lost_known : (place : ℕ) (frame : Token) → e.step ≡ Lose l d place
       → slice_get ((packets_at t es ps n).flying (channel l.0 d)) place ≡ Some frame → frame.packet ≡ s.packet → IsKnown t es ps s (suc n)
   lost_known place frame loses at_place same =
-      let u : Packets = taken (before_step (packets_at t es ps n)) l.0 d place in
+      let u : Packets = taken (before_step (later (packets_at t es ps n) (clock_after e))) l.0 d place in
       dropped_on_link rule.Lost (drop_at u frame.packet rule.Lost sender_of)
       (packets_step t es ps n e k.there
-      ∙ ap (λ x. after_step t (world_at t es n) (packets_at t es ps n) x (bytes_of ps (injections (take n es)))) loses
-      ∙ lost_is t (world_at t es n) (packets_at t es ps n) l d place (bytes_of ps (injections (take n es)))
+      ∙ ap (λ x. after_time t (clock_after e) (world_at t es n) (packets_at t es ps n) x (bytes_of ps (injections (take n es)))) loses
+      ∙ lost_is t (world_at t es n) (later (packets_at t es ps n) (clock_after e)) l d place (bytes_of ps (injections (take n es)))
       ∙ ap (lose u sender_of) at_place)
       (ap (λ j. verdict_on (drop_at u j rule.Lost sender_of) s.packet) same
       ∙ judged_here u s.packet (Dropped rule.Lost (record { 0 = sender_of })) (in_verdicts t es ps s n k.sent k.below))
       refl
       (subst (λ x. EndsInFlight t (world_at t es n) x l d k.flies.route (ttl_left s path_before) rule.Lost (record { 0 = sender_of })) (sym loses)
-      (refl, refl, refl, refl))
+      (refl, refl, refl, refl)) (λ q. absurd (lost_in_time q))
+
+  -- time goes by, and its frame is overdue
+  pub expired_known : (ticks : ℕ) (frame : Token) → e.step ≡ Tick ticks → In ((packets_at t es ps n).flying (channel l.0 d)) frame → frame.packet ≡ s.packet
+      → is_overdue t (clock_after e) l.0 frame ≡ true
+      → ((m : ℕ) (b : Dir) (x : Token) → In (flying_on (packets_at t es ps n) m b) x → x.packet ≡ s.packet → (m ≡ l.0) × (b ≡ d)) → IsKnown t es ps s (suc n)
+  expired_known ticks frame is on same late only =
+      let c : ℕ = clock_after e in
+      let w : Packets = packets_at t es ps n in
+      let below : frame.packet < length w.verdicts = subst (λ j. j < length w.verdicts) (sym same) (in_verdicts t es ps s n k.sent k.below) in
+      dropped_on_link rule.Overdue (before_step (timed_by t c (Tick ticks) w))
+      (packets_step t es ps n e k.there ∙ ap (λ x. after_time t c (world_at t es n) w x (bytes_of ps (injections (take n es)))) is
+      ∙ ticked_is t c (world_at t es n) w ticks (bytes_of ps (injections (take n es))))
+      (ap (verdict_on (timed_by t c (Tick ticks) w)) (sym same)
+      ∙ timed_here t c ticks l.0 d frame w k.flies.there on late below
+      (λ m b x i q. let at = only m b x i (q ∙ same) in ap (λ a. sender (wiring_of t) a b) at.0 ∙ ap (sender (wiring_of t) l.0) at.1))
+      (ap (λ ps. slice_index_or ps s.packet []) (timed_older t c ticks w).paths)
+      (subst (λ x. EndsInFlight t (world_at t es n) x l d k.flies.route (ttl_left s path_before) rule.Overdue (record { 0 = sender_of })) (sym is) (refl, refl))
+      (λ q. record {
+        frame = frame;
+        flies = contained_in (flying_on w l.0 d) frame on;
+        carries = same;
+        outlived = less_tells (frame.sent + (link (wiring_of t) l.0).life) c late;
+      })
 
   abbrev now_cut : Packets
-  now_cut = cut t (cut t (before_step (packets_at t es ps n)) l.0 Forth) l.0 Back
+  now_cut = cut t (cut t (before_step (later (packets_at t es ps n) (clock_after e))) l.0 Forth) l.0 Back
 
   cut_to : e.step ≡ LinkDown l → packets_at t es ps (suc n) ≡ now_cut
   cut_to cuts =
       packets_step t es ps n e k.there
-      ∙ ap (λ x. after_step t (world_at t es n) (packets_at t es ps n) x (bytes_of ps (injections (take n es)))) cuts
-      ∙ cut_is t (world_at t es n) (packets_at t es ps n) l (bytes_of ps (injections (take n es)))
+      ∙ ap (λ x. after_time t (clock_after e) (world_at t es n) (packets_at t es ps n) x (bytes_of ps (injections (take n es)))) cuts
+      ∙ cut_is t (world_at t es n) (later (packets_at t es ps n) (clock_after e)) l (bytes_of ps (injections (take n es)))
 
   cut_path : path_of now_cut s.packet ≡ path_before
   cut_path =
       ap (λ ps. slice_index_or ps s.packet [])
-      (cut_paths (flying_on (cut t (before_step (packets_at t es ps n)) l.0 Forth) l.0 Back) (cut t (before_step (packets_at t es ps n)) l.0 Forth)
-      (channel l.0 Back) (sender (wiring_of t) l.0 Back)
-      ∙ cut_paths (flying_on (before_step (packets_at t es ps n)) l.0 Forth) (before_step (packets_at t es ps n)) (channel l.0 Forth)
-      (sender (wiring_of t) l.0 Forth))
+      (cut_paths (flying_on (cut t begun l.0 Forth) l.0 Back) (cut t begun l.0 Forth) (channel l.0 Back) (sender (wiring_of t) l.0 Back)
+      ∙ cut_paths (flying_on begun l.0 Forth) begun (channel l.0 Forth) (sender (wiring_of t) l.0 Forth))
+    where
+      begun : Packets
+      begun = before_step (later (packets_at t es ps n) (clock_after e))
 
 -- where a frame flies is one direction
 one_way : (l : LinkNo) → Flying l Forth ≡ Flying l Back → ⊥
 one_way l h = cc
 
-cut_verdict : (t : Network) (es : List JournalEntry) (ps : List (List ℕ)) (s : Sending) (n : ℕ) (l : LinkNo) (d : Dir) → IsSent es ps s → s.place < n
+cut_verdict : (t : Network) (es : List JournalEntry) (ps : List (List ℕ)) (s : Sending) (n : ℕ) (l : LinkNo) (clock : ℕ) (d : Dir) → IsSent es ps s → s.place < n
     → verdict_on (packets_at t es ps n) s.packet ≡ Flying l d
-    → verdict_on (cut t (cut t (before_step (packets_at t es ps n)) l.0 Forth) l.0 Back) s.packet ≡ Dropped rule.LinkCut
+    → verdict_on (cut t (cut t (before_step (later (packets_at t es ps n) clock)) l.0 Forth) l.0 Back) s.packet ≡ Dropped rule.LinkCut
     (record { 0 = sender (wiring_of t) l.0 d })
-cut_verdict t es ps s n l Forth sent below is =
-    let w : Packets = before_step (packets_at t es ps n) in
+cut_verdict t es ps s n l clock Forth sent below is =
+    let w : Packets = before_step (later (packets_at t es ps n) clock) in
     let first : Packets = cut t w l.0 Forth in
     let frame = some_frame (packets_at t es ps n) (injections (take n es)) s.packet l Forth (placed t es ps n) is in
     let dropped : verdict_on first s.packet ≡ Dropped rule.LinkCut (record { 0 = sender (wiring_of t) l.0 Forth }) =
@@ -389,13 +436,13 @@ cut_verdict t es ps s n l Forth sent below is =
     apart : channel l.0 Back ≢ channel l.0 Forth
     apart h = omega (arith, h)
 
-    back_is : (x : Token) → In ((cut t (before_step (packets_at t es ps n)) l.0 Forth).flying (channel l.0 Back)) x
+    back_is : (x : Token) → In ((cut t (before_step (later (packets_at t es ps n) clock)) l.0 Forth).flying (channel l.0 Back)) x
         → In ((packets_at t es ps n).flying (channel l.0 Back)) x
     back_is x i = subst (λ xs. In xs x)
-        (cut_others (flying_on (packets_at t es ps n) l.0 Forth) (before_step (packets_at t es ps n)) (channel l.0 Forth)
+        (cut_others (flying_on (packets_at t es ps n) l.0 Forth) (before_step (later (packets_at t es ps n) clock)) (channel l.0 Forth)
         (sender (wiring_of t) l.0 Forth) (channel l.0 Back) apart) i
-cut_verdict t es ps s n l Back sent below is =
-    let w : Packets = before_step (packets_at t es ps n) in
+cut_verdict t es ps s n l clock Back sent below is =
+    let w : Packets = before_step (later (packets_at t es ps n) clock) in
     let first : Packets = cut t w l.0 Forth in
     let frame = some_frame (packets_at t es ps n) (injections (take n es)) s.packet l Back (placed t es ps n) is in
     ap (verdict_on (cut t first l.0 Back)) (sym frame.2)
@@ -412,6 +459,6 @@ pub cut_known : (t : Network) (es : List JournalEntry) (ps : List (List ℕ)) (s
     → Takes t es ps s n e l d → e.step ≡ LinkDown l → IsKnown t es ps s (suc n)
 cut_known t es ps s n e l d k cuts =
     dropped_on_link t es ps s n e l d k rule.LinkCut (now_cut t es ps s n e l d k) (cut_to t es ps s n e l d k cuts)
-    (cut_verdict t es ps s n l d k.sent k.below k.is) (cut_path t es ps s n e l d k)
+    (cut_verdict t es ps s n l (clock_after e) d k.sent k.below k.is) (cut_path t es ps s n e l d k)
     (subst (λ x. EndsInFlight t (world_at t es n) x l d k.flies.route (ttl_left s (path_of (packets_at t es ps n) s.packet)) rule.LinkCut
-    (record { 0 = sender (wiring_of t) l.0 d })) (sym cuts) (refl, refl, refl))
+    (record { 0 = sender (wiring_of t) l.0 d })) (sym cuts) (refl, refl, refl)) (λ q. absurd (cut_in_time q))

@@ -3,19 +3,19 @@
 -- step that ends it; or it is still on its way. RFC 4364, section 5; RFC 3031, section 3.23, and RFC 3443, section 3.1, for the TTL.
 use Rattle.std.specs.Prelude.{◌≡◌, ◌≢◌, ◌≤◌, ◌<◌, ◌⊎◌, ℕ, ◌+◌, ◌-◌, ◌==◌, ◌&&◌, Bool, true, false, not, nat_lt, nat_le, IsTrue, List, [], ◌∷◌, ◌++◌, length}
 use Rattle.std.specs.Prelude.{take, slice_index, slice_index_or, slice_get, Option, Some, None, is_some, is_none}
-use Rattle.std.specs.List.{list_any}
+use Rattle.std.specs.List.{Contains, list_any}
 use Rattle.mn_drops.specs.declared.drops.Rule.{Rule}
 use Rattle.mn_drops.specs.declared.drops.Rule.TheVariants as rule
 use Rattle.mn_wiring.specs.declared.links.Dir.{Dir}
 use Rattle.mn_base.specs.declared.numbers.LinkNo.{LinkNo}
 use Rattle.mn_base.specs.declared.numbers.NodeNo.{NodeNo}
 use Rattle.mn_base.specs.declared.numbers.SiteNo.{SiteNo}
-use Rattle.mn_wiring.specs.Wiring.{is_end, across, sender, receiver}
+use Rattle.mn_wiring.specs.Wiring.{link, is_end, across, sender, receiver}
 use Rattle.mn_ipv4.specs.Header.{is_not_ipv4, is_malformed, is_truncated, has_bad_checksum, good, total_length, ttl_of, destination_of}
 use Rattle.mn_prefix.specs.Prefix.{contains}
 use Rattle.mn_topo.specs.Network.{Network, wiring_of}
 use Rattle.mn_topo.specs.declared.steps.Step.{Step}
-use Rattle.mn_topo.specs.declared.steps.Step.TheVariants.{LinkDown, Inject, Carry, Lose}
+use Rattle.mn_topo.specs.declared.steps.Step.TheVariants.{LinkDown, Inject, Carry, Lose, Tick}
 use Rattle.mn_topo.specs.declared.steps.JournalEntry.{JournalEntry}
 use Rattle.mn_ledger.specs.declared.verdict.Verdict.{Verdict}
 use Rattle.mn_ledger.specs.declared.verdict.Verdict.TheVariants.{Delivered, Dropped, Flying}
@@ -25,8 +25,9 @@ use Rattle.mn_ledger.specs.World.{World}
 use Rattle.mn_ledger.specs.Transport.{usable}
 use Rattle.mn_ledger.specs.Held.{HeldRoute, held, best}
 use Rattle.mn_ledger.specs.Best.{IsBest}
-use Rattle.mn_ledger.specs.Packets.{Packets, is_attachment}
+use Rattle.mn_ledger.specs.Packets.{Token, Packets, flying_on, is_attachment}
 use Rattle.mn_ledger.specs.Ledger.{world_of, packets_of}
+use Rattle.mn_ledger.specs.Time.{clock_after}
 use Rattle.mn_ledger.specs.Verdicts.{injections, verdict_on, AreInOnePlace}
 use Rattle.mn_laws.specs.Deliveries.{deliveries_of}
 
@@ -200,7 +201,7 @@ applies_at_arrival topology world route node ttl rule.NoEntry = not (node == rou
 applies_at_arrival topology world route node ttl other = false
 
 -- the step ends a packet that flies over the link in the direction: it is carried to the other end and falls to a rule there, or
--- the frame is lost, or the link goes down
+-- the frame is lost, or the link goes down, or time goes by
 abbrev pub EndsInFlight : Network → World → Step → LinkNo → Dir → HeldRoute → ℕ → Rule → NodeNo → Type 0
 EndsInFlight topology world (Carry l d place) link dir route ttl cause node =
     (l ≡ link) × (d ≡ dir) × (node.0 ≡ receiver (wiring_of topology) link.0 dir)
@@ -208,7 +209,15 @@ EndsInFlight topology world (Carry l d place) link dir route ttl cause node =
 EndsInFlight topology world (Lose l d place) link dir route ttl cause node = (l ≡ link) × (d ≡ dir)
     × (node.0 ≡ sender (wiring_of topology) link.0 dir) × (cause ≡ rule.Lost)
 EndsInFlight topology world (LinkDown l) link dir route ttl cause node = (l ≡ link) × (node.0 ≡ sender (wiring_of topology) link.0 dir) × (cause ≡ rule.LinkCut)
+EndsInFlight topology world (Tick ticks) link dir route ttl cause node = (node.0 ≡ sender (wiring_of topology) link.0 dir) × (cause ≡ rule.Overdue)
 EndsInFlight topology world _ link dir route ttl cause node = ⊥
+
+-- by the clock that the entry leaves, the packet's frame was sent over the link longer ago than the link's life
+pub record HasOutlived (topology : Network) (packets : Packets) (entry : JournalEntry) (over : LinkNo) (dir : Dir) (packet : ℕ) : Type 0 where
+  pub frame : Token
+  pub flies : Contains (flying_on packets over.0 dir) frame
+  pub carries : frame.packet ≡ packet
+  pub outlived : frame.sent + (link (wiring_of topology) over.0).life < clock_after entry
 
 -- it fell as it was sent, at the edge of its site
 pub record FellAtEntry (topology : Network) (entries : List JournalEntry) (sending : Sending) (cause : Rule) (node : NodeNo) (when : ℕ) : Type 0 where
@@ -226,6 +235,7 @@ pub record FellInFlight (topology : Network) (entries : List JournalEntry) (inpu
   pub flew : verdict_on (packets_at topology entries inputs when) sending.packet ≡ Flying link dir
   pub by_step : EndsInFlight topology (world_at topology entries when) entry.step link dir route
       (ttl_left sending (path_of (packets_at topology entries inputs when) sending.packet)) cause node
+  pub overdue : cause ≡ rule.Overdue → HasOutlived topology (packets_at topology entries inputs when) entry link dir sending.packet
 
 pub record HasFallen (topology : Network) (entries : List JournalEntry) (inputs : List (List ℕ)) (sending : Sending) (cause : Rule)
     (node : NodeNo) : Type 0 where

@@ -5,6 +5,7 @@ use Rattle.mn_topo.specs.declared.steps.JournalEntry.{JournalEntry}
 use Rattle.mn_ledger.specs.World.{World}
 use Rattle.mn_ledger.specs.Packets.{Packets, packets_after}
 use Rattle.mn_ledger.specs.Ledger.{after, start, no_packets, next_of, left_by}
+use Rattle.mn_ledger.specs.Ledger.{packets_by}
 
 -- the packet's bytes as they arrived
 pub record Delivery : Type 0 where
@@ -21,7 +22,7 @@ abbrev pub deliveries_from : Network → World → Packets → List JournalEntry
 deliveries_from topology world packets [] inputs = []
 deliveries_from topology world packets (entry ∷ entries) inputs =
     let world_then : World = after topology world entry.step in
-    let packets_then : Packets = packets_after topology world_then packets entry.step (next_of inputs) in
+    let packets_then : Packets = packets_by topology world_then packets entry (next_of inputs) in
     delivery_at entry.tick packets_then.delivered ++ deliveries_from topology world_then packets_then entries (left_by entry.step inputs)
 
 abbrev pub deliveries_of : Network → List JournalEntry → List (List ℕ) → List Delivery

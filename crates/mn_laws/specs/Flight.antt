@@ -31,6 +31,11 @@ AreMadeInOrder topology [] = ⊤
 AreMadeInOrder topology (item ∷ items) = AllByRecursion (λ other. item.due + delay_on topology other.on ≤ other.due + delay_on topology item.on) items
     × AreMadeInOrder topology items
 
+-- a frame is due its link's delay after it was sent on the link
+abbrev pub IsDueAsSent : Network → Channel → Load → ℕ → Type 0
+IsDueAsSent topology on (Carries token) due = due ≡ token.sent + delay_on topology on
+IsDueAsSent topology on _ due = ⊤
+
 -- 2. Channels
 
 -- the channel is one of the network: from a link to a node, from an end of a link, from an edge to another, or over a link in a
@@ -72,6 +77,7 @@ frame_length _ = 0
 pub record FliesAsCounted (topology : Network) (entries : List JournalEntry) (inputs : List (List ℕ)) : Type 0 where
   pub ascending : AreAscending 0 (flight_of topology entries inputs).made (flight_of topology entries inputs).items
   pub in_order : AreMadeInOrder topology (flight_of topology entries inputs).items
+  pub due : (item : Item) → Contains (flight_of topology entries inputs).items item → IsDueAsSent topology item.on item.load item.due
   pub channels : (item : Item) → Contains (flight_of topology entries inputs).items item → IsOfChannel topology item.on item.load
   pub delivered : (on : Channel) (place : ℕ) → place < length (items_on on (flight_of topology entries inputs).items)
       → IsOpen topology entries inputs (delivering topology on place)

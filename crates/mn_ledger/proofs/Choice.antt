@@ -11,7 +11,8 @@ use Rattle.mn_topo.specs.declared.steps.JournalEntry.{JournalEntry}
 use Rattle.mn_ledger.specs.World.{World}
 use Rattle.mn_ledger.specs.Held.{Source, Own, Near, Far, HeldRoute, is_preferred, is_better, matching, unbeaten, first_of, best, held}
 use Rattle.mn_ledger.specs.Packets.{Packets, packets_after}
-use Rattle.mn_ledger.specs.Ledger.{after, start, no_packets, next_of, left_by, world_from, world_of}
+use Rattle.mn_ledger.specs.Time.{clock_after}
+use Rattle.mn_ledger.specs.Ledger.{packets_by, after, start, no_packets, next_of, left_by, world_from, world_of}
 use Rattle.mn_ledger.specs.Lawful.{IsLawfulFrom, IsLawfulJournal}
 use Rattle.mn_ledger.specs.Best.{IsBest, NamesTheBest}
 use Rattle.mn_ledger.proofs.Peers.{two_ways}
@@ -302,7 +303,7 @@ keeps_on : (t : Network) (es : List JournalEntry) (tick : ℕ) (w : World) (k : 
 keeps_on t [] tick w k i ps lawful h = h
 keeps_on t (e ∷ es) tick w k i ps lawful h =
     let forms = forms_go t w e.step lawful.0 h.forms in
-    keeps_on t es e.tick (after t w e.step) (packets_after t (after t w e.step) k e.step (next_of ps)) (i + 1) (left_by e.step ps) lawful.3
+    keeps_on t es (clock_after e) (after t w e.step) (packets_by t (after t w e.step) k e (next_of ps)) (i + 1) (left_by e.step ps) lawful.3
     (record { statics = statics_go t w k i e.step (next_of ps) lawful.2 h.statics; forms = forms; told = tellings_go t w e.step forms h.told })
 
 pub keeps : (t : Network) (es : List JournalEntry) (ps : List (List ℕ)) → IsLawful t → IsLawfulJournal t es ps → Keeps t (world_of t es)

@@ -16,6 +16,7 @@ use Rattle.mn_ledger.specs.Held.{held}
 use Rattle.mn_ledger.specs.Packets.{Token, packets_after}
 use Rattle.mn_ledger.specs.Items.{Channel, Notices, Messages, Routes, Frames, Load, Notice, Says, Tells, Carries, Item, flight_of}
 use Rattle.mn_ledger.specs.Refusal.{in_flight, bytes_flying}
+use Rattle.mn_ledger.proofs.Deciding.{lawful}
 use Rattle.mn_ledger.specs.Lawful.{IsLawfulJournal}
 use Rattle.mn_topo.specs.Steps.{fits}
 use Rattle.mn_ledger.proofs.TwoLinks.{node_no, link_no, site_no, two_links, settling, packet, across_both}
@@ -75,17 +76,17 @@ unfolding next knowledge_of news sessions_after peerings_after held packets_afte
 sessions_end_with_what_was_said = refl
 
 -- a packet's frame, on each link with what is left of its TTL
-abbrev flying_at : ℕ → Token
-flying_at ttl = record { packet = 0; edge = 2; site = 1; attachment = 1; pushed = 63; ttl = ttl; bytes = aged packet 1 }
+abbrev flying_at : ℕ → ℕ → Token
+flying_at ttl tick = record { packet = 0; edge = 2; site = 1; attachment = 1; pushed = 63; ttl = ttl; sent = tick; bytes = aged packet 1 }
 
 pub a_frame_flies_on_the_first_link : (flight_of two_links (settling ++ at 5 (Inject (site_no 0) 1) ∷ []) (packet ∷ [])).items ≡ item 36 7 (Frames 0 Forth)
-    (Carries (flying_at 63)) ∷ []
+    (Carries (flying_at 63 5)) ∷ []
 unfolding next knowledge_of news sessions_after peerings_after held packets_after is_not_ipv4 is_malformed is_truncated has_bad_checksum good checksum_for
     with_ttl aged in_flight bytes_flying
 a_frame_flies_on_the_first_link = refl
 
 pub and_then_on_the_second : (flight_of two_links (settling ++ at 5 (Inject (site_no 0) 1) ∷ at 7 (Carry (link_no 0) Forth 0) ∷ []) (packet ∷ [])).items ≡
-    item 37 9 (Frames 1 Forth) (Carries (flying_at 62)) ∷ []
+    item 37 9 (Frames 1 Forth) (Carries (flying_at 62 7)) ∷ []
 unfolding next knowledge_of news sessions_after peerings_after held packets_after is_not_ipv4 is_malformed is_truncated has_bad_checksum good checksum_for
     with_ttl aged in_flight bytes_flying
 and_then_on_the_second = refl
@@ -93,7 +94,7 @@ and_then_on_the_second = refl
 -- a frame that overtakes another leaves the other where it was
 pub the_second_overtakes : (flight_of two_links (settling ++ at 5 (Inject (site_no 0) 1) ∷ at 5 (Inject (site_no 0) 1) ∷ at 7 (Carry (link_no 0) Forth 1)
     ∷ []) (packet ∷ packet ∷ [])).items
-    ≡ item 36 7 (Frames 0 Forth) (Carries (flying_at 63)) ∷ item 38 9 (Frames 1 Forth) (Carries (record (flying_at 62) { packet = 1 })) ∷ []
+    ≡ item 36 7 (Frames 0 Forth) (Carries (flying_at 63 5)) ∷ item 38 9 (Frames 1 Forth) (Carries (record (flying_at 62 7) { packet = 1 })) ∷ []
 unfolding next knowledge_of news sessions_after peerings_after held packets_after is_not_ipv4 is_malformed is_truncated has_bad_checksum good checksum_for
     with_ttl aged in_flight bytes_flying
 the_second_overtakes = refl
@@ -108,4 +109,4 @@ host_bits_do_not_fit = refl
 pub adding_is_lawful : IsLawfulJournal two_links adds_a_route (packet ∷ [])
 unfolding next knowledge_of news sessions_after peerings_after held packets_after is_not_ipv4 is_malformed is_truncated has_bad_checksum good checksum_for
     with_ttl aged in_flight bytes_flying
-adding_is_lawful = search rules
+adding_is_lawful = lawful two_links adds_a_route (packet ∷ []) refl

@@ -14,7 +14,7 @@ use Rattle.mn_topo.specs.Lawful.{IsLawful}
 use Rattle.mn_topo.specs.Steps.{fits}
 use Rattle.mn_topo.specs.declared.steps.Step.{Step}
 use Rattle.mn_topo.specs.declared.steps.Step.TheVariants.{LinkUp, LinkDown, Learn, LdpAdmin, HearLdp, BgpUp, BgpDown, HearBgp, AddRoute, DelRoute, Import}
-use Rattle.mn_topo.specs.declared.steps.Step.TheVariants.{Export, Attach, Detach, Inject, Carry, Lose}
+use Rattle.mn_topo.specs.declared.steps.Step.TheVariants.{Export, Attach, Detach, Inject, Carry, Lose, Tick}
 use Rattle.mn_topo.specs.declared.steps.JournalEntry.{JournalEntry}
 use Rattle.mn_ledger.specs.Tables.{put, put_pair}
 use Rattle.mn_ledger.specs.World.{World, Message, Telling, Sessions, Peerings, Views}
@@ -22,6 +22,10 @@ use Rattle.mn_ledger.specs.Transport.{Said, is_transport, said_in, messages_of, 
 use Rattle.mn_ledger.specs.Bgp as ledger_bgp
 use Rattle.mn_ledger.specs.Bgp.{Told, tellings_of, peerings_after}
 use Rattle.mn_ledger.specs.Packets.{Token, Packets, packets_after}
+use Rattle.mn_ledger.specs.Time.{clock_after, timed}
+use Rattle.mn_ledger.specs.Items.{in_time, in_time_by}
+use Rattle.mn_ledger.proofs.Expiring.{in_time_flies, timed_empty}
+use Rattle.mn_ledger.proofs.OnePlace.{timed_places}
 use Rattle.mn_ledger.specs.Ledger.{after, start, no_packets, next_of, left_by, injects, world_from, world_of, packets_from, packets_of}
 use Rattle.mn_ledger.specs.Refusal.{is_empty}
 use Rattle.mn_ledger.specs.Lawful.{IsLawfulFrom, IsLawfulJournal}
@@ -746,6 +750,10 @@ flows_step t differ w p s b tick count fit full g one made flight f =
           ∙ frames_go t (after t w s) p s b flight.items count l dir one f.frames;
     }
 
+in_time_made : (t : Network) (clock : ℕ) (s : Step) (flight : Flight) → (in_time_by t clock s flight).made ≡ flight.made
+in_time_made t clock (Tick n) flight = refl
+in_time_made t clock _ flight = refl
+
 flows_on : (t : Network) → Apart t → JoinsNodes (wiring_of t) → EndsDiffer (wiring_of t) →
     (es : List JournalEntry) (tick : ℕ) (w : World) (k : Packets) (i count : ℕ) (ps : List (List ℕ)) → IsLawfulFrom t tick w k i es ps → IsInTurn t w →
     AreInOnePlace k count
@@ -754,16 +762,22 @@ flows_on : (t : Network) → Apart t → JoinsNodes (wiring_of t) → EndsDiffer
 flows_on t distinct joins differ [] tick w k i count ps lawful g one made flight f = subst (λ m. IsInFlight t w k m flight) (sym (append-nil made)) f
 flows_on t distinct joins differ (e ∷ es) tick w k i count ps lawful g one made flight f =
     let later : World = after t w e.step in
-    let packets : Packets = packets_after t later k e.step (next_of ps) in
-    let new : List (Channel × Load) = made_in t w later k packets e.step in
+    let now : Packets = timed t e k in
+    let packets : Packets = packets_after t later now e.step (next_of ps) in
+    let new : List (Channel × Load) = made_in t w later now packets e.step in
     let full : is_empty t w k e.step ≡ false = not_empty t w k i e.step (next_of ps) lawful.2 in
+    let there : is_empty t w now e.step ≡ false = timed_empty t w (clock_after e) e.step k ∙ full in
+    let places : AreInOnePlace now count = timed_places t e k count one in
+    let left : Flight = in_time t e flight in
+    let counts : left.made ≡ flight.made = in_time_made t (clock_after e) e.step flight in
     subst (λ m. IsInFlight t (world_from t later es) (packets_from t later packets es (left_by e.step ps)) m
-    (flight_from t later packets (with_made t e.tick new e.step flight) es (left_by e.step ps)))
-    (append_assoc made (numbered t e.tick flight.made new) (made_from t later packets (flight.made + length new) es (left_by e.step ps)))
-    (flows_on t distinct joins differ es e.tick later packets (i + 1) (one_if (injects e.step) + count) (left_by e.step ps) lawful.3
-    (goes_step t distinct joins differ w k e.step lawful.0 full g) (stepped t later k e.step (next_of ps) count one)
-    (made ++ numbered t e.tick flight.made new) (with_made t e.tick new e.step flight)
-    (flows_step t differ w k e.step (next_of ps) e.tick count lawful.0 full g one made flight f))
+    (flight_from t later packets (with_made t e.tick new e.step left) es (left_by e.step ps)))
+    (append_assoc made (numbered t e.tick left.made new) (made_from t later packets (left.made + length new) es (left_by e.step ps))
+    ∙ ap (λ n. made ++ (numbered t e.tick n new ++ made_from t later packets (n + length new) es (left_by e.step ps))) counts)
+    (flows_on t distinct joins differ es (clock_after e) later packets (i + 1) (one_if (injects e.step) + count) (left_by e.step ps) lawful.3
+    (goes_step t distinct joins differ w k e.step lawful.0 full g) (stepped t later now e.step (next_of ps) count places)
+    (made ++ numbered t e.tick left.made new) (with_made t e.tick new e.step left)
+    (flows_step t differ w now e.step (next_of ps) e.tick count lawful.0 there g places made left (in_time_flies t w (clock_after e) e.step k made flight f)))
 
 nothing_flies : (t : Network) → IsInFlight t (start t) no_packets [] (record { made = 0; items = [] })
 nothing_flies t = record {

@@ -21,7 +21,7 @@ use Rattle.mn_ledger.specs.Places.{home_of, vrf_of}
 use Rattle.mn_ledger.specs.World.{World}
 use Rattle.mn_ledger.specs.Transport.{usable}
 use Rattle.mn_ledger.specs.Held.{HeldRoute, best, held}
-use Rattle.mn_ledger.specs.Packets.{Token, Packets, channel, flying_on, away_from, judged, drop_at, visited, deliver, hop_over, entry_rules, bound}
+use Rattle.mn_ledger.specs.Packets.{Token, Packets, channel, flying_on, away_from, judged, drop_at, visited, deliver, hop_over, entry_rules, bound, stamped}
 use Rattle.mn_ledger.specs.Packets.{route_by, enter_by, one_more, without_place, taken, is_attachment, leave, arrive, carry, lose, cut_each, before_step}
 use Rattle.mn_ledger.specs.Packets.{packets_after}
 use Rattle.mn_ledger.specs.Verdicts.{verdict_on, AreInOnePlace}
@@ -101,7 +101,7 @@ routes : (t : Network) (v : World) (w : Packets) (j : ℕ) (b : List ℕ) (e : �
 routes t v w j b e None h = drops w j rule.NoRoute e h
 routes t v w j b e (Some route) h =
     arms (λ x. Adds w x j) (route.edge == e) _ _ (delivers w j route.site _ b h)
-    (hops t w (bound j route b) e rule.NoLsp (usable t v.config v.views v.sessions e route.edge) h)
+    (hops t w (stamped w (bound j route b)) e rule.NoLsp (usable t v.config v.views v.sessions e route.edge) h)
 
 enters : (t : Network) (v : World) (w : Packets) (j : ℕ) (b : List ℕ) (e vrf : ℕ) (o : Option Rule) → j < length w.verdicts →
     Adds w (enter_by t v w j b e vrf o) j
@@ -117,7 +117,7 @@ arrives : (t : Network) (v : World) (w : Packets) (k : Token) (y : ℕ) → k.pa
 arrives t v w k y h =
     arms (λ x. Adds w x k.packet) (nat_le k.ttl 1) _ _ (drops w k.packet rule.TtlExpired y h)
     (arms (λ x. Adds w x k.packet) (y == k.edge) _ _ (leaves v w k y h)
-    (hops t w (record k { ttl = k.ttl - 1 }) y rule.NoEntry (usable t v.config v.views v.sessions y k.edge) h))
+    (hops t w (stamped w (record k { ttl = k.ttl - 1 })) y rule.NoEntry (usable t v.config v.views v.sessions y k.edge) h))
 
 -- 2. A frame is taken out
 

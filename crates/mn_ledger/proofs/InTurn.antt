@@ -16,7 +16,8 @@ use Rattle.mn_ledger.specs.World.{World, Views, Open}
 use Rattle.mn_ledger.specs.Transport.{is_active}
 use Rattle.mn_ledger.specs.Bgp.{peers_live}
 use Rattle.mn_ledger.specs.Packets.{Packets, packets_after}
-use Rattle.mn_ledger.specs.Ledger.{after, start, no_packets, next_of, left_by, world_from, world_of}
+use Rattle.mn_ledger.specs.Time.{clock_after}
+use Rattle.mn_ledger.specs.Ledger.{packets_by, after, start, no_packets, next_of, left_by, world_from, world_of}
 use Rattle.mn_ledger.specs.Refusal.{is_empty, refusal_at}
 use Rattle.mn_ledger.specs.Lawful.{IsLawfulFrom, IsLawfulJournal}
 use Rattle.mn_ledger.specs.Turns.{IsInTurn, HasRows, has_bgp_row}
@@ -122,7 +123,7 @@ goes_on : (t : Network) → Apart t → JoinsNodes (wiring_of t) → EndsDiffer 
     IsInTurn t (world_from t w es)
 goes_on t apart joins differ [] tick w k i ps lawful g = g
 goes_on t apart joins differ (e ∷ es) tick w k i ps lawful g =
-    goes_on t apart joins differ es e.tick (after t w e.step) (packets_after t (after t w e.step) k e.step (next_of ps)) (i + 1) (left_by e.step ps) lawful.3
+    goes_on t apart joins differ es (clock_after e) (after t w e.step) (packets_by t (after t w e.step) k e (next_of ps)) (i + 1) (left_by e.step ps) lawful.3
     (goes_step t apart joins differ w k e.step lawful.0 (not_empty t w k i e.step (next_of ps) lawful.2) g)
 
 pub begins : (t : Network) → IsInTurn t (start t)

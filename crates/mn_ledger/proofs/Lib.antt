@@ -1,3 +1,4 @@
+pub mod Deciding
 pub mod TwoLinks
 pub mod MoreRuns
 pub mod OnePlace
@@ -12,6 +13,7 @@ pub mod Quiet
 pub mod Nearer
 pub mod Channels
 pub mod Directions
+pub mod Expiring
 pub mod Flows
 pub mod Members
 pub mod Statics

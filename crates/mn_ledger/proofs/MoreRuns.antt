@@ -442,6 +442,7 @@ pub bytes_are_full : is_full two_links (start two_links) (record no_packets {
           attachment = 1;
           pushed = 63;
           ttl = 63;
+          sent = 0;
           bytes =
               69 ∷ 0 ∷ 1048575 ∷ 255 ∷ [];
         } ∷ []
@@ -458,6 +459,7 @@ pub bytes_are_full : is_full two_links (start two_links) (record no_packets {
               attachment = 1;
               pushed = 63;
               ttl = 63;
+              sent = 0;
               bytes =
                   69 ∷ 0 ∷ 1048575 ∷ 255 ∷ [];
             } ∷ []

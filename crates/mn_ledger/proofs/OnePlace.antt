@@ -8,10 +8,12 @@ use Rattle.std.proofs.lemmas.Bool.Decides.{eqb_tells, leb_tells}
 use Rattle.mn_drops.specs.declared.drops.Rule.{Rule}
 use Rattle.mn_drops.specs.declared.drops.Rule.TheVariants as rule
 use Rattle.mn_wiring.specs.declared.links.Dir.{Dir}
+use Rattle.mn_wiring.specs.declared.links.Dir.TheVariants.{Forth, Back}
 use Rattle.mn_ipv4.specs.Header.{destination_of}
-use Rattle.mn_topo.specs.Network.{Network}
+use Rattle.mn_wiring.specs.Wiring.{links_of, sender}
+use Rattle.mn_topo.specs.Network.{Network, wiring_of}
 use Rattle.mn_topo.specs.declared.steps.Step.{Step}
-use Rattle.mn_topo.specs.declared.steps.Step.TheVariants.{LinkDown, Inject, Carry, Lose}
+use Rattle.mn_topo.specs.declared.steps.Step.TheVariants.{LinkDown, Inject, Carry, Lose, Tick}
 use Rattle.mn_topo.specs.declared.steps.JournalEntry.{JournalEntry}
 use Rattle.mn_ledger.specs.declared.verdict.Verdict.{Verdict}
 use Rattle.mn_ledger.specs.declared.verdict.Verdict.TheVariants.{Delivered, Dropped, Flying}
@@ -21,10 +23,11 @@ use Rattle.mn_ledger.specs.Places.{home_of}
 use Rattle.mn_ledger.specs.World.{World}
 use Rattle.mn_ledger.specs.Transport.{usable}
 use Rattle.mn_ledger.specs.Held.{HeldRoute, best, held}
-use Rattle.mn_ledger.specs.Packets.{Token, Packets, channel, flying_on, away_from, judged, drop_at, visited, deliver, hop_over, entry_rules, bound}
-use Rattle.mn_ledger.specs.Packets.{route_by, enter_by, one_more, without_place, taken, is_attachment, leave, arrive, carry, lose, cut_each, before_step}
+use Rattle.mn_ledger.specs.Packets.{Token, Packets, channel, flying_on, away_from, judged, drop_at, visited, deliver, hop_over, entry_rules, bound, stamped}
+use Rattle.mn_ledger.specs.Packets.{route_by, enter_by, one_more, without_place, taken, is_attachment, leave, arrive, carry, fall, lose, cut_each, before_step}
 use Rattle.mn_ledger.specs.Packets.{moved, packets_after}
 use Rattle.mn_ledger.specs.Verdicts.{one_if, injections, times_in, times_by, verdict_on, AreInOnePlace}
+use Rattle.mn_ledger.specs.Time.{clock_after, is_overdue, expire_from, expire_over, timed_by, timed}
 use Rattle.mn_ledger.specs.Ledger.{packets_from, packets_of, after, start, no_packets, next_of, left_by, injects}
 
 -- what holds of both arms
@@ -168,7 +171,7 @@ routed : (t : Network) (v : World) (w : Packets) (j count : ℕ) (b : List ℕ) 
 routed t v w j count b e None l = dropped w j count rule.NoRoute e l
 routed t v w j count b e (Some route) l =
     arms (λ x. AreInOnePlace x count) (route.edge == e) _ _ (delivered w j count route.site _ b l)
-    (hopped t w (bound j route b) count e rule.NoLsp (usable t v.config v.views v.sessions e route.edge) l)
+    (hopped t w (stamped w (bound j route b)) count e rule.NoLsp (usable t v.config v.views v.sessions e route.edge) l)
 
 entered : (t : Network) (v : World) (w : Packets) (j count : ℕ) (b : List ℕ) (e vrf : ℕ) (o : Option Rule) → Loose w j count →
     AreInOnePlace (enter_by t v w j b e vrf o) count
@@ -184,7 +187,7 @@ arrived : (t : Network) (v : World) (w : Packets) (k : Token) (count y : ℕ) �
 arrived t v w k count y l =
     arms (λ x. AreInOnePlace x count) (nat_le k.ttl 1) _ _ (dropped w k.packet count rule.TtlExpired y l)
     (arms (λ x. AreInOnePlace x count) (y == k.edge) _ _ (left v w k count y l)
-    (hopped t w (record k { ttl = k.ttl - 1 }) count y rule.NoEntry (usable t v.config v.views v.sessions y k.edge) l))
+    (hopped t w (stamped w (record k { ttl = k.ttl - 1 })) count y rule.NoEntry (usable t v.config v.views v.sessions y k.edge) l))
 
 visit : (w : Packets) (p q n count : ℕ) → Loose w p count → Loose (visited w q n) p count
 visit w p q n count l = record { others = l.others; none = l.none; within = l.within; verdicts = l.verdicts; paths = length-set w.paths q _ ∙ l.paths }
@@ -209,10 +212,36 @@ carried : (t : Network) (v : World) (w : Packets) (l : ℕ) (d : Dir) (n count y
 carried t v w l d n count y None e h = untaken w l d n count h e
 carried t v w l d n count y (Some k) e h = arrived t v _ k count y (visit _ k.packet k.packet y count (loosen w (channel l d) n count k h e))
 
+pub fallen : (cause : Rule) (w : Packets) (l : ℕ) (d : Dir) (n count y : ℕ) (o : Option Token) → slice_get (flying_on w l d) n ≡ o → AreInOnePlace w count →
+    AreInOnePlace (fall cause (taken w l d n) y o) count
+fallen cause w l d n count y None e h = untaken w l d n count h e
+fallen cause w l d n count y (Some k) e h = dropped _ k.packet count cause y (loosen w (channel l d) n count k h e)
+
+-- time goes on
+pub expired_from : (t : Network) (clock l : ℕ) (d : Dir) (ks : List Token) (w : Packets) (n count : ℕ) → AreInOnePlace w count →
+    AreInOnePlace (expire_from t clock l d n ks w) count
+expired_from t clock l d [] w n count h = h
+expired_from t clock l d (k ∷ ks) w n count h =
+    arms (λ x. AreInOnePlace x count) (is_overdue t clock l k) _ _
+    (expired_from t clock l d ks _ n count (fallen rule.Overdue w l d n count (sender (wiring_of t) l d) (slice_get (flying_on w l d) n) refl h))
+    (expired_from t clock l d ks w (n + 1) count h)
+
+expired_over : (t : Network) (clock : ℕ) (ls : List ℕ) (w : Packets) (count : ℕ) → AreInOnePlace w count → AreInOnePlace (expire_over t clock ls w) count
+expired_over t clock [] w count h = h
+expired_over t clock (l ∷ ls) w count h =
+    expired_over t clock ls _ count (expired_from t clock l Back _ _ 0 count (expired_from t clock l Forth _ w 0 count h))
+
+timed_kept : (t : Network) (clock : ℕ) (s : Step) (w : Packets) (count : ℕ) → AreInOnePlace w count → AreInOnePlace (timed_by t clock s w) count
+timed_kept t clock (Tick n) w count h =
+    expired_over t clock (links_of (wiring_of t)) (record w { clock = clock }) count (record { places = h.places; verdicts = h.verdicts; paths = h.paths })
+timed_kept t clock _ w count h = record { places = h.places; verdicts = h.verdicts; paths = h.paths }
+
+pub timed_places : (t : Network) (e : JournalEntry) (w : Packets) (count : ℕ) → AreInOnePlace w count → AreInOnePlace (timed t e w) count
+timed_places t e w count h = timed_kept t (clock_after e) e.step w count h
+
 lost : (w : Packets) (l : ℕ) (d : Dir) (n count y : ℕ) (o : Option Token) → slice_get (flying_on w l d) n ≡ o → AreInOnePlace w count →
     AreInOnePlace (lose (taken w l d n) y o) count
-lost w l d n count y None e h = untaken w l d n count h e
-lost w l d n count y (Some k) e h = dropped _ k.packet count rule.Lost y (loosen w (channel l d) n count k h e)
+lost w l d n count y o e h = fallen rule.Lost w l d n count y o e h
 
 put_here : (f : ℕ → List Token) (c : ℕ) (ks : List Token) → put f c ks c ≡ ks
 put_here f c ks = grind (arith, common_steps)
@@ -252,7 +281,7 @@ run_kept t v w [] ps count h = none_more _ _ h
 run_kept t v w (e ∷ es) ps count h =
     subst (AreInOnePlace (packets_from t v w (e ∷ es) ps)) (omega arith)
     (run_kept t (after t v e.step) _ es (left_by e.step ps) (one_if (injects e.step) + count)
-    (stepped t (after t v e.step) w e.step (next_of ps) count h))
+    (stepped t (after t v e.step) (timed t e w) e.step (next_of ps) count (timed_places t e w count h)))
 
 pub in_one_place : (t : Network) (es : List JournalEntry) (ps : List (List ℕ)) → AreInOnePlace (packets_of t es ps) (injections es)
 in_one_place t es ps =

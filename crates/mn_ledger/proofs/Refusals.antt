@@ -11,7 +11,8 @@ use Rattle.mn_ledger.specs.declared.refused.Refused.TheVariants as why
 use Rattle.mn_ledger.specs.Places.{vrf_of}
 use Rattle.mn_ledger.specs.World.{World}
 use Rattle.mn_ledger.specs.Packets.{Packets, packets_after}
-use Rattle.mn_ledger.specs.Ledger.{after, start, no_packets, next_of, left_by}
+use Rattle.mn_ledger.specs.Time.{clock_after}
+use Rattle.mn_ledger.specs.Ledger.{packets_by, after, start, no_packets, next_of, left_by}
 use Rattle.mn_ledger.specs.Refusal.{refusal_at, first_cause, where_holds, limits, static_refusal, prefix_refusal, taken_by, is_unchanged, is_empty}
 use Rattle.mn_ledger.specs.Refusal.{is_targets_full, is_spent, is_full}
 use Rattle.mn_ledger.specs.Lawful.{IsLawfulFrom, IsLawfulJournal}
@@ -70,7 +71,7 @@ few_from t (e ∷ es) tick w k n ps l h =
     let b : List ℕ = next_of ps in
     let here : n < 4000000 = (free t w k n e.step b l.2).steps in
     let rest : n + 1 + length es ≤ 4000000 =
-    few_from t es e.tick (after t w e.step) (packets_after t (after t w e.step) k e.step b) (n + 1) (left_by e.step ps) l.3 (omega (arith, here)) in
+    few_from t es (clock_after e) (after t w e.step) (packets_by t (after t w e.step) k e b) (n + 1) (left_by e.step ps) l.3 (omega (arith, here)) in
     omega (arith, rest)
 
 pub few_entries : (t : Network) (es : List JournalEntry) (ps : List (List ℕ)) → IsLawfulJournal t es ps → length es ≤ 4000000

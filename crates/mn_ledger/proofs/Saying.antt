@@ -24,7 +24,8 @@ use Rattle.mn_ledger.specs.Transport.{mentioned_from, offers, offered, by_neighb
 use Rattle.mn_ledger.specs.Transport.{ldp_counted}
 use Rattle.mn_ledger.specs.Transport.{ldp_restarted, sessions_after}
 use Rattle.mn_ledger.specs.Packets.{Packets, packets_after}
-use Rattle.mn_ledger.specs.Ledger.{after, start, no_packets, next_of, left_by, world_from, world_of}
+use Rattle.mn_ledger.specs.Time.{clock_after}
+use Rattle.mn_ledger.specs.Ledger.{packets_by, after, start, no_packets, next_of, left_by, world_from, world_of}
 use Rattle.mn_ledger.specs.Lawful.{IsLawfulFrom, IsLawfulJournal}
 use Rattle.mn_ledger.specs.Bounds.{IsBounded}
 use Rattle.mn_ledger.specs.Parts.{times, turns}
@@ -355,7 +356,7 @@ said-from t [] tick w k i ps l n differ lawful = omega arith
 said-from t (e ∷ es) tick w k i ps l n differ lawful = omega (
   arith,
   one-step t w e.step l n differ lawful.0,
-  said-from t es e.tick (after t w e.step) (packets_after t (after t w e.step) k e.step (next_of ps)) (i + 1) (left_by e.step ps) l n differ lawful.3,
+  said-from t es (clock_after e) (after t w e.step) (packets_by t (after t w e.step) k e (next_of ps)) (i + 1) (left_by e.step ps) l n differ lawful.3,
   mul-suc (length t.loopbacks + 2) (length es),
 )
 

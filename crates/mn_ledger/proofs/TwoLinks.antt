@@ -30,6 +30,7 @@ use Rattle.mn_ledger.specs.Held.{held}
 use Rattle.mn_ledger.specs.Packets.{packets_after}
 use Rattle.mn_ledger.specs.Ledger.{world_of, packets_of}
 use Rattle.mn_ledger.specs.Refusal.{refusal, in_flight, bytes_flying}
+use Rattle.mn_ledger.proofs.Deciding.{lawful}
 use Rattle.mn_ledger.specs.Lawful.{IsLawfulJournal}
 use Rattle.mn_ledger.specs.World.{World}
 use Rattle.mn_ledger.specs.Settled.{IsSettled}
@@ -302,7 +303,7 @@ nothing_flies_over_a_cut_link = refl
 pub the_run_is_lawful : IsLawfulJournal two_links across_both (packet ∷ [])
 unfolding next knowledge_of news sessions_after peerings_after held packets_after is_not_ipv4 is_malformed is_truncated has_bad_checksum good checksum_for
     with_ttl aged in_flight bytes_flying
-the_run_is_lawful = search rules
+the_run_is_lawful = lawful two_links across_both (packet ∷ []) refl
 
 -- and its topology meets the rules of topologies
 too_far : (l : ℕ) → suc (suc l) < 2 → ⊥

@@ -1,12 +1,12 @@
 -- What is in flight: notices of links' changes, messages of sessions, and frames, each with its number and the tick at which
 -- it is due.
-use Rattle.std.specs.Prelude.{ℕ, zero, suc, ◌+◌, ◌==◌, ◌&&◌, ◌||◌, Bool, false, cond, not, if◌then◌else◌, List, [], ◌∷◌, ◌++◌, map, filter, length}
+use Rattle.std.specs.Prelude.{ℕ, zero, suc, ◌+◌, ◌==◌, ◌&&◌, ◌||◌, nat_lt, Bool, false, cond, not, if◌then◌else◌, List, [], ◌∷◌, ◌++◌, map, filter, length}
 use Rattle.std.specs.Prelude.{slice_get, Option, Some, None}
 use Rattle.mn_wiring.specs.Wiring.{nodes_of, link, sender}
 use Rattle.mn_wiring.specs.declared.links.Dir.{Dir}
 use Rattle.mn_topo.specs.Network.{Network, wiring_of}
 use Rattle.mn_topo.specs.declared.steps.Step.{Step}
-use Rattle.mn_topo.specs.declared.steps.Step.TheVariants.{LinkUp, LinkDown, Learn, LdpAdmin, HearLdp, BgpUp, BgpDown, HearBgp, Inject, Carry, Lose}
+use Rattle.mn_topo.specs.declared.steps.Step.TheVariants.{LinkUp, LinkDown, Learn, LdpAdmin, HearLdp, BgpUp, BgpDown, HearBgp, Inject, Carry, Lose, Tick}
 use Rattle.mn_topo.specs.declared.steps.JournalEntry.{JournalEntry}
 use Rattle.mn_ledger.specs.declared.verdict.Verdict.{Verdict}
 use Rattle.mn_ledger.specs.declared.verdict.Verdict.TheVariants.{Flying}
@@ -15,6 +15,7 @@ use Rattle.mn_ledger.specs.Transport.{Said, is_transport, said_in, ldp_counted}
 use Rattle.mn_ledger.specs.Bgp as ledger_bgp
 use Rattle.mn_ledger.specs.Bgp.{Told, is_routing, told_in}
 use Rattle.mn_ledger.specs.Packets.{Token, Packets, channel, flying_on, packets_after}
+use Rattle.mn_ledger.specs.Time.{clock_after, is_overdue, timed}
 use Rattle.mn_ledger.specs.Verdicts.{verdict_on}
 use Rattle.mn_ledger.specs.Ledger.{after, start, no_packets, next_of, left_by}
 
@@ -153,6 +154,19 @@ left_in_flight topology (BgpUp a b) items = filter (λ item. not (is_between a.0
 left_in_flight topology (BgpDown a b) items = filter (λ item. not (is_between a.0 b.0 item.on)) items
 left_in_flight topology _ items = items
 
+-- a frame that was sent longer ago than the life of its link
+abbrev pub is_late : Network → ℕ → Channel → Load → Bool
+is_late topology clock (Frames l dir) (Carries token) = nat_lt l (length topology.links) && is_overdue topology clock l token
+is_late topology clock _ _ = false
+
+-- as time goes on, what is overdue is no longer in flight
+abbrev pub in_time_by : Network → ℕ → Step → Flight → Flight
+in_time_by topology clock (Tick ticks) flight = record flight { items = filter (λ item. not (is_late topology clock item.on item.load)) flight.items }
+in_time_by topology clock _ flight = flight
+
+abbrev pub in_time : Network → JournalEntry → Flight → Flight
+in_time topology entry flight = in_time_by topology (clock_after entry) entry.step flight
+
 -- 4. The flight after a step, and after a journal; and all that the journal made
 
 abbrev pub with_made : Network → ℕ → List (Channel × Load) → Step → Flight → Flight
@@ -163,8 +177,10 @@ abbrev pub flight_from : Network → World → Packets → Flight → List Journ
 flight_from topology world packets flight [] inputs = flight
 flight_from topology world packets flight (entry ∷ entries) inputs =
     let world_then : World = after topology world entry.step in
-    let packets_then : Packets = packets_after topology world_then packets entry.step (next_of inputs) in
-    let flight_then : Flight = with_made topology entry.tick (made_in topology world world_then packets packets_then entry.step) entry.step flight in
+    let packets_now : Packets = timed topology entry packets in
+    let packets_then : Packets = packets_after topology world_then packets_now entry.step (next_of inputs) in
+    let flight_then : Flight =
+    with_made topology entry.tick (made_in topology world world_then packets_now packets_then entry.step) entry.step (in_time topology entry flight) in
     flight_from topology world_then packets_then flight_then entries (left_by entry.step inputs)
 
 abbrev pub flight_of : Network → List JournalEntry → List (List ℕ) → Flight
@@ -175,8 +191,9 @@ abbrev pub made_from : Network → World → Packets → ℕ → List JournalEnt
 made_from topology world packets number [] inputs = []
 made_from topology world packets number (entry ∷ entries) inputs =
     let world_then : World = after topology world entry.step in
-    let packets_then : Packets = packets_after topology world_then packets entry.step (next_of inputs) in
-    let new : List (Channel × Load) = made_in topology world world_then packets packets_then entry.step in
+    let packets_now : Packets = timed topology entry packets in
+    let packets_then : Packets = packets_after topology world_then packets_now entry.step (next_of inputs) in
+    let new : List (Channel × Load) = made_in topology world world_then packets_now packets_then entry.step in
     numbered topology entry.tick number new ++ made_from topology world_then packets_then (number + length new) entries (left_by entry.step inputs)
 
 abbrev pub made_by : Network → List JournalEntry → List (List ℕ) → List Item

@@ -14,6 +14,7 @@ use Rattle.mn_ledger.specs.World.{SiteRoute, Config, World}
 use Rattle.mn_ledger.specs.Transport.{views_after, sessions_after}
 use Rattle.mn_ledger.specs.Bgp.{peerings_after}
 use Rattle.mn_ledger.specs.Packets.{Packets, packets_after}
+use Rattle.mn_ledger.specs.Time.{timed}
 
 -- 1. The start: every link down, LDP switched on, no BGP session, every site attached by its first attachment
 
@@ -52,7 +53,7 @@ start topology = record {
 }
 
 abbrev pub no_packets : Packets
-no_packets = record { flying = everywhere []; verdicts = []; paths = []; copies = 0; delivered = None }
+no_packets = record { flying = everywhere []; verdicts = []; paths = []; copies = 0; delivered = None; clock = 0 }
 
 -- 2. One step
 
@@ -109,12 +110,16 @@ but_next (bytes ∷ rest) = rest
 abbrev pub left_by : Step → List (List ℕ) → List (List ℕ)
 left_by step inputs = cond (injects step) (but_next inputs) inputs
 
+-- the packets after an entry, in the world that its step makes: time goes on first
+abbrev pub packets_by : Network → World → Packets → JournalEntry → List ℕ → Packets
+packets_by topology world packets entry bytes = packets_after topology world (timed topology entry packets) entry.step bytes
+
 -- the packets after these entries, with the bytes of each injection in order
 abbrev pub packets_from : Network → World → Packets → List JournalEntry → List (List ℕ) → Packets
 packets_from topology world packets [] inputs = packets
 packets_from topology world packets (entry ∷ entries) inputs =
     let world_then : World = after topology world entry.step in
-    packets_from topology world_then (packets_after topology world_then packets entry.step (next_of inputs)) entries (left_by entry.step inputs)
+    packets_from topology world_then (packets_by topology world_then packets entry (next_of inputs)) entries (left_by entry.step inputs)
 
 abbrev pub packets_of : Network → List JournalEntry → List (List ℕ) → Packets
 packets_of topology entries inputs = packets_from topology (start topology) no_packets entries inputs

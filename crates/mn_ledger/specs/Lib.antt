@@ -7,6 +7,7 @@ pub mod Exports
 pub mod Bgp
 pub mod Held
 pub mod Packets
+pub mod Time
 pub mod Ledger
 pub mod Refusal
 pub mod Lawful

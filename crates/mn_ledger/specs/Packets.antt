@@ -31,6 +31,7 @@ pub record Token : Type 0 where
   pub attachment : ℕ
   pub pushed : ℕ  -- the TTL with which it entered
   pub ttl : ℕ
+  pub sent : ℕ  -- the tick at which it was sent on its link
   pub bytes : List ℕ
 
 pub record Packets : Type 0 where
@@ -39,6 +40,7 @@ pub record Packets : Type 0 where
   pub paths : List (List ℕ)  -- by packet, the nodes at which it was
   pub copies : ℕ  -- how many were delivered
   pub delivered : Option (List ℕ)  -- what the last step delivered
+  pub clock : ℕ  -- the tick of the last step, and after a Tick the one to which time went on
 
 abbrev pub flying_on : Packets → ℕ → Dir → List Token
 flying_on packets l dir = packets.flying (channel l dir)
@@ -79,9 +81,13 @@ hop_over topology packets token node cause (Some hop_on) =
           put packets.flying (channel hop_on.1 dir) (flying_on packets hop_on.1 dir ++ token ∷ []);
     }
 
+-- it is sent now
+abbrev pub stamped : Packets → Token → Token
+stamped packets token = record token { sent = packets.clock }
+
 abbrev pub hop_on : Network → World → Packets → Token → ℕ → Rule → Packets
 hop_on topology world packets token node cause =
-    hop_over topology packets token node cause (usable topology world.config world.views world.sessions node token.edge)
+    hop_over topology packets (stamped packets token) node cause (usable topology world.config world.views world.sessions node token.edge)
 
 -- 3. Entry
 
@@ -107,6 +113,7 @@ bound packet route bytes = record {
   pushed = ttl_of bytes - 1;
   ttl =
       ttl_of bytes - 1;
+  sent = 0;
   bytes = aged bytes 1;
 }
 
@@ -171,9 +178,12 @@ abbrev pub carry : Network → World → Packets → ℕ → Option Token → Pa
 carry topology world packets node None = packets
 carry topology world packets node (Some token) = arrive topology world (visited packets token.packet node) token node
 
+abbrev pub fall : Rule → Packets → ℕ → Option Token → Packets
+fall cause packets node None = packets
+fall cause packets node (Some token) = drop_at packets token.packet cause node
+
 abbrev pub lose : Packets → ℕ → Option Token → Packets
-lose packets node None = packets
-lose packets node (Some token) = drop_at packets token.packet rule.Lost node
+lose packets node token = fall rule.Lost packets node token
 
 -- each frame of a channel ends, the first first
 abbrev pub cut_each : Packets → ℕ → ℕ → List Token → Packets

@@ -10,6 +10,7 @@ use Rattle.mn_topo.specs.declared.steps.JournalEntry.{JournalEntry}
 use Rattle.mn_ledger.specs.Items.{Channel}
 use Rattle.mn_ledger.specs.Items.{Notices, Messages, Routes, Frames}
 use Rattle.mn_ledger.specs.Ledger.{injects}
+use Rattle.mn_ledger.specs.Time.{ticks_in}
 use Rattle.mn_ledger.specs.OneMore.{tick_from}
 use Rattle.mn_ledger.proofs.Saying.{bounded}
 use Rattle.mn_laws.specs.Flight.{delivering, IsOpen}
@@ -46,6 +47,16 @@ not_injected t (Routes a b) false = refl
 not_injected t (Frames l d) true = refl
 not_injected t (Frames l d) false = refl
 
+no_time_passes : (t : Network) (on : Channel) (lossy : Bool) → ticks_in (lost lossy (delivering t on 0)) ≡ 0
+no_time_passes t (Notices l n) true = refl
+no_time_passes t (Notices l n) false = refl
+no_time_passes t (Messages l n) true = refl
+no_time_passes t (Messages l n) false = refl
+no_time_passes t (Routes a b) true = refl
+no_time_passes t (Routes a b) false = refl
+no_time_passes t (Frames l d) true = refl
+no_time_passes t (Frames l d) false = refl
+
 module _ (t : Network) (es : List JournalEntry) (ps : List (List ℕ)) (kind : Kind) (limit : ℕ) where
   pub within : (o : Option Coming) → IsNext t es ps kind limit o → IfSome o (λ item. item.due ≤ limit)
   within None h = tt
@@ -56,9 +67,14 @@ module _ (t : Network) (es : List JournalEntry) (ps : List (List ℕ)) (kind : K
   soon tick late None h = tt
   soon tick late (Some c) h = let due = h.soon in omega (arith, due, late)
 
-  pub fitting : (o : Option Coming) → IsNext t es ps kind limit o → IfSome o (λ item. (fits t (delivery item) ≡ true) × (injects (delivery item) ≡ false))
+  pub fitting : (o : Option Coming) → IsNext t es ps kind limit o
+      → IfSome o (λ item. (fits t (delivery item) ≡ true) × (injects (delivery item) ≡ false) × (ticks_in (delivery item) ≡ 0))
   fitting None h = tt
-  fitting (Some c) h = (h.delivered.fitting, ap (λ s. injects (lost c.lossy s)) h.step ∙ not_injected t h.item.on c.lossy)
+  fitting (Some c) h = (
+    h.delivered.fitting,
+    ap (λ s. injects (lost c.lossy s)) h.step ∙ not_injected t h.item.on c.lossy,
+    ap (λ s. ticks_in (lost c.lossy s)) h.step ∙ no_time_passes t h.item.on c.lossy,
+  )
 
   pub open_to : (o : Option Coming) → IsNext t es ps kind limit o → IfSome o (λ item. IsOpen t es ps (delivery item))
   open_to None h = tt

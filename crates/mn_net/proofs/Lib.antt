@@ -7,3 +7,5 @@ pub mod Pieces
 pub mod Prefixes
 pub mod Making
 pub mod Settled
+pub mod Clocks
+pub mod Elapsed

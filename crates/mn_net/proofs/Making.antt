@@ -9,6 +9,8 @@ use Rattle.mn_wiring.specs.Wiring.{across}
 use Rattle.mn_base.proofs.Bools.{other_test, same_test}
 use Rattle.mn_topo.specs.Lawful.{IsLawful}
 use Rattle.mn_topo.specs.Network.{Network, wiring_of}
+use Rattle.mn_topo.specs.declared.steps.Step.{Step}
+use Rattle.mn_topo.specs.declared.steps.Step.TheVariants.{Tick}
 use Rattle.mn_topo.specs.declared.steps.JournalEntry.{JournalEntry}
 use Rattle.mn_ldp_session.specs.Spelling.{pdu_in_network}
 use Rattle.mn_ledger.specs.World.{Message}
@@ -18,7 +20,8 @@ use Rattle.mn_ledger.specs.OneMore.{with_packet, made_then}
 use Rattle.mn_ledger.specs.Verdicts.{injections}
 use Rattle.mn_ledger.proofs.More.{goes_on}
 use Rattle.mn_ledger.specs.Items.{Channel, Notices, Messages, Routes, Frames, Load, Notice, Says, Tells, Carries, Item, same_channel, items_on, loads_on}
-use Rattle.mn_ledger.specs.Items.{delay_on, numbered, left_in_flight, with_made, made_by, flight_of, Flight}
+use Rattle.mn_ledger.specs.Items.{delay_on, numbered, left_in_flight, in_time_by, in_time, with_made, made_by, flight_of, Flight}
+use Rattle.mn_ledger.specs.Time.{clock_after}
 use Rattle.mn_ledger.specs.InFlight.{IsInFlight}
 use Rattle.mn_ledger.proofs.Flows.{in_flight}
 use Rattle.mn_laws.specs.Flight.{AreAscending, IsOfChannel}
@@ -112,18 +115,18 @@ module _ (t : Network) (lawful : IsLawful t) (es : List JournalEntry) (ps : List
   inputs = with_packet e.step b ps
 
   abbrev new : List (Channel × Load)
-  new = made_then t (world_of t es) (packets_of t es ps) e.step b
+  new = made_then t (world_of t es) (packets_of t es ps) e b
 
   abbrev made : ℕ
-  made = (flight_of t es ps).made
+  made = (in_time t e (flight_of t es ps)).made
 
   abbrev left : List Item
-  left = left_in_flight t e.step (flight_of t es ps).items
+  left = left_in_flight t e.step (in_time t e (flight_of t es ps)).items
 
   abbrev items : List Item
   items = (flight_of t now inputs).items
 
-  goes : flight_of t now inputs ≡ with_made t e.tick new e.step (flight_of t es ps)
+  goes : flight_of t now inputs ≡ with_made t e.tick new e.step (in_time t e (flight_of t es ps))
   goes = (goes_on t es ps e b each).flight
 
   module _ (front rest : List (Channel × Load)) (x : Channel × Load) (whole : new ≡ front ++ x ∷ rest) where
@@ -221,5 +224,14 @@ module _ (t : Network) (lawful : IsLawful t) (es : List JournalEntry) (ps : List
         ∙ sym (none_past (told_made t now e.tick new) k (omega (arith, told_length t now e.tick new, h)))
   ]
 
+-- as time goes on nothing is made
+in_time_made : (t : Network) (clock : ℕ) (s : Step) (flight : Flight) → (in_time_by t clock s flight).made ≡ flight.made
+in_time_made t clock (Tick n) flight = refl
+in_time_made t clock _ flight = refl
+
 pub made_is_told : MadeIsTold
-made_is_told t es ps e b k lawful each journal = all_told t lawful es ps e b each journal k
+made_is_told t es ps e b k lawful each journal =
+    subst
+    (λ n. told_at t (es ++ e ∷ []) (with_packet e.step b ps) (n + k)
+    ≡ slice_get (told_made t (es ++ e ∷ []) e.tick (made_then t (world_of t es) (packets_of t es ps) e b)) k)
+    (in_time_made t (clock_after e) e.step (flight_of t es ps)) (all_told t lawful es ps e b each journal k)

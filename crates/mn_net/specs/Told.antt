@@ -87,4 +87,4 @@ MadeIsTold = (topology : Network) (entries : List JournalEntry) (inputs : List (
     IsLawful topology → length inputs ≡ injections entries → IsLawfulJournal topology (entries ++ entry ∷ []) (with_packet entry.step bytes inputs) →
     told_at topology (entries ++ entry ∷ []) (with_packet entry.step bytes inputs) ((flight_of topology entries inputs).made + k)
     ≡ slice_get (told_made topology (entries ++ entry ∷ []) entry.tick
-    (made_then topology (world_of topology entries) (packets_of topology entries inputs) entry.step bytes)) k
+    (made_then topology (world_of topology entries) (packets_of topology entries inputs) entry bytes)) k

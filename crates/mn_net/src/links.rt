@@ -23,7 +23,7 @@ fn act(
     turn: &LinkTurn,
     clock: Clock,
 ) -> Result<u64, AllocError>
-    requires tick { clock.tick ≤ 2 ^ 62 }
+    requires tick { clock.tick ≤ 2 ^ 63 }
     requires notices { All (λ item. item.number < clock.number) transport.old.notices }
     requires messages { All (λ item. item.number < clock.number) transport.old.messages }
     requires may { transport.old.failed ≡ false → MayDo topology.now (link_step turn.now) transport.old }

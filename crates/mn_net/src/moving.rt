@@ -105,7 +105,7 @@ impl Net {
         Ok(())
     }
 
-    /// So many ticks go by. Links have no life yet, so that no frame is on one for too long.
+    /// So many ticks go by: each frame that was sent on its link longer ago than the link's life ends.
     pub(crate) fn elapse(&mut self, ticks: u32) -> Result<(), AllocError>
         requires may { MayBeDone self.old (step.Tick ticks) [] }
         ensures done { OnOk result (IsDone self.old self.new (step.Tick ticks) []) }
@@ -116,12 +116,15 @@ impl Net {
         self.topology.laws();
         self.failed = true;
         self.journal.reserve(1)?;
+        let later = self.tick + u64::from(ticks);
         self.transit.begin();
+        self.transit.expire(&self.topology, later);
         self.journal.push_reserved(JournalEntry {
             tick: self.tick,
             step: Step::Tick(ticks),
             damaged: Damaged::Undamaged,
         });
+        self.tick = later;
         self.failed = false;
         Ok(())
     }

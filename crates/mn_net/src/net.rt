@@ -1,5 +1,6 @@
 //! What is kept, and the clock.
-ghost use Rattle.std.specs.Prelude.{◌≡◌, ◌≤◌, ◌^◌, ℕ, List, [], true, false, IfOk, OnOk, OnErr, IsErr, IsErrOf};
+ghost use Rattle.std.specs.Prelude.{◌≡◌, ◌≤◌, ◌<◌, ◌^◌, ℕ, List, [], true, false, IfOk, OnOk, OnErr, IsErr, IsErrOf};
+ghost use Rattle.std.specs.List.{All};
 ghost use Rattle.mn_topo.specs.Steps.{fits};
 ghost use Rattle.mn_topo.specs.declared.steps.Step.TheVariants as step;
 ghost use Rattle.mn_ledger.specs.Refusal.{refusal};
@@ -141,9 +142,10 @@ impl Net {
         self.tick
     }
 
-    /// The clock goes on to a tick.
+    /// The clock goes on to a tick. Where that is later, no frame in flight is due before it.
     pub fn advance(&mut self, tick: u64)
         requires later { self.old.tick ≤ tick }
+        requires due { self.old.failed ≡ false → self.old.tick < tick → All (λ item. tick ≤ item.due) self.old.moving.flying }
         requires within { tick ≤ 2 ^ 62 }
         ensures stands { (inputs : List (List ℕ)) → StandsFor self.old inputs → StandsFor self.new inputs }
         ensures set { self.new ≡ record self.old { tick = tick } }

@@ -1,9 +1,13 @@
 //! What comes next.
 ghost use Rattle.std.specs.Prelude.{◌≡◌, ◌≤◌, ◌+◌, ℕ, List, true, false, None, IfSome};
+ghost use Rattle.std.specs.List.{All};
 ghost use Rattle.mn_topo.specs.Steps.{fits};
 ghost use Rattle.mn_ledger.specs.Ledger.{injects};
+ghost use Rattle.mn_ledger.specs.Time.{ticks_in};
 ghost use Rattle.mn_laws.specs.Flight.{IsOpen};
 ghost use Rattle.mn_course.specs.Coming.{coming as ledgers, delivery};
+ghost use Rattle.mn_course.specs.Next.{first_due};
+ghost use Rattle.mn_course.specs.declared.coming.Kind;
 ghost use Rattle.mn_net_now.specs.Now.{StandsFor};
 
 use crate::net::Net;
@@ -17,7 +21,9 @@ impl Net {
         ensures value { (inputs : List (List ℕ)) → StandsFor self.now inputs → result ≡ ledgers self.now.topology self.now.journal inputs kind limit }
         ensures within { IfSome result (λ item. item.due ≤ limit) }
         ensures soon { IfSome result (λ item. item.due ≤ self.now.tick + 1000) }
-        ensures fits { IfSome result (λ item. (fits self.now.topology (delivery item) ≡ true) × (injects (delivery item) ≡ false)) }
+        ensures fits { IfSome result (λ item. (fits self.now.topology (delivery item) ≡ true) × (injects (delivery item) ≡ false) × (ticks_in (delivery item) ≡ 0)) }
+        // No frame in flight is due before the first that comes, nor by the limit where none comes.
+        ensures first { kind ≡ Kind.Frame → self.now.failed ≡ false → All (λ frame. first_due limit result ≤ frame.due) self.now.moving.flying }
         ensures nothing { self.now.failed ≡ true → result ≡ None }
         ensures opens { (inputs : List (List ℕ)) → StandsFor self.now inputs → IfSome result (λ item. IsOpen self.now.topology self.now.journal inputs (delivery item)) }
     {

@@ -1,13 +1,15 @@
 //! What is told of links, and of the transport of nodes.
-ghost use Rattle.std.specs.Prelude.{◌≡◌, ◌≢◌, ◌<◌, ◌≤◌, false, not, length, map, option_map};
+ghost use Rattle.std.specs.Prelude.{◌≡◌, ◌≢◌, ◌<◌, ◌≤◌, ℕ, List, false, not, length, map, option_map};
 ghost use Rattle.mn_base.specs.Limits.{most_steps};
 ghost use Rattle.mn_wiring.specs.Wiring.{links_of, sender};
 ghost use Rattle.mn_linkdb.specs.Trees.{IsTree};
 ghost use Rattle.mn_topo.specs.Network.{wiring_of};
-ghost use Rattle.mn_ledger.specs.Ledger.{world_of};
+ghost use Rattle.mn_ledger.specs.Ledger.{world_of, packets_of};
+ghost use Rattle.mn_ledger.specs.Lawful.{GoesForward};
 ghost use Rattle.mn_ledger.specs.Transport.{view_of};
 ghost use Rattle.mn_frames.specs.Given.{given};
 ghost use Rattle.mn_transport_model.specs.Stands.{IsNode};
+ghost use Rattle.mn_net_now.specs.Now.{StandsFor};
 ghost use Rattle.mn_net_moves.specs.Told.{hop_to, state_at};
 ghost use Rattle.mn_ledger.specs.OneMore.{tick_from};
 ghost use Rattle.mn_ledger.specs.Settled.{IsSettled};
@@ -40,11 +42,12 @@ impl Net {
     }
 
     /// What holds of every network that works: at most 4,000,000 steps were done, and so no more packets were injected, and the
-    /// clock isn't behind the last step.
+    /// clock isn't behind the last step, and went on from it past no frame that was due.
     pub fn laws(&self)
         ensures steps { self.now.failed ≡ false → length self.now.journal ≤ most_steps }
         ensures packets { self.now.failed ≡ false → length self.now.moving.verdicts ≤ most_steps }
         ensures late { self.now.failed ≡ false → tick_from 0 self.now.journal ≤ self.now.tick }
+        ensures forward { (inputs : List (List ℕ)) → StandsFor self.now inputs → GoesForward self.now.topology (tick_from 0 self.now.journal) (packets_of self.now.topology self.now.journal inputs) self.now.tick }
     {
         self.topology.laws();
     }

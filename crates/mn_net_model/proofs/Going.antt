@@ -5,7 +5,7 @@ use Rattle.mn_topo.specs.Network.{Network}
 use Rattle.mn_topo.specs.VrfTable.{is_edge}
 use Rattle.mn_topo.specs.Steps.{fits}
 use Rattle.mn_topo.specs.declared.steps.Step.{Step}
-use Rattle.mn_topo.specs.declared.steps.Step.TheVariants.{BgpUp, BgpDown, HearBgp}
+use Rattle.mn_topo.specs.declared.steps.Step.TheVariants.{BgpUp, BgpDown, HearBgp, Tick}
 use Rattle.mn_topo.specs.declared.steps.JournalEntry.{JournalEntry}
 use Rattle.mn_topo.specs.declared.steps.Damaged.TheVariants.{Undamaged}
 use Rattle.mn_ledger.specs.Packets.{Packets}
@@ -13,8 +13,9 @@ use Rattle.mn_ledger.specs.Verdicts.{injections, one_if}
 use Rattle.mn_ledger.specs.Ledger.{world_of, packets_of, start, no_packets, injects}
 use Rattle.mn_ledger.specs.Refusal.{refusal_at}
 use Rattle.mn_ledger.specs.Lawful.{IsLawfulJournal}
-use Rattle.mn_ledger.specs.Items.{Channel, Flight, numbered, left_in_flight, flight_of}
-use Rattle.mn_frames.specs.Given.{given, given_in}
+use Rattle.mn_ledger.specs.Items.{Channel, Load, Item, Flight, numbered, left_in_flight, in_time, flight_of}
+use Rattle.mn_ledger.specs.Time.{clock_after, timed_by}
+use Rattle.mn_frames.specs.Given.{Labelling, given, given_in}
 use Rattle.mn_frames.proofs.Labels.{gives_more, has_fecs}
 use Rattle.mn_transit.specs.Moving.{Moving}
 use Rattle.mn_transit.specs.Stands as transit
@@ -23,10 +24,13 @@ use Rattle.mn_timetable.specs.Keys.{Key, keys_in, keys_on, of_notices, of_messag
 use Rattle.mn_timetable.specs.Steps.{pushed, later_world}
 use Rattle.mn_ledger.specs.OneMore.{added, with_packet}
 use Rattle.mn_net_model.specs.Stands.{Packed, StandsFor}
-use Rattle.mn_net_model.specs.Stepped.{MayStep, IsStepped, later_packets, made_now}
+use Rattle.mn_net_model.specs.Stepped.{MayStep, IsStepped, entry_of, takes_time, packets_now, later_packets, made_now}
 use Rattle.mn_net_model.proofs.News.{all_there}
+use Rattle.mn_net_model.proofs.InTime.{still_by, made_by_then, there_then}
+use Rattle.mn_base.proofs.Bools.{clash}
 use Rattle.mn_ledger.proofs.More.{packets_from-push, lawful_from-push, flight_from-push}
 use Rattle.mn_timetable.proofs.Keys.{keys_more}
+use Rattle.mn_timetable.proofs.Timed.{notices_timed, messages_timed, routes_timed}
 use Rattle.mn_timetable.proofs.Made.{notices_made, messages_made, routes_made}
 use Rattle.mn_timetable.proofs.OtherKeys.{and-both, edge-below, notices_left, messages_left, routes_left, NodesOf}
 
@@ -50,23 +54,43 @@ each_more es e b ps h = added_length (injects e.step) b ps ∙ ap (λ n. n + one
 
 -- 2. The ledger with one entry more
 
+abbrev flight_then : Network → ℕ → Step → List (Channel × Load) → List Item → ℕ → Flight
+flight_then t tick s new items made = record { made = made + length new; items = left_in_flight t s items ++ numbered t tick made new }
+
 pub flight_more : (t : Network) (es : List JournalEntry) (tick : ℕ) (s : Step) (b : List ℕ) (ps : List (List ℕ)) → length ps ≡ injections es →
     flight_of t (pushed es tick s) (with_packet s b ps)
     ≡ record {
       made =
-          (flight_of t es ps).made + length (made_now t es ps s b);
+          (flight_of t es ps).made + length (made_now t es ps tick s b);
       items =
-          left_in_flight t s (flight_of t es ps).items ++ numbered t tick (flight_of t es ps).made (made_now t es ps s b);
+          left_in_flight t s (in_time t (entry_of tick s) (flight_of t es ps)).items ++ numbered t tick (flight_of t es ps).made (made_now t es ps tick s b);
     }
-flight_more t es tick s b ps h = flight_from-push t es (record { tick = tick; step = s; damaged = Undamaged }) b (start t) no_packets (record { made = 0; items = [] }) ps h
+flight_more t es tick s b ps h =
+    flight_from-push t es (entry_of tick s) b (start t) no_packets (record { made = 0; items = [] }) ps h
+    ∙ ap (flight_then t tick s (made_now t es ps tick s b) (in_time t (entry_of tick s) (flight_of t es ps)).items)
+    (made_by_then t (clock_after (entry_of tick s)) s (flight_of t es ps))
+
+-- a step that takes no time
+pub flight_still : (t : Network) (es : List JournalEntry) (tick : ℕ) (s : Step) (b : List ℕ) (ps : List (List ℕ)) → length ps ≡ injections es →
+    takes_time s ≡ false → flight_of t (pushed es tick s) (with_packet s b ps)
+    ≡ record {
+      made =
+          (flight_of t es ps).made + length (made_now t es ps tick s b);
+      items =
+          left_in_flight t s (flight_of t es ps).items ++ numbered t tick (flight_of t es ps).made (made_now t es ps tick s b);
+    }
+flight_still t es tick s b ps h quiet =
+    flight_more t es tick s b ps h
+    ∙ ap (λ (f : Flight). flight_then t tick s (made_now t es ps tick s b) f.items (flight_of t es ps).made)
+    (still_by t (clock_after (entry_of tick s)) s (flight_of t es ps) quiet)
 
 pub packets_more : (t : Network) (es : List JournalEntry) (tick : ℕ) (s : Step) (b : List ℕ) (ps : List (List ℕ)) → length ps ≡ injections es →
-    packets_of t (pushed es tick s) (with_packet s b ps) ≡ later_packets t es ps s b
-packets_more t es tick s b ps h = packets_from-push t es (record { tick = tick; step = s; damaged = Undamaged }) b (start t) no_packets ps h
+    packets_of t (pushed es tick s) (with_packet s b ps) ≡ later_packets t es ps tick s b
+packets_more t es tick s b ps h = packets_from-push t es (entry_of tick s) b (start t) no_packets ps h
 
 pub lawful_more : (t : Network) (es : List JournalEntry) (tick : ℕ) (s : Step) (b : List ℕ) (ps : List (List ℕ)) → length ps ≡ injections es →
     IsLawfulJournal t es ps → MayStep t es tick s b ps → IsLawfulJournal t (pushed es tick s) (with_packet s b ps)
-lawful_more t es tick s b ps h lawful may = lawful_from-push t es (record { tick = tick; step = s; damaged = Undamaged }) b 0 (start t) no_packets 0 ps h lawful may.fitting may.late
+lawful_more t es tick s b ps h lawful may = lawful_from-push t es (entry_of tick s) b 0 (start t) no_packets 0 ps h lawful may.fitting may.forward
     (subst (λ m. refusal_at t (world_of t es) (packets_of t es ps) m s b ≡ None) (omega arith) may.unrefused)
 
 -- nodes give more labels
@@ -75,6 +99,26 @@ pub labelled_more : (t : Network) (es : List JournalEntry) (tick : ℕ) (s : Ste
 labelled_more t es tick s m k h =
     stands_later t (given t es) (given t (pushed es tick s)) m k (has_fecs t es)
     (λ node. (given_in t node (world_of t es).config s, gives_more t es (record { tick = tick; step = s; damaged = Undamaged }) node)) h
+
+-- a step that takes no time moves the clock alone before it does anything else
+stands_now : (t : Network) (g : Labelling) (m : Moving) (clock : ℕ) (s : Step) (k : Packets) → takes_time s ≡ false → transit.StandsFor t g m k →
+    transit.StandsFor t g m (timed_by t clock s k)
+stands_now t g m clock (Tick ticks) k h stands = absurd (clash h)
+stands_now t g m clock _ k h stands = record {
+  verdicts = stands.verdicts;
+  paths = stands.paths;
+  copies = stands.copies;
+  delivered = stands.delivered;
+  frames = stands.frames;
+}
+
+pub stands_timed : (t : Network) (es : List JournalEntry) (tick : ℕ) (s : Step) (m : Moving) (ps : List (List ℕ)) → takes_time s ≡ false →
+    transit.StandsFor t (given t es) m (packets_of t es ps) → transit.StandsFor t (given t es) m (packets_now t es ps tick s)
+stands_timed t es tick s m ps quiet h = stands_now t (given t es) m (clock_after (entry_of tick s)) s (packets_of t es ps) quiet h
+
+pub labelled_now : (t : Network) (es : List JournalEntry) (tick : ℕ) (s : Step) (m : Moving) (ps : List (List ℕ)) → takes_time s ≡ false →
+    transit.StandsFor t (given t es) m (packets_of t es ps) → transit.StandsFor t (given t (pushed es tick s)) m (packets_now t es ps tick s)
+labelled_now t es tick s m ps quiet h = labelled_more t es tick s m (packets_now t es ps tick s) (stands_timed t es tick s m ps quiet h)
 
 -- 3. Each clause
 
@@ -90,39 +134,45 @@ edge_nodes t _ fit h = tt
 -- what leaves and what is made, of one flight
 clause : (number : Channel → Option ℕ) (t : Network) (es : List JournalEntry) (tick : ℕ) (s : Step) (b : List ℕ) (ps : List (List ℕ))
     (left own now : List Key) → length ps ≡ injections es →
-    keys_on number (left_in_flight t s (flight_of t es ps).items) ≡ left →
-    keys_on number (numbered t tick (flight_of t es ps).made (made_now t es ps s b)) ≡ own → now ≡ left ++ own →
+    keys_on number (left_in_flight t s (in_time t (entry_of tick s) (flight_of t es ps)).items) ≡ left →
+    keys_on number (numbered t tick (flight_of t es ps).made (made_now t es ps tick s b)) ≡ own → now ≡ left ++ own →
     now ≡ keys_on number (flight_of t (pushed es tick s) (with_packet s b ps)).items
 clause number t es tick s b ps left own now each e f h =
-    h ∙ ap (λ k. k ++ own) (sym e) ∙ ap (λ k. keys_on number (left_in_flight t s (flight_of t es ps).items) ++ k) (sym f)
-    ∙ sym (keys_more number (left_in_flight t s (flight_of t es ps).items) (numbered t tick (flight_of t es ps).made (made_now t es ps s b)))
+    h ∙ ap (λ k. k ++ own) (sym e) ∙ ap (λ k. keys_on number (left_in_flight t s (in_time t (entry_of tick s) (flight_of t es ps)).items) ++ k) (sym f)
+    ∙ sym (keys_more number (left_in_flight t s (in_time t (entry_of tick s) (flight_of t es ps)).items)
+    (numbered t tick (flight_of t es ps).made (made_now t es ps tick s b)))
     ∙ sym (ap (λ (flight : Flight). keys_on number flight.items) (flight_more t es tick s b ps each))
 
 -- the law: once each part has done the step, the network stands for the journal with one entry more
 pub goes_on : (t : Network) (es : List JournalEntry) (tick : ℕ) (s : Step) (b : List ℕ) (ps : List (List ℕ)) (old new : Packed) →
     StandsFor t es old ps → MayStep t es tick s b ps → IsStepped t es tick s b ps old new → StandsFor t (pushed es tick s) new (with_packet s b ps)
 goes_on t es tick s b ps old new h may done =
-    let f : Flight = flight_of t es ps in
     let w = world_of t es in
     let v = later_world t es s in
-    let k = packets_of t es ps in
-    let q = later_packets t es ps s b in
+    let k = packets_now t es ps tick s in
+    let q = later_packets t es ps tick s b in
     let n : ℕ = length t.loopbacks in
-    let there = all_there t es ps may.topology_lawful h.lawful in
+    let clock : ℕ = clock_after (entry_of tick s) in
+    let f : Flight = flight_of t es ps in
+    let left : Flight = in_time t (entry_of tick s) f in
+    let there = there_then t clock s f (all_there t es ps may.topology_lawful h.lawful) in
     record {
-      each = each_more es (record { tick = tick; step = s; damaged = Undamaged }) b ps h.each;
+      each = each_more es (entry_of tick s) b ps h.each;
       lawful = lawful_more t es tick s b ps h.each h.lawful may;
       packets = subst (λ p. transit.StandsFor t (given t (pushed es tick s)) new.moving p) (sym (packets_more t es tick s b ps h.each)) done.packets;
-      made = done.made ∙ ap (λ m. m + length (made_now t es ps s b)) h.made ∙ sym (ap (λ (flight : Flight). flight.made) (flight_more t es tick s b ps h.each));
+      made = done.made ∙ ap (λ m. m + length (made_now t es ps tick s b)) h.made
+          ∙ sym (ap (λ (flight : Flight). flight.made) (flight_more t es tick s b ps h.each));
       notices = clause (of_notices n) t es tick s b ps _ _ new.notices h.each
-          (notices_left t s f.items may.fitting there ∙ ap (notices_leave n s) (sym h.notices))
-          (ap (λ m. keys_on (of_notices n) (numbered t tick m (made_now t es ps s b))) (sym h.made) ∙ notices_made n t w v k q s tick old.made) done.notices;
+          (notices_left t s left.items may.fitting there ∙ ap (notices_leave n s) (notices_timed n t clock s f ∙ sym h.notices))
+          (ap (λ m. keys_on (of_notices n) (numbered t tick m (made_now t es ps tick s b))) (sym h.made) ∙ notices_made n t w v k q s tick old.made) done.notices;
       messages = clause (of_messages t) t es tick s b ps _ _ new.messages h.each
-          (messages_left t s f.items may.topology_lawful may.fitting there ∙ ap (messages_leave s) (sym h.messages))
-          (ap (λ m. keys_on (of_messages t) (numbered t tick m (made_now t es ps s b))) (sym h.made) ∙ messages_made t w v k q s tick old.made) done.messages;
+          (messages_left t s left.items may.topology_lawful may.fitting there
+          ∙ ap (messages_leave s) (messages_timed t t clock s f ∙ sym h.messages))
+          (ap (λ m. keys_on (of_messages t) (numbered t tick m (made_now t es ps tick s b))) (sym h.made) ∙ messages_made t w v k q s tick old.made) done.messages;
       routes = clause (of_routes n) t es tick s b ps _ _ new.routes h.each
-          (routes_left t s f.items (edge_nodes t s may.fitting (edge-below t may.topology_lawful)) there ∙ ap (routes_leave n s) (sym h.routes))
-          (ap (λ m. keys_on (of_routes n) (numbered t tick m (made_now t es ps s b))) (sym h.made) ∙ routes_made n t w v k q s tick old.made) done.routes;
+          (routes_left t s left.items (edge_nodes t s may.fitting (edge-below t may.topology_lawful)) there
+          ∙ ap (routes_leave n s) (routes_timed n t clock s f ∙ sym h.routes))
+          (ap (λ m. keys_on (of_routes n) (numbered t tick m (made_now t es ps tick s b))) (sym h.made) ∙ routes_made n t w v k q s tick old.made) done.routes;
       frames = done.frames;
     }
 

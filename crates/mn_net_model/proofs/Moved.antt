@@ -16,10 +16,11 @@ use Rattle.mn_topo.specs.declared.steps.JournalEntry.{JournalEntry}
 use Rattle.mn_ledger.specs.World.{World}
 use Rattle.mn_ledger.specs.Packets.{Packets, channel, flying_on}
 use Rattle.mn_ledger.specs.Verdicts.{one_if}
+use Rattle.mn_ledger.specs.Time.{ticks_in}
 use Rattle.mn_ledger.specs.Ledger.{packets_of, world_of}
 use Rattle.mn_ledger.specs.Lawful.{IsLawfulJournal}
-use Rattle.mn_ledger.specs.Items.{Channel, Frames, Load, Carries, Flight, items_on, notices_in, messages_in, routes_in, frames_in, numbered, left_in_flight}
-use Rattle.mn_ledger.specs.Items.{flight_of}
+use Rattle.mn_ledger.specs.Items.{Channel, Frames, Load, Carries, Item, Flight, items_on, notices_in, messages_in, routes_in, frames_in, numbered}
+use Rattle.mn_ledger.specs.Items.{left_in_flight, in_time, flight_of}
 use Rattle.mn_ledger.proofs.Flows.{in_flight}
 use Rattle.mn_frames.specs.Given.{given}
 use Rattle.mn_transit.specs.declared.flown.Flown.{Flown}
@@ -27,16 +28,18 @@ use Rattle.mn_transit.specs.Moving.{Moving}
 use Rattle.mn_transit.specs.Stands as transit
 use Rattle.mn_transit.specs.Stands.{Makes}
 use Rattle.mn_transit.proofs.Counting.{as_many}
-use Rattle.mn_timetable.specs.Keys.{keys_in, keys_on, of_frames, key_without, frames_leave}
+use Rattle.mn_timetable.specs.Keys.{keys_in, keys_on, of_frames, key_without, frames_leave, frames_in_time}
 use Rattle.mn_timetable.specs.Steps.{pushed, later_world}
 use Rattle.mn_ledger.specs.OneMore.{with_packet}
 use Rattle.mn_net_model.specs.Stands.{Packed, StandsFor}
-use Rattle.mn_net_model.specs.Stepped.{MayStep, later_packets, made_now}
+use Rattle.mn_net_model.specs.Stepped.{MayStep, entry_of, takes_time, packets_now, later_packets, made_now}
 use Rattle.mn_timetable.proofs.Keys.{key_taken, keys_more, keys_put}
 use Rattle.mn_timetable.proofs.Made.{IsOneFrame, frames_made}
 use Rattle.mn_timetable.proofs.FrameKeys.{frames_left}
+use Rattle.mn_timetable.proofs.Timed.{frames_timed}
 use Rattle.mn_net_model.proofs.Counted.{made_alike}
-use Rattle.mn_net_model.proofs.Going.{flight_more, packets_more, lawful_more}
+use Rattle.mn_net_model.proofs.Due.{frames_due}
+use Rattle.mn_net_model.proofs.Going.{flight_more, flight_still, packets_more, lawful_more}
 
 -- on each channel fly as many as the ledger says
 as_many_fly : (t : Network) (es : List JournalEntry) (ps : List (List ℕ)) (m : Moving) → IsLawful t → IsLawfulJournal t es ps →
@@ -52,19 +55,19 @@ as_many_fly t es ps m lawful journal h l d =
 
 pub frames_counted : (t : Network) (es : List JournalEntry) (tick : ℕ) (s : Step) (b : List ℕ) (ps : List (List ℕ)) (old new : Packed)
     (before : List (ItemOf Flown)) (made : Bool) →
-    StandsFor t es old ps → MayStep t es tick s b ps →
-    transit.StandsFor t (given t (pushed es tick s)) new.moving (later_packets t es ps s b) →
-    IsOneFrame (made_now t es ps s b) →
+    StandsFor t es old ps → MayStep t es tick s b ps → takes_time s ≡ false →
+    transit.StandsFor t (given t (pushed es tick s)) new.moving (later_packets t es ps tick s b) →
+    IsOneFrame (made_now t es ps tick s b) →
     keys_in before ≡ frames_leave s (keys_in old.moving.flying) → Makes t tick old.made before new.moving.flying made →
     keys_in new.moving.flying ≡ keys_on of_frames (flight_of t (pushed es tick s) (with_packet s b ps)).items
-frames_counted t es tick s b ps old new before made h may moved one left makes =
+frames_counted t es tick s b ps old new before made h may quiet moved one left makes =
     let f : Flight = flight_of t es ps in
-    let made_items : List (Channel × Load) = made_now t es ps s b in
+    let made_items : List (Channel × Load) = made_now t es ps tick s b in
     let flight : flight_of t (pushed es tick s) (with_packet s b ps) ≡ record {
       made = f.made + length made_items;
       items =
           left_in_flight t s f.items ++ numbered t tick f.made made_items;
-    } = flight_more t es tick s b ps h.each in
+    } = flight_still t es tick s b ps h.each quiet in
     let items : (flight_of t (pushed es tick s) (with_packet s b ps)).items ≡ left_in_flight t s f.items ++ numbered t tick old.made made_items =
     ap (λ (x : Flight). x.items) flight ∙ ap (λ m. left_in_flight t s f.items ++ numbered t tick m made_items) (sym h.made) in
     let same : keys_in before ≡ keys_on of_frames (left_in_flight t s f.items) = left ∙ ap (frames_leave s) h.frames ∙ sym (frames_left t s f.items) in
@@ -88,16 +91,16 @@ made_length t tick n before after true m = ap (λ xs. length xs) (ap keys_in m.3
 
 pub made_counted : (t : Network) (es : List JournalEntry) (tick : ℕ) (s : Step) (b : List ℕ) (ps : List (List ℕ)) (old : Packed)
     (before after : List (ItemOf Flown)) (made : Bool) →
-    StandsFor t es old ps → IsOneFrame (made_now t es ps s b) → keys_in before ≡ frames_leave s (keys_in old.moving.flying) →
+    StandsFor t es old ps → takes_time s ≡ false → IsOneFrame (made_now t es ps tick s b) → keys_in before ≡ frames_leave s (keys_in old.moving.flying) →
     Makes t tick old.made before after made →
-    keys_in after ≡ keys_on of_frames (flight_of t (pushed es tick s) (with_packet s b ps)).items → one_if made ≡ length (made_now t es ps s b)
-made_counted t es tick s b ps old before after made h one left makes same =
+    keys_in after ≡ keys_on of_frames (flight_of t (pushed es tick s) (with_packet s b ps)).items → one_if made ≡ length (made_now t es ps tick s b)
+made_counted t es tick s b ps old before after made h quiet one left makes same =
     let f : Flight = flight_of t es ps in
-    let new : List (Channel × Load) = made_now t es ps s b in
+    let new : List (Channel × Load) = made_now t es ps tick s b in
     let front : keys_in before ≡ keys_on of_frames (left_in_flight t s f.items) = left ∙ ap (frames_leave s) h.frames ∙ sym (frames_left t s f.items) in
     let items : keys_on of_frames (flight_of t (pushed es tick s) (with_packet s b ps)).items ≡ keys_on of_frames
     (left_in_flight t s f.items) ++ keys_on of_frames (numbered t tick f.made new) =
-    ap (λ (x : Flight). keys_on of_frames x.items) (flight_more t es tick s b ps h.each)
+    ap (λ (x : Flight). keys_on of_frames x.items) (flight_still t es tick s b ps h.each quiet)
     ∙ keys_more of_frames (left_in_flight t s f.items) (numbered t tick f.made new) in
     let ours = made_length t tick old.made before after made makes in
     let theirs : length (keys_in after) ≡ length (keys_in before) + length new =
@@ -109,22 +112,26 @@ made_counted t es tick s b ps old before after made h one left makes same =
 -- 2. The clause of frames, where a step makes no frame
 
 pub frames_quiet : (t : Network) (es : List JournalEntry) (tick : ℕ) (s : Step) (b : List ℕ) (ps : List (List ℕ)) (old new : Packed) →
-    StandsFor t es old ps → ((w v : Packets) → frames_in w v s ≡ []) → keys_in new.moving.flying ≡ frames_leave s (keys_in old.moving.flying) →
+    IsLawful t → StandsFor t es old ps → ((w v : Packets) → frames_in w v s ≡ []) →
+    keys_in new.moving.flying ≡ frames_leave s (frames_in_time t (tick + ticks_in s) s (keys_in old.moving.flying)) →
     keys_in new.moving.flying ≡ keys_on of_frames (flight_of t (pushed es tick s) (with_packet s b ps)).items
-frames_quiet t es tick s b ps old new h none left =
+frames_quiet t es tick s b ps old new lawful h none left =
     let f : Flight = flight_of t es ps in
-    let made : List (Channel × Load) = made_now t es ps s b in
+    let young : List Item = (in_time t (entry_of tick s) f).items in
+    let made : List (Channel × Load) = made_now t es ps tick s b in
     let w : World = world_of t es in
     let v : World = later_world t es s in
-    let k : Packets = packets_of t es ps in
-    let q : Packets = later_packets t es ps s b in
-    left ∙ ap (frames_leave s) h.frames ∙ sym (frames_left t s f.items)
-    ∙ sym (append-nil (keys_on of_frames (left_in_flight t s f.items)))
-    ∙ ap (λ k. keys_on of_frames (left_in_flight t s f.items) ++ k)
+    let k : Packets = packets_now t es ps tick s in
+    let q : Packets = later_packets t es ps tick s b in
+    left ∙ ap (λ keys. frames_leave s (frames_in_time t (tick + ticks_in s) s keys)) h.frames
+    ∙ ap (frames_leave s) (sym (frames_timed t (tick + ticks_in s) s f (frames_due t es ps lawful h.lawful)))
+    ∙ sym (frames_left t s young)
+    ∙ sym (append-nil (keys_on of_frames (left_in_flight t s young)))
+    ∙ ap (λ keys. keys_on of_frames (left_in_flight t s young) ++ keys)
     (sym (frames_made t w v k q s tick f.made
     ∙ ap (λ xs. keys_on of_frames (numbered t tick (f.made + length (notices_in t s) + length (messages_in t w v s) + length (routes_in t w v s)) xs))
     (none k q)))
-    ∙ sym (keys_more of_frames (left_in_flight t s f.items) (numbered t tick f.made made))
+    ∙ sym (keys_more of_frames (left_in_flight t s young) (numbered t tick f.made made))
     ∙ sym (ap (λ (x : Flight). keys_on of_frames x.items) (flight_more t es tick s b ps h.each))
 
 -- to take the item of a place is to take that place's key

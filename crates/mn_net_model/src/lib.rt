@@ -7,6 +7,7 @@
 //! - `specs/Stepped`: a step, by what each part says of it
 //! - `specs/Counted`: what counts against a full network
 //! - `proofs/Steps`: each kind of step, by exactly what the parts' calls promise
+//! - `proofs/Due`, `proofs/InTime`: when frames in flight are due, and what time leaves as it is
 #![tactic(auto)]
 
 ghost use Rattle.mn_net_model.specs.Counted.{IsCounted};

@@ -1,3 +1,4 @@
+pub mod Times
 pub mod Moves
 pub mod Turns
 pub mod Sites

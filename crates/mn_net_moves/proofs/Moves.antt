@@ -5,7 +5,7 @@ use Rattle.std.proofs.Common.{Some, None}
 use Rattle.std.specs.Prelude.{◌≢◌, slice_index, slice_get, nat_le, nat_lt, ◌||◌}
 use Rattle.std.specs.List.{All}
 use Rattle.std.proofs.lemmas.Bool.Decides.{nat_tests}
-use Rattle.mn_base.proofs.Bools.{no, less_tells}
+use Rattle.mn_base.proofs.Bools.{no, less_tells, at_most_tells, and_right}
 use Rattle.mn_wiring.specs.Wiring.{receiver}
 use Rattle.mn_wiring.specs.declared.links.Dir.{Dir}
 use Rattle.mn_base.specs.declared.numbers.LinkNo.{LinkNo}
@@ -16,7 +16,7 @@ use Rattle.mn_lfib.specs.declared.answer.Use.{Use}
 use Rattle.mn_topo.specs.Network.{Network, wiring_of}
 use Rattle.mn_topo.specs.Lawful.{IsLawful}
 use Rattle.mn_topo.specs.declared.steps.Step.{Step}
-use Rattle.mn_topo.specs.declared.steps.Step.TheVariants.{Carry, Lose, Inject}
+use Rattle.mn_topo.specs.declared.steps.Step.TheVariants.{Carry, Lose, Inject, Tick}
 use Rattle.mn_topo.specs.declared.steps.JournalEntry.{JournalEntry}
 use Rattle.mn_topo.specs.declared.steps.Damaged.TheVariants.{Undamaged}
 use Rattle.mn_ledger.specs.World.{World}
@@ -24,7 +24,7 @@ use Rattle.mn_ledger.specs.Places.{home_of}
 use Rattle.mn_ledger.specs.Refusal.{in_flight, bytes_flying}
 use Rattle.mn_ledger.specs.Packets.{Packets, channel, flying_on, packets_after}
 use Rattle.mn_ledger.specs.Verdicts.{one_if}
-use Rattle.mn_ledger.specs.Ledger.{world_of, packets_of, after, start, injects}
+use Rattle.mn_ledger.specs.Ledger.{world_of, packets_of, start, injects}
 use Rattle.mn_ledger.specs.OneMore.{added, with_packet, tick_from}
 use Rattle.mn_ledger.proofs.More.{world_from-push, unread}
 use Rattle.mn_ledger.proofs.Refusals.{IsFree, free}
@@ -56,8 +56,8 @@ use Rattle.mn_transit.proofs.Counting.{as_many}
 use Rattle.mn_transit.proofs.Injecting.{leaves_home}
 use Rattle.mn_timetable.specs.Keys.{of_frames}
 use Rattle.mn_timetable.specs.Steps.{pushed, later_world}
-use Rattle.mn_net_model.specs.Stepped.{MayStep}
-use Rattle.mn_net_model.proofs.Going.{labelled_more, lawful_more}
+use Rattle.mn_net_model.specs.Stepped.{MayStep, packets_now}
+use Rattle.mn_net_model.proofs.Going.{labelled_now, lawful_more}
 use Rattle.mn_net_model.proofs.Numbers.{flight_below}
 use Rattle.mn_net_model.specs.Stands as model
 use Rattle.mn_net_model.proofs.Steps.{carried, lost, injected}
@@ -72,6 +72,9 @@ use Rattle.mn_net_tally.proofs.Few.{few_sent}
 use Rattle.mn_net_now.specs.Now.{NetNow, packed_in, StandsFor, IsNet}
 use Rattle.mn_net_now.specs.Done.{IsDone, MayBeDone}
 use Rattle.mn_net_moves.specs.Bound.{IsBoundBelow}
+use Rattle.mn_ledger.specs.Time.{ticks_in, clock_after}
+use Rattle.mn_topo.specs.Steps.{fits}
+use Rattle.mn_net_moves.proofs.Times.{goes_forward}
 
 -- a step of another part leaves the transport as it is
 abbrev pub StaysAsItWas : Type 0
@@ -82,7 +85,12 @@ StaysAsItWas = (topology : Network) (journal : List JournalEntry) (tick : ℕ) (
 
 pub may_step : (net : NetNow) (s : Step) (b : List ℕ) → IsLawful net.topology → IsNet net → MayBeDone net s b →
     (ps : List (List ℕ)) → StandsFor net ps → MayStep net.topology net.journal net.tick s b ps
-may_step net s b lawful is may ps h = record { topology_lawful = lawful; fitting = may.fitting; late = is.late; unrefused = may.unrefused ps h }
+may_step net s b lawful is may ps h = record {
+  topology_lawful = lawful;
+  fitting = may.fitting;
+  forward = goes_forward net.topology net.journal ps net.moving.flying net.tick lawful h.stands.lawful h.stands.frames is.late is.due;
+  unrefused = may.unrefused ps h;
+}
 
 pub is_free : (net : NetNow) (s : Step) (b : List ℕ) (is : IsNet net) → MayBeDone net s b →
     IsFree net.topology (world_of net.topology net.journal) (packets_of net.topology net.journal is.inputs) (length net.journal) s b
@@ -111,10 +119,18 @@ link_there net l d place may = less_tells l.0 (length net.topology.links) may.fi
 
 -- 2. After a step
 
--- the clock stands at the last entry
-tick_pushed : (tick now : ℕ) (es : List JournalEntry) (s : Step) → tick_from tick (pushed es now s) ≡ now
+-- the clock stands where the last entry left it
+tick_pushed : (tick now : ℕ) (es : List JournalEntry) (s : Step) → tick_from tick (pushed es now s) ≡ now + ticks_in s
 tick_pushed tick now [] s = refl
-tick_pushed tick now (e ∷ es) s = tick_pushed e.tick now es s
+tick_pushed tick now (e ∷ es) s = tick_pushed (clock_after e) now es s
+
+few_ticks : (t : Network) (s : Step) → fits t s ≡ true → ticks_in s ≤ 1000000
+few_ticks t (Tick ticks) fit = at_most_tells ticks 1000000 (and_right (nat_le 1 ticks) (nat_le ticks 1000000) fit)
+few_ticks t _ fit = omega arith
+
+-- of a step in which no time passes
+pub same_tick : (s : Step) (tick : ℕ) → ticks_in s ≡ 0 → tick ≡ tick + ticks_in s
+same_tick s tick h = omega (arith, h)
 
 longer : (es : List JournalEntry) (now : ℕ) (s : Step) → length (pushed es now s) ≡ length es + 1
 longer [] now s = refl
@@ -126,7 +142,7 @@ pub record Goes (old new : NetNow) (s : Step) (b : List ℕ) : Type 0 where
 
 -- it goes on, where its counts stay bounded
 pub goes : (old new : NetNow) (s : Step) (b : List ℕ) (injected delivered sent : ℕ) → IsNet old → MayBeDone old s b →
-    new.topology ≡ old.topology → new.journal ≡ pushed old.journal old.tick s → new.tick ≡ old.tick → old.made ≤ new.made →
+    new.topology ≡ old.topology → new.journal ≡ pushed old.journal old.tick s → new.tick ≡ old.tick + ticks_in s → old.made ≤ new.made →
     CountsOn old.moving new.moving injected delivered sent → injected ≤ 1 → delivered ≤ 1 → bytes_in old.moving.flying + sent ≤ 268435456 →
     ((ps : List (List ℕ)) → StandsFor old ps → StandsFor new (with_packet s b ps)) → Goes old new s b
 goes old new s b injected delivered sent is may topology journal tick made counts one single room stands =
@@ -141,14 +157,20 @@ goes old new s b injected delivered sent is may topology journal tick made count
         inputs = with_packet s b is.inputs;
         stands = stands is.inputs is.stands;
         channels = counts.channels ∙ is.channels ∙ ap (λ (t : Network). 2 * length t.links) (sym topology);
-        late = subst (λ n. n ≤ new.tick) (sym (ap (tick_from 0) journal ∙ tick_pushed 0 old.tick old.journal s))
-            (subst (λ n. old.tick ≤ n) (sym tick) (omega arith));
-        within = subst (λ n. n ≤ 2 ^ 62) (sym tick) is.within;
+        late = at_end (ap (tick_from 0) journal ∙ tick_pushed 0 old.tick old.journal s ∙ sym tick);
+        due = λ h. absurd (past_it (ap (tick_from 0) journal ∙ tick_pushed 0 old.tick old.journal s ∙ sym tick) h);
+        within = let few = few_ticks old.topology s may.fitting in let was = is.within in omega (arith, tick, few, was, long);
         bytes = let more = counts.bytes in omega (arith, more, room);
         copies = let more = counts.copies in let few = is.copies in omega (arith, more, few, long, single);
         verdicts = let more = counts.verdicts in let few = is.verdicts in omega (arith, more, few, long, one);
       };
     }
+  where
+    at_end : {m n : ℕ} → m ≡ n → m ≤ n
+    at_end h = omega (arith, h)
+
+    past_it : {m n : ℕ} → m ≡ n → m < n → ⊥
+    past_it h g = omega (arith, h, g)
 
 nothing : (n : ℕ) → n + 0 ≡ n
 nothing n = omega arith
@@ -208,17 +230,17 @@ carry_done old moving tally l d place made made_now node standing uses stays sta
       moving = moving;
       tally =
           tally;
-    }) s [] 0 1 0 is may refl refl refl (omega arith) counts (omega arith) (omega arith)
+    }) s [] 0 1 0 is may refl refl (same_tick s old.tick refl) (omega arith) counts (omega arith) (omega arith)
     (no_more _ is.bytes) (λ ps h.
     let still : IsTransport t (pushed es old.tick s) old.transport = stays t es old.tick s old.transport lawful refl h.transport in
     let step = may_step old s [] lawful is may ps h in
     let on = carried t es old.tick l d place [] ps (packed_in old) moving made h.stands step
     (frame_there old is l d place may)
-    (moved_as (given t (pushed es old.tick s)) (later_world t es s) (packets_of t es ps) []
+    (moved_as (given t (pushed es old.tick s)) (later_world t es s) (packets_now t es ps old.tick s) []
     (subst (λ n. TableStands t (given t (pushed es old.tick s)) (later_world t es s) n uses) at
     (subst (λ u. TableStands t (given t (pushed es old.tick s)) (later_world t es s) node u) (sym table)
     (table_then t es old.tick s old node standing still there)))
-    (labelled_more t es old.tick s old.moving (packets_of t es ps) h.stands.packets))
+    (labelled_now t es old.tick s old.moving ps refl h.stands.packets))
     makes in
     record {
       works = h.works;
@@ -247,7 +269,7 @@ lose_done old moving l d place stays stay lawful is may moved_as left counts =
     let s : Step = Lose l d place in
     let t : Network = old.topology in
     let es : List JournalEntry = old.journal in
-    goes old (record old { journal = pushed old.journal old.tick s; moving = moving }) s [] 0 0 0 is may refl refl refl (omega arith) counts (omega arith)
+    goes old (record old { journal = pushed old.journal old.tick s; moving = moving }) s [] 0 0 0 is may refl refl (same_tick s old.tick refl) (omega arith) counts (omega arith)
     (omega arith) (no_more _ is.bytes) (λ ps h. record {
       works = h.works;
       transport = stays t es old.tick s old.transport lawful refl h.transport;
@@ -255,8 +277,8 @@ lose_done old moving l d place stays stay lawful is may moved_as left counts =
       tally = counts_as_it_did t es old.tick s [] ps old.tally lawful h.stands.lawful h.stands.each refl refl h.tally;
       stands = subst (λ m. model.StandsFor t (pushed es old.tick s) (record (packed_in old) { moving = moving; made = m }) ps) (nothing old.made)
           (lost t es old.tick l d place [] ps (packed_in old) moving h.stands (may_step old s [] lawful is may ps h) (lost_there old is l d place may)
-          (moved_as (given t (pushed es old.tick s)) (later_world t es s) (packets_of t es ps) []
-          (labelled_more t es old.tick s old.moving (packets_of t es ps) h.stands.packets)) left);
+          (moved_as (given t (pushed es old.tick s)) (later_world t es s) (packets_now t es ps old.tick s) []
+          (labelled_now t es old.tick s old.moving ps refl h.stands.packets)) left);
     })
 
 -- 5. A packet enters
@@ -341,7 +363,7 @@ inject_done old moving tally site number b node entered outer made made_now stay
     let es : List JournalEntry = old.journal in
     subst (λ m. Goes old (record old { journal = pushed old.journal old.tick s; made = m; moving = moving; tally = tally }) s b) (sym made_is)
     (goes old (record old { journal = pushed old.journal old.tick s; made = old.made + one_if made; moving = moving; tally = tally }) s b 1 1
-    (size_of entered) is may refl refl refl (omega arith) counts (omega arith) (omega arith)
+    (size_of entered) is may refl refl (same_tick s old.tick refl) (omega arith) counts (omega arith) (omega arith)
     (let room = room_for old is site number b may (told is.inputs is.stands) in omega (arith, room, small)) (λ ps h.
     let still : IsTransport t (pushed es old.tick s) old.transport = stays t es old.tick s old.transport lawful refl h.transport in
     let routes : IsRoutes t (pushed es old.tick s) old.routes = stay t es old.tick s old.routes lawful refl h.routes in
@@ -349,10 +371,10 @@ inject_done old moving tally site number b node entered outer made made_now stay
     let step = may_step old s b lawful is may ps h in
     let is_fate = fate (pushed es old.tick s) (ps ++ b ∷ []) (lawful_more t es old.tick s b ps h.stands.each h.stands.lawful step) routes in
     let on = injected t es old.tick site number b ps (packed_in old) moving made h.stands step
-    (moved_as (given t (pushed es old.tick s)) (later_world t es s) (packets_of t es ps) site number b home
+    (moved_as (given t (pushed es old.tick s)) (later_world t es s) (packets_now t es ps old.tick s) site number b home
     (subst (λ w. IsItsFate t (given t (pushed es old.tick s)) w site.0 b entered) same is_fate)
     (subst (λ w. IsWayOut t (given t (pushed es old.tick s)) w node.0 entered outer) same (way (pushed es old.tick s) still is_fate))
-    (labelled_more t es old.tick s old.moving (packets_of t es ps) h.stands.packets))
+    (labelled_now t es old.tick s old.moving ps refl h.stands.packets))
     makes in
     record {
       works = h.works;
@@ -382,6 +404,7 @@ with_spare old new s b spare done = record {
     stands = let n = done.is.stands in record { works = n.works; transport = n.transport; routes = n.routes; stands = n.stands; tally = n.tally };
     channels = done.is.channels;
     late = done.is.late;
+    due = done.is.due;
     within = done.is.within;
     bytes = done.is.bytes;
     copies = done.is.copies;
@@ -433,6 +456,13 @@ copies_fit net s b is may = let steps = (is_free net s b is may).steps in let fe
 
 pub verdicts_few : (net : NetNow) (s : Step) (b : List ℕ) → IsNet net → MayBeDone net s b → length net.moving.verdicts < 4000000
 verdicts_few net s b is may = let steps = (is_free net s b is may).steps in let few = is.verdicts in omega (arith, steps, few)
+
+pub clock_fits : (net : NetNow) (s : Step) (b : List ℕ) → IsNet net → MayBeDone net s b → net.tick + ticks_in s ≤ 2 ^ 63
+clock_fits net s b is may =
+    let steps = (is_free net s b is may).steps in
+    let few = few_ticks net.topology s may.fitting in
+    let was = is.within in
+    omega (arith, steps, few, was)
 
 pub bytes_fit : (net : NetNow) → IsNet net → bytes_in net.moving.flying < 2 ^ 32
 bytes_fit net is = let few = is.bytes in omega (arith, few)

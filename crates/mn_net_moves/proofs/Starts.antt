@@ -1,5 +1,5 @@
 -- A network at its start.
-use Rattle.std.proofs.Common.{ℕ, ◌≡◌, ◌*◌, ◌≤◌, ◌^◌, false, List, [], length, refl, arith, sym, ap, subst}
+use Rattle.std.proofs.Common.{ℕ, ◌≡◌, ◌*◌, ◌<◌, ◌≤◌, false, List, [], length, refl, arith, sym, ap, subst}
 use Rattle.mn_topo.specs.Network.{Network}
 use Rattle.mn_topo.specs.declared.steps.JournalEntry.{JournalEntry}
 use Rattle.mn_ledger.specs.Ledger.{no_packets}
@@ -59,6 +59,9 @@ start_stands t carried routed moving tally spare transport routes no_notices no_
 few : (n m : ℕ) → n ≡ 0 → n ≤ m
 few n m e = omega (arith, e)
 
+never : 0 < 0 → ⊥
+never h = omega (arith, h)
+
 pub starts : (t : Network) (carried : Carried) (routed : Routed) (moving : Moving) (tally : Tally) (spare : ℕ) →
     IsTransport t [] carried → IsRoutes t [] routed → carried.notices ≡ [] → carried.messages ≡ [] → routed.messages ≡ [] →
     IsStart moving (2 * length t.links) →
@@ -68,7 +71,8 @@ starts t carried routed moving tally spare transport routes no_notices no_messag
   stands = start_stands t carried routed moving tally spare transport routes no_notices no_messages no_routes start packets tallied;
   channels = start.channels_are;
   late = few 0 0 refl;
-  within = few 0 (2 ^ 62) refl;
+  due = λ h. absurd (never h);
+  within = few 0 _ refl;
   bytes = few _ 268435456 (ap bytes_in start.flying);
   copies = few _ 0 start.copies;
   verdicts = few _ 0 (ap length start.verdicts);

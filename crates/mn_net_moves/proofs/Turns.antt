@@ -14,6 +14,7 @@ use Rattle.mn_topo.specs.declared.steps.JournalEntry.{JournalEntry}
 use Rattle.mn_ledger.specs.World.{World}
 use Rattle.mn_ledger.specs.Packets.{Packets, channel, packets_after}
 use Rattle.mn_ledger.specs.Ledger.{world_of, packets_of, no_packets}
+use Rattle.mn_ledger.specs.Time.{expire, ticks_in}
 use Rattle.mn_ledger.specs.Refusal.{is_empty}
 use Rattle.mn_ledger.specs.Items.{notices_in, numbered}
 use Rattle.mn_ledger.specs.Transport.{is_transport}
@@ -24,12 +25,17 @@ use Rattle.mn_laws.proofs.Holding.{names_what_exists}
 use Rattle.mn_frames.specs.Given.{Labelling, given}
 use Rattle.mn_transit.specs.Moving.{Moving, CountsOn}
 use Rattle.mn_transit.specs.Stands as transit
+use Rattle.mn_transit.specs.Aging.{DueAsSent}
 use Rattle.mn_transit.proofs.Counts.{counts_begun}
 use Rattle.mn_timetable.specs.Keys.{Key, keys_in, keys_on, of_notices, of_messages, of_routes, notices_leave, messages_leave, routes_leave}
+use Rattle.mn_timetable.specs.Keys.{keys_in_time, FlyInOrder}
 use Rattle.mn_timetable.specs.Steps.{pushed, later_world, messages_now, routes_now}
-use Rattle.mn_net_model.proofs.Going.{labelled_more}
+use Rattle.mn_net_model.specs.Stepped.{packets_now}
+use Rattle.mn_net_model.proofs.Going.{labelled_now}
 use Rattle.mn_net_model.proofs.Numbers.{flight_below}
-use Rattle.mn_net_model.proofs.Steps.{HaveSaid, cut_down, unmoved, moves, still}
+use Rattle.mn_net_model.proofs.Steps.{HaveSaid, cut_down, unmoved, ticked, moves, still}
+use Rattle.mn_net_model.proofs.Due.{fly_in_order}
+use Rattle.mn_net_model.specs.Stands as model
 use Rattle.mn_transport_model.specs.Carried.{Carried}
 use Rattle.mn_transport_model.specs.Stands.{IsTransport}
 use Rattle.mn_transport_model.specs.Steps as transport
@@ -43,7 +49,7 @@ use Rattle.mn_net_tally.specs.Laws.{may_send, changes_statics}
 use Rattle.mn_net_tally.proofs.Counting.{counts_as_it_did, counts_statics}
 use Rattle.mn_net_now.specs.Now.{NetNow, packed_in, StandsFor, IsNet}
 use Rattle.mn_net_now.specs.Done.{MayBeDone}
-use Rattle.mn_net_moves.proofs.Moves.{Goes, goes, may_step, is_free, no_more, StaysAsItWas}
+use Rattle.mn_net_moves.proofs.Moves.{Goes, goes, may_step, is_free, no_more, same_tick, StaysAsItWas}
 
 -- 1. Whose step it is
 
@@ -96,6 +102,15 @@ adds_none : (s : Step) → is_transport s ≡ true → changes_statics s ≡ fal
 adds_none (AddRoute a b) h = not_it h
 adds_none (DelRoute a b) h = not_it h
 adds_none _ h = refl
+
+-- in none of them time passes
+no_time_of_links : (s : Step) → is_transport s ≡ true → ticks_in s ≡ 0
+no_time_of_links (Tick ticks) h = not_it h
+no_time_of_links _ h = refl
+
+no_time_of_routes : (s : Step) → is_routing s ≡ true → ticks_in s ≡ 0
+no_time_of_routes (Tick ticks) h = not_it h
+no_time_of_routes _ h = refl
 
 -- 2. The steps that have a turn
 
@@ -320,7 +335,7 @@ link_done old s carried moving made made_now stay lawful is may of quiet did beg
       transport = carried;
       moving =
           moving;
-    }) s [] 0 0 0 is may refl refl refl (omega arith) (counts_begun _ _ begun) (omega arith) (omega arith)
+    }) s [] 0 0 0 is may refl refl (same_tick s old.tick (no_time_of_links s of)) (omega arith) (counts_begun _ _ begun) (omega arith) (omega arith)
     (no_more _ is.bytes) (λ ps h. record {
       works = h.works;
       transport = did.goes old.journal h.transport (link_turn old s lawful is may (touched s of));
@@ -366,7 +381,7 @@ route_done old s carried routed moving tally made made_now lawful is may of on s
       moving = moving;
       tally =
           tally;
-    }) s [] 0 0 0 is may refl refl refl (omega arith) (counts_begun _ _ begun) (omega arith) (omega arith)
+    }) s [] 0 0 0 is may refl refl (same_tick s old.tick (no_time_of_routes s of)) (omega arith) (counts_begun _ _ begun) (omega arith) (omega arith)
     (no_more _ is.bytes) (λ ps h. record {
       works = h.works;
       transport = on;
@@ -431,7 +446,7 @@ down_done old l carried moving made made_now stay lawful is may did moved_as lef
       transport = carried;
       moving =
           moving;
-    }) s [] 0 0 0 is may refl refl refl (omega arith) counts (omega arith) (omega arith)
+    }) s [] 0 0 0 is may refl refl (same_tick s old.tick refl) (omega arith) counts (omega arith) (omega arith)
     (no_more _ is.bytes) (λ ps h. record {
       works = h.works;
       transport = did.goes old.journal h.transport (link_turn old s lawful is may refl);
@@ -439,34 +454,42 @@ down_done old l carried moving made made_now stay lawful is may did moved_as lef
       tally = counts_as_it_did old.topology old.journal old.tick s [] ps old.tally lawful h.stands.lawful h.stands.each refl refl h.tally;
       stands = cut_down old.topology old.journal old.tick l [] ps (packed_in old) _ h.stands (may_step old s [] lawful is may ps h)
           (links_said old s carried moving made lawful is may refl did)
-          (moved_as (given old.topology (pushed old.journal old.tick s)) (later_world old.topology old.journal s) (packets_of old.topology old.journal ps) []
-          (labelled_more old.topology old.journal old.tick s old.moving (packets_of old.topology old.journal ps) h.stands.packets)) left;
+          (moved_as (given old.topology (pushed old.journal old.tick s)) (later_world old.topology old.journal s) (packets_now old.topology old.journal ps old.tick s) []
+          (labelled_now old.topology old.journal old.tick s old.moving ps refl h.stands.packets)) left;
     }))
 
--- 8. Time goes by, and nothing changes
+-- 8. Time goes by, and frames that are too old end
 
-none_said_then : (old : NetNow) (ticks : ℕ) (moving : Moving) →
-    HaveSaid old.topology old.journal old.tick (Tick ticks) (packed_in old) (record (packed_in old) { moving = moving })
-none_said_then old ticks moving = record {
-  notices = still (keys_in old.transport.notices);
-  messages = still (keys_in old.transport.messages);
-  routes = still (keys_in old.routes.messages);
-  made = omega arith;
-}
+-- on each channel the due ticks of frames don't fall
+pub in_order : (net : NetNow) (begun : Moving) → IsLawful net.topology → IsNet net → begun ≡ record net.moving { delivered = None } →
+    FlyInOrder (keys_in begun.flying)
+in_order net begun lawful is begins = subst (λ (m : Moving). FlyInOrder (keys_in m.flying)) (sym begins)
+    (fly_in_order net.topology net.journal is.inputs (packed_in net) lawful is.stands.stands)
 
-pub elapse_done : (old : NetNow) (moving : Moving) (ticks : ℕ) → StaysAsItWas → StayAsTheyWere → IsLawful old.topology → IsNet old →
-    MayBeDone old (Tick ticks) [] → moving ≡ record old.moving { delivered = None } →
-    Goes old (record old { journal = pushed old.journal old.tick (Tick ticks); moving = moving }) (Tick ticks) []
-elapse_done old moving ticks stays stay lawful is may begun =
+counts_then : (old begun moving : Moving) → begun ≡ record old { delivered = None } → CountsOn begun moving 0 0 0 → CountsOn old moving 0 0 0
+counts_then old begun moving begins counts =
+    let from : CountsOn (record old { delivered = None }) moving 0 0 0 = subst (λ m. CountsOn m moving 0 0 0) begins counts in
+    record { channels = from.channels; failed = from.failed; verdicts = from.verdicts; copies = from.copies; bytes = from.bytes }
+
+pub elapse_done : (old : NetNow) (begun moving : Moving) (ticks : ℕ) → StaysAsItWas → StayAsTheyWere → IsLawful old.topology → IsNet old →
+    MayBeDone old (Tick ticks) [] → begun ≡ record old.moving { delivered = None } →
+    ((g : Labelling) (packets : Packets) → transit.StandsFor old.topology g begun packets → DueAsSent old.topology begun.flying packets →
+    transit.StandsFor old.topology g moving (expire old.topology (old.tick + ticks) (record packets { clock = old.tick + ticks }))) →
+    keys_in moving.flying ≡ keys_in_time old.topology (old.tick + ticks) (keys_in begun.flying) → CountsOn begun moving 0 0 0 →
+    Goes old (record old { journal = pushed old.journal old.tick (Tick ticks); tick = old.tick + ticks; moving = moving }) (Tick ticks) []
+elapse_done old begun moving ticks stays stay lawful is may begins expired left counts =
     let s : Step = Tick ticks in
     let t : Network = old.topology in
     let es : List JournalEntry = old.journal in
-    goes old (record old { journal = pushed es old.tick s; moving = moving }) s [] 0 0 0 is may refl refl refl (omega arith) (counts_begun _ _ begun)
-    (omega arith) (omega arith) (no_more _ is.bytes) (λ ps h. record {
+    goes old (record old { journal = pushed es old.tick s; tick = old.tick + ticks; moving = moving }) s [] 0 0 0 is may refl refl refl (omega arith)
+    (counts_then old.moving begun moving begins counts) (omega arith) (omega arith) (no_more _ is.bytes) (λ ps h. record {
       works = h.works;
       transport = stays t es old.tick s old.transport lawful refl h.transport;
       routes = stay t es old.tick s old.routes lawful refl h.routes;
       tally = counts_as_it_did t es old.tick s [] ps old.tally lawful h.stands.lawful h.stands.each refl refl h.tally;
-      stands = unmoved t es old.tick s [] ps (packed_in old) (record (packed_in old) { moving = moving }) h.stands (may_step old s [] lawful is may ps h)
-          refl (none_said_then old ticks moving) begun;
+      stands = subst (λ m. model.StandsFor t (pushed es old.tick s) (record (packed_in old) { moving = moving; made = m }) ps) (nothing old.made)
+          (ticked t es old.tick ticks [] ps (packed_in old) begun moving h.stands (may_step old s [] lawful is may ps h) begins expired left);
     })
+  where
+    nothing : (n : ℕ) → n + 0 ≡ n
+    nothing n = omega arith

@@ -10,6 +10,7 @@ use Rattle.mn_ledger.specs.OneMore.{with_packet}
 use Rattle.mn_ledger.specs.Refusal.{refusal}
 use Rattle.mn_timetable.specs.Steps.{pushed}
 use Rattle.mn_net_now.specs.Now.{NetNow, StandsFor, HasRoom}
+use Rattle.mn_ledger.specs.Time.{ticks_in}
 
 -- done exactly where nothing refuses the step, and else the first cause; want of memory is free
 abbrev pub Answers : {T : Type 0} → Option Refused → Result T Refused → Type 0
@@ -22,11 +23,11 @@ abbrev pub Refuses : {T : Type 0} → Option Refused → Result T Refused → Ty
 Refuses cause (Ok done) = cause ≡ None
 Refuses cause (Err why) = cause ≡ Some why
 
--- one entry more, at the present tick
+-- one entry more, at the present tick; a step in which time passes moves the clock
 pub record IsLonger (old new : NetNow) (step : Step) : Type 0 where
   pub topology : new.topology ≡ old.topology
   pub journal : new.journal ≡ pushed old.journal old.tick step
-  pub tick : new.tick ≡ old.tick
+  pub tick : new.tick ≡ old.tick + ticks_in step
   pub room : length old.journal < most_steps
   pub made : old.made ≤ new.made
 

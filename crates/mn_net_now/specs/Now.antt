@@ -12,6 +12,7 @@ use Rattle.mn_timetable.specs.Keys.{keys_in}
 use Rattle.mn_net_model.specs.Stands.{Packed}
 use Rattle.mn_net_model.specs.Stands as model
 use Rattle.mn_net_tally.specs.Tallies.{Tally, Tallies}
+use Rattle.std.specs.List.{All}
 
 pub record NetNow : Type 0 where
   pub topology : Network
@@ -43,13 +44,15 @@ pub record StandsFor (net : NetNow) (inputs : List (List ℕ)) : Type 0 where
   pub stands : model.StandsFor net.topology net.journal (packed_in net) inputs
   pub tally : Tallies net.topology net.journal inputs net.tally
 
--- What holds of a network that works: it stands for some packets, its clock isn't behind its journal, and its counts are bounded.
+-- What holds of a network that works: it stands for some packets, its clock isn't behind its journal and went past no frame that was
+-- due, and its counts are bounded.
 pub record IsNet (net : NetNow) : Type 0 where
   pub inputs : List (List ℕ)
   pub stands : StandsFor net inputs
   pub channels : net.moving.channels ≡ 2 * length net.topology.links
   pub late : tick_from 0 net.journal ≤ net.tick
-  pub within : net.tick ≤ 2 ^ 62
+  pub due : tick_from 0 net.journal < net.tick → All (λ item. net.tick ≤ item.due) net.moving.flying
+  pub within : net.tick ≤ 2 ^ 62 + 1000000 * length net.journal
   pub bytes : bytes_in net.moving.flying ≤ most_flying_bytes
   pub copies : net.moving.copies ≤ length net.journal
   pub verdicts : length net.moving.verdicts ≤ length net.journal

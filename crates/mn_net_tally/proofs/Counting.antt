@@ -15,17 +15,16 @@ use Rattle.mn_topo.specs.Lawful.{IsLawful}
 use Rattle.mn_topo.specs.Network.{Network, wiring_of}
 use Rattle.mn_topo.specs.declared.steps.Step.{Step}
 use Rattle.mn_topo.specs.declared.steps.Step.TheVariants.{LinkUp, AddRoute, DelRoute}
-use Rattle.mn_topo.specs.declared.steps.Step.TheVariants.{Inject, Carry}
+use Rattle.mn_topo.specs.declared.steps.Step.TheVariants.{Inject, Carry, Tick}
 use Rattle.mn_topo.specs.declared.steps.JournalEntry.{JournalEntry}
-use Rattle.mn_topo.specs.declared.steps.Damaged.TheVariants.{Undamaged}
 use Rattle.mn_ledger.specs.World.{World, Config}
 use Rattle.mn_ledger.specs.Lawful.{IsLawfulJournal}
 use Rattle.mn_ledger.specs.Verdicts.{injections}
 use Rattle.mn_ledger.specs.Ledger.{world_of, packets_of, after, config_after}
-use Rattle.mn_ledger.specs.Packets.{Packets, channel, packets_after}
+use Rattle.mn_ledger.specs.Packets.{Packets, channel}
 use Rattle.mn_ledger.specs.Items.{Channel, Notices, Messages, Routes, Frames, Load, Notice, Says, Tells, Carries, Item, Flight, delay_on, notices_in}
 use Rattle.mn_ledger.specs.Items.{messages_in, routes_in, frames_in, numbered, left_in_flight, made_by, flight_of}
-use Rattle.mn_ledger.specs.OneMore.{with_packet, made_then}
+use Rattle.mn_ledger.specs.OneMore.{with_packet}
 use Rattle.mn_ledger.specs.InFlight.{AreNumbered}
 use Rattle.mn_ledger.proofs.Choice.{keeps}
 use Rattle.mn_ledger.proofs.Flows.{in_flight}
@@ -43,7 +42,8 @@ use Rattle.mn_timetable.proofs.FrameKeys.{frames_left}
 use Rattle.mn_timetable.proofs.Keys.{keys_more}
 use Rattle.mn_timetable.proofs.Made.{one_frame, frames_made}
 use Rattle.mn_net_model.specs.Stands.{Packed, StandsFor}
-use Rattle.mn_net_model.proofs.Going.{flight_more}
+use Rattle.mn_net_model.specs.Stepped.{entry_of, takes_time, packets_now, later_packets, made_now}
+use Rattle.mn_net_model.proofs.Going.{flight_still}
 use Rattle.mn_net_tally.specs.Tallies.{Tally, Tallies, lost_numbers, is_one, frame_of, after_frame}
 use Rattle.mn_net_tally.specs.Laws.{may_send, changes_statics, CountsAsItDid, CountsStatics, CountsFrames, TellsWhatIsLost}
 use Rattle.mn_net_tally.proofs.Sent.{get_of, new, OneSent, one_sent, sent_quiet, lost_quiet, sent_one, lost_one}
@@ -58,23 +58,23 @@ no_frame_of (LinkUp l) v k h = refl
 no_frame_of _ v k h = refl
 
 quiet_keys : (t : Network) (es : List JournalEntry) (tick n : ℕ) (s : Step) (b : List ℕ) (ps : List (List ℕ)) → may_send s ≡ false →
-    keys_on of_frames (numbered t tick n (made_then t (world_of t es) (packets_of t es ps) s b)) ≡ []
+    keys_on of_frames (numbered t tick n (made_now t es ps tick s b)) ≡ []
 quiet_keys t es tick n s b ps h =
     let w = world_of t es in
     let v = after t w s in
-    let k = packets_after t v (packets_of t es ps) s b in
-    frames_made t w v (packets_of t es ps) k s tick n
+    let k = later_packets t es ps tick s b in
+    frames_made t w v (packets_now t es ps tick s) k s tick n
     ∙ ap (λ fs. keys_on of_frames (numbered t tick (n + length (notices_in t s) + length (messages_in t w v s) + length (routes_in t w v s)) fs))
-    (no_frame_of s (packets_of t es ps) k h)
+    (no_frame_of s (packets_now t es ps tick s) k h)
 
 statics_then : (t : Network) (es : List JournalEntry) (tick : ℕ) (s : Step) (b : List ℕ) (ps : List (List ℕ)) → length ps ≡ injections es →
     (world_of t (pushed es tick s)).config ≡ config_after (world_of t es).config s
-statics_then t es tick s b ps each = ap (λ (w : World). w.config) (goes_on t es ps (record { tick = tick; step = s; damaged = Undamaged }) b each).world
+statics_then t es tick s b ps each = ap (λ (w : World). w.config) (goes_on t es ps (entry_of tick s) b each).world
 
 -- the counts of frames go on as they are
 quietly : (t : Network) (es : List JournalEntry) (tick : ℕ) (s : Step) (b : List ℕ) (ps : List (List ℕ)) (tally : Tally) (statics : ℕ) →
     IsLawful t → IsLawfulJournal t es ps → length ps ≡ injections es →
-    keys_on of_frames (numbered t tick (length (made_by t es ps)) (made_then t (world_of t es) (packets_of t es ps) s b)) ≡ [] →
+    keys_on of_frames (numbered t tick (length (made_by t es ps)) (made_now t es ps tick s b)) ≡ [] →
     statics ≡ length (config_after (world_of t es).config s).statics →
     Tallies t es ps tally → Tallies t (pushed es tick s) (with_packet s b ps) (record tally { statics = statics })
 quietly t es tick s b ps tally statics lawful journal each none same h =
@@ -267,6 +267,10 @@ sends_only (DelRoute s p) m = absurd (no m)
 sends_only (LinkUp l) m = refl
 sends_only _ m = refl
 
+sends_on_time : (s : Step) → may_send s ≡ true → takes_time s ≡ false
+sends_on_time (Tick ticks) m = absurd (no m)
+sends_on_time _ m = refl
+
 -- a step that may send makes nothing before its frame
 first_number : (t : Network) (w v : World) (s : Step) (n : ℕ) → may_send s ≡ true →
     n + length (notices_in t s) + length (messages_in t w v s) + length (routes_in t w v s) ≡ n
@@ -301,8 +305,8 @@ module _ (t : Network) (es : List JournalEntry) (tick : ℕ) (s : Step) (b : Lis
   those = new t es tick s b ps was.each lawful was.lawful
 
   flight_then : (flight_of t (pushed es tick s) (with_packet s b ps)).items ≡ left_in_flight t s items ++ those
-  flight_then = ap (λ (f : Flight). f.items) (flight_more t es tick s b ps was.each)
-      ∙ ap (λ k. left_in_flight t s items ++ numbered t tick k (made_then t (world_of t es) (packets_of t es ps) s b)) counted
+  flight_then = ap (λ (f : Flight). f.items) (flight_still t es tick s b ps was.each (sends_on_time s m))
+      ∙ ap (λ k. left_in_flight t s items ++ numbered t tick k (made_now t es ps tick s b)) counted
 
   keys_then : keys_in now.moving.flying ≡ frames_leave s (keys_in old.moving.flying) ++ keys_on of_frames those
   keys_then =
@@ -323,17 +327,17 @@ module _ (t : Network) (es : List JournalEntry) (tick : ℕ) (s : Step) (b : Lis
   v = after t (world_of t es) s
 
   abbrev k : Packets
-  k = packets_after t v (packets_of t es ps) s b
+  k = later_packets t es ps tick s b
 
-  those_are : (fs : List (Channel × Load)) → frames_in (packets_of t es ps) k s ≡ fs → keys_on of_frames those ≡ keys_on of_frames (numbered t tick n fs)
+  those_are : (fs : List (Channel × Load)) → frames_in (packets_now t es ps tick s) k s ≡ fs → keys_on of_frames those ≡ keys_on of_frames (numbered t tick n fs)
   those_are fs e =
-      frames_made t (world_of t es) v (packets_of t es ps) k s tick n
-      ∙ ap (λ i. keys_on of_frames (numbered t tick i (frames_in (packets_of t es ps) k s))) (first_number t (world_of t es) v s n m)
+      frames_made t (world_of t es) v (packets_now t es ps tick s) k s tick n
+      ∙ ap (λ i. keys_on of_frames (numbered t tick i (frames_in (packets_now t es ps tick s) k s))) (first_number t (world_of t es) v s n m)
       ∙ ap (λ gs. keys_on of_frames (numbered t tick n gs)) e
 
   pub frames_counted : Tallies t (pushed es tick s) (with_packet s b ps) (after_frame t (frame_of old.made now.moving.flying) tally)
   unfolding first_of
-  frames_counted = elim (one_frame (packets_of t es ps) k s) [
+  frames_counted = elim (one_frame (packets_now t es ps tick s) k s) [
     | inl e ↦
         let none : keys_on of_frames those ≡ [] = those_are [] e in
         subst (λ o. Tallies t (pushed es tick s) (with_packet s b ps) (after_frame t o tally)) (sym (frame_is ∙ ap (first_of old.made) none))

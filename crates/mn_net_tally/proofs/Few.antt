@@ -10,8 +10,9 @@ use Rattle.mn_topo.specs.Network.{Network}
 use Rattle.mn_topo.specs.declared.steps.Step.{Step}
 use Rattle.mn_topo.specs.declared.steps.JournalEntry.{JournalEntry}
 use Rattle.mn_ledger.specs.World.{World}
-use Rattle.mn_ledger.specs.Packets.{Packets, channel, packets_after}
-use Rattle.mn_ledger.specs.Ledger.{after, start, no_packets, next_of, left_by}
+use Rattle.mn_ledger.specs.Packets.{Packets, channel}
+use Rattle.mn_ledger.specs.Ledger.{after, start, no_packets, next_of, left_by, packets_by}
+use Rattle.mn_ledger.specs.Time.{timed}
 use Rattle.mn_ledger.specs.Items.{Channel, Frames, Load, same_channel, items_on, delay_on, notices_in, messages_in, routes_in, frames_in, made_in, numbered}
 use Rattle.mn_ledger.specs.Items.{made_from}
 use Rattle.mn_laws.specs.Ids.{frames_sent}
@@ -43,10 +44,11 @@ few_from : (t : Network) (w : World) (k : Packets) (n : ℕ) (es : List JournalE
 few_from t w k n [] ps l d = omega arith
 few_from t w k n (e ∷ es) ps l d =
     let v : World = after t w e.step in
-    let q : Packets = packets_after t v k e.step (next_of ps) in
-    let new : List (Channel × Load) = made_in t w v k q e.step in
+    let q : Packets = packets_by t v k e (next_of ps) in
+    let now : Packets = timed t e k in
+    let new : List (Channel × Load) = made_in t w v now q e.step in
     let rest = few_from t v q (n + length new) es (left_by e.step ps) l d in
-    let one = one_in_step t w v k q e.step e.tick n l d in
+    let one = one_in_step t w v now q e.step e.tick n l d in
     let split =
     ap length
     (filter-append (λ item. same_channel (Frames l d) item.on) (numbered t e.tick n new) (made_from t v q (n + length new) es (left_by e.step ps)))

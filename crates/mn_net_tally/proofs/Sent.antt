@@ -13,13 +13,11 @@ use Rattle.mn_topo.specs.Lawful.{IsLawful}
 use Rattle.mn_topo.specs.Network.{Network, wiring_of}
 use Rattle.mn_topo.specs.declared.steps.Step.{Step}
 use Rattle.mn_topo.specs.declared.steps.JournalEntry.{JournalEntry}
-use Rattle.mn_topo.specs.declared.steps.Damaged.TheVariants.{Undamaged}
 use Rattle.mn_ledger.specs.Lawful.{IsLawfulJournal}
 use Rattle.mn_ledger.specs.Verdicts.{injections}
-use Rattle.mn_ledger.specs.Ledger.{world_of, packets_of}
 use Rattle.mn_ledger.specs.Packets.{channel}
 use Rattle.mn_ledger.specs.Items.{Channel, Notices, Messages, Routes, Frames, Load, Item, same_channel, items_on, numbered, made_by}
-use Rattle.mn_ledger.specs.OneMore.{with_packet, made_then}
+use Rattle.mn_ledger.specs.OneMore.{with_packet}
 use Rattle.mn_ledger.proofs.Flows.{in_flight}
 use Rattle.mn_ledger.proofs.More.{goes_on}
 use Rattle.mn_laws.specs.Flight.{is_frame}
@@ -28,6 +26,7 @@ use Rattle.mn_course.specs.Coming.{is_each, is_lost}
 use Rattle.mn_timetable.specs.Keys.{Key, keys_on, of_frames, with_key}
 use Rattle.mn_timetable.specs.Steps.{pushed}
 use Rattle.mn_ledger.proofs.Directions.{one_channel}
+use Rattle.mn_net_model.specs.Stepped.{entry_of, made_now}
 use Rattle.mn_net_tally.specs.Tallies.{lost_numbers}
 use Rattle.mn_ledger.proofs.OneKind.{none_left as filter_no}
 
@@ -159,10 +158,10 @@ module _ (t : Network) (es : List JournalEntry) (tick : ℕ) (s : Step) (b : Lis
 
   -- what the step made
   abbrev pub new : List Item
-  new = numbered t tick (length (made_by t es ps)) (made_then t (world_of t es) (packets_of t es ps) s b)
+  new = numbered t tick (length (made_by t es ps)) (made_now t es ps tick s b)
 
   pub made_more : made_by t (pushed es tick s) (with_packet s b ps) ≡ made ++ new
-  made_more = (goes_on t es ps (record { tick = tick; step = s; damaged = Undamaged }) b each).made
+  made_more = (goes_on t es ps (entry_of tick s) b each).made
 
   below : (x : Item) → In (made_by t es ps) x → x.number < length (made_by t es ps)
   below x i =
@@ -181,7 +180,7 @@ module _ (t : Network) (es : List JournalEntry) (tick : ℕ) (s : Step) (b : Lis
   ]
 
   above : (x : Item) → In new x → length (made_by t es ps) ≤ x.number
-  above x i = above_from (length (made_by t es ps)) (made_then t (world_of t es) (packets_of t es ps) s b) x i
+  above x i = above_from (length (made_by t es ps)) (made_now t es ps tick s b) x i
 
   pub sent_more : (l : ℕ) (d : Dir) → frames_sent t (pushed es tick s) (with_packet s b ps) l d ≡ frames_sent t es ps l d ++ items_on (Frames l d) new
   sent_more l d = ap (items_on (Frames l d)) made_more ∙ filter-append (λ item. same_channel (Frames l d) item.on) made new

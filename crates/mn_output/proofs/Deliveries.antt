@@ -7,8 +7,7 @@ use Rattle.mn_topo.specs.Network.{Network}
 use Rattle.mn_topo.specs.declared.steps.Step.{Step}
 use Rattle.mn_topo.specs.declared.steps.Step.TheVariants.{Inject}
 use Rattle.mn_topo.specs.declared.steps.JournalEntry.{JournalEntry}
-use Rattle.mn_ledger.specs.Ledger.{after, next_of, world_of, packets_of}
-use Rattle.mn_ledger.specs.Packets.{packets_after}
+use Rattle.mn_ledger.specs.Ledger.{after, next_of, world_of, packets_of, packets_by}
 use Rattle.mn_laws.specs.Deliveries.{Delivery, delivery_at, deliveries_of}
 use Rattle.mn_laws.proofs.Adding.{adds_to_its_lists}
 use Rattle.mn_course.specs.Course.{input_before, inputs_of}
@@ -44,7 +43,7 @@ one_more t capture es e h =
     let ps : List (List ℕ) = inputs_of capture es in
     let b : List ℕ = packet_at capture e.step in
     let old : List Delivery = deliveries_of t es ps in
-    let delivered : List ℕ → Option (List ℕ) = λ bytes. (packets_after t (after t (world_of t es) e.step) (packets_of t es ps) e.step bytes).delivered in
+    let delivered : List ℕ → Option (List ℕ) = λ bytes. (packets_by t (after t (world_of t es) e.step) (packets_of t es ps) e bytes).delivered in
     adding t capture es e Deliveries
     ∙ ap (λ r. r ++ delivery_record e.tick (delivered (next_of (input_before capture e.step [])))) h
     ∙ ap (λ bytes. deliveries_file t capture es ++ delivery_record e.tick (delivered bytes)) (its_packet capture e.step)

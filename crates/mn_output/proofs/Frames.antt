@@ -16,10 +16,12 @@ use Rattle.mn_topo.specs.declared.steps.JournalEntry.{JournalEntry}
 use Rattle.mn_ledger.specs.Ledger.{injects, next_of, world_of, packets_of}
 use Rattle.mn_ledger.specs.Lawful.{IsLawfulJournal}
 use Rattle.mn_ledger.specs.OneMore.{added, with_packet, made_then}
+use Rattle.mn_ledger.specs.Time.{clock_after}
+use Rattle.mn_ledger.proofs.Expiring.{in_time_flies}
 use Rattle.mn_ledger.specs.Packets.{Token, flying_on}
 use Rattle.mn_ledger.specs.Verdicts.{injections}
 use Rattle.mn_ledger.specs.Items.{Channel, Notices, Messages, Routes, Frames, Load, Notice, Says, Tells, Carries, Item, Flight, same_channel}
-use Rattle.mn_ledger.specs.Items.{items_on, loads_on, delay_on, left_in_flight, numbered, made_by, flight_of}
+use Rattle.mn_ledger.specs.Items.{items_on, loads_on, delay_on, left_in_flight, in_time, numbered, made_by, flight_of}
 use Rattle.mn_ledger.proofs.Flows.{in_flight}
 use Rattle.mn_ledger.proofs.More.{goes_on}
 use Rattle.mn_laws.specs.Named.{AreBytes}
@@ -135,14 +137,15 @@ module _ (t : Network) (capture : List (List ℕ)) (lawful : IsLawful t) (l : �
       let each : length packets ≡ injections later = ap length (sym (inputs_more capture es e)) ∙ a_packet_each capture later in
       let was_lawful : IsLawfulJournal t es ps = (one.lawful.0 now).0 in
       let before = h was_lawful (bytes_before (injects e.step) b ps now_bytes) in
-      let made : List ℕ → List (Channel × Load) = λ packet. made_then t (world_of t es) (packets_of t es ps) e.step packet in
+      let made : List ℕ → List (Channel × Load) = λ packet. made_then t (world_of t es) (packets_of t es ps) e packet in
       let old : List Item = made_by t es ps in
       let fresh : List Item = numbered t e.tick (length old) (made b) in
-      let left : List Item = left_in_flight t e.step (flight_of t es ps).items in
+      let left : List Item = left_in_flight t e.step (in_time t e (flight_of t es ps)).items in
       let made_is : made_by t later (inputs_of capture later) ≡ old ++ fresh = ap (made_by t later) (inputs_more capture es e) ∙ one.made in
       let flight_is : (flight_of t later packets).items ≡ left ++ fresh =
       ap (λ (flight : Flight). flight.items) one.flight
-      ∙ ap (λ n. left ++ numbered t e.tick n (made b)) (in_flight t es ps lawful was_lawful).counted in
+      ∙ ap (λ n. left ++ numbered t e.tick n (made b)) (in_time_flies t (world_of t es) (clock_after e) e.step (packets_of t es ps) old (flight_of t es ps)
+      (in_flight t es ps lawful was_lawful)).counted in
       let new_sound : AreSound t later (left ++ fresh) =
       subst (AreSound t later) flight_is (flies_sound t later packets lawful now each now_bytes) in
       let all_sound : AreSound t later (old ++ fresh) = (

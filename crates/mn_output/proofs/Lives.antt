@@ -19,7 +19,7 @@ use Rattle.mn_ledger.specs.Lawful.{IsLawfulJournal}
 use Rattle.mn_ledger.specs.OneMore.{with_packet, made_then}
 use Rattle.mn_ledger.specs.Verdicts.{injections}
 use Rattle.mn_ledger.specs.Items.{Channel, Notices, Messages, Routes, Frames, Load, Notice, Says, Tells, Carries, Item, Flight, same_channel, loads_on}
-use Rattle.mn_ledger.specs.Items.{left_in_flight, numbered, made_by, flight_of}
+use Rattle.mn_ledger.specs.Items.{left_in_flight, in_time, numbered, made_by, flight_of}
 use Rattle.mn_ledger.proofs.Channels.{loads_in, loads_append, on_numbered}
 use Rattle.mn_ledger.proofs.Flows.{in_flight}
 use Rattle.mn_ledger.proofs.More.{goes_on}
@@ -167,7 +167,7 @@ module _ (t : Network) (lawful : IsLawful t) (l end : ℕ) (below : l < length t
   packets = with_packet e.step b ps
 
   abbrev made_now : List (Channel × Load)
-  made_now = made_then t (world_of t es) (packets_of t es ps) e.step b
+  made_now = made_then t (world_of t es) (packets_of t es ps) e b
 
   abbrev old : List Message
   old = all_said t es ps l end
@@ -191,8 +191,8 @@ module _ (t : Network) (lawful : IsLawful t) (l end : ℕ) (below : l < length t
   -- what is new flies, and what flies on the channel was said in this life
   few_new : length new ≤ length said
   few_new =
-      let left : List Item = left_in_flight t e.step (flight_of t es ps).items in
-      let number : ℕ = (flight_of t es ps).made in
+      let left : List Item = left_in_flight t e.step (in_time t e (flight_of t es ps)).items in
+      let number : ℕ = (in_time t e (flight_of t es ps)).made in
       let heard : ℕ = (world_of t later).sessions.heard l (across (wiring_of t) l end) in
       let flown : length (loads_on on (flight_of t later packets).items) ≡ length (loads_on on left) + length (loads_in on made_now) =
       ap (λ (flight : Flight). length (loads_on on flight.items)) (goes_on t es ps e b each).flight
@@ -245,7 +245,7 @@ module _ (t : Network) (capture : List (List ℕ)) (lawful : IsLawful t) (l : �
       let one = goes_on t es ps e b each in
       let now : IsLawfulJournal t (es ++ e ∷ []) (with_packet e.step b ps) =
       subst (IsLawfulJournal t (es ++ e ∷ [])) (inputs_more capture es e) journal in
-      let new : List ℕ → List Message = λ bytes. flat_map (said_on l from) (made_then t (world_of t es) (packets_of t es ps) e.step bytes) in
+      let new : List ℕ → List Message = λ bytes. flat_map (said_on l from) (made_then t (world_of t es) (packets_of t es ps) e bytes) in
       let added : World → List Message → List ℕ =
       λ world messages. pdus t l from (length (world.sessions.said l from) - length messages + 1) messages in
       let bytes : List ℕ = next_of (input_before capture e.step []) in

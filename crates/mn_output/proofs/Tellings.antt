@@ -15,7 +15,7 @@ use Rattle.mn_ledger.specs.Ledger.{next_of, world_of, packets_of}
 use Rattle.mn_ledger.specs.Lawful.{IsLawfulJournal}
 use Rattle.mn_ledger.specs.OneMore.{with_packet, made_then}
 use Rattle.mn_ledger.specs.Items.{Channel, Notices, Messages, Routes, Frames, Load, Notice, Says, Tells, Carries, Item, Flight, same_channel, loads_on}
-use Rattle.mn_ledger.specs.Items.{left_in_flight, numbered, made_by, flight_of}
+use Rattle.mn_ledger.specs.Items.{left_in_flight, in_time, numbered, made_by, flight_of}
 use Rattle.mn_ledger.proofs.Channels.{loads_in, loads_append, on_numbered}
 use Rattle.mn_ledger.proofs.Flows.{in_flight}
 use Rattle.mn_ledger.proofs.More.{goes_on}
@@ -159,12 +159,12 @@ module _ (t : Network) (capture : List (List ℕ)) (lawful : IsLawful t) (edge p
       let now : IsLawfulJournal t later packets = subst (IsLawfulJournal t later) (inputs_more capture es e) journal in
       let was_lawful : IsLawfulJournal t es ps = (one.lawful.0 now).0 in
       let before = h was_lawful in
-      let made : List ℕ → List (Channel × Load) = λ packet. made_then t (world_of t es) (packets_of t es ps) e.step packet in
+      let made : List ℕ → List (Channel × Load) = λ packet. made_then t (world_of t es) (packets_of t es ps) e packet in
       let old : List Telling = all_told t es ps edge peer in
       let new : List Telling = told_in (made b) in
-      let left : List Item = left_in_flight t e.step (flight_of t es ps).items in
+      let left : List Item = left_in_flight t e.step (in_time t e (flight_of t es ps)).items in
       let n : ℕ = length (made_by t es ps) in
-      let m : ℕ = (flight_of t es ps).made in
+      let m : ℕ = (in_time t e (flight_of t es ps)).made in
       let grown : all_told t later packets edge peer ≡ old ++ new =
       ap (λ items. flat_map telling_in (loads_on on items)) one.made
       ∙ ap (flat_map telling_in)

@@ -3,9 +3,10 @@ use Rattle.std.specs.Prelude.{ℕ, List, [], ◌∷◌, ◌++◌}
 use Rattle.mn_topo.specs.Network.{Network}
 use Rattle.mn_topo.specs.declared.steps.JournalEntry.{JournalEntry}
 use Rattle.mn_ledger.specs.World.{World}
-use Rattle.mn_ledger.specs.Packets.{Packets, packets_after}
-use Rattle.mn_ledger.specs.Ledger.{after, world_of, packets_of, next_of}
-use Rattle.mn_ledger.specs.Items.{Channel, Load, made_in}
+use Rattle.mn_ledger.specs.Packets.{Packets}
+use Rattle.mn_ledger.specs.Ledger.{after, world_of, packets_of, packets_by, next_of}
+use Rattle.mn_ledger.specs.OneMore.{made_then}
+use Rattle.mn_ledger.specs.Items.{Channel, Load}
 use Rattle.mn_course.specs.Course.{input_before, inputs_of}
 
 pub record Moment : Type 0 where
@@ -40,10 +41,8 @@ injected capture now = next_of (input_before capture now.entry.step [])
 
 abbrev pub packets_then : Network → List (List ℕ) → Moment → Packets
 packets_then topology capture now =
-    packets_after topology (world_then topology now) (packets_before topology capture now) now.entry.step (injected capture now)
+    packets_by topology (world_then topology now) (packets_before topology capture now) now.entry (injected capture now)
 
 -- what it puts into flight, in order
 abbrev pub made : Network → List (List ℕ) → Moment → List (Channel × Load)
-made topology capture now =
-    made_in topology (world_before topology now) (world_then topology now) (packets_before topology capture now)
-    (packets_then topology capture now) now.entry.step
+made topology capture now = made_then topology (world_before topology now) (packets_before topology capture now) now.entry (injected capture now)

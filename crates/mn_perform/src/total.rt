@@ -57,8 +57,8 @@ fn tally_steps(
         }
         Err(Stopped::TooManySteps) => Ok(Ended::TooManySteps),
         // The watch has no faults.
-        Err(Stopped::Read) => Err(AllocError),
-        Err(Stopped::Write) => Err(AllocError),
+        Err(Stopped::Read) => unreachable!(),
+        Err(Stopped::Write) => unreachable!(),
         Err(Stopped::NoMemory) => Err(AllocError),
     }
 }

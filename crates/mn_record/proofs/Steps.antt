@@ -11,7 +11,7 @@ use Rattle.mn_base.proofs.Bools.{same_test, same_numbers, and_left, and_right}
 use Rattle.mn_topo.specs.Network.{Network, wiring_of}
 use Rattle.mn_topo.specs.Lawful.{IsLawful}
 use Rattle.mn_topo.specs.declared.steps.Step.{Step}
-use Rattle.mn_topo.specs.declared.steps.Step.TheVariants.{Inject}
+use Rattle.mn_topo.specs.declared.steps.Step.TheVariants.{Inject, Tick}
 use Rattle.mn_topo.specs.declared.steps.JournalEntry.{JournalEntry}
 use Rattle.mn_ldp_session.specs.Spelling.{pdu_in_network}
 use Rattle.mn_ledger.specs.World.{World, Message}
@@ -19,7 +19,8 @@ use Rattle.mn_journal.specs.Lines.{line_of}
 use Rattle.mn_ledger.specs.Packets.{away_from}
 use Rattle.mn_ledger.specs.Ledger.{next_of, world_of, packets_of}
 use Rattle.mn_ledger.specs.Items.{Channel, Load, Item, Flight, Notice, Says, Tells, Carries, same_channel, items_on, loads_on, numbered, with_made}
-use Rattle.mn_ledger.specs.Items.{left_in_flight, delay_on, flight_of, made_by}
+use Rattle.mn_ledger.specs.Items.{left_in_flight, in_time_by, in_time, delay_on, flight_of, made_by}
+use Rattle.mn_ledger.specs.Time.{clock_after}
 use Rattle.mn_ledger.specs.Items as on
 use Rattle.mn_ledger.specs.Lawful.{IsLawfulJournal}
 use Rattle.mn_ledger.specs.OneMore.{with_packet, GoesOnByOneStep}
@@ -65,12 +66,23 @@ abbrev items_then : Network → List (List ℕ) → Moment → List Item
 items_then t all now = (flight_of t (journal_then now) (inputs_of all (journal_then now))).items
 
 abbrev left_then : Network → List (List ℕ) → Moment → List Item
-left_then t all now = left_in_flight t now.entry.step (flight_before t all now).items
+left_then t all now = left_in_flight t now.entry.step (in_time t now.entry (flight_before t all now)).items
 
--- what flies then
+-- as time goes on nothing is made
+in_time_made : (t : Network) (clock : ℕ) (s : Step) (flight : Flight) → (in_time_by t clock s flight).made ≡ flight.made
+in_time_made t clock (Tick n) flight = refl
+in_time_made t clock _ flight = refl
+
+-- what flies then, with numbers from this one on
+abbrev flight_then : Network → List (List ℕ) → Moment → ℕ → Flight
+flight_then t all now first =
+    record { made = first + length (made t all now); items = left_then t all now ++ numbered t now.entry.tick first (made t all now) }
+
 flies_then : (t : Network) (all : List (List ℕ)) (now : Moment) →
-    flight_of t (journal_then now) (inputs_of all (journal_then now)) ≡ with_made t now.entry.tick (made t all now) now.entry.step (flight_before t all now)
-flies_then t all now = ap (flight_of t (journal_then now)) (inputs_then all now) ∙ (one_more t all now).flight
+    flight_of t (journal_then now) (inputs_of all (journal_then now)) ≡ flight_then t all now (flight_before t all now).made
+flies_then t all now =
+    ap (flight_of t (journal_then now)) (inputs_then all now) ∙ (one_more t all now).flight
+    ∙ ap (flight_then t all now) (in_time_made t (clock_after now.entry) now.entry.step (flight_before t all now))
 
 pub packets_are : (t : Network) (all : List (List ℕ)) (now : Moment) →
     packets_then t all now ≡ packets_of t (journal_then now) (inputs_of all (journal_then now))

@@ -51,7 +51,7 @@ pub(crate) fn send(
     requires edge { edge.0 < length topology.now.loopbacks }
     requires peer { peer.0 < length topology.now.loopbacks }
     requires channels { messages.old.channels ≡ length topology.now.loopbacks * length topology.now.loopbacks }
-    requires tick { clock.tick ≤ 2 ^ 62 }
+    requires tick { clock.tick ≤ 2 ^ 63 }
     requires number { All (λ item. item.number < clock.number) messages.old.items }
     ensures sent { OnOk result (messages.new.items ≡ messages.old.items ++ record { channel = edge.0 * length topology.now.loopbacks + peer.0; due = clock.tick + topology.now.bgp_delay; number = clock.number; item = bytes.items } ∷ []) }
     ensures next { IfOk result (λ next. next ≡ clock.number + 1) }
@@ -79,7 +79,7 @@ fn send_each(
     requires edge { edge.0 < length topology.now.loopbacks }
     requires peers { AllByRecursion (λ (peer : NodeNumber). peer.0 < length topology.now.loopbacks) peers.now }
     requires channels { messages.old.channels ≡ length topology.now.loopbacks * length topology.now.loopbacks }
-    requires tick { clock.tick ≤ 2 ^ 62 }
+    requires tick { clock.tick ≤ 2 ^ 63 }
     requires number { All (λ item. item.number < clock.number) messages.old.items }
     requires flight { IsFlight messages.old.channels messages.old.items }
     ensures sent { OnOk result (messages.new.items ≡ messages.old.items ++ put_all (clock.tick + topology.now.bgp_delay) clock.number (to_each (edge.0 * length topology.now.loopbacks) peers.now bytes.now)) }
@@ -142,7 +142,7 @@ pub(crate) fn tell(
     requires peers { AllByRecursion (λ (peer : NodeNumber). peer.0 < length topology.now.loopbacks) peers.now }
     requires exports { AreSayable exports.now }
     requires channels { messages.old.channels ≡ length topology.now.loopbacks * length topology.now.loopbacks }
-    requires tick { clock.tick ≤ 2 ^ 62 }
+    requires tick { clock.tick ≤ 2 ^ 63 }
     requires number { All (λ item. item.number < clock.number) messages.old.items }
     requires flight { IsFlight messages.old.channels messages.old.items }
     ensures told { OnOk result (messages.new.items ≡ messages.old.items ++ put_all (clock.tick + topology.now.bgp_delay) clock.number (news_to topology.now edge.0 peers.now comes exports.now)) }
@@ -150,6 +150,10 @@ pub(crate) fn tell(
     ensures channels { messages.new.channels ≡ messages.old.channels }
     ensures flight { IsFlight messages.new.channels messages.new.items }
 {
+    // Nothing is spelled where nobody hears it.
+    if peers.is_empty() {
+        return Ok(clock.number);
+    }
     let tick = clock.tick;
     let mut number = clock.number;
     for export in exports {

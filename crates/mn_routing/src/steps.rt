@@ -23,7 +23,7 @@ impl Routes {
         b: NodeNo,
         clock: Clock,
     ) -> Result<u64, AllocError>
-        requires tick { clock.tick ≤ 2 ^ 62 }
+        requires tick { clock.tick ≤ 2 ^ 63 }
         requires messages { All (λ item. item.number < clock.number) self.old.messages }
         requires may { self.old.failed ≡ false → MayDo topology.now (step.BgpUp a b) self.old }
         ensures did { IfOk result (λ made. Did topology.now clock.tick clock.number (step.BgpUp a b) self.old self.new made) }
@@ -54,7 +54,7 @@ impl Routes {
         b: NodeNo,
         clock: Clock,
     ) -> Result<u64, AllocError>
-        requires tick { clock.tick ≤ 2 ^ 62 }
+        requires tick { clock.tick ≤ 2 ^ 63 }
         requires messages { All (λ item. item.number < clock.number) self.old.messages }
         requires may { self.old.failed ≡ false → MayDo topology.now (step.BgpDown a b) self.old }
         ensures did { IfOk result (λ made. Did topology.now clock.tick clock.number (step.BgpDown a b) self.old self.new made) }
@@ -85,7 +85,7 @@ impl Routes {
         b: NodeNo,
         clock: Clock,
     ) -> Result<u64, AllocError>
-        requires tick { clock.tick ≤ 2 ^ 62 }
+        requires tick { clock.tick ≤ 2 ^ 63 }
         requires messages { All (λ item. item.number < clock.number) self.old.messages }
         requires may { self.old.failed ≡ false → MayDo topology.now (step.HearBgp a b) self.old }
         ensures did { IfOk result (λ made. Did topology.now clock.tick clock.number (step.HearBgp a b) self.old self.new made) }
@@ -116,7 +116,7 @@ impl Routes {
         prefix: Prefix,
         clock: Clock,
     ) -> Result<u64, AllocError>
-        requires tick { clock.tick ≤ 2 ^ 62 }
+        requires tick { clock.tick ≤ 2 ^ 63 }
         requires messages { All (λ item. item.number < clock.number) self.old.messages }
         requires may { self.old.failed ≡ false → MayDo topology.now (step.AddRoute site prefix) self.old }
         ensures did { IfOk result (λ made. Did topology.now clock.tick clock.number (step.AddRoute site prefix) self.old self.new made) }
@@ -147,7 +147,7 @@ impl Routes {
         prefix: Prefix,
         clock: Clock,
     ) -> Result<u64, AllocError>
-        requires tick { clock.tick ≤ 2 ^ 62 }
+        requires tick { clock.tick ≤ 2 ^ 63 }
         requires messages { All (λ item. item.number < clock.number) self.old.messages }
         requires may { self.old.failed ≡ false → MayDo topology.now (step.DelRoute site prefix) self.old }
         ensures did { IfOk result (λ made. Did topology.now clock.tick clock.number (step.DelRoute site prefix) self.old self.new made) }
@@ -179,7 +179,7 @@ impl Routes {
         on: bool,
         clock: Clock,
     ) -> Result<u64, AllocError>
-        requires tick { clock.tick ≤ 2 ^ 62 }
+        requires tick { clock.tick ≤ 2 ^ 63 }
         requires messages { All (λ item. item.number < clock.number) self.old.messages }
         requires may { self.old.failed ≡ false → MayDo topology.now (step.Import vrf target on) self.old }
         ensures did { IfOk result (λ made. Did topology.now clock.tick clock.number (step.Import vrf target on) self.old self.new made) }
@@ -211,7 +211,7 @@ impl Routes {
         on: bool,
         clock: Clock,
     ) -> Result<u64, AllocError>
-        requires tick { clock.tick ≤ 2 ^ 62 }
+        requires tick { clock.tick ≤ 2 ^ 63 }
         requires messages { All (λ item. item.number < clock.number) self.old.messages }
         requires may { self.old.failed ≡ false → MayDo topology.now (step.Export vrf target on) self.old }
         ensures did { IfOk result (λ made. Did topology.now clock.tick clock.number (step.Export vrf target on) self.old self.new made) }
@@ -241,7 +241,7 @@ impl Routes {
         site: SiteNo,
         clock: Clock,
     ) -> Result<u64, AllocError>
-        requires tick { clock.tick ≤ 2 ^ 62 }
+        requires tick { clock.tick ≤ 2 ^ 63 }
         requires messages { All (λ item. item.number < clock.number) self.old.messages }
         requires may { self.old.failed ≡ false → MayDo topology.now (step.Detach site) self.old }
         ensures did { IfOk result (λ made. Did topology.now clock.tick clock.number (step.Detach site) self.old self.new made) }
@@ -272,7 +272,7 @@ impl Routes {
         label: u32,
         clock: Clock,
     ) -> Result<u64, AllocError>
-        requires tick { clock.tick ≤ 2 ^ 62 }
+        requires tick { clock.tick ≤ 2 ^ 63 }
         requires messages { All (λ item. item.number < clock.number) self.old.messages }
         requires may { self.old.failed ≡ false → MayGive topology.now site label self.old }
         ensures did { IfOk result (λ made. DidAttach topology.now clock.tick clock.number site label self.old self.new made) }

@@ -19,7 +19,7 @@ use Rattle.mn_ledger.specs.World.{SiteRoute, Config, Export, Telling, Open, BgpK
 use Rattle.mn_ledger.specs.Exports.{exports_of}
 use Rattle.mn_ledger.specs.Bgp.{peers_live, is_for, same_export, withdrawn, announced, changed, Told, is_from_to, tellings_of}
 use Rattle.mn_ledger.specs.Bgp.{told_to, reply, bgp_replies, steady_peers, route_news, told_in, bgp_counted, peerings_after}
-use Rattle.mn_ledger.specs.Ledger.{is_static, config_after, after, start, statics_from, no_packets, next_of, left_by, world_from, world_of}
+use Rattle.mn_ledger.specs.Ledger.{is_static, config_after, after, start, statics_from, no_packets, next_of, left_by, world_from, world_of, packets_by}
 use Rattle.mn_ledger.proofs.GoingBy.{put_here, put_off, pair_here, pair_off}
 use Rattle.mn_ledger.proofs.Members.{In, in_append, in_map, in_filter, filter_in, in_flat_map}
 use Rattle.mn_ledger.proofs.Tellings.{Behind, exported_by, AllGood, tellings_go, in_cleared}
@@ -48,6 +48,7 @@ use Rattle.mn_routing_model.proofs.Believed.{NamesVrf}
 use Rattle.mn_routing_model.proofs.Attaching.{IsKnown}
 use Rattle.mn_routing_model.proofs.Holding.{range_in, Stands, finds}
 use Rattle.mn_timetable.proofs.OtherKeys.{less-is as less_of}
+use Rattle.mn_ledger.specs.Time.{clock_after}
 
 -- 1. Attachments
 
@@ -300,7 +301,7 @@ rests_from t [] tick w k i ps topology lawful h = h
 rests_from t (e ∷ es) tick w k i ps topology lawful h =
     let statics = statics_go t w k i e.step (next_of ps) lawful.2 h.statics in
     let forms = forms_go t w e.step lawful.0 h.forms in
-    rests_from t es e.tick (after t w e.step) (packets_after t (after t w e.step) k e.step (next_of ps)) (i + 1) (left_by e.step ps) topology lawful.3 (record {
+    rests_from t es (clock_after e) (after t w e.step) (packets_by t (after t w e.step) k e (next_of ps)) (i + 1) (left_by e.step ps) topology lawful.3 (record {
       numbered = numbered_go t w.config e.step h.numbered;
       sound = sound_go t w e.step h.numbered h.sound;
       sited = sited_go t w.config e.step lawful.0 h.sited;

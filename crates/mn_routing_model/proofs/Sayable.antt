@@ -21,7 +21,7 @@ use Rattle.mn_ledger.specs.Tables.{put_pair}
 use Rattle.mn_ledger.specs.Places.{vrf_at, vrfs_at, edge_of, home_of}
 use Rattle.mn_ledger.specs.World.{Config, Peerings, World}
 use Rattle.mn_ledger.specs.Packets.{Packets, packets_after}
-use Rattle.mn_ledger.specs.Ledger.{ascending, after, start, no_packets, next_of, left_by, world_from, world_of}
+use Rattle.mn_ledger.specs.Ledger.{ascending, after, start, no_packets, next_of, left_by, world_from, world_of, packets_by}
 use Rattle.mn_ledger.specs.Lawful.{IsLawfulFrom, IsLawfulJournal}
 use Rattle.mn_ledger.specs.Refusal.{is_spent, labels_given}
 use Rattle.mn_ledger.proofs.GoingBy.{pair_here, pair_off}
@@ -39,6 +39,7 @@ use Rattle.mn_pe.specs.Held.{Exported, site_label, export_at, present_with, expo
 use Rattle.mn_routing_model.specs.Standing.{vrf_in, site_label_now, edge_in}
 use Rattle.mn_routing_model.specs.Doing.{IsSayable, AreSayable}
 use Rattle.mn_routing_model.proofs.Refusing.{as_long as as_many}
+use Rattle.mn_ledger.specs.Time.{clock_after}
 
 -- 1. Labels
 
@@ -80,7 +81,7 @@ fits_from : (t : Network) (es : List JournalEntry) (tick : ℕ) (w : World) (k :
 fits_from t [] tick w k n ps l lawful h = h
 fits_from t (e ∷ es) tick w k n ps l lawful h =
     let ok = free t w k n e.step (next_of ps) lawful.2 in
-    fits_from t es e.tick (after t w e.step) (packets_after t (after t w e.step) k e.step (next_of ps)) (n + 1) (left_by e.step ps)
+    fits_from t es (clock_after e) (after t w e.step) (packets_by t (after t w e.step) k e (next_of ps)) (n + 1) (left_by e.step ps)
     (labels_after t w.config l e.step) lawful.3
     (record { sets = sets_go t w.config e.step lawful.0 ok.targets h.sets; labels = labels_go t w.config l e.step ok.labels h.labels })
 

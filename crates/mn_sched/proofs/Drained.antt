@@ -5,7 +5,8 @@ use Rattle.std.proofs.lemmas.Bool.Decides.{leb_tells}
 use Rattle.mn_topo.specs.Lawful.{IsLawful}
 use Rattle.mn_script.specs.declared.command.Command.{Command}
 use Rattle.mn_script.specs.declared.command.Command.TheVariants.{Drain}
-use Rattle.mn_ledger.specs.Ledger.{world_of}
+use Rattle.mn_ledger.specs.Ledger.{world_of, packets_of}
+use Rattle.mn_ledger.specs.Lawful.{GoesForward}
 use Rattle.mn_ledger.specs.Items.{flight_of}
 use Rattle.mn_ledger.specs.Settled.{IsSettled}
 use Rattle.mn_ledger.specs.OneMore.{tick_from}
@@ -27,8 +28,9 @@ use Rattle.mn_sched.specs.Draining.{HasDrained, DrainsWhole, DrainsBy}
 
 -- what has happened to a net that stands for its journal's packets is lawful
 pub lawful_past : (net : NetNow) (capture : List (List ℕ)) → StandsFor net (inputs_of capture net.journal)
-    → (net.failed ≡ false → tick_from 0 net.journal ≤ net.tick) → IsLawfulPast net.topology capture (past_of net)
-lawful_past net capture stands late = record { journal = stands.stands.lawful; late = late stands.works; each = stands.stands.each }
+    → GoesForward net.topology (tick_from 0 net.journal) (packets_of net.topology net.journal (inputs_of capture net.journal)) net.tick
+    → IsLawfulPast net.topology capture (past_of net)
+lawful_past net capture stands forward = record { journal = stands.stands.lawful; forward = forward; each = stands.stands.each }
 
 module _ (capture : List (List ℕ)) (old new : NetNow) (lawful : IsLawful old.topology) (good : IsLawfulPast old.topology capture (past_of old))
     (early : old.tick ≤ 2 ^ 61) where

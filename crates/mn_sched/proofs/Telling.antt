@@ -3,17 +3,20 @@ use Rattle.std.proofs.Common.{◌≡◌, ◌≢◌, ℕ, ◌+◌, ◌-◌, ◌�
 use Rattle.std.proofs.Common.{slice_get, Result}
 use Rattle.std.proofs.Common.{Ok, Err, IfOk, OnOk, OnErr, refl, sym, ◌∙◌, ap, subst, length-append, if◌then◌else◌}
 use Rattle.std.proofs.lemmas.List.{append-nil, take-append-le, take_all}
+use Rattle.std.specs.Prelude.{nat_le}
 use Rattle.std.specs.Option.{ForSome}
+use Rattle.mn_base.proofs.Bools.{at_most_tells, and_right}
 use Rattle.mn_topo.specs.Network.{Network}
 use Rattle.mn_topo.specs.Steps.{fits}
 use Rattle.mn_topo.specs.declared.steps.Step.{Step}
-use Rattle.mn_topo.specs.declared.steps.Step.TheVariants.{Inject}
+use Rattle.mn_topo.specs.declared.steps.Step.TheVariants.{Inject, Tick}
 use Rattle.mn_topo.specs.declared.steps.JournalEntry.{JournalEntry}
 use Rattle.mn_topo.specs.declared.steps.Damaged.TheVariants.{Undamaged}
 use Rattle.mn_ledger.specs.declared.refused.Refused.{Refused}
 use Rattle.mn_ledger.specs.declared.refused.Refused.TheVariants as cause
 use Rattle.mn_ledger.specs.Refusal.{refusal, where_holds}
 use Rattle.mn_ledger.specs.Ledger.{injects}
+use Rattle.mn_ledger.specs.Time.{ticks_in}
 use Rattle.mn_course.specs.declared.coming.Arrivals.{Arrivals}
 use Rattle.mn_course.specs.declared.coming.Arrivals.TheVariants.{DueBy, News, AllFrames}
 use Rattle.mn_course.specs.declared.coming.Coming.{Coming}
@@ -38,7 +41,7 @@ use Rattle.mn_sched.specs.declared.watch.WatchBad.{WatchBad}
 use Rattle.mn_sched.specs.declared.watch.WatchBad.TheVariants as bad
 use Rattle.mn_sched.specs.Watching.{Together, Stood, Begun, but_last, made_over, MadeLast, LastFits}
 use Rattle.mn_sched.specs.Playing.{past_of, IsFirstPart, Arrives, Takes, After, Caused, Finished, MissingIff, names_no_record, arrived_by, stopped_by, IsOwnCause}
-use Rattle.mn_sched.specs.Playing.{as_played, IsPaced}
+use Rattle.mn_sched.specs.Playing.{as_played, IsPaced, IsOneLonger}
 use Rattle.mn_sched.proofs.Delivering.{first_part_refl, one_more}
 
 -- what holds of two holds of the earlier
@@ -194,7 +197,8 @@ full_is true why h = (refl, let e : Some cause.TooManySteps ≡ Some why = h in 
 full_is false why h = absurd (let e : None ≡ Some why = h in cc)
 
 longer : (mid new : NetNow) (step : Step) → IsLonger mid new step → past_of new ≡ with_step (past_of mid) step
-longer mid new step l = ap (λ t. record { clock = t; entries = new.journal }) l.tick ∙ ap (λ j. record { clock = mid.tick; entries = j }) l.journal
+longer mid new step l =
+    ap (λ t. record { clock = t; entries = new.journal }) l.tick ∙ ap (λ j. record { clock = mid.tick + ticks_in step; entries = j }) l.journal
 
 done_is : (arrivals : Arrivals) (item : Coming) (old mid new : NetNow) (step : Step) → past_of mid ≡ as_due arrivals item.due (past_of old) →
     step ≡ delivery item → IsLonger mid new step → past_of new ≡ arrived arrivals (past_of old) item
@@ -444,28 +448,54 @@ one_more_entry : (old mid new : NetNow) (step : Step) → mid.journal ≡ old.jo
 one_more_entry old mid new step journal long =
     ap length long.journal ∙ length-append mid.journal (record { tick = mid.tick; step = step; damaged = Undamaged } ∷ []) ∙ ap (λ j. length j + 1) journal
 
-pub one_paced : (stepped : Result Done Refused) (ended : Result Played Stopped) (old mid new : NetNow) (step : Step) (due : ℕ) →
-    mid.tick ≤ max old.tick due → due ≤ old.tick + 1000 → mid.journal ≡ old.journal → OnOk stepped (IsLonger mid new step) → Finished stepped ended →
-    OnOk (arrived_by ended) (IsPaced 0 old new)
-one_paced (Ok made) ended old mid new step due le soon journal long finished = by ended
+-- a Tick of the topology goes on by at most as many ticks as a line may ask for
+pub few_ticks : (topology : Network) (step : Step) → fits topology step ≡ true → ticks_in step ≤ 1000000
+few_ticks topology (Tick ticks) fit = at_most_tells ticks 1000000 (and_right (nat_le 1 ticks) (nat_le ticks 1000000) fit)
+few_ticks topology _ fit = omega arith
+
+-- what is done of an item that arrived is done of no other end
+ok_done : (stepped : Result Done Refused) (ended : Result Played Stopped) (P : Type 0) → OnOk stepped P → Finished stepped ended → OnOk (arrived_by ended) P
+ok_done (Ok made) ended P h finished = by ended
   where
-    by : (e : Result Played Stopped) → OnOk (arrived_by e) (IsPaced 0 old new)
-    by (Ok played.All) = let more = one_more_entry old mid new step journal long in (omega (arith, more), omega (arith, more, long.tick))
+    by : (e : Result Played Stopped) → OnOk (arrived_by e) P
+    by (Ok played.All) = h
     by (Ok (played.Refused why)) = tt
     by (Ok played.NoRecord) = tt
     by (Err why) = tt
-one_paced (Err cause.TooManySteps) ended old mid new step due le soon journal long finished =
-    subst (λ e. OnOk (arrived_by e) (IsPaced 0 old new)) (sym finished) tt
-one_paced (Err cause.NoMemory) ended old mid new step due le soon journal long finished = subst (λ e. OnOk (arrived_by e) (IsPaced 0 old new)) (sym finished) tt
-one_paced (Err why) ended old mid new step due le soon journal long finished = subst (λ e. OnOk (arrived_by e) (IsPaced 0 old new)) (sym finished) tt
+ok_done (Err cause.TooManySteps) ended P h finished = subst (λ e. OnOk (arrived_by e) P) (sym finished) tt
+ok_done (Err cause.NoMemory) ended P h finished = subst (λ e. OnOk (arrived_by e) P) (sym finished) tt
+ok_done (Err why) ended P h finished = subst (λ e. OnOk (arrived_by e) P) (sym finished) tt
 
-pub step_paced : (stepped : Result Done Refused) (ended : Result Played Stopped) (old new : NetNow) (step : Step) → OnOk stepped (IsLonger old new step) →
-    Leaves old new stepped → Finished stepped ended → OnOk ended (IsPaced 1000000 old new)
-step_paced (Ok made) ended old new step long left finished = on_ok ended (IsPaced 1000000 old new) (let more = one_more_entry old old new step refl long in
-    (omega (arith, more), omega (arith, more, long.tick)))
-step_paced (Err cause.TooManySteps) ended old new step long left finished = subst (λ e. OnOk e (IsPaced 1000000 old new)) (sym finished) tt
-step_paced (Err cause.NoMemory) ended old new step long left finished = subst (λ e. OnOk e (IsPaced 1000000 old new)) (sym finished) tt
-step_paced (Err why) ended old new step long left finished =
+pub one_paced : (stepped : Result Done Refused) (ended : Result Played Stopped) (old mid new : NetNow) (step : Step) (due : ℕ) →
+    mid.tick ≤ max old.tick due → due ≤ old.tick + 1000 → mid.journal ≡ old.journal → ticks_in step ≡ 0 → OnOk stepped (IsLonger mid new step) →
+    Finished stepped ended → OnOk (arrived_by ended) (IsPaced 0 old new)
+one_paced stepped ended old mid new step due le soon journal still long finished =
+    ok_done stepped ended (IsPaced 0 old new) (ok_then stepped (IsLonger mid new step) (IsPaced 0 old new) long (λ l.
+    let more = one_more_entry old mid new step journal l in
+    (omega (arith, more), omega (arith, more, l.tick, still, le, soon)))) finished
+
+pub one_longer : (stepped : Result Done Refused) (ended : Result Played Stopped) (old mid new : NetNow) (step : Step) → mid.journal ≡ old.journal →
+    OnOk stepped (IsLonger mid new step) → Finished stepped ended → OnOk (arrived_by ended) (IsOneLonger old new)
+one_longer stepped ended old mid new step journal long finished =
+    ok_done stepped ended (IsOneLonger old new) (ok_then stepped (IsLonger mid new step) (IsOneLonger old new) long (λ l.
+    let more = one_more_entry old mid new step journal l in
+    let same = ap length journal in
+    (more, omega (arith, more, same, l.room)))) finished
+
+-- a step in which no time passes leaves the clock, whatever it comes to
+pub one_early : (stepped : Result Done Refused) (mid new : NetNow) (step : Step) → ticks_in step ≡ 0 → OnOk stepped (IsLonger mid new step) →
+    Leaves mid new stepped → new.tick ≡ mid.tick
+one_early (Ok made) mid new step still long left = omega (arith, long.tick, still)
+one_early (Err cause.NoMemory) mid new step still long left = left.tick
+one_early (Err why) mid new step still long left = ap (λ (n : NetNow). n.tick) left
+
+pub step_paced : (stepped : Result Done Refused) (ended : Result Played Stopped) (old new : NetNow) (step : Step) → ticks_in step ≤ 1000000 →
+    OnOk stepped (IsLonger old new step) → Leaves old new stepped → Finished stepped ended → OnOk ended (IsPaced 1000000 old new)
+step_paced (Ok made) ended old new step few long left finished = on_ok ended (IsPaced 1000000 old new)
+    (let more = one_more_entry old old new step refl long in (omega (arith, more), omega (arith, more, long.tick, few)))
+step_paced (Err cause.TooManySteps) ended old new step few long left finished = subst (λ e. OnOk e (IsPaced 1000000 old new)) (sym finished) tt
+step_paced (Err cause.NoMemory) ended old new step few long left finished = subst (λ e. OnOk e (IsPaced 1000000 old new)) (sym finished) tt
+step_paced (Err why) ended old new step few long left finished =
     subst (λ e. OnOk e (IsPaced 1000000 old new)) (sym finished) (subst (λ n. IsPaced 1000000 old n) (sym left) (omega arith, omega arith))
 
 pub arrived_paced : (r : Result (Unit {0}) Stopped) (old new : NetNow) → OnOk r (IsPaced 0 old new) → OnOk (as_played r) (IsPaced 1000000 old new)

@@ -13,6 +13,7 @@ use Rattle.mn_course.specs.declared.coming.Arrivals.TheVariants.{DueBy, News, Al
 use Rattle.mn_course.specs.Coming.{ever}
 use Rattle.mn_course.specs.Course.{Past, Course, inputs_of}
 use Rattle.mn_ledger.specs.Ledger.{injects}
+use Rattle.mn_ledger.specs.Time.{ticks_in}
 use Rattle.mn_ledger.specs.declared.refused.Refused as why
 use Rattle.mn_ledger.specs.declared.refused.Refused.TheVariants as cause
 use Rattle.mn_topo.specs.Network.{Network}
@@ -25,10 +26,12 @@ use Rattle.mn_sched.specs.declared.watch.WatchBad.{WatchBad}
 use Rattle.mn_sched.specs.declared.watch.WatchBad.TheVariants as bad
 use Rattle.mn_edge.specs.Faults.{Grew}
 use Rattle.mn_sched.specs.Watching.{is_record, Together, Begun}
+use Rattle.std.specs.List.{All as Each}
+use Rattle.mn_base.specs.Limits.{most_steps}
 
--- the step has numbers of the topology, and injects nothing
+-- the step has numbers of the topology, injects nothing, and lets no time pass
 abbrev pub IsDelivery : Network → Step → Type 0
-IsDelivery topology step = (fits topology step ≡ true) × (injects step ≡ false)
+IsDelivery topology step = (fits topology step ≡ true) × (injects step ≡ false) × (ticks_in step ≡ 0)
 
 -- what has happened to a net
 abbrev pub past_of : NetNow → Past
@@ -92,6 +95,26 @@ is_show command = false
 -- the clock can still be set on
 abbrev pub IsEarly : NetNow → Type 0
 IsEarly net = net.tick ≤ 2 ^ 62
+
+-- the clock may go on to a tick: no frame in flight is due before it
+abbrev pub MayGoTo : NetNow → ℕ → Type 0
+MayGoTo net tick = net.failed ≡ false → Each (λ frame. tick ≤ frame.due) net.moving.flying
+
+-- it does so for an item that arrives as it is due
+abbrev pub GoesTo : Arrivals → NetNow → ℕ → Type 0
+GoesTo News net due = ⊤
+GoesTo (DueBy end) net due = MayGoTo net due
+GoesTo AllFrames net due = MayGoTo net due
+
+-- all that was due by the end of a line has arrived, so that the clock may go on to it
+abbrev pub IsGone : Arrivals → NetNow → Type 0
+IsGone (DueBy end) net = MayGoTo net end
+IsGone News net = ⊤
+IsGone AllFrames net = ⊤
+
+-- one entry more in the journal, which had room for it
+abbrev pub IsOneLonger : NetNow → NetNow → Type 0
+IsOneLonger old new = (length new.journal ≡ length old.journal + 1) × (length new.journal ≤ most_steps)
 
 -- the ticks up to which these items may be due
 abbrev pub limit_of : Arrivals → ℕ

@@ -1,4 +1,4 @@
-ghost use Rattle.std.specs.Prelude.{◌≡◌, ◌≤◌, ◌+◌, ◌^◌, max, ℕ, List, true, false, IfSome, OnOk, OnErr, Some};
+ghost use Rattle.std.specs.Prelude.{◌≡◌, ◌≤◌, ◌+◌, ◌^◌, max, ℕ, List, true, false, IfSome, OnOk, OnErr, Some, None};
 ghost use Rattle.std.specs.Option.{ForSome};
 ghost use Rattle.mn_ledger.specs.Ledger.{injects};
 ghost use Rattle.mn_topo.specs.Steps.{fits};
@@ -8,7 +8,7 @@ ghost use Rattle.mn_course.specs.declared.coming.Ending.TheVariants as ending;
 ghost use Rattle.mn_laws.specs.Flight.{IsOpen};
 ghost use Rattle.mn_net_now.specs.Now.{StandsFor};
 ghost use Rattle.mn_sched.specs.Watching.{Together};
-ghost use Rattle.mn_sched.specs.Playing.{past_of, IsDelivery, Arrives, After, Caused, limit_of};
+ghost use Rattle.mn_sched.specs.Playing.{past_of, IsDelivery, Arrives, After, Caused, GoesTo, IsGone, limit_of};
 
 use mn_course::{Arrivals, Coming, Kind};
 use mn_net::Net;
@@ -49,6 +49,8 @@ pub(crate) fn next_arrival(net: &Net, arrivals: Arrivals) -> Option<Coming>
     ensures value { (inputs : List (List ℕ)) → StandsFor net.now inputs → result ≡ next_arrival net.now.topology net.now.journal inputs arrivals }
     ensures within { IfSome result (λ item. item.due ≤ limit_of arrivals) }
     ensures soon { IfSome result (λ item. item.due ≤ net.now.tick + 1000) }
+    ensures first { IfSome result (λ item. GoesTo arrivals net.now item.due) }
+    ensures gone { result ≡ None → IsGone arrivals net.now }
     ensures fits { IfSome result (λ item. IsDelivery net.now.topology (delivery item)) }
     ensures opens { (inputs : List (List ℕ)) → StandsFor net.now inputs → IfSome result (λ item. IsOpen net.now.topology net.now.journal inputs (delivery item)) }
 {
@@ -72,6 +74,7 @@ pub(crate) fn next_arrival(net: &Net, arrivals: Arrivals) -> Option<Coming>
 pub(crate) fn set_clock(net: &mut Net, arrivals: Arrivals, due: u64)
     requires early { net.old.tick ≤ 2 ^ 62 }
     requires within { due ≤ 2 ^ 62 }
+    requires first { GoesTo arrivals net.old due }
     ensures past { past_of net.new ≡ as_due arrivals due (past_of net.old) }
     ensures topology { net.new.topology ≡ net.old.topology }
     ensures early { net.new.tick ≤ 2 ^ 62 }

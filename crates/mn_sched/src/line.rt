@@ -1,4 +1,4 @@
-ghost use Rattle.std.specs.Prelude.{◌≡◌, ◌≢◌, ◌≤◌, ◌+◌, ◌^◌, ℕ, List, [], true, false, Some, IfOk, IfErr, OnOk, OnErr};
+ghost use Rattle.std.specs.Prelude.{◌≡◌, ◌≢◌, ◌≤◌, ◌<◌, ◌+◌, ◌^◌, ℕ, List, [], true, false, Some, IfOk, IfErr, OnOk, OnErr};
 ghost use Rattle.std.specs.Option.{ForSome};
 ghost use Rattle.mn_script.specs.Lines.{command_fits};
 ghost use Rattle.mn_course.specs.Coming.{delivery, next_arrival};
@@ -45,7 +45,7 @@ pub enum Stopped {
     NoMemory,
 }
 
-ghost use Rattle.mn_sched.specs.Playing.{past_of, IsDelivery, IsFirstPart, Takes, Arrives, After, Caused, Finished, limit_of, stopped_by, arrived_by, as_played, IsPaced, names_no_record, MissingIff, is_show, IsOwnCause};
+ghost use Rattle.mn_sched.specs.Playing.{past_of, IsDelivery, IsFirstPart, Takes, Arrives, After, Caused, Finished, limit_of, stopped_by, arrived_by, as_played, IsPaced, IsOneLonger, GoesTo, IsGone, names_no_record, MissingIff, is_show, IsOwnCause};
 
 fn stopped_by(bad: WatchBad) -> Stopped
     ensures { result ≡ stopped_by bad }
@@ -106,11 +106,13 @@ fn deliver_one<W: Watch>(
     requires early { net.old.tick ≤ 2 ^ 62 }
     requires within { item.due ≤ 2 ^ 62 }
     requires soon { item.due ≤ net.old.tick + 1000 }
+    requires first { GoesTo arrivals net.old item.due }
     requires fits { IsDelivery net.old.topology (delivery item) }
     requires opens { (inputs : List (List ℕ)) → StandsFor net.old inputs → IsOpen net.old.topology net.old.journal inputs (delivery item) }
     requires together { Together net.old (W.packets watch.old) (W.stands watch.old) }
     ensures course { ForSome (W.packets watch.old) (λ capture. Arrives (one_by_one arrivals (ends ending.All) (past_of net.old) (is_journal_full (past_of net.old)) (Some item)) net.new result) }
     ensures after { After net.new (W.packets watch.old) (W.stands watch.new) (W.begins watch.new) result }
+    ensures longer { OnOk result (IsOneLonger net.old net.new) }
     ensures topology { net.new.topology ≡ net.old.topology }
     ensures early { net.new.tick ≤ 2 ^ 62 }
     ensures grown { IsFirstPart net.old.journal net.new.journal }
@@ -163,6 +165,8 @@ fn deliver<W: Watch>(
     requires together { Together net.old (W.packets watch.old) (W.stands watch.old) }
     ensures course { ForSome (W.packets watch.old) (λ capture. Arrives (deliver net.old.topology capture arrivals most (past_of net.old)) net.new result) }
     ensures after { After net.new (W.packets watch.old) (W.stands watch.new) (W.begins watch.new) result }
+    // Where it may take more turns than a journal has steps, nothing is left that was to arrive.
+    ensures gone { OnOk result (4000000 < most → IsGone arrivals net.new) }
     ensures topology { net.new.topology ≡ net.old.topology }
     ensures early { net.new.tick ≤ 2 ^ 62 }
     ensures grown { IsFirstPart net.old.journal net.new.journal }

@@ -31,9 +31,9 @@ use Rattle.mn_topo.proofs.Ends.{name_again, link_again}
 use Rattle.mn_script.specs.declared.refusal.ScriptRule.TheVariants.{BadNumber, NoSuchName, NotLinked, NotEdge}
 use Rattle.mn_script.specs.Rules.{◌>>=◌, or_rule}
 use Rattle.mn_script.specs.Operands.{lesser, greater, number_in, prefix_in, target_in, node_in, vrf_in, site_in, link_in, edges_in}
-use Rattle.mn_script.specs.Spelled.{node_text, vrf_text, site_text, from_text, to_text, step_words, IsScripted}
+use Rattle.mn_script.specs.Spelled.{node_text, vrf_text, site_text, from_text, to_text, step_words, IsStep}
 use Rattle.mn_script.specs.Steps.{step_line, link_line, learn_line, ldp_line, hear_line, hear_ldp_line, hear_bgp_line, bgp_line, route_line}
-use Rattle.mn_script.specs.Steps.{target_operands, import_line, export_line, site_line, inject_line, frame_operands, carry_line, lose_line}
+use Rattle.mn_script.specs.Steps.{target_operands, import_line, export_line, site_line, inject_line, frame_operands, carry_line, lose_line, tick_line}
 use Rattle.mn_topo.specs.declared.steps.Step.{Step}
 use Rattle.mn_topo.specs.declared.steps.Step.TheVariants.{LinkUp, LinkDown, Learn, LdpAdmin, HearLdp, BgpUp, BgpDown, HearBgp, AddRoute, DelRoute, Import}
 use Rattle.mn_topo.specs.declared.steps.Step.TheVariants.{Export, Attach, Detach, Inject, Carry, Lose, Tick}
@@ -285,7 +285,11 @@ unfolding step_line lose_line
 lose network link direction place lawful below high =
     ap (λ found. found >>= (λ it. Ok (Lose it.0 it.1 it.2))) (frame_again network (codes "lose") link direction place lawful below high)
 
-pub step_again : (network : Network) (step : Step) → IsLawful network → fits network step ≡ true → IsScripted step →
+tick : (network : Network) (ticks : ℕ) → 1 ≤ ticks → ticks ≤ 1000000 → step_line network (step_words network (Tick ticks)) ≡ Ok (Tick ticks)
+unfolding step_line tick_line
+tick network ticks low high = ap (λ found. found >>= (λ n. Ok (Tick n))) (number_in_again ticks 1 1000000 (omega arith) low high)
+
+pub step_again : (network : Network) (step : Step) → IsLawful network → fits network step ≡ true → IsStep step →
     step_line network (step_words network step) ≡ Ok step
 step_again network (LinkUp link) lawful fit is = link_up network link lawful (ltb-true _ _ fit)
 step_again network (LinkDown link) lawful fit is = link_down network link lawful (ltb-true _ _ fit)
@@ -305,7 +309,7 @@ step_again network (Inject site number) lawful fit is = let both = and_parts _ _
     inject network site number lawful (ltb-true _ _ both.0) (leb-true _ _ both.1) is
 step_again network (Carry link direction place) lawful fit is = carry network link direction place lawful (ltb-true _ _ fit) is
 step_again network (Lose link direction place) lawful fit is = lose network link direction place lawful (ltb-true _ _ fit) is
-step_again network (Tick ticks) lawful fit is = absurd is
+step_again network (Tick ticks) lawful fit is = let both = and_parts _ _ fit in tick network ticks (leb-true _ _ both.0) (leb-true _ _ both.1)
 
 -- words that are those of no other line
 record StepWords (ws : List (List ℕ)) : Type 0 where

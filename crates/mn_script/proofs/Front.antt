@@ -9,7 +9,7 @@ use Rattle.mn_script.specs.declared.command.Show.TheVariants as table
 use Rattle.mn_script.specs.Lines.{run_line, bounded_drain, drain_line, flush_line, plain_show, show_tree, show_vrf, show_line}
 use Rattle.mn_script.specs.Lines.{table_line, do_line, command_line, line_says}
 use Rattle.mn_script.specs.Steps.{link_line, learn_line, ldp_line, hear_line, bgp_line, route_line, target_operands, import_line}
-use Rattle.mn_script.specs.Steps.{export_line, site_line, inject_line, frame_operands, carry_line, lose_line, step_line}
+use Rattle.mn_script.specs.Steps.{export_line, site_line, inject_line, frame_operands, carry_line, lose_line, tick_line, step_line}
 
 -- five words and more
 abbrev five : (a b c d e : List ℕ) → List (List ℕ) → List (List ℕ)
@@ -101,6 +101,10 @@ lose_more : (network : Network) (a b c d e : List ℕ) (ws : List (List ℕ)) �
 unfolding lose_line
 lose_more network a b c d e ws = rw (frame_more network a b c d e ws) refl
 
+tick_more : (a b c d e : List ℕ) (ws : List (List ℕ)) → tick_line (five a b c d e ws) ≡ tick_line (five a b c d e [])
+unfolding tick_line
+tick_more a b c d e ws = rw (many a b c d e ws 2 (lit< tt)) refl
+
 step_more : (network : Network) (a b c d e : List ℕ) (ws : List (List ℕ)) → step_line network (five a b c d e ws) ≡ step_line network (five a b c d e [])
 unfolding step_line
 step_more network a b c d e ws =
@@ -117,6 +121,7 @@ step_more network a b c d e ws =
       inject_more network a b c d e ws,
       carry_more network a b c d e ws,
       lose_more network a b c d e ws,
+      tick_more a b c d e ws,
     )
     refl
 

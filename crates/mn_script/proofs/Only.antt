@@ -32,14 +32,14 @@ use Rattle.mn_topo.specs.Steps.{are_edges}
 use Rattle.mn_topo.proofs.Ends.{leads}
 use Rattle.mn_topo.specs.declared.steps.Step.{Step}
 use Rattle.mn_topo.specs.declared.steps.Step.TheVariants.{LinkUp, LinkDown, Learn, LdpAdmin, HearLdp, BgpUp, BgpDown, HearBgp, AddRoute, DelRoute, Import}
-use Rattle.mn_topo.specs.declared.steps.Step.TheVariants.{Export, Attach, Detach, Inject}
+use Rattle.mn_topo.specs.declared.steps.Step.TheVariants.{Export, Attach, Detach, Inject, Tick}
 use Rattle.mn_script.specs.declared.refusal.ScriptRule.{ScriptRule}
 use Rattle.mn_script.specs.declared.refusal.ScriptRule.TheVariants.{UnknownWord, WrongCount, BadNumber, NoSuchName, NotLinked, NotEdge}
 use Rattle.mn_script.specs.Rules.{◌>>=◌, or_rule}
 use Rattle.mn_script.specs.Words.{word_at, is_word, choice, counted}
 use Rattle.mn_script.specs.Operands.{lesser, greater, number_in, prefix_in, target_in, node_in, vrf_in, site_in, link_in, edges_in}
 use Rattle.mn_script.specs.Steps.{step_line, link_line, learn_line, ldp_line, hear_line, hear_ldp_line, hear_bgp_line, bgp_line, route_line}
-use Rattle.mn_script.specs.Steps.{target_operands, import_line, export_line, site_line, inject_line, frame_operands, carry_line, lose_line}
+use Rattle.mn_script.specs.Steps.{target_operands, import_line, export_line, site_line, inject_line, frame_operands, carry_line, lose_line, tick_line}
 use Rattle.mn_script.specs.Spelled.{node_text, vrf_text, site_text, from_text, to_text, AskForStep}
 use Rattle.mn_script.specs.declared.command.Command.{Command}
 use Rattle.mn_script.specs.declared.command.Command.TheVariants as command
@@ -92,6 +92,12 @@ choice_only ws one other b h = chosen (length ws == 1) (is_word ws 1 one) (is_wo
   chosen false false true false is_one is_other h = is_other refl
   chosen false false false b is_one is_other h = cc
 
+two_words : (ws : List (List ℕ)) → length ws ≡ 2 → ws ≡ word_at ws 0 ∷ word_at ws 1 ∷ []
+two_words [] h = absurd (omega arith)
+two_words (a ∷ []) h = absurd (omega arith)
+two_words (a ∷ b ∷ []) h = refl
+two_words (a ∷ b ∷ c ∷ ws) h = absurd (omega arith)
+
 three_words : (ws : List (List ℕ)) → length ws ≡ 3 → ws ≡ word_at ws 0 ∷ word_at ws 1 ∷ word_at ws 2 ∷ []
 three_words [] h = absurd (omega arith)
 three_words (a ∷ []) h = absurd (omega arith)
@@ -106,6 +112,9 @@ four_words (a ∷ b ∷ []) h = absurd (omega arith)
 four_words (a ∷ b ∷ c ∷ []) h = absurd (omega arith)
 four_words (a ∷ b ∷ c ∷ d ∷ []) h = refl
 four_words (a ∷ b ∷ c ∷ d ∷ e ∷ ws) h = absurd (omega arith)
+
+of_two : (ws : List (List ℕ)) (a b : List ℕ) → length ws ≡ 2 → word_at ws 0 ≡ a → word_at ws 1 ≡ b → ws ≡ a ∷ b ∷ []
+of_two ws a b n p q = let all = two_words ws n in cc
 
 of_three : (ws : List (List ℕ)) (a b c : List ℕ) → length ws ≡ 3 → word_at ws 0 ≡ a → word_at ws 1 ≡ b → word_at ws 2 ≡ c → ws ≡ a ∷ b ∷ c ∷ []
 of_three ws a b c n p q r = let all = three_words ws n in cc
@@ -451,6 +460,14 @@ lose_only network ws step first h =
     let found = bind_ok (frame_operands network ws) _ step h in
     subst (AskForStep network ws) (same_Ok _ step found.2) (inl (frame_only network ws (codes "lose") found.0 first found.1))
 
+tick_only : (network : Network) (ws : List (List ℕ)) (step : Step) → word_at ws 0 ≡ codes "tick" → tick_line ws ≡ Ok step → AskForStep network ws step
+unfolding tick_line
+tick_only network ws step first h =
+    let full = bind_ok (counted ws 2) _ step h in
+    let ticks = bind_ok (number_in (word_at ws 1) 1 1000000) _ step full.2 in
+    subst (AskForStep network ws) (same_Ok (Tick ticks.0) step ticks.2)
+    (inl (of_two ws (codes "tick") _ (counted_only ws 2 full.0 full.1) first (number_in_only (word_at ws 1) 1 1000000 ticks.0 (lit< tt) ticks.1)))
+
 -- 5. All of them
 pub step_only : (network : Network) (ws : List (List ℕ)) (step : Step) → step_line network ws ≡ Ok step → AskForStep network ws step
 unfolding step_line
@@ -496,7 +513,11 @@ step_only network ws step h0 =
                                                                       (λ _. AskForStep network ws step) [
                                                                         | inl here ↦ lose_only network ws step (word_is ws 0 (codes "lose") here.0) here.1
                                                                         | inr h12 ↦
-                                                                            cc
+                                                                            elim (either (is_word ws 0 (codes "tick")) (tick_line ws) _ step h12) as
+                                                                            (λ _. AskForStep network ws step) [
+                                                                              | inl here ↦ tick_only network ws step (word_is ws 0 (codes "tick") here.0) here.1
+                                                                              | inr h13 ↦ cc
+                                                                            ]
                                                                       ]
                                                                 ]
                                                           ]
@@ -516,17 +537,8 @@ one_word [] h = absurd (omega arith)
 one_word (a ∷ []) h = refl
 one_word (a ∷ b ∷ ws) h = absurd (omega arith)
 
-two_words : (ws : List (List ℕ)) → length ws ≡ 2 → ws ≡ word_at ws 0 ∷ word_at ws 1 ∷ []
-two_words [] h = absurd (omega arith)
-two_words (a ∷ []) h = absurd (omega arith)
-two_words (a ∷ b ∷ []) h = refl
-two_words (a ∷ b ∷ c ∷ ws) h = absurd (omega arith)
-
 of_one : (ws : List (List ℕ)) (a : List ℕ) → length ws ≡ 1 → word_at ws 0 ≡ a → ws ≡ a ∷ []
 of_one ws a n p = let all = one_word ws n in cc
-
-of_two : (ws : List (List ℕ)) (a b : List ℕ) → length ws ≡ 2 → word_at ws 0 ≡ a → word_at ws 1 ≡ b → ws ≡ a ∷ b ∷ []
-of_two ws a b n p q = let all = two_words ws n in cc
 
 run_only : (network : Network) (ws : List (List ℕ)) (asked : Command) → word_at ws 0 ≡ codes "run" → run_line ws ≡ Ok asked → AskFor network ws asked
 unfolding run_line

@@ -107,11 +107,6 @@ IsStep (Carry link direction place) = place < 2 ^ 32
 IsStep (Lose link direction place) = place < 2 ^ 32
 IsStep _ = ⊤
 
--- a line of a script says such a step, but for a Tick, which no line says yet
-abbrev pub IsScripted : Step → Type 0
-IsScripted (Tick ticks) = ⊥
-IsScripted step = IsStep step
-
 abbrev pub IsCommand : Command → Type 0
-IsCommand (command.Do step) = IsScripted step
+IsCommand (command.Do step) = IsStep step
 IsCommand _ = ⊤

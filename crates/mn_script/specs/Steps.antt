@@ -6,7 +6,7 @@ use Rattle.mn_base.specs.declared.numbers.VrfNo.{VrfNo}
 use Rattle.mn_base.specs.declared.numbers.Rt.{Rt}
 use Rattle.mn_topo.specs.declared.steps.Step.{Step}
 use Rattle.mn_topo.specs.declared.steps.Step.TheVariants.{LinkUp, LinkDown, Learn, LdpAdmin, HearLdp, BgpUp, BgpDown, HearBgp, AddRoute, DelRoute, Import}
-use Rattle.mn_topo.specs.declared.steps.Step.TheVariants.{Export, Attach, Detach, Inject, Carry, Lose}
+use Rattle.mn_topo.specs.declared.steps.Step.TheVariants.{Export, Attach, Detach, Inject, Carry, Lose, Tick}
 use Rattle.mn_topo.specs.Network.{Network}
 use Rattle.mn_script.specs.declared.refusal.ScriptRule.{ScriptRule}
 use Rattle.mn_script.specs.declared.refusal.ScriptRule.TheVariants.{UnknownWord}
@@ -130,6 +130,13 @@ lose_line network ws = do
   found ← frame_operands network ws
   Ok (Lose found.0 found.1 found.2)
 
+-- tick T: the ticks for which time passes, at most those of any line
+unfoldable pub tick_line : List (List ℕ) → Result Step ScriptRule
+tick_line ws = do
+  full ← counted ws 2
+  ticks ← number_in (word_at ws 1) 1 1000000
+  Ok (Tick ticks)
+
 -- the step of a line, by its first word
 unfoldable pub step_line : Network → List (List ℕ) → Result Step ScriptRule
 step_line network ws =
@@ -145,4 +152,5 @@ step_line network ws =
     else if is_word ws 0 (codes "inject") then inject_line network ws
     else if is_word ws 0 (codes "carry") then carry_line network ws
     else if is_word ws 0 (codes "lose") then lose_line network ws
+    else if is_word ws 0 (codes "tick") then tick_line ws
     else Err UnknownWord

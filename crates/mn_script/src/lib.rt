@@ -4,11 +4,12 @@
 //! link up A B, link down A B              site up SITE, site down SITE
 //! learn N A B                             inject SITE K
 //! ldp on A B, ldp off A B                 carry A B PLACE, lose A B PLACE
-//! hear ldp A B, hear bgp A B              run T
-//! bgp up A B, bgp down A B                drain N, drain
-//! route add SITE PREFIX, route del ..     flush
-//! import add VRF TARGET, import del ..    show links, show tree N, show ldp,
-//! export add VRF TARGET, export del ..      show bgp, show vrf VRF, show flight
+//! hear ldp A B, hear bgp A B              tick T
+//! bgp up A B, bgp down A B                run T
+//! route add SITE PREFIX, route del ..     drain N, drain
+//! import add VRF TARGET, import del ..    flush
+//! export add VRF TARGET, export del ..    show links, show tree N, show ldp,
+//!                                           show bgp, show vrf VRF, show flight
 //! ```
 //!
 //! A word that begins with `#` ends its line. A line without words is passed over, and counts as a line: lines

@@ -6,14 +6,11 @@ ghost use Rattle.mn_script.specs.Lines.{run_line, bounded_drain, drain_line, flu
 ghost use Rattle.mn_script.specs.Script.{command_says};
 
 use crate::operands::{node_in, number_in, vrf_in};
-use crate::steps::step_line;
+use crate::steps::{MOST_TICKS, step_line};
 use crate::words::{counted, is_word, word_at};
 use crate::{Command, Line, ScriptRule, Show};
 use mn_base::MOST_STEPS;
 use mn_topo::Topology;
-
-/// Ticks of one line.
-const MOST_TICKS: u32 = 1_000_000;
 
 /// `run T`.
 #[tactic(auto, unfolding(crate::specs::Lines::run_line))]

@@ -1,10 +1,11 @@
 //! The lines that name a step.
 ghost use Rattle.std.specs.Prelude.{◌≡◌, ◌≤◌, ◌<◌, true, length, IfOk};
 ghost use Rattle.mn_base.specs.Numbers.{has_rt_form};
+ghost use Rattle.mn_topo.specs.Network.{Network};
 ghost use Rattle.mn_topo.specs.Steps.{fits};
 ghost use Rattle.mn_script.specs.Words.{texts};
 ghost use Rattle.mn_script.specs.Steps.{link_line, learn_line, ldp_line, hear_ldp_line, hear_bgp_line, hear_line, bgp_line, route_line, site_line, step_line};
-ghost use Rattle.mn_script.specs.Steps.{target_operands, import_line, export_line, inject_line, frame_operands, carry_line, lose_line};
+ghost use Rattle.mn_script.specs.Steps.{target_operands, import_line, export_line, inject_line, frame_operands, carry_line, lose_line, tick_line};
 
 use crate::ScriptRule;
 use crate::operands::{
@@ -14,6 +15,9 @@ use crate::words::{choice, counted, is_word, word_at};
 use mn_base::{LinkNo, NodeNo, Rt, VrfNo};
 use mn_topo::{Step, Topology};
 use mn_wiring::Dir;
+
+/// Ticks of one line.
+pub(crate) const MOST_TICKS: u32 = 1_000_000;
 
 /// `link up A B`, `link down A B`.
 #[tactic(auto, unfolding(crate::specs::Steps::link_line))]
@@ -218,6 +222,17 @@ fn lose_line(topology: &Topology, words: &[&[u8]]) -> Result<Step, ScriptRule>
     Ok(Step::Lose(link, direction, place))
 }
 
+/// `tick T`.
+#[tactic(auto, unfolding(crate::specs::Steps::tick_line))]
+fn tick_line(words: &[&[u8]]) -> Result<Step, ScriptRule>
+    ensures value { result ≡ tick_line (texts words.now) }
+    ensures fits { (network : Network) → IfOk result (λ step. fits network step ≡ true) }
+{
+    counted(words, 2)?;
+    let ticks = number_in(word_at(words, 1), 1, MOST_TICKS)?;
+    Ok(Step::Tick(ticks))
+}
+
 /// The step of a line, by its first word.
 #[tactic(auto, unfolding(crate::specs::Steps::step_line))]
 pub(crate) fn step_line(topology: &Topology, words: &[&[u8]]) -> Result<Step, ScriptRule>
@@ -248,6 +263,8 @@ pub(crate) fn step_line(topology: &Topology, words: &[&[u8]]) -> Result<Step, Sc
         carry_line(topology, words)
     } else if is_word(words, 0, "lose") {
         lose_line(topology, words)
+    } else if is_word(words, 0, "tick") {
+        tick_line(words)
     } else {
         Err(ScriptRule::UnknownWord)
     }

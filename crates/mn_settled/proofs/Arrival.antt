@@ -40,14 +40,16 @@ use Rattle.mn_settled.proofs.Mapped.{range_in}
 use Rattle.mn_settled.proofs.Holding.{all-tell, best-attached}
 use Rattle.mn_base.specs.declared.numbers.SiteNo.{SiteNo}
 use Rattle.mn_base.proofs.Bools.{and_parts, clash, less_tells}
-use Rattle.mn_ledger.specs.Ledger.{after, start, no_packets, next_of, left_by, injects, world_from, world_of, packets_from, packets_of}
+use Rattle.mn_ledger.specs.Ledger.{after, start, no_packets, next_of, left_by, injects, world_from, world_of, packets_from, packets_of, packets_by}
 use Rattle.mn_ledger.proofs.Members.{In, in_append, in_filter, filter_in, in_range}
 use Rattle.mn_ledger.proofs.GoingBy.{put_here, put_off}
-use Rattle.mn_ledger.proofs.OnePlace.{Loose, loosen, fresh, unmarked, stepped, in_one_place}
+use Rattle.mn_ledger.proofs.OnePlace.{Loose, loosen, fresh, unmarked, stepped, in_one_place, timed_places}
 use Rattle.mn_settled.specs.Ways.{Reaches}
 use Rattle.mn_settled.specs.Arrival.{GoesBy, IsAddressed, HasArrived, left_after, route_to}
 use Rattle.mn_settled.proofs.Ways.{know_the_ways}
 use Rattle.mn_settled.proofs.Route.{route_is}
+use Rattle.mn_ledger.specs.Time.{clock_after, timed, timed_by}
+use Rattle.mn_ledger.specs.Packets.{stamped}
 
 abbrev pub path_of : Packets → ℕ → List ℕ
 path_of k j = slice_index_or k.paths j []
@@ -129,13 +131,13 @@ keeps-arrive t w j a k y d =
     (either-way j a (y == k.edge) _ _
     (either-way j a (is_attachment (w.config.attached k.site) k.attachment) _ _ (keeps-deliver j k.packet a k.site (k.ttl - 1) k.bytes d)
     (keeps-judged j k.packet a (Dropped rule.SiteGone (record { 0 = y })) d))
-    (keeps-hop t j a (record k { ttl = k.ttl - 1 }) y rule.NoEntry (usable t w.config w.views w.sessions y k.edge) d))
+    (keeps-hop t j a (stamped a (record k { ttl = k.ttl - 1 })) y rule.NoEntry (usable t w.config w.views w.sessions y k.edge) d))
 
 keeps-route : (t : Network) (w : World) (j p : ℕ) (a : Packets) (b : List ℕ) (e : ℕ) (o : Option HeldRoute) → j ≢ p → Keeps j a (route_by t w a p b e o)
 keeps-route t w j p a b e None d = keeps-judged j p a (Dropped rule.NoRoute (record { 0 = e })) d
 keeps-route t w j p a b e (Some r) d =
     either-way j a (r.edge == e) _ _ (keeps-deliver j p a r.site (ttl_of b - 1) b d)
-    (keeps-hop t j a (bound p r b) e rule.NoLsp (usable t w.config w.views w.sessions e r.edge) d)
+    (keeps-hop t j a (stamped a (bound p r b)) e rule.NoLsp (usable t w.config w.views w.sessions e r.edge) d)
 
 keeps-enter : (t : Network) (w : World) (j p : ℕ) (a : Packets) (b : List ℕ) (e v : ℕ) (o : Option Rule) → j ≢ p → Keeps j a (enter_by t w a p b e v o)
 keeps-enter t w j p a b e v (Some cause) d = keeps-judged j p a (Dropped cause (record { 0 = e })) d
@@ -307,7 +309,7 @@ module _ (t : Network) (w : World) (j site edge attachment ttl : ℕ) (whole : L
           ∙ ap (λ b. elim b as (λ _. Packets) [ true ↦ deliver a k.packet k.site (k.ttl - 1) k.bytes | false ↦ drop_at a k.packet rule.SiteGone y ]) there
   arrives a k y (z ∷ hops) within none own before path route goes s e n ttl_is =
       subst Travels (sym is)
-      (hops-off a (record k { ttl = k.ttl - 1 }) y z hops goes.1 rule.NoEntry within none own
+      (hops-off a (stamped a (record k { ttl = k.ttl - 1 })) y z hops goes.1 rule.NoEntry within none own
       (ap (λ xs. xs ++ z ∷ hops) path ∙ append_assoc before (y ∷ []) (z ∷ hops) ∙ route) goes.3 goes.4 s e n less)
     where
       total : length whole ≡ length before + (1 + (1 + length hops))
@@ -325,7 +327,7 @@ module _ (t : Network) (w : World) (j site edge attachment ttl : ℕ) (whole : L
       past : (y == k.edge) ≡ false
       past = elim (eqb_tells y k.edge) [ inl q ↦ absurd (goes.0 (q.1 ∙ e)) | inr q ↦ q.0 ]
 
-      is : arrive t w a k y ≡ hop_over t a (record k { ttl = k.ttl - 1 }) y rule.NoEntry (Some (z, goes.1))
+      is : arrive t w a k y ≡ hop_over t a (stamped a (record k { ttl = k.ttl - 1 })) y rule.NoEntry (Some (z, goes.1))
       is =
           ap (λ b. elim b as (λ _. Packets) [
             | true ↦ drop_at a k.packet rule.TtlExpired y
@@ -333,7 +335,7 @@ module _ (t : Network) (w : World) (j site edge attachment ttl : ℕ) (whole : L
           ])
           enough
           ∙ ap (λ b. elim b as (λ _. Packets) [ true ↦ leave w a k y | false ↦ hop_on t w a (record k { ttl = k.ttl - 1 }) y rule.NoEntry ]) past
-          ∙ ap (hop_over t a (record k { ttl = k.ttl - 1 }) y rule.NoEntry) (ap (usable t w.config w.views w.sessions y) e ∙ goes.2)
+          ∙ ap (hop_over t a (stamped a (record k { ttl = k.ttl - 1 })) y rule.NoEntry) (ap (usable t w.config w.views w.sessions y) e ∙ goes.2)
 
   -- 4. A step that moves packets
 
@@ -402,21 +404,26 @@ module _ (t : Network) (w : World) (j site edge attachment ttl : ℕ) (whole : L
       over : j < count → j ≡ count → ⊥
       over x y = omega (arith, x, y)
 
-  travels-step : (a : Packets) (s : Step) (b : List ℕ) (count : ℕ) → moves_packets s ≡ true → AreInOnePlace a count → j < count → Travels a
-      → Travels (packets_after t w a s b)
+  begun : (a : Packets) (clock count : ℕ) → AreInOnePlace a count → AreInOnePlace (before_step (record a { clock = clock })) count
+  begun a clock count one = record { places = one.places; verdicts = one.verdicts; paths = one.paths }
+
+  travels-step : (a : Packets) (clock : ℕ) (s : Step) (b : List ℕ) (count : ℕ) → moves_packets s ≡ true → AreInOnePlace a count → j < count → Travels a
+      → Travels (packets_after t w (timed_by t clock s a) s b)
   unfolding packets_after
-  travels-step a (Inject s n) b count m one below h = travels-entered (before_step a) s.0 count b (unmarked a count one) below h
-  travels-step a (Carry l d n) b count m one below h =
-      travels-carried (before_step a) l.0 d n count (slice_get (flying_on a l.0 d) n) (unmarked a count one) below refl h
-  travels-step a _ b count m one below h = absurd (clash (sym m))
+  travels-step a clock (Inject s n) b count m one below h =
+      travels-entered (before_step (record a { clock = clock })) s.0 count b (begun a clock count one) below h
+  travels-step a clock (Carry l d n) b count m one below h =
+      travels-carried (before_step (record a { clock = clock })) l.0 d n count (slice_get (flying_on a l.0 d) n) (begun a clock count one) below refl h
+  travels-step a clock _ b count m one below h = absurd (clash (sym m))
 
   travels-on : (es : List JournalEntry) (a : Packets) (count : ℕ) (ps : List (List ℕ)) → list_all (λ entry. moves_packets entry.step) es ≡ true
       → AreInOnePlace a count → j < count → Travels a → Travels (packets_from t w a es ps)
   travels-on [] a count ps m one below h = h
   travels-on (e ∷ es) a count ps m one below h =
-      subst (λ v. Travels (packets_from t v (packets_after t v a e.step (next_of ps)) es (left_by e.step ps))) (sym (still t w e.step (left m)))
-      (travels-on es (packets_after t w a e.step (next_of ps)) (one_if (injects e.step) + count) (left_by e.step ps) (right m)
-      (stepped t w a e.step (next_of ps) count one) (more (one_if (injects e.step)) below) (travels-step a e.step (next_of ps) count (left m) one below h))
+      subst (λ v. Travels (packets_from t v (packets_by t v a e (next_of ps)) es (left_by e.step ps))) (sym (still t w e.step (left m)))
+      (travels-on es (packets_by t w a e (next_of ps)) (one_if (injects e.step) + count) (left_by e.step ps) (right m)
+      (stepped t w (timed t e a) e.step (next_of ps) count (timed_places t e a count one)) (more (one_if (injects e.step)) below)
+      (travels-step a (clock_after e) e.step (next_of ps) count (left m) one below h))
     where
       both : (x y : Bool) → (x && y) ≡ true → (x ≡ true) × (y ≡ true)
       both true y e = (refl, e)
@@ -437,7 +444,7 @@ pub packets_from-append : (t : Network) (es fs : List JournalEntry) (w : World) 
     → packets_from t w k (es ++ fs) ps ≡ packets_from t (world_from t w es) (packets_from t w k es ps) fs (left_after es ps)
 packets_from-append t [] fs w k ps = refl
 packets_from-append t (e ∷ es) fs w k ps =
-    packets_from-append t es fs (after t w e.step) (packets_after t (after t w e.step) k e.step (next_of ps)) (left_by e.step ps)
+    packets_from-append t es fs (after t w e.step) (packets_by t (after t w e.step) k e (next_of ps)) (left_by e.step ps)
 
 pub world_from-append : (t : Network) (es fs : List JournalEntry) (w : World) → world_from t w (es ++ fs) ≡ world_from t (world_from t w es) fs
 world_from-append t [] fs w = refl
@@ -451,7 +458,7 @@ lawful-front t (e ∷ es) fs tick w k i ps lawful = (
   lawful.0,
   lawful.1,
   lawful.2,
-  lawful-front t es fs e.tick (after t w e.step) (packets_after t (after t w e.step) k e.step (next_of ps)) (i + 1)
+  lawful-front t es fs (clock_after e) (after t w e.step) (packets_by t (after t w e.step) k e (next_of ps)) (i + 1)
       (left_by e.step ps) lawful.3,
 )
 
@@ -517,9 +524,9 @@ module _ (t : Network) (w : World) (a : Packets) (count s : ℕ) (bytes : List �
             | false ↦ hop_on t w (one_more a (home_of t s)) (bound (length a.verdicts) to bytes) (home_of t s) rule.NoLsp
           ])
           (differ to.edge (home_of t s) (λ h. g.0 (sym h)))
-          ∙ ap (hop_over t (one_more a (home_of t s)) (bound (length a.verdicts) to bytes) (home_of t s) rule.NoLsp) g.2))
+          ∙ ap (hop_over t (one_more a (home_of t s)) (stamped (one_more a (home_of t s)) (bound (length a.verdicts) to bytes)) (home_of t s) rule.NoLsp) g.2))
           (hops-off t w (length a.verdicts) to.site to.edge to.attachment (ttl_of bytes) (home_of t s ∷ hops) attached long (one_more a (home_of t s))
-          (bound (length a.verdicts) to bytes) (home_of t s) x xs g.1 rule.NoLsp within no-token refl
+          (stamped (one_more a (home_of t s)) (bound (length a.verdicts) to bytes)) (home_of t s) x xs g.1 rule.NoLsp within no-token refl
           (ap (λ ys. ys ++ x ∷ xs) first-path ∙ ap (λ ys. home_of t s ∷ ys) (sym e)) g.3 g.4 refl refl refl
           (ap (λ n. ttl_of bytes - 1 + n) (ap length first-path ∙ omega arith) ∙ back (ttl_of bytes) (length hops) long))
         where
@@ -639,17 +646,18 @@ has_arrived t before earlier later tick number mark site ps to lawful journal st
     let world_then : world_of t done ≡ w = world_from-append t before earlier (start t) ∙ still-on t w earlier parts.0 in
     let one : AreInOnePlace k (injections done) = in_one_place t done ps in
     let long_way : length (home_of t site.0 ∷ way_there.0) + 1 ≤ ttl_of bytes = subst (λ xs. length xs + 1 ≤ ttl_of bytes) way_there.1 long in
-    let a : Packets = packets_after t w k (Inject site number) bytes in
+    let now : Packets = timed t entry k in
+    let a : Packets = packets_by t w k entry bytes in
     let j : ℕ = length k.verdicts in
-    let one_a : AreInOnePlace a (1 + injections done) = stepped t w k (Inject site number) bytes (injections done) one in
-    let first = sent t w (before_step k) (injections done) site.0 bytes to
-    (unmarked k (injections done) one) addressed attached way_there.0 way_there.2 long_way in
+    let one_a : AreInOnePlace a (1 + injections done) = stepped t w now (Inject site number) bytes (injections done) (timed_places t entry k (injections done) one) in
+    let first = sent t w (before_step now) (injections done) site.0 bytes to
+    (unmarked now (injections done) (timed_places t entry k (injections done) one)) addressed attached way_there.0 way_there.2 long_way in
     let last = travels-on t w j to.site to.edge to.attachment (ttl_of bytes) (home_of t site.0 ∷ way_there.0) attached long_way later a (1 + injections done)
     (left_by (Inject site number) (left_after done ps)) parts.1 one_a (next_number one.verdicts) first in
     let whole : packets_of t all ps ≡ packets_from t w a later (left_by (Inject site number) (left_after done ps)) =
     packets_from-append t done (entry ∷ later) (start t) no_packets ps
     ∙ ap (λ v. packets_from t v k (entry ∷ later) (left_after done ps)) world_then
-    ∙ ap (λ v. packets_from t v (packets_after t v k (Inject site number) bytes) later (left_by (Inject site number) (left_after done ps)))
+    ∙ ap (λ v. packets_from t v (packets_by t v k entry bytes) later (left_by (Inject site number) (left_after done ps)))
     (still t w (Inject site number) refl) in
     let come = come-in-the-end t w j to.site to.edge to.attachment (ttl_of bytes) (home_of t site.0 ∷ way_there.0) attached long_way (packets_of t all ps)
     (injections all) (in_one_place t all ps) none

@@ -18,7 +18,7 @@ use Rattle.mn_ledger.specs.Bgp.{peers_live, is_established}
 use Rattle.mn_ledger.specs.Held.{HeldRoute, Own, Near, Far, held_by, own_routes, near_routes, imported}
 use Rattle.mn_ledger.specs.Exports.{meet}
 use Rattle.mn_ledger.specs.Held.{heard_of, believed, believed_from, far_routes, held, is_better, matching, unbeaten, first_of, best}
-use Rattle.mn_ledger.specs.Ledger.{after, start, no_packets, next_of, left_by, world_from, world_of}
+use Rattle.mn_ledger.specs.Ledger.{after, start, no_packets, next_of, left_by, world_from, world_of, packets_by}
 use Rattle.mn_ledger.specs.Packets.{Packets, packets_after}
 use Rattle.mn_ledger.specs.Lawful.{IsLawfulFrom, IsLawfulJournal}
 use Rattle.mn_ledger.specs.Turns.{IsInTurn, IsPeerTalk}
@@ -35,6 +35,7 @@ use Rattle.mn_settled.specs.Routes.{TellTheirExports, HoldsItsRoutes, routes_of}
 use Rattle.mn_settled.proofs.Mapped.{flat_map_in}
 use Rattle.mn_settled.proofs.Changes.{AreSame}
 use Rattle.mn_settled.proofs.Exporting.{Tells, AllTell, tells-step}
+use Rattle.mn_ledger.specs.Time.{clock_after}
 
 -- 1. Over a journal
 
@@ -46,7 +47,7 @@ tells-on t apart joins differ [] tick w k i ps lawful g statics h = h
 tells-on t apart joins differ (e ∷ es) tick w k i ps lawful g statics h =
     let full = not_empty t w k i e.step (next_of ps) lawful.2 in
     let later = statics_go t w k i e.step (next_of ps) lawful.2 statics in
-    tells-on t apart joins differ es e.tick (after t w e.step) (packets_after t (after t w e.step) k e.step (next_of ps)) (i + 1) (left_by e.step ps) lawful.3
+    tells-on t apart joins differ es (clock_after e) (after t w e.step) (packets_by t (after t w e.step) k e (next_of ps)) (i + 1) (left_by e.step ps) lawful.3
     (goes_step t apart joins differ w k e.step lawful.0 full g) later
     (tells-step t w k e.step (in_order t e.step lawful.0) full statics later g.bgp h)
 

@@ -23,7 +23,8 @@ use Rattle.mn_ledger.specs.Transport.{offers, said_on, messages_of, answer, open
 use Rattle.mn_ledger.specs.Transport.{sessions_after}
 use Rattle.mn_ledger.specs.Transport.{views_after}
 use Rattle.mn_ledger.specs.Packets.{Packets, packets_after}
-use Rattle.mn_ledger.specs.Ledger.{config_after, after, start, no_packets, next_of, left_by, world_from, world_of}
+use Rattle.mn_ledger.specs.Time.{clock_after}
+use Rattle.mn_ledger.specs.Ledger.{packets_by, config_after, after, start, no_packets, next_of, left_by, world_from, world_of}
 use Rattle.mn_ledger.specs.Refusal.{is_empty}
 use Rattle.mn_ledger.specs.Lawful.{IsLawfulFrom, IsLawfulJournal}
 use Rattle.mn_ledger.specs.Quiet.{known_before}
@@ -270,7 +271,7 @@ counts-heard t c s at n more g l m h e = elim (eqb_tells l at) [
     reach : {x y : ℕ} → x < y → x + 1 ≤ y
     reach f = omega (arith, f)
 
-says-step : (t : Network) (w : World) (k : Packets) (step : Step) → JoinsNodes (wiring_of t) → EndsDiffer (wiring_of t) → LinkIsThere t step
+pub says-step : (t : Network) (w : World) (k : Packets) (step : Step) → JoinsNodes (wiring_of t) → EndsDiffer (wiring_of t) → LinkIsThere t step
     → is_empty t w k step ≡ false → EndsAreInTurn t w.config w.sessions
     → Says t w.config w.views w.sessions → Says t (after t w step).config (after t w step).views (after t w step).sessions
 unfolding sessions_after knowledge_of
@@ -309,11 +310,11 @@ says-on : (t : Network) → Apart t → JoinsNodes (wiring_of t) → EndsDiffer 
 says-on t apart joins differ [] tick w k i ps lawful g h = h
 says-on t apart joins differ (e ∷ es) tick w k i ps lawful g h =
     let full : is_empty t w k e.step ≡ false = not_empty t w k i e.step (next_of ps) lawful.2 in
-    says-on t apart joins differ es e.tick (after t w e.step) (packets_after t (after t w e.step) k e.step (next_of ps)) (i + 1) (left_by e.step ps) lawful.3
+    says-on t apart joins differ es (clock_after e) (after t w e.step) (packets_by t (after t w e.step) k e (next_of ps)) (i + 1) (left_by e.step ps) lawful.3
     (goes_step t apart joins differ w k e.step lawful.0 full g)
     (says-step t w k e.step joins differ (link_there t e.step lawful.0) full g.ldp h)
 
-says-first : (t : Network) → SaysItsOffers t (start t)
+pub says-first : (t : Network) → SaysItsOffers t (start t)
 says-first t l m p h e inside =
     sym (and_off_left (is_operational (known_before t (start t) m) l) _
     (few-off (wiring_of t) (start t).config (start t).views (start t).sessions m l h (omega arith)))

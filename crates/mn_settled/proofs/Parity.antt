@@ -11,11 +11,12 @@ use Rattle.mn_ledger.specs.declared.refused.Refused.TheVariants.{Unchanged, Empt
 use Rattle.mn_ledger.specs.Tables.{put}
 use Rattle.mn_ledger.specs.World.{World}
 use Rattle.mn_ledger.specs.Packets.{Packets, packets_after}
-use Rattle.mn_ledger.specs.Ledger.{after, start, no_packets, next_of, left_by, world_from, world_of}
+use Rattle.mn_ledger.specs.Ledger.{after, start, no_packets, next_of, left_by, world_from, world_of, packets_by}
 use Rattle.mn_ledger.specs.Refusal.{is_unchanged, is_empty, where_holds, first_cause, limits, refusal_at}
 use Rattle.mn_ledger.specs.Lawful.{IsLawfulFrom, IsLawfulJournal}
 use Rattle.mn_ledger.proofs.GoingBy.{put_here, put_off, not_false}
 use Rattle.mn_settled.specs.Ways.{AreUpWhereOdd}
+use Rattle.mn_ledger.specs.Time.{clock_after}
 
 first_none : (a : Bool) (q : Refused) (rest : List (Option Refused)) → first_cause (where_holds a q ∷ rest) ≡ None → a ≡ false
 first_none true q rest h = cc
@@ -58,7 +59,7 @@ odd-on : (t : Network) (es : List JournalEntry) (tick : ℕ) (w : World) (k : Pa
     → AreUpWhereOdd w → AreUpWhereOdd (world_from t w es)
 odd-on t [] tick w k i ps lawful h = h
 odd-on t (e ∷ es) tick w k i ps lawful h =
-    odd-on t es e.tick (after t w e.step) (packets_after t (after t w e.step) k e.step (next_of ps)) (i + 1) (left_by e.step ps) lawful.3
+    odd-on t es (clock_after e) (after t w e.step) (packets_by t (after t w e.step) k e (next_of ps)) (i + 1) (left_by e.step ps) lawful.3
     (odd-step t w e.step (not_unchanged t w k i e.step (next_of ps) lawful.2) h)
 
 pub up_where_odd : (t : Network) (es : List JournalEntry) (ps : List (List ℕ)) → IsLawfulJournal t es ps → AreUpWhereOdd (world_of t es)

@@ -1,4 +1,5 @@
 pub mod Keys
 pub mod Made
+pub mod Timed
 pub mod FrameKeys
 pub mod OtherKeys

@@ -1,13 +1,16 @@
 -- Numbers and due ticks: which items of the ledger's flight one of the network's four flights holds.
-use Rattle.std.specs.Prelude.{◌≡◌, ◌+◌, ◌*◌, ◌<◌, ◌==◌, ℕ, zero, suc, Bool, true, false, length, not, cond, List, [], ◌∷◌, map, filter, Option, None, Some, if◌then◌else◌, ⊤}
+use Rattle.std.specs.Prelude.{◌≡◌, ◌≤◌, ◌+◌, ◌*◌, ◌/◌, ◌<◌, ◌==◌, ◌&&◌, nat_lt, ℕ, zero, suc, Bool, true, false, length, not, cond, List, [], ◌∷◌, map, filter}
+use Rattle.std.specs.Prelude.{Option, None, Some, if◌then◌else◌, ⊤}
+use Rattle.std.specs.List.{AllByRecursion, Contains}
 use Rattle.mn_wiring.specs.Wiring.{Wiring, link, is_end}
 use Rattle.mn_flight.specs.declared.Item.{Item as ItemOf}
 use Rattle.mn_wiring.specs.declared.links.Dir.TheVariants.{Forth, Back}
+use Rattle.mn_wiring.specs.declared.links.LinkEnds.{LinkEnds}
 use Rattle.mn_topo.specs.Network.{Network, wiring_of}
 use Rattle.mn_topo.specs.declared.steps.Step.{Step}
-use Rattle.mn_topo.specs.declared.steps.Step.TheVariants.{LinkUp, LinkDown, Learn, LdpAdmin, HearLdp, BgpUp, BgpDown, HearBgp, Carry, Lose}
+use Rattle.mn_topo.specs.declared.steps.Step.TheVariants.{LinkUp, LinkDown, Learn, LdpAdmin, HearLdp, BgpUp, BgpDown, HearBgp, Carry, Lose, Tick}
 use Rattle.mn_ledger.specs.Packets.{channel}
-use Rattle.mn_ledger.specs.Items.{Channel, Notices, Messages, Routes, Frames, Item, same_channel}
+use Rattle.mn_ledger.specs.Items.{Channel, Notices, Messages, Routes, Frames, Load, Carries, Item, same_channel}
 
 -- an item as the clock and the counter see it: its channel's number in its flight, its due tick and its own number
 pub record Key : Type 0 where
@@ -122,7 +125,41 @@ frames_leave (Lose l dir place) keys = key_without (channel l.0 dir) place keys
 frames_leave (LinkDown l) keys = but_two (channel l.0 Forth) (channel l.0 Back) keys
 frames_leave _ keys = keys
 
--- 5. Channels of the topology, among which numbers tell channels apart
+-- 5. What ends as time goes on
+
+-- the link of a channel of frames
+abbrev pub link_on : Network → ℕ → LinkEnds
+link_on topology c = link (wiring_of topology) (c / 2)
+
+-- a frame that was sent longer ago than the life of its link: it is due the link's delay after it was sent
+abbrev pub is_past : Network → ℕ → Key → Bool
+is_past topology clock key =
+    nat_lt key.channel (2 * length topology.links)
+    && nat_lt (key.due + (link_on topology key.channel).life) (clock + (link_on topology key.channel).delay)
+
+abbrev pub keys_in_time : Network → ℕ → List Key → List Key
+keys_in_time topology clock keys = filter (λ key. not (is_past topology clock key)) keys
+
+-- only a Tick lets frames grow too old
+abbrev pub frames_in_time : Network → ℕ → Step → List Key → List Key
+frames_in_time topology clock (Tick ticks) keys = keys_in_time topology clock keys
+frames_in_time topology clock _ keys = keys
+
+-- what flies on a link is a frame, due the link's delay after it was sent
+abbrev pub IsFrameDue : Network → Channel → Load → ℕ → Type 0
+IsFrameDue topology (Frames l dir) (Carries token) due = due ≡ token.sent + (link (wiring_of topology) l).delay
+IsFrameDue topology (Frames l dir) load due = ⊥
+IsFrameDue topology on load due = ⊤
+
+abbrev pub AreFramesDue : Network → List Item → Type 0
+AreFramesDue topology items = (item : Item) → Contains items item → IsFrameDue topology item.on item.load item.due
+
+-- on each channel none is due before one in front of it
+abbrev pub FlyInOrder : List Key → Type 0
+FlyInOrder [] = ⊤
+FlyInOrder (key ∷ keys) = AllByRecursion (λ other. other.channel ≡ key.channel → key.due ≤ other.due) keys × FlyInOrder keys
+
+-- 6. Channels of the topology, among which numbers tell channels apart
 
 abbrev pub IsThere : Network → Channel → Type 0
 IsThere topology (Notices l node) = node < length topology.loopbacks

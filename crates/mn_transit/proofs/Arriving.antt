@@ -20,7 +20,7 @@ use Rattle.mn_topo.specs.Links.{are_joined}
 use Rattle.mn_topo.specs.Lawful.{IsLawful}
 use Rattle.mn_ledger.specs.declared.verdict.Verdict.TheVariants.{Delivered, Dropped, Flying}
 use Rattle.mn_ledger.specs.World.{World}
-use Rattle.mn_ledger.specs.Packets.{Token, Packets, channel, arrive, drop_at, deliver}
+use Rattle.mn_ledger.specs.Packets.{Token, Packets, channel, arrive, drop_at, deliver, stamped}
 use Rattle.mn_frames.specs.Given.{Labelling}
 use Rattle.mn_frames.specs.Frames.{IsFrameOf}
 use Rattle.mn_frames.specs.Tables.{TableStands}
@@ -157,6 +157,22 @@ flies_on t g token y next flown after flies frame = record {
   frame = frame;
 }
 
+-- when it is sent is nothing that its frame has
+pub flown_stamped : (t : Network) (g : Labelling) (k : Packets) (to : ℕ) (flown : Flown) (token : Token) → IsFlown t g to flown token →
+    IsFlown t g to flown (stamped k token)
+flown_stamped t g k to flown token flies = record {
+  packet = flies.packet;
+  sound = record {
+    home = flies.sound.home;
+    node = flies.sound.node;
+    labelled = flies.sound.labelled;
+    within = flies.sound.within;
+    pushed = flies.sound.pushed;
+    packet = flies.sound.packet;
+  };
+  frame = record { stack = flies.frame.stack; packet = flies.frame.packet };
+}
+
 pub stands_hopped : (t : Network) (g : Labelling) (w : World) (m new : Moving) (k : Packets) (token : Token) (y next : NodeNo) (uses : List (ℕ × Use))
     (flown : Flown) (after : Labelled) →
     IsLawful t → y.0 < length t.loopbacks → (Next next, after) ≡ forwarded uses flown.frame →
@@ -175,7 +191,10 @@ stands_hopped t g w m new k token y next uses flown after lawful there forwards 
           flies;
       forwards = forwards;
     }) in
-    let gone = goes g k (hopped token) stands (flies_on t g token y.0 next.0 flown after flies told.1) told.2 in
+    let flown_on : Flown = record { packet = flown.packet; frame = after } in
+    let gone =
+    goes g k (stamped k (hopped token)) stands
+    (flown_stamped t g k next.0 flown_on (hopped token) (flies_on t g token y.0 next.0 flown after flies told.1)) told.2 in
     subst (λ p. StandsFor t g new p) (sym (told.0 gone.0 gone.1 gone.2)) gone.3
 
 -- what is sent over the link that leads to the neighbour

@@ -37,13 +37,13 @@ pub record Takes (before after : Moving) (at place : ℕ) (item : Item Flown) : 
   pub flight : IsFlight before.channels before.flying
 
 -- the ledger's packet whose frame it is
-record Took (t : Network) (g : Labelling) (k : Packets) (l : ℕ) (dir : Dir) (place : ℕ) (item : Item Flown) (after : Moving) : Type 0 where
-  token : Token
-  there : slice_get (flying_on k l dir) place ≡ Some token
-  flies : IsFlown t g (receiver (wiring_of t) l dir) item.item token
-  stands : StandsFor t g after (taken k l dir place)
+pub record Took (t : Network) (g : Labelling) (k : Packets) (l : ℕ) (dir : Dir) (place : ℕ) (item : Item Flown) (after : Moving) : Type 0 where
+  pub token : Token
+  pub there : slice_get (flying_on k l dir) place ≡ Some token
+  pub flies : IsFlown t g (receiver (wiring_of t) l dir) item.item token
+  pub stands : StandsFor t g after (taken k l dir place)
 
-took : (t : Network) (g : Labelling) (before after : Moving) (k : Packets) (at place l : ℕ) (dir : Dir) (item : Item Flown) → at ≡ channel l dir →
+pub took : (t : Network) (g : Labelling) (before after : Moving) (k : Packets) (at place l : ℕ) (dir : Dir) (item : Item Flown) → at ≡ channel l dir →
     Takes before after at place item → StandsFor t g before k → Took t g k l dir place item after
 took t g before after k at place l dir item e takes stands =
     let found : slice_get (on_channel (channel l dir) before.flying) place ≡ Some item =
@@ -135,7 +135,7 @@ cut_first k at node (x ∷ xs) token h =
     ap (λ (y : Token). cut_each (drop_at (record k { flying = put k.flying at xs }) y.packet rule.LinkCut node) at node xs) (sym same)
 
 -- what is left on the channel
-put_here : {A : Type 0} (f : ℕ → A) (at : ℕ) (x : A) → put f at x at ≡ x
+pub put_here : {A : Type 0} (f : ℕ → A) (at : ℕ) (x : A) → put f at x at ≡ x
 put_here f at x = let same : (at == at) ≡ true = eq-eqb at at refl in rw same refl
 
 -- to cut what is left once the first is cut is to cut all

@@ -11,7 +11,7 @@ use Rattle.mn_topo.specs.Lawful.{IsLawful}
 use Rattle.mn_ledger.specs.declared.verdict.Verdict.TheVariants.{Dropped}
 use Rattle.mn_ledger.specs.World.{World}
 use Rattle.mn_ledger.specs.Held.{HeldRoute}
-use Rattle.mn_ledger.specs.Packets.{Token, Packets, bound, hop_on}
+use Rattle.mn_ledger.specs.Packets.{Token, Packets, bound, hop_on, stamped}
 use Rattle.mn_frames.specs.Given.{Labelling}
 use Rattle.mn_frames.specs.Departures.{with_outer, Departs}
 use Rattle.mn_frames.specs.Entries.{IsPushed, outer_for}
@@ -19,6 +19,7 @@ use Rattle.mn_frames.specs.Arrivals.{sent}
 use Rattle.mn_frames.proofs.Leaving.{leaves_as_told}
 use Rattle.mn_transit.specs.Moving.{Moving}
 use Rattle.mn_transit.specs.Stands.{IsFlown, StandsFor}
+use Rattle.mn_transit.proofs.Arriving.{flown_stamped}
 use Rattle.mn_transit.proofs.Going.{ends}
 
 -- what the ledger says of a packet that leaves, by what the node answers of the way out
@@ -46,7 +47,9 @@ stands_left t g w m new k route bytes packet node next label frame after lawful 
       sound = told.2;
       frame = record { stack = entries ∙ told.1.stack; packet = same ∙ told.1.packet };
     } in
-    let gone = goes g k (bound packet route bytes) stands flies told.3 in
+    let gone =
+    goes g k (stamped k (bound packet route bytes)) stands
+    (flown_stamped t g k next.0 (record { packet = packet; frame = after }) (bound packet route bytes) flies) told.3 in
     subst (λ p. StandsFor t g new p) (sym (told.0 gone.0 gone.1 gone.2)) gone.3
 
 -- with no way out it is dropped

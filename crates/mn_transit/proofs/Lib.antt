@@ -10,3 +10,4 @@ pub mod Counts
 pub mod Counting
 pub mod Labelled
 pub mod Numbers
+pub mod Aging

@@ -2,3 +2,4 @@ pub mod Visits
 pub mod Moving
 pub mod Stands
 pub mod Entering
+pub mod Aging

@@ -38,7 +38,7 @@ impl Transit {
         clock: Clock,
     ) -> bool
         requires channels { self.old.channels ≡ 2 * length topology.now.links }
-        requires clock { clock.tick ≤ 2 ^ 62 }
+        requires clock { clock.tick ≤ 2 ^ 63 }
         requires number { All (λ item. item.number < clock.number) self.old.flying }
         requires bytes { bytes_in self.old.flying < 2 ^ 32 }
         requires room { 0 < self.old.spare }
@@ -70,7 +70,7 @@ impl Transit {
     ) -> bool
         requires node { node.0 < length topology.now.loopbacks }
         requires channels { self.old.channels ≡ 2 * length topology.now.links }
-        requires clock { clock.tick ≤ 2 ^ 62 }
+        requires clock { clock.tick ≤ 2 ^ 63 }
         requires number { All (λ item. item.number < clock.number) self.old.flying }
         requires bytes { bytes_in self.old.flying < 2 ^ 32 }
         requires room { 0 < self.old.spare }
@@ -119,7 +119,7 @@ impl Transit {
         requires link { link.0 < length topology.now.links }
         requires there { place < length (on_channel (channel link.0 dir) self.old.flying) }
         requires channels { self.old.channels ≡ 2 * length topology.now.links }
-        requires clock { clock.tick ≤ 2 ^ 62 }
+        requires clock { clock.tick ≤ 2 ^ 63 }
         requires number { All (λ item. item.number < clock.number) self.old.flying }
         requires bytes { bytes_in self.old.flying < 2 ^ 32 }
         requires copies { self.old.copies + 1 < 2 ^ 32 }

@@ -82,7 +82,7 @@ impl Transit {
         clock: Clock,
     ) -> bool
         requires channels { self.old.channels ≡ 2 * length topology.now.links }
-        requires clock { clock.tick ≤ 2 ^ 62 }
+        requires clock { clock.tick ≤ 2 ^ 63 }
         requires number { All (λ item. item.number < clock.number) self.old.flying }
         requires bytes { bytes_in self.old.flying < 2 ^ 32 }
         requires room { 0 < self.old.spare }
@@ -126,7 +126,7 @@ impl Transit {
     ) -> Result<bool, AllocError>
         requires node { node.0 < length topology.now.loopbacks }
         requires channels { self.old.channels ≡ 2 * length topology.now.links }
-        requires clock { clock.tick ≤ 2 ^ 62 }
+        requires clock { clock.tick ≤ 2 ^ 63 }
         requires number { All (λ item. item.number < clock.number) self.old.flying }
         requires bytes { bytes_in self.old.flying < 2 ^ 32 }
         requires few { length self.old.verdicts < most_steps }

@@ -18,7 +18,7 @@
 //!
 //! - `flown`, `path`: a frame in flight, and where a packet was
 //! - `transit`: what is kept, and one call for each thing that may become of a packet
-//! - `entry`, `arrival`, `loss`: the steps that move packets; `tell`: what became of them
+//! - `entry`, `arrival`, `loss`: the steps that move packets; `life`: what ends as time goes on; `tell`: what became of them
 //! - `laws`: as labels are given
 //!
 //! RFC 3031, sections 3.10 and 3.11; RFC 3032, section 2.4; RFC 4364, section 5.
@@ -28,6 +28,7 @@ mod arrival;
 mod entry;
 mod flown;
 mod laws;
+mod life;
 mod loss;
 mod path;
 mod tell;

@@ -181,7 +181,7 @@ impl Transit {
     )
         requires link { link.0 < length topology.now.links }
         requires channels { self.old.channels ≡ 2 * length topology.now.links }
-        requires clock { clock.tick ≤ 2 ^ 62 }
+        requires clock { clock.tick ≤ 2 ^ 63 }
         requires number { All (λ item. item.number < clock.number) self.old.flying }
         requires bytes { bytes_in self.old.flying < 2 ^ 32 }
         requires room { 0 < self.old.spare }

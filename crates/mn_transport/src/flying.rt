@@ -48,7 +48,7 @@ fn tell(
     requires link { link.0 < length topology.now.links }
     requires node { node < length topology.now.loopbacks }
     requires channels { notices.old.channels ≡ length topology.now.links * length topology.now.loopbacks }
-    requires tick { clock.tick ≤ 2 ^ 62 }
+    requires tick { clock.tick ≤ 2 ^ 63 }
     requires number { All (λ item. item.number < clock.number) notices.old.items }
     ensures told { OnOk result (notices.new.items ≡ notices.old.items ++ record { channel = link.0 * length topology.now.loopbacks + node; due = clock.tick + topology.now.notice_delay; number = clock.number; item = record {} } ∷ []) }
     ensures channels { notices.new.channels ≡ notices.old.channels }
@@ -72,7 +72,7 @@ pub(crate) fn tell_all(
 ) -> Result<u64, AllocError>
     requires link { link.0 < length topology.now.links }
     requires channels { notices.old.channels ≡ length topology.now.links * length topology.now.loopbacks }
-    requires tick { clock.tick ≤ 2 ^ 62 }
+    requires tick { clock.tick ≤ 2 ^ 63 }
     requires number { All (λ item. item.number < clock.number) notices.old.items }
     requires flight { IsFlight notices.old.channels notices.old.items }
     ensures told { OnOk result (notices.new.items ≡ notices.old.items ++ notices_to (link.0 * length topology.now.loopbacks) (clock.tick + topology.now.notice_delay) clock.number (nodes_of (wiring_of topology.now))) }
@@ -110,7 +110,7 @@ fn send_one(
 ) -> Result<(), AllocError>
     requires link { said.link.0 < length topology.now.links }
     requires channels { messages.old.channels ≡ 2 * length topology.now.links }
-    requires tick { clock.tick ≤ 2 ^ 62 }
+    requires tick { clock.tick ≤ 2 ^ 63 }
     requires number { All (λ item. item.number < clock.number) messages.old.items }
     ensures sent { OnOk result (messages.new.items ≡ messages.old.items ++ record { channel = channel_from (wiring_of topology.now) said.link.0 node.0; due = clock.tick + (link_of (wiring_of topology.now) said.link.0).delay; number = clock.number; item = said.bytes.items } ∷ []) }
     ensures channels { messages.new.channels ≡ messages.old.channels }
@@ -134,7 +134,7 @@ pub(crate) fn send(
 ) -> Result<u64, AllocError>
     requires links { AllByRecursion (λ said. said.link.0 < length topology.now.links) out.items }
     requires channels { messages.old.channels ≡ 2 * length topology.now.links }
-    requires tick { clock.tick ≤ 2 ^ 62 }
+    requires tick { clock.tick ≤ 2 ^ 63 }
     requires number { All (λ item. item.number < clock.number) messages.old.items }
     requires flight { IsFlight messages.old.channels messages.old.items }
     ensures sent { OnOk result (messages.new.items ≡ messages.old.items ++ put_pdus (wiring_of topology.now) node.0 clock.tick clock.number (map pdu_of out.items)) }

@@ -41,7 +41,7 @@ impl Transport {
         end: NodeNo,
         clock: Clock,
     ) -> Result<u64, AllocError>
-        requires tick { clock.tick ≤ 2 ^ 62 }
+        requires tick { clock.tick ≤ 2 ^ 63 }
         requires number { All (λ item. item.number < clock.number) self.old.messages }
         requires may { MayAct topology.now self.old end.0 (Opens link.0) }
         ensures acts { IfOk result (λ next. Acts topology.now clock.tick clock.number end.0 (Opens link.0) self.old self.new next) }
@@ -59,7 +59,7 @@ impl Transport {
         end: NodeNo,
         clock: Clock,
     ) -> Result<u64, AllocError>
-        requires tick { clock.tick ≤ 2 ^ 62 }
+        requires tick { clock.tick ≤ 2 ^ 63 }
         requires number { All (λ item. item.number < clock.number) self.old.messages }
         requires may { MayAct topology.now self.old end.0 (Closes link.0) }
         ensures acts { IfOk result (λ next. Acts topology.now clock.tick clock.number end.0 (Closes link.0) self.old self.new next) }
@@ -78,7 +78,7 @@ impl Transport {
         opens: bool,
         clock: Clock,
     ) -> Result<u64, AllocError>
-        requires tick { clock.tick ≤ 2 ^ 62 }
+        requires tick { clock.tick ≤ 2 ^ 63 }
         requires number { All (λ item. item.number < clock.number) self.old.messages }
         requires may { MayAct topology.now self.old end.0 (turned_by opens link.0) }
         ensures acts { IfOk result (λ next. Acts topology.now clock.tick clock.number end.0 (turned_by opens link.0) self.old self.new next) }
@@ -100,7 +100,7 @@ impl Transport {
         clock: Clock,
     ) -> Result<u64, AllocError>
         requires link { link.0 < length topology.now.links }
-        requires tick { clock.tick ≤ 2 ^ 62 }
+        requires tick { clock.tick ≤ 2 ^ 63 }
         requires number { All (λ item. item.number < clock.number) self.old.messages }
         requires both { MayBoth topology.now self.old link.0 (turned_by opens link.0) }
         ensures number { IfOk result (λ next. All (λ item. item.number < next) self.new.messages) }
@@ -140,7 +140,7 @@ impl Transport {
         up: bool,
         clock: Clock,
     ) -> Result<u64, AllocError>
-        requires tick { clock.tick ≤ 2 ^ 62 }
+        requires tick { clock.tick ≤ 2 ^ 63 }
         requires notices { All (λ item. item.number < clock.number) self.old.notices }
         requires messages { All (λ item. item.number < clock.number) self.old.messages }
         requires may { MayTurn topology.now self.old link.0 up }
@@ -169,7 +169,7 @@ impl Transport {
         on: bool,
         clock: Clock,
     ) -> Result<u64, AllocError>
-        requires tick { clock.tick ≤ 2 ^ 62 }
+        requires tick { clock.tick ≤ 2 ^ 63 }
         requires messages { All (λ item. item.number < clock.number) self.old.messages }
         requires may { MaySwitch topology.now self.old link.0 on }
         ensures number { IfOk result (λ next. (clock.number ≤ next) × All (λ item. item.number < next) self.new.messages) }
@@ -192,7 +192,7 @@ impl Transport {
         clock: Clock,
     ) -> Result<u64, AllocError>
         requires node { node.0 < length topology.now.loopbacks }
-        requires tick { clock.tick ≤ 2 ^ 62 }
+        requires tick { clock.tick ≤ 2 ^ 63 }
         requires messages { All (λ item. item.number < clock.number) self.old.messages }
         requires may { MayAct topology.now self.old node.0 (Learns link.0) }
         ensures number { IfOk result (λ next. (clock.number ≤ next) × All (λ item. item.number < next) self.new.messages) }
@@ -218,7 +218,7 @@ impl Transport {
         clock: Clock,
     ) -> Result<u64, AllocError>
         requires link { link.0 < length topology.now.links }
-        requires tick { clock.tick ≤ 2 ^ 62 }
+        requires tick { clock.tick ≤ 2 ^ 63 }
         requires messages { All (λ item. item.number < clock.number) self.old.messages }
         requires may { CanHear topology.now self.old link.0 dir }
         ensures flight { OnOk result ((channels : ℕ) × IsFlight channels self.old.messages) }
@@ -249,7 +249,7 @@ impl Transport {
         link: LinkNo,
         clock: Clock,
     ) -> Result<u64, AllocError>
-        requires tick { clock.tick ≤ 2 ^ 62 }
+        requires tick { clock.tick ≤ 2 ^ 63 }
         requires notices { All (λ item. item.number < clock.number) self.old.notices }
         requires messages { All (λ item. item.number < clock.number) self.old.messages }
         requires may { self.old.failed ≡ false → MayDo topology.now (step.LinkUp link) self.old }
@@ -284,7 +284,7 @@ impl Transport {
         link: LinkNo,
         clock: Clock,
     ) -> Result<u64, AllocError>
-        requires tick { clock.tick ≤ 2 ^ 62 }
+        requires tick { clock.tick ≤ 2 ^ 63 }
         requires notices { All (λ item. item.number < clock.number) self.old.notices }
         requires messages { All (λ item. item.number < clock.number) self.old.messages }
         requires may { self.old.failed ≡ false → MayDo topology.now (step.LinkDown link) self.old }
@@ -319,7 +319,7 @@ impl Transport {
         on: bool,
         clock: Clock,
     ) -> Result<u64, AllocError>
-        requires tick { clock.tick ≤ 2 ^ 62 }
+        requires tick { clock.tick ≤ 2 ^ 63 }
         requires notices { All (λ item. item.number < clock.number) self.old.notices }
         requires messages { All (λ item. item.number < clock.number) self.old.messages }
         requires may { self.old.failed ≡ false → MayDo topology.now (step.LdpAdmin link on) self.old }
@@ -354,7 +354,7 @@ impl Transport {
         link: LinkNo,
         clock: Clock,
     ) -> Result<u64, AllocError>
-        requires tick { clock.tick ≤ 2 ^ 62 }
+        requires tick { clock.tick ≤ 2 ^ 63 }
         requires notices { All (λ item. item.number < clock.number) self.old.notices }
         requires messages { All (λ item. item.number < clock.number) self.old.messages }
         requires may { self.old.failed ≡ false → MayDo topology.now (step.Learn node link) self.old }
@@ -389,7 +389,7 @@ impl Transport {
         dir: Dir,
         clock: Clock,
     ) -> Result<u64, AllocError>
-        requires tick { clock.tick ≤ 2 ^ 62 }
+        requires tick { clock.tick ≤ 2 ^ 63 }
         requires notices { All (λ item. item.number < clock.number) self.old.notices }
         requires messages { All (λ item. item.number < clock.number) self.old.messages }
         requires may { self.old.failed ≡ false → MayDo topology.now (step.HearLdp link dir) self.old }

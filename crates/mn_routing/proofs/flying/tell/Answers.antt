@@ -1,7 +1,7 @@
-use Rattle.std.proofs.Common.{◌≡◌, ◌+◌, ◌*◌, ◌∙◌, ap, length}
-use Rattle.mn_pe.specs.Held.{Exported}
-use Rattle.mn_routing_model.specs.Sending.{spelled_in}
+use Rattle.std.proofs.Common.{◌≡◌, ◌+◌, ◌*◌, ◌++◌, ◌∙◌, ap, append-nil, arith, length, List, map, sym}
+use Rattle.mn_routing_model.specs.Sending.{Parcel, put_all, news_to, spelled_in}
 use Rattle.mn_routing_model.proofs.Putting.{told_next, told_count}
+use Rattle.mn_routing.proofs.Nobody.{to_nobody}
 use Rattle.mn_routing.proofs.flying.tell.Goals as goal
 
 pub loop-export-preserved : goal.loop-export-preserved
@@ -22,3 +22,21 @@ loop-export-preserved c =
       channels = c.send_each.ensures.channels ∙ at.invariant.channels;
       flight = c.send_each.ensures.flight;
     }
+
+-- with nobody to tell, there is nothing to say
+pub returns-then-is_empty-clause-told : goal.returns-then-is_empty-clause-told
+returns-then-is_empty-clause-told c =
+    let t = c.args.topology.now in
+    sym (ap (λ (ps : List Parcel). c.args.messages.now.items ++ put_all (c.args.clock.tick + t.bgp_delay) c.args.clock.number ps)
+    (to_nobody (c.args.edge.0 * length t.loopbacks) c.args.peers.now (map (spelled_in t c.args.edge.0 c.args.comes) c.args.exports.now)
+    (sym c.is_empty.ensures ∙ c.if-is_empty.true))
+    ∙ append-nil c.args.messages.now.items)
+
+pub returns-then-is_empty-clause-next : goal.returns-then-is_empty-clause-next
+returns-then-is_empty-clause-next c =
+    let t = c.args.topology.now in
+    let none : length (news_to t c.args.edge.0 c.args.peers.now c.args.comes c.args.exports.now) ≡ 0 =
+    ap (λ (ps : List Parcel). length ps)
+    (to_nobody (c.args.edge.0 * length t.loopbacks) c.args.peers.now (map (spelled_in t c.args.edge.0 c.args.comes) c.args.exports.now)
+    (sym c.is_empty.ensures ∙ c.if-is_empty.true)) in
+    omega (arith, none)

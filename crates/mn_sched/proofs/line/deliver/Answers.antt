@@ -59,6 +59,8 @@ loop-turn-preserved g c =
       grown = first_part_trans _ _ _ l.invariant.grown (subst (λ es. IsFirstPart es c.deliver_one.new.net.journal) journal done.grown);
       clock = (omega (arith, done.clock.0, l.invariant.clock.0, many), omega (arith, done.clock.1, l.invariant.clock.1, many, tick));
       early = done.early;
+      longer = omega (arith, done.longer.0, l.invariant.longer, many);
+      few = λ some. done.longer.1;
       records = done.records ∙ l.invariant.records;
       packets = done.packets ∙ l.invariant.packets;
       goes_on = g.met.W.Watch.onward _ _ _ l.invariant.goes_on done.goes_on;
@@ -98,6 +100,16 @@ returns-in_err-left-clause-course g c = λ all told.
     (subst (λ (p : Past). IsFirstPart p.entries (deliver c.args.net.now.topology all c.args.arrivals (c.args.most - l.turn) (past_of l.net)).past.entries) (sym past)
     (deliver_more c.args.net.now.topology all c.args.arrivals (c.args.most - l.turn) (past_of l.net))))
 
+pub returns-in_default-clause-gone : goal.returns-in_default-clause-gone
+returns-in_default-clause-gone g c = λ many. c.next_arrival.ensures.gone c.in_default.is
+
+pub returns-clause-gone : goal.returns-clause-gone
+returns-clause-gone g c = λ many.
+    let l = c.loop-turn in
+    let few = l.invariant.few in
+    let longer = l.invariant.longer in
+    absurd (omega (arith, many, few, longer))
+
 pub returns-clause-after : goal.returns-clause-after
 returns-clause-after g c = λ all told. c.loop-turn.invariant.together all (c.loop-turn.invariant.packets ∙ told)
 
@@ -110,6 +122,8 @@ loop-turn-init g c = record {
   grown = first_part_refl c.args.net.now.journal;
   clock = (omega arith, omega arith);
   early = c.requires.early;
+  longer = omega arith;
+  few = λ some. absurd (omega (arith, some));
   records = refl;
   packets = refl;
   goes_on = g.met.W.Watch.stays _;

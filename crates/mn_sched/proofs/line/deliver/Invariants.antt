@@ -1,4 +1,5 @@
-use Rattle.std.proofs.Common.{◌≡◌, ◌≤◌, ◌^◌, ◌-◌, ℕ, List, Some}
+use Rattle.std.proofs.Common.{◌≡◌, ◌≤◌, ◌<◌, ◌^◌, ◌-◌, ◌+◌, ℕ, List, Some, length}
+use Rattle.mn_base.specs.Limits.{most_steps}
 use Rattle.mn_course.specs.Course.{deliver}
 use Rattle.mn_sched.specs.Watching.{Together}
 use Rattle.mn_sched.specs.Playing.{past_of, IsFirstPart, IsPaced}
@@ -14,6 +15,8 @@ invariant-loop-turn g l = record {
   grown : IsFirstPart l.fn.net.journal l.net.journal;
   clock : IsPaced 0 l.fn.net l.net;
   early : l.net.tick ≤ 2 ^ 62;
+  longer : length l.net.journal ≡ length l.fn.net.journal + l.turn;
+  few : 0 < l.turn → length l.net.journal ≤ most_steps;
   records : g.W.Watch.records l.watch ≡ g.W.Watch.records l.fn.watch;
   packets : g.W.Watch.packets l.watch ≡ g.W.Watch.packets l.fn.watch;
   goes_on : g.W.Watch.goes_on l.fn.watch l.watch;

@@ -1,11 +1,12 @@
-use Rattle.std.proofs.Common.{◌≡◌, ℕ, List, [], true, false, sym, ◌∙◌, ap, subst}
+use Rattle.std.proofs.Common.{◌≡◌, ℕ, List, [], true, false, sym, ◌∙◌, ap, subst, arith}
 use Rattle.mn_topo.specs.Steps.{fits}
 use Rattle.mn_ledger.specs.Ledger.{injects}
+use Rattle.mn_ledger.specs.Time.{ticks_in}
 use Rattle.mn_course.specs.Coming.{delivery}
 use Rattle.mn_course.specs.Course.{inputs_of}
 use Rattle.mn_sched.proofs.Telling.{leaves, made_last, last_fits, err_then, set_on, stood, same_journal, takes_no_input, one_arrives, after_one, opens_then}
 use Rattle.mn_sched.specs.Playing.{IsFirstPart}
-use Rattle.mn_sched.proofs.Telling.{one_paced, step_grown}
+use Rattle.mn_sched.proofs.Telling.{one_paced, one_longer, one_early, step_grown}
 use Rattle.mn_sched.proofs.line.deliver_one.Goals as goal
 
 pub finish-played-requires : goal.finish-played-requires
@@ -63,7 +64,22 @@ returns-clause-clock g c =
     let journal = same_journal c.args.arrivals c.args.item.due c.args.net.now c.set_clock.new.net c.set_clock.ensures.past in
     rw c.arrived_by.ensures
     (one_paced c.step-stepped.result c.finish-played.result c.args.net.now c.set_clock.new.net c.step-stepped.new.self c.delivery-step.result
-    c.args.item.due c.set_clock.ensures.clock c.requires.soon journal c.step-stepped.ensures.longer c.finish-played.ensures.ended)
+    c.args.item.due c.set_clock.ensures.clock c.requires.soon journal (ap ticks_in c.delivery-step.ensures ∙ c.requires.fits.2)
+    c.step-stepped.ensures.longer c.finish-played.ensures.ended)
+
+pub returns-clause-longer : goal.returns-clause-longer
+returns-clause-longer g c =
+    let journal = same_journal c.args.arrivals c.args.item.due c.args.net.now c.set_clock.new.net c.set_clock.ensures.past in
+    rw c.arrived_by.ensures
+    (one_longer c.step-stepped.result c.finish-played.result c.args.net.now c.set_clock.new.net c.step-stepped.new.self c.delivery-step.result
+    journal c.step-stepped.ensures.longer c.finish-played.ensures.ended)
+
+pub returns-clause-early : goal.returns-clause-early
+returns-clause-early g c =
+    let same = one_early c.step-stepped.result c.set_clock.new.net c.step-stepped.new.self c.delivery-step.result
+    (ap ticks_in c.delivery-step.ensures ∙ c.requires.fits.2) c.step-stepped.ensures.longer
+    (leaves _ _ _ c.step-stepped.ensures.left c.step-stepped.ensures.for_good) in
+    omega (arith, same, c.set_clock.ensures.early)
 
 pub returns-clause-grown : goal.returns-clause-grown
 returns-clause-grown g c =

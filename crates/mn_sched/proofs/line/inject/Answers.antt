@@ -2,7 +2,7 @@ use Rattle.std.proofs.Common.{sym, ◌∙◌, subst}
 use Rattle.mn_course.specs.Course.{inputs_of, refusal_now, stepped}
 use Rattle.mn_sched.specs.Playing.{past_of, Takes}
 use Rattle.mn_sched.specs.Playing.{After}
-use Rattle.mn_sched.proofs.Telling.{leaves, made_last, last_fits, step_paced, step_grown, step_kept, finished_refused, err_then, stood, takes_input, step_takes, stepped_inject, stepped_more}
+use Rattle.mn_sched.proofs.Telling.{leaves, made_last, last_fits, step_paced, few_ticks, step_grown, step_kept, finished_refused, err_then, stood, takes_input, step_takes, stepped_inject, stepped_more}
 use Rattle.mn_sched.proofs.Telling.{after_step, after_fault}
 use Rattle.mn_sched.proofs.Delivering.{first_part_refl}
 use Rattle.mn_sched.proofs.Telling.{fault_takes, fault_missing}
@@ -79,7 +79,8 @@ returns-clause-goes_on g c = g.met.W.Watch.onward _ _ _ c.packet.follows.holds-a
 
 pub returns-clause-clock : goal.returns-clause-clock
 returns-clause-clock g c =
-    step_paced c.step-stepped.result c.finish.result c.args.net.now c.step-stepped.new.self c.args.step c.step-stepped.ensures.longer
+    step_paced c.step-stepped.result c.finish.result c.args.net.now c.step-stepped.new.self c.args.step
+    (few_ticks c.args.net.now.topology c.args.step c.requires.fits) c.step-stepped.ensures.longer
     (leaves _ _ _ c.step-stepped.ensures.left c.step-stepped.ensures.for_good) c.finish.ensures.ended
 
 pub returns-clause-kept : goal.returns-clause-kept

@@ -1,4 +1,4 @@
-use Rattle.std.proofs.Common.{sym, ◌≡◌, ℕ, List, Result, Ok, Err, ◌∙◌, ap, subst, ◌+◌, max, rules}
+use Rattle.std.proofs.Common.{sym, arith, ◌<◌, ◌≡◌, ℕ, List, Result, Ok, Err, ◌∙◌, ap, subst, ◌+◌, max, rules}
 use Rattle.std.proofs.lemmas.Result.{err_from_is_err_and}
 use Rattle.mn_course.specs.Course.{Course, deliver, all}
 use Rattle.mn_course.specs.declared.coming.Arrivals.TheVariants.{DueBy}
@@ -6,6 +6,7 @@ use Rattle.mn_sched.specs.Playing.{past_of, Arrives, IsFirstPart}
 use Rattle.mn_sched.specs.declared.line.Stopped.{Stopped}
 use Rattle.mn_net_now.specs.Now.{NetNow}
 use Rattle.mn_sched.proofs.Telling.{run_paced, run_takes, run_stops, set_on}
+use Rattle.mn_sched.proofs.Onward.{goes_on_to}
 use Rattle.mn_sched.proofs.line.pass_ticks.Goals as goal
 
 at_end : (tick ticks most end : ℕ) (net : NetNow) (capture : List (List ℕ)) (mid : NetNow) (r : Result (Unit {0}) Stopped) → tick + ticks ≡ end →
@@ -55,3 +56,9 @@ returns-clause-clock g c =
 pub returns-clause-grown : goal.returns-clause-grown
 returns-clause-grown g c =
     subst (λ j. IsFirstPart c.args.net.now.journal j) (sym (ap (λ n. n.journal) c.advance.ensures.set)) c.in_ok-deliver.ensures.grown
+
+pub advance-requires-clause-due : goal.advance-requires-clause-due
+unfolding all
+advance-requires-clause-due g c =
+    let many : 4000000 < c.all_items.result = omega (arith, c.all_items.ensures) in
+    goes_on_to c.deliver.new.net _ c.max.result (search rules) (c.in_ok-deliver.ensures.gone many)

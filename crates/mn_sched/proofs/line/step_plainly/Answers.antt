@@ -1,7 +1,7 @@
 use Rattle.std.proofs.Common.{[], sym, subst}
 use Rattle.mn_course.specs.Course.{inputs_of, refusal_now}
 use Rattle.mn_sched.specs.Playing.{past_of, Takes}
-use Rattle.mn_sched.proofs.Telling.{leaves, made_last, last_fits, step_paced, step_grown, step_kept, finished_refused, err_then, stood, takes_no_input, step_takes, stepped_plain, after_step}
+use Rattle.mn_sched.proofs.Telling.{leaves, made_last, last_fits, step_paced, few_ticks, step_grown, step_kept, finished_refused, err_then, stood, takes_no_input, step_takes, stepped_plain, after_step}
 use Rattle.mn_sched.proofs.line.step_plainly.Goals as goal
 
 pub finish-requires : goal.finish-requires
@@ -38,7 +38,8 @@ returns-clause-after g c =
 
 pub returns-clause-clock : goal.returns-clause-clock
 returns-clause-clock g c =
-    step_paced c.step-stepped.result c.finish.result c.args.net.now c.step-stepped.new.self c.args.step c.step-stepped.ensures.longer
+    step_paced c.step-stepped.result c.finish.result c.args.net.now c.step-stepped.new.self c.args.step
+    (few_ticks c.args.net.now.topology c.args.step c.requires.fits) c.step-stepped.ensures.longer
     (leaves _ _ _ c.step-stepped.ensures.left c.step-stepped.ensures.for_good) c.finish.ensures.ended
 
 pub returns-clause-kept : goal.returns-clause-kept

@@ -3,7 +3,13 @@ use Rattle.mn_topo.specs.declared.steps.Step.TheVariants as step
 use Rattle.mn_net_moves.proofs.Moves.{net_may, net_done, as_it_is}
 use Rattle.mn_net_moves.proofs.Turns.{link_may, link_turn, route_numbers}
 use Rattle.mn_net_moves.proofs.Sites.{next_is, may_give, attach_done}
+use Rattle.mn_net.proofs.Clocks.{clock_early}
 use Rattle.mn_net.proofs.net.Net.attach.Goals as goal
+
+pub attach-requires-2-clause-tick : goal.attach-requires-2-clause-tick
+attach-requires-2-clause-tick c =
+    let may = net_may _ _ (step.Attach c.args.site) [] c.self.view_is c.requires.may in
+    clock_early _ (step.Attach c.args.site) [] (c.self.invariant may.works) may
 
 pub attach-requires : goal.attach-requires
 attach-requires c = record {

@@ -4,7 +4,13 @@ use Rattle.mn_flight.specs.Flying.{IsFlight}
 use Rattle.mn_net_tally.specs.Tallies.{Tally, frame_of}
 use Rattle.mn_topo.specs.declared.steps.Step.TheVariants as step
 use Rattle.mn_net_moves.proofs.Moves.{net_may, net_done, as_it_is, numbers, frame_there, one_more, counted_so, few_frames, carry_done}
+use Rattle.mn_net.proofs.Clocks.{clock_early}
 use Rattle.mn_net.proofs.net.Net.carry.Goals as goal
+
+pub carry-flies-requires-clause-clock : goal.carry-flies-requires-clause-clock
+carry-flies-requires-clause-clock c =
+    let may = net_may _ _ (step.Carry c.args.link c.args.dir c.args.place) [] c.self.view_is c.requires.may in
+    clock_early _ (step.Carry c.args.link c.args.dir c.args.place) [] (c.self.invariant may.works) may
 
 pub carry-flies-requires-clause-there : goal.carry-flies-requires-clause-there
 carry-flies-requires-clause-there c =

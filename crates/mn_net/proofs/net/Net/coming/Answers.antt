@@ -2,12 +2,18 @@ use Rattle.std.proofs.Common.{◌≡◌, ◌∙◌, ◌≤◌, ◌+◌, true, fa
 use Rattle.std.specs.Prelude.{IfSome}
 use Rattle.mn_topo.specs.Steps.{fits}
 use Rattle.mn_ledger.specs.Ledger.{injects}
+use Rattle.mn_ledger.specs.Time.{ticks_in}
 use Rattle.mn_laws.specs.Flight.{IsOpen}
 use Rattle.mn_course.specs.declared.coming.Coming.{Coming}
 use Rattle.mn_course.specs.Coming.{coming, delivery}
 use Rattle.mn_net_now.specs.Now.{NetNow, StandsFor}
 use Rattle.mn_net.proofs.Asked.{parts_stand, within, soon, fitting, open_to}
 use Rattle.mn_net.proofs.net.Net.coming.Goals as goal
+use Rattle.std.specs.List.{All}
+use Rattle.mn_ledger.specs.Items.{flight_of}
+use Rattle.mn_course.specs.Next.{first_due, IsNext}
+use Rattle.mn_course.proofs.Nexts.{frames_first}
+use Rattle.mn_net_moves.proofs.Times.{all_due}
 
 pub coming-requires : goal.coming-requires
 coming-requires c =
@@ -33,10 +39,22 @@ returns-clause-soon c =
     (soon c.self.inside.topology c.self.inside.journal.items is.inputs c.args.kind c.args.limit c.self.inside.tick is.late c.coming.result
     (c.coming.ensures.next c.self.inside.journal.items is.inputs (parts_stand _ is.inputs is.channels is.stands)))
 
+pub returns-clause-first : goal.returns-clause-first
+returns-clause-first c = λ kind works.
+    let is = c.self.invariant c.if-self.false in
+    let next = c.coming.ensures.next c.self.inside.journal.items is.inputs (parts_stand _ is.inputs is.channels is.stands) in
+    subst (λ (n : NetNow). All (λ frame. first_due c.args.limit c.coming.result ≤ frame.due) n.moving.flying) c.self.view_is
+    (all_due (first_due c.args.limit c.coming.result) (flight_of c.self.inside.topology c.self.inside.journal.items is.inputs).items _
+    is.stands.stands.frames
+    (frames_first c.self.inside.topology c.self.inside.journal.items is.inputs c.args.limit c.coming.result
+    (subst (λ k. IsNext c.self.inside.topology c.self.inside.journal.items is.inputs k c.args.limit c.coming.result) kind next)))
+
 pub returns-clause-fits : goal.returns-clause-fits
 returns-clause-fits c =
     let is = c.self.invariant c.if-self.false in
-    subst (λ (n : NetNow). IfSome c.coming.result (λ (item : Coming). (fits n.topology (delivery item) ≡ true) × (injects (delivery item) ≡ false)))
+    subst
+    (λ (n : NetNow). IfSome c.coming.result
+    (λ (item : Coming). (fits n.topology (delivery item) ≡ true) × (injects (delivery item) ≡ false) × (ticks_in (delivery item) ≡ 0)))
     c.self.view_is
     (fitting c.self.inside.topology c.self.inside.journal.items is.inputs c.args.kind c.args.limit c.coming.result
     (c.coming.ensures.next c.self.inside.journal.items is.inputs (parts_stand _ is.inputs is.channels is.stands)))

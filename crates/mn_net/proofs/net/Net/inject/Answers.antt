@@ -8,7 +8,13 @@ use Rattle.mn_frames.specs.Given.{given}
 use Rattle.mn_net_moves.proofs.Moves.{net_may, net_done, as_it_is, numbers, one_more, counted_so, few_frames, bound_below, room_at, size_small}
 use Rattle.mn_net_moves.proofs.Moves.{verdicts_few, copies_fit}
 use Rattle.mn_net_moves.proofs.Moves.{inject_done}
+use Rattle.mn_net.proofs.Clocks.{clock_early}
 use Rattle.mn_net.proofs.net.Net.inject.Goals as goal
+
+pub inject-requires-clause-clock : goal.inject-requires-clause-clock
+inject-requires-clause-clock c =
+    let may = net_may _ _ (step.Inject c.args.site c.args.number) c.args.packet.now c.self.view_is c.requires.may in
+    clock_early _ (step.Inject c.args.site c.args.number) c.args.packet.now (c.self.invariant may.works) may
 
 pub enter-requires-clause-stands : goal.enter-requires-clause-stands
 enter-requires-clause-stands c =

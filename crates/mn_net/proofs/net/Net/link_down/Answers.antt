@@ -2,7 +2,13 @@ use Rattle.std.proofs.Common.{[], refl}
 use Rattle.mn_topo.specs.declared.steps.Step.TheVariants as step
 use Rattle.mn_net_moves.proofs.Moves.{net_may, net_done, as_it_is}
 use Rattle.mn_net_moves.proofs.Turns.{link_may, notice_numbers, message_numbers, down_done}
+use Rattle.mn_net.proofs.Clocks.{clock_early}
 use Rattle.mn_net.proofs.net.Net.link_down.Goals as goal
+
+pub link_down-requires-clause-tick : goal.link_down-requires-clause-tick
+link_down-requires-clause-tick c =
+    let may = net_may _ _ (step.LinkDown c.args.link) [] c.self.view_is c.requires.may in
+    clock_early _ (step.LinkDown c.args.link) [] (c.self.invariant may.works) may
 
 pub link_down-requires-clause-notices : goal.link_down-requires-clause-notices
 link_down-requires-clause-notices c =

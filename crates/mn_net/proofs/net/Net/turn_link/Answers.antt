@@ -2,8 +2,14 @@ use Rattle.std.proofs.Common.{[], ◌∙◌}
 use Rattle.mn_net_moves.proofs.Moves.{net_may, net_done, as_it_is}
 use Rattle.mn_net_moves.proofs.Turns.{touched, link_may, notice_numbers, message_numbers, link_done}
 use Rattle.mn_net.specs.Turns.{link_step}
+use Rattle.mn_net.proofs.Clocks.{clock_early}
 use Rattle.mn_net.proofs.OfTurns.{of_transport, moves_nothing, as_said}
 use Rattle.mn_net.proofs.net.Net.turn_link.Goals as goal
+
+pub act-requires-clause-tick : goal.act-requires-clause-tick
+act-requires-clause-tick c =
+    let may = net_may _ _ (link_step c.args.turn) [] c.self.view_is c.requires.may in
+    clock_early _ (link_step c.args.turn) [] (c.self.invariant may.works) may
 
 pub act-requires-clause-notices : goal.act-requires-clause-notices
 act-requires-clause-notices c =
