@@ -1,0 +1,54 @@
+-- What the laws ask is met: in the network of two links a frame flies that is as old as its link's life; and older by a tick it ends.
+--
+--     site a --- pe1 --- p --- pe2 --- site b
+use Rattle.std.specs.Prelude.{◌≡◌, refl, ℕ, List, [], ◌∷◌, ◌++◌, map}
+use Rattle.mn_wiring.specs.declared.links.Dir.TheVariants.{Forth}
+use Rattle.mn_wiring.specs.Paths.{next}
+use Rattle.mn_drops.specs.declared.drops.Rule.TheVariants.{Overdue}
+use Rattle.mn_ipv4.specs.Header.{is_not_ipv4, is_malformed, is_truncated, has_bad_checksum, good, checksum_for, with_ttl, aged}
+use Rattle.mn_topo.specs.Lawful.{IsLawful}
+use Rattle.mn_topo.specs.declared.steps.Step.TheVariants.{Inject, Tick}
+use Rattle.mn_topo.specs.declared.steps.JournalEntry.{JournalEntry}
+use Rattle.mn_ledger.specs.declared.verdict.Verdict.TheVariants.{Dropped}
+use Rattle.mn_ledger.specs.Transport.{knowledge_of, news, sessions_after}
+use Rattle.mn_ledger.specs.Bgp.{peerings_after}
+use Rattle.mn_ledger.specs.Held.{held}
+use Rattle.mn_ledger.specs.Packets.{flying_on, packets_after}
+use Rattle.mn_ledger.specs.Ledger.{packets_of}
+use Rattle.mn_ledger.specs.Lawful.{IsLawfulJournal}
+use Rattle.mn_ledger.specs.OneMore.{tick_from}
+use Rattle.mn_ledger.specs.Refusal.{in_flight, bytes_flying}
+use Rattle.mn_ledger.proofs.Deciding.{lawful}
+use Rattle.mn_ledger.proofs.TwoLinks.{two_links, node_no, site_no, at_start, settling, packet, the_topology_is_lawful}
+
+-- a packet enters at pe1, and time goes on by so much
+abbrev waits_for : ℕ → List JournalEntry
+waits_for ticks = settling ++ at_start (Inject (site_no 0) 1) ∷ at_start (Tick ticks) ∷ []
+
+a_lawful_topology : IsLawful two_links
+a_lawful_topology = the_topology_is_lawful
+
+a_lawful_journal : IsLawfulJournal two_links (waits_for 2000) (packet ∷ [])
+unfolding next knowledge_of news sessions_after peerings_after held packets_after is_not_ipv4 is_malformed is_truncated has_bad_checksum good
+    checksum_for with_ttl aged in_flight bytes_flying
+a_lawful_journal = lawful two_links (waits_for 2000) (packet ∷ []) refl
+
+-- the frame that flies on the first link was sent at 0, and the link's life is 2000: the bound is reached
+its_frame : map (λ token. token.sent) (flying_on (packets_of two_links (waits_for 2000) (packet ∷ [])) 0 Forth) ≡ 0 ∷ []
+unfolding next knowledge_of news sessions_after peerings_after held packets_after is_not_ipv4 is_malformed is_truncated has_bad_checksum good
+    checksum_for with_ttl aged
+its_frame = refl
+
+its_clock : tick_from 0 (waits_for 2000) ≡ 2000
+its_clock = refl
+
+-- a tick later it doesn't fly any more
+too_old : (packets_of two_links (waits_for 2001) (packet ∷ [])).verdicts ≡ Dropped Overdue (node_no 0) ∷ []
+unfolding next knowledge_of news sessions_after peerings_after held packets_after is_not_ipv4 is_malformed is_truncated has_bad_checksum good
+    checksum_for with_ttl aged
+too_old = refl
+
+none_flies : flying_on (packets_of two_links (waits_for 2001) (packet ∷ [])) 0 Forth ≡ []
+unfolding next knowledge_of news sessions_after peerings_after held packets_after is_not_ipv4 is_malformed is_truncated has_bad_checksum good
+    checksum_for with_ttl aged
+none_flies = refl
