@@ -1,15 +1,11 @@
 -- What the generator makes, and the end of its run.
-use Rattle.std.proofs.Common.{◌≡◌, ℕ, Bool, true, false, cond, nat_lt, if◌then◌else◌, ◌||◌, List, [], Option, Some, None, MatchOption, Result}
+use Rattle.std.proofs.Common.{◌≡◌, ℕ, Bool, true, false, cond, nat_lt, if◌then◌else◌, List, Option, Some, Result}
 use Rattle.std.proofs.Common.{Ok, Err, IfOk, Vec, Global, length, inr, refl, sym, ◌∙◌, ap, subst}
-use Rattle.std.specs.Prelude.{is_some, option_map, ⊤}
+use Rattle.std.specs.Prelude.{option_map}
 use Rattle.std.specs.Str.Lines.{lines}
-use Rattle.mn_edge.specs.Files.{Files}
 use Rattle.mn_topo.specs.Network.{Network}
 use Rattle.mn_topo_toml.specs.Topology.{topology_of}
-use Rattle.mn_topo_toml.specs.declared.refusal.TopoRule.{TopoRule}
-use Rattle.mn_topo_toml.specs.declared.refusal.Place.{Place}
 use Rattle.mn_script.specs.declared.command.Line.{Line}
-use Rattle.mn_script.specs.declared.refusal.ScriptRule.{ScriptRule}
 use Rattle.mn_script.specs.Script.{script_of}
 use Rattle.mn_pcap.specs.Reading as pcap
 use Rattle.mn_pcap.specs.Reading.{count_of}
@@ -28,18 +24,17 @@ use Rattle.mn_perform.specs.Memory.{MemoryView, packets_at}
 use Rattle.mn_perform.specs.Running.{is_stopped}
 use Rattle.mn_perform.specs.Total.{total_text, PutsWhole}
 use Rattle.mn_run.specs.declared.generate.Made.{Made}
-use Rattle.mn_run.specs.declared.outcome.Outcome.{Outcome}
-use Rattle.mn_run.specs.declared.outcome.Outcome.TheVariants.{Done, Usage, ReadFault, WriteFault, NoMemory, BadTopology, BadScript, BadCapture, TooLarge}
-use Rattle.mn_run.specs.declared.outcome.Limit.TheVariants.{TopologyBytes, ScriptBytes, ScriptLines, CaptureBytes, CaptureRecords, Steps}
-use Rattle.mn_run.specs.Words.{is_run, is_check, is_command, generator_number}
-use Rattle.mn_run.specs.Answer.{Answer, refusal_of, run_answer, check_answer, answer_of, generated_line, generated_done, generated_over, generated}
-use Rattle.mn_run.specs.Answer.{generate_answer}
-use Rattle.mn_run.specs.Answer.{if_lawful, if_accepted, if_captured, with_capture_bytes}
-use Rattle.mn_run.specs.Answer.{most_topology_bytes, most_script_bytes, most_capture_bytes, most_capture_records}
+use Rattle.mn_answer.specs.declared.outcome.Outcome.{Outcome}
+use Rattle.mn_answer.specs.declared.outcome.Outcome.TheVariants.{Done, TooLarge}
+use Rattle.mn_answer.specs.declared.outcome.Limit.TheVariants.{CaptureBytes, CaptureRecords, Steps}
+use Rattle.mn_answer.specs.Answer.{Answer, refusal_of, most_topology_bytes, most_script_bytes}
+use Rattle.mn_answer.specs.Inputs.{TopologyIs}
+use Rattle.mn_run.specs.Answer.{generated_line, generated_done, generated_over, generated}
+use Rattle.mn_run.specs.Answer.{if_captured, with_capture_bytes, most_capture_bytes, most_capture_records}
 use Rattle.mn_base.specs.Limits.{most_script_lines}
-use Rattle.mn_run.specs.Endings.{OutcomeIs, FilesAre, TextIs, CausedBy, IsLate}
-use Rattle.mn_run.specs.Jobs.{TopologyIs, ScriptIs, ScriptFits, HeldIs, AreMadeOver, MadeOverIs, MadeIs, outcome_of}
-use Rattle.mn_run.proofs.Ending.{files_untouched, whole_untouched}
+use Rattle.mn_answer.specs.Endings.{OutcomeIs, TextIs, CausedBy}
+use Rattle.mn_run.specs.Jobs.{ScriptIs, ScriptFits, HeldIs, AreMadeOver, MadeOverIs, MadeIs, outcome_of}
+use Rattle.mn_answer.proofs.Ending.{WritesNone, topology_bytes_write, script_bytes_write}
 
 -- 1. Its inputs
 
@@ -130,32 +125,6 @@ sink_blames old new (Err fault.NoMemory) h = (refl, refl, h)
 
 -- 3. It writes no file
 
-abbrev pub WritesNone : Option Answer → Type 0
-WritesNone answer = MatchOption answer ⊤ (λ a. a.files ≡ [])
-
-topology_writes : (found : Result Network (TopoRule × Place)) (next : Network → Option Answer) →
-    ((t : Network) → WritesNone (next t)) → WritesNone (if_lawful found next)
-topology_writes (Ok t) next h = h t
-topology_writes (Err refused) next h = refl
-
-topology_bytes_write : (b : Bool) (found : Result Network (TopoRule × Place)) (next : Network → Option Answer) → ((t : Network) → WritesNone (next t))
-    → WritesNone (if b then Some (refusal_of (TooLarge TopologyBytes most_topology_bytes)) else if_lawful found next)
-topology_bytes_write true found next h = refl
-topology_bytes_write false found next h = topology_writes found next h
-
-script_writes : (found : Result (List Line) (ScriptRule × ℕ)) (next : List Line → Option Answer) →
-    ((s : List Line) → WritesNone (next s)) → WritesNone (if_accepted found next)
-script_writes (Ok s) next h = h s
-script_writes (Err refused) next h = refl
-
-script_bytes_write : (b many : Bool) (found : Result (List Line) (ScriptRule × ℕ)) (next : List Line → Option Answer) → ((s : List Line) → WritesNone (next s))
-    → WritesNone
-    (if b then Some (refusal_of (TooLarge ScriptBytes most_script_bytes)) else if many then Some
-    (refusal_of (TooLarge ScriptLines most_script_lines)) else if_accepted found next)
-script_bytes_write true many found next h = refl
-script_bytes_write false true found next h = refl
-script_bytes_write false false found next h = script_writes found next h
-
 capture_writes : (found : Result (List (List ℕ)) PcapBad) (next : List (List ℕ) → Option Answer) →
     ((p : List (List ℕ)) → WritesNone (next p)) → WritesNone (if_captured found next)
 capture_writes (Ok p) next h = h p
@@ -175,7 +144,7 @@ done_writes : (number : ℕ) (t : Network) (script : List Line) (packets : List 
 unfolding generated_done
 done_writes number t script packets = refl
 
-generated_writes : (number : ℕ) → WritesNone (generated number)
+pub generated_writes : (number : ℕ) → WritesNone (generated number)
 unfolding generated
 generated_writes number =
     topology_bytes_write (nat_lt most_topology_bytes (length (topology_text number))) (topology_of (topology_text number)) (generated_over number)
@@ -185,41 +154,3 @@ generated_writes number =
     (λ script. capture_bytes_write (nat_lt most_capture_bytes (length (capture_bytes number)))
     (nat_lt most_capture_records (count_of (capture_bytes number))) (pcap.packets_of (capture_bytes number))
     (λ packets. Some (generated_done number t script packets)) (done_writes number t script)))
-
-pub writes_none : (n : Option ℕ) → WritesNone (generate_answer n)
-writes_none None = refl
-writes_none (Some number) = generated_writes number
-
-pub files_stay : (a : Option Answer) (m : Files) (after : Option Files) (o : Outcome) → WritesNone a → OutcomeIs a o → after ≡ Some m → FilesAre a m after o
-files_stay (Some a) m after o none h same = files_untouched a m after o none same
-files_stay None m after ReadFault none h same = same
-files_stay None m after WriteFault none h same = same
-files_stay None m after NoMemory none h same = same
-files_stay None m after Done none h same = h
-files_stay None m after Usage none h same = h
-files_stay None m after (BadTopology rule place) none h same = h
-files_stay None m after (BadScript rule line) none h same = h
-files_stay None m after (BadCapture rule place) none h same = h
-files_stay None m after (TooLarge which limit) none h same = h
-
-pub late_stays : (a : Option Answer) (m : Files) (after : Option Files) (before : List ℕ) (written : Option (List ℕ)) → WritesNone a → after ≡ Some m →
-    IsLate a m after before written
-late_stays (Some a) m after before written none same = whole_untouched a m after before written none same
-late_stays None m after before written none same = tt
-
--- 4. Words of a check, and of neither a run nor a check
-
-pub check_is : (words : List (List ℕ)) (files : Files) → is_run words ≡ false → is_check words ≡ true → answer_of words files ≡ check_answer words files
-check_is words files run check =
-    ap (λ b. if b then run_answer words files else if is_check words then check_answer words files else generate_answer (generator_number words)) run
-    ∙ ap (λ b. if b then check_answer words files else generate_answer (generator_number words)) check
-
-pub other_is : (words : List (List ℕ)) (files : Files) → is_run words ≡ false → is_check words ≡ false →
-    answer_of words files ≡ generate_answer (generator_number words)
-other_is words files run check =
-    ap (λ b. if b then run_answer words files else if is_check words then check_answer words files else generate_answer (generator_number words)) run
-    ∙ ap (λ b. if b then check_answer words files else generate_answer (generator_number words)) check
-
-pub command_is : (words : List (List ℕ)) → is_run words ≡ false → is_check words ≡ false → is_command words ≡ is_some (generator_number words)
-command_is words run check =
-    ap (λ b. b || (is_check words || is_some (generator_number words))) run ∙ ap (λ b. b || is_some (generator_number words)) check

@@ -1,6 +1,6 @@
-pub mod Results
-pub mod Ending
+pub mod Forms
 pub mod Loading
 pub mod Accounting
 pub mod Playing
 pub mod Generating
+pub mod Doing

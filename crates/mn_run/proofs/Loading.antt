@@ -8,10 +8,11 @@ use Rattle.mn_edge.specs.Files.{Files, file}
 use Rattle.mn_topo.specs.Network.{Network}
 use Rattle.mn_capture.specs.Packets.{packets_in}
 use Rattle.mn_run.specs.declared.load.Inputs.{Inputs}
-use Rattle.mn_run.specs.declared.outcome.Outcome.{Outcome}
-use Rattle.mn_run.specs.Answer.{run_done, answer_over, run_over, run_answer}
-use Rattle.mn_run.specs.Jobs.{TopologyIs, OverIs, LoadedIs, AreOver, AreRead}
-use Rattle.mn_run.proofs.Accounting.{is_two, is_five}
+use Rattle.mn_answer.specs.declared.outcome.Outcome.{Outcome}
+use Rattle.mn_run.specs.Answer.{run_done, answer_over, run_over}
+use Rattle.mn_answer.specs.Inputs.{TopologyIs}
+use Rattle.mn_run.specs.Jobs.{OverIs, LoadedIs, AreOver, AreRead}
+use Rattle.mn_run.proofs.Forms.{is_two, is_five}
 
 pub word_at : (words : List (String Global)) (i : ℕ) (s : String Global) (name : List ℕ) → i < length words → s ≡ get_or words i s → name ≡ string_bytes s →
     word (texts words) i ≡ name
@@ -41,9 +42,9 @@ pub answer_is : (topology script capture : List ℕ) (files : Files) (inputs : I
     run_over topology script capture folder files ≡ Some (run_done folder inputs.topology inputs.lines.items (packets_in inputs.capture read.over.bytes))
 answer_is topology script capture files inputs read folder = read.answer folder ∙ read.over.answer folder
 
--- the answer to a run by the names that its words give
-pub run_names : (words : List (List ℕ)) (a b c d : List ℕ) (files : Files) → word words 1 ≡ a → word words 2 ≡ b → word words 3 ≡ c → word words 4 ≡ d
-    → run_answer words files ≡ run_over a b c d files
-run_names words a b c d files wa wb wc wd =
-    ap (λ n. run_over n (word words 2) (word words 3) (word words 4) files) wa ∙ ap (λ n. run_over a n (word words 3) (word words 4) files) wb
-    ∙ ap (λ n. run_over a b n (word words 4) files) wc ∙ ap (λ n. run_over a b c n files) wd
+-- inputs that were read by the names that words give
+pub loaded_by_words : (words : List (List ℕ)) (a b c : List ℕ) (m : Files) (l : Result Inputs Outcome) → word words 1 ≡ a → word words 2 ≡ b → word words 3 ≡ c
+    → LoadedIs a b c m l → LoadedIs (word words 1) (word words 2) (word words 3) m l
+loaded_by_words words a b c m l one two three loaded =
+    subst (λ n. LoadedIs n (word words 2) (word words 3) m l) (sym one)
+    (subst (λ n. LoadedIs a n (word words 3) m l) (sym two) (subst (λ n. LoadedIs a b n m l) (sym three) loaded))

@@ -1,5 +1,6 @@
 -- The end of a played script as the end of the call.
 use Rattle.std.proofs.Common.{◌≡◌, ℕ, cond, List, [], ◌∷◌, Option, Some, Ok, Err, Result, inl, inr, ap}
+use Rattle.std.specs.Option.{ForSome}
 use Rattle.mn_edge.specs.Files.{Files, file}
 use Rattle.mn_topo.specs.Network.{Network}
 use Rattle.mn_script.specs.declared.command.Line.{Line}
@@ -13,10 +14,10 @@ use Rattle.mn_perform.specs.declared.ended.Fault.TheVariants as fault
 use Rattle.mn_perform.specs.Faults.{Counts, Blamed}
 use Rattle.mn_perform.specs.Running.{notes_text}
 use Rattle.mn_perform.specs.Whole.{running, EndsAs, FilesOf, BegunAtRead, UntoldAtRead, TextOf, TellsLate}
-use Rattle.mn_run.specs.declared.outcome.Outcome.TheVariants.{Done, Usage, TooLarge}
-use Rattle.mn_run.specs.declared.outcome.Limit.TheVariants.{Steps}
+use Rattle.mn_answer.specs.declared.outcome.Outcome.TheVariants.{Done, Usage, TooLarge}
+use Rattle.mn_answer.specs.declared.outcome.Limit.TheVariants.{Steps}
 use Rattle.mn_run.specs.Answer.{run_done}
-use Rattle.mn_run.specs.Endings.{OutcomeIs, FilesAre, TextIs, CausedBy, IsLate, IsUnread}
+use Rattle.mn_answer.specs.Endings.{OutcomeIs, FilesAre, TextIs, CausedBy, IsLate, IsUnread, Answers}
 use Rattle.mn_run.specs.Jobs.{outcome_of}
 
 not_nil : {A : Type 0} (x : A) (xs : List A) → x ∷ xs ≡ [] → ⊥
@@ -57,7 +58,8 @@ module _ (folder : List ℕ) (t : Network) (lines : List Line) (packets : List (
   unfolding run_done
   unread m after before written (Ok ended.All) h put = tt
   unread m after before written (Ok ended.TooManySteps) h put = tt
-  unread m after before written (Err fault.Read) h put = inr (λ e. not_nil _ _ e, h, put)
+  unread m after before written (Err fault.Read) h put =
+      inr (λ e. not_nil _ _ e, record { stands = h.stands; names = h.names; is_part = h.is_part; after_is = h.after_is }, put)
   unread m after before written (Err fault.Write) h put = tt
   unread m after before written (Err fault.NoMemory) h put = tt
 
@@ -81,3 +83,22 @@ pub late : (folder : List ℕ) (t : Network) (lines : List Line) (capture : Capt
     → IsLate (Some (run_done folder t lines (packets_in capture bytes))) m after before written
 unfolding run_done
 late folder t lines capture m bytes after before written there h = elim h [ inl e ↦ inl e | inr p ↦ inr (p bytes there) ]
+
+-- all that is so of a script that was played
+pub played : (folder : List ℕ) (t : Network) (lines : List Line) (capture : CaptureView) (m : Files) (bytes : List ℕ) (after : Option Files)
+    (before written : Option (List ℕ)) (result : Result Ended Fault)
+    → file m capture.name ≡ Some bytes
+    → EndsAs (output.run_answer folder t lines (packets_in capture bytes)) result
+    → FilesOf (output.run_answer folder t lines (packets_in capture bytes)) m after result
+    → ForSome before (λ text. TextOf (output.run_answer folder t lines (packets_in capture bytes)) text written result)
+    → ForSome before (λ text. TellsLate folder t lines capture (output.run_answer folder t lines (packets_in capture bytes)) m after text written)
+    → BegunAtRead (running folder t (packets_in capture bytes) (expanded t (packets_in capture bytes) lines).past.entries) m after result
+    → ForSome before (λ text. UntoldAtRead (notes_text t (packets_in capture bytes) (expanded t (packets_in capture bytes) lines)) text written result)
+    → Answers (Some (run_done folder t lines (packets_in capture bytes))) m after before written (outcome_of result)
+played folder t lines capture m bytes after before written result there ended files text told begun untold = record {
+  outcome_is = ends folder t lines (packets_in capture bytes) result ended;
+  files_are = leaves folder t lines (packets_in capture bytes) m after result files;
+  text_is = λ b is. tells folder t lines (packets_in capture bytes) b written result (text b is);
+  is_late = λ b is. late folder t lines capture m bytes after b written there (told b is);
+  is_unread = λ b is. unread folder t lines (packets_in capture bytes) m after b written result begun (untold b is);
+}

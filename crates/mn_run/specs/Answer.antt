@@ -1,8 +1,7 @@
 -- What a call is to answer: how it ends, which files it writes, and what it puts.
 use Rattle.std.specs.Prelude.{ℕ, ◌^◌, nat_lt, cond, if◌then◌else◌, List, [], ◌∷◌, length, Option, Some, None, Result, Ok, Err, codes}
 use Rattle.std.specs.Fmt.{decimal}
-use Rattle.std.specs.Str.Lines.{lines}
-use Rattle.mn_base.specs.Limits.{most_script_lines, most_steps}
+use Rattle.mn_base.specs.Limits.{most_steps}
 use Rattle.mn_edge.specs.Files.{Files, file}
 use Rattle.mn_pcap.specs.Reading.{count_of}
 use Rattle.mn_pcap.specs.Reading as pcap
@@ -18,32 +17,16 @@ use Rattle.mn_output.specs.Report as output
 use Rattle.mn_perform.specs.Running.{notes_text}
 use Rattle.mn_perform.specs.Whole.{running}
 use Rattle.mn_perform.specs.Total.{total_text}
-use Rattle.mn_script.specs.declared.refusal.ScriptRule.{ScriptRule}
 use Rattle.mn_script.specs.declared.command.Line.{Line}
-use Rattle.mn_script.specs.Script.{script_of}
-use Rattle.mn_topo_toml.specs.declared.refusal.TopoRule.{TopoRule}
-use Rattle.mn_topo_toml.specs.declared.refusal.Place.{Place}
+use Rattle.mn_script.specs.Script.{command_says}
 use Rattle.mn_topo.specs.Network.{Network}
 use Rattle.mn_topo.specs.SiteTable.{statics_of}
-use Rattle.mn_topo_toml.specs.Topology.{topology_of}
-use Rattle.mn_run.specs.declared.outcome.Limit.TheVariants.{TopologyBytes, ScriptBytes, ScriptLines, CaptureBytes, CaptureRecords, Steps}
-use Rattle.mn_run.specs.declared.outcome.Outcome.{Outcome}
-use Rattle.mn_run.specs.declared.outcome.Outcome.TheVariants.{Done, Usage, NoMemory, BadTopology, BadScript, BadCapture, TooLarge}
-use Rattle.mn_run.specs.Words.{word, is_run, is_check, generator_number}
-use Rattle.mn_run.specs.Refusals.{refusal_line}
-
--- how the call ends, the files that it writes, what is in them while the lines of a script are played, and the text that it puts,
--- of which the early part may be put before all files are whole
-pub record Answer : Type 0 where
-  pub outcome : Outcome
-  pub files : List (List ℕ × List ℕ)
-  pub running : List (List ℕ × List ℕ)
-  pub early : List ℕ
-  pub text : List ℕ
-
--- a refusal writes nothing and puts one line
-abbrev pub refusal_of : Outcome → Answer
-refusal_of outcome = record { outcome = outcome; files = []; running = []; early = []; text = refusal_line outcome }
+use Rattle.mn_answer.specs.declared.outcome.Limit.TheVariants.{CaptureBytes, CaptureRecords, Steps}
+use Rattle.mn_answer.specs.declared.outcome.Outcome.TheVariants.{Done, Usage, NoMemory, BadCapture, TooLarge}
+use Rattle.mn_answer.specs.Answer.{Answer, refusal_of, with_topology_bytes, with_topology, with_lines_of_bytes, with_lines_of}
+use Rattle.mn_run.specs.declared.words.Job.{Job}
+use Rattle.mn_run.specs.declared.words.Job.TheVariants.{Run, Check, Generate, Nothing}
+use Rattle.mn_run.specs.Words.{word, job_of}
 
 -- what a run leaves and puts: refused lines and tables come early; where its journal was full it is too large, and its files are
 -- whole
@@ -85,46 +68,12 @@ abbrev pub with_capture : Option (List ℕ) → (List (List ℕ) → Option Answ
 with_capture None next = None
 with_capture (Some bytes) next = with_capture_bytes bytes next
 
--- a script has at most 64 MiB, and at most 3,000,000 lines
-abbrev pub most_script_bytes : ℕ
-most_script_bytes = 2 ^ 26
-
--- a script goes on with its lines, or is refused by rule and line
-abbrev pub if_accepted : Result (List Line) (ScriptRule × ℕ) → (List Line → Option Answer) → Option Answer
-if_accepted (Ok script) next = next script
-if_accepted (Err refused) next = Some (refusal_of (BadScript refused.0 refused.1))
-
--- the limits of a script come before its own refusal: its lines are counted before any is looked at
-abbrev pub with_lines : Network → List ℕ → (List Line → Option Answer) → Option Answer
-with_lines topology bytes next =
-    if nat_lt most_script_lines (length (lines bytes)) then Some (refusal_of (TooLarge ScriptLines most_script_lines)) else if_accepted
-    (script_of topology bytes) next
-
+-- a script goes on with its lines, or its refusal is the answer
 abbrev pub with_script_bytes : Network → List ℕ → (List Line → Option Answer) → Option Answer
-with_script_bytes topology bytes next =
-    if nat_lt most_script_bytes (length bytes) then Some (refusal_of (TooLarge ScriptBytes most_script_bytes)) else with_lines topology bytes next
+with_script_bytes topology bytes next = with_lines_of_bytes (command_says topology) bytes next
 
 abbrev pub with_script : Network → Option (List ℕ) → (List Line → Option Answer) → Option Answer
-with_script topology None next = None
-with_script topology (Some bytes) next = with_script_bytes topology bytes next
-
--- a topology has at most 1 MiB
-abbrev pub most_topology_bytes : ℕ
-most_topology_bytes = 2 ^ 20
-
--- a topology goes on, or is refused by rule and place
-abbrev pub if_lawful : Result Network (TopoRule × Place) → (Network → Option Answer) → Option Answer
-if_lawful (Ok topology) next = next topology
-if_lawful (Err refused) next = Some (refusal_of (BadTopology refused.0 refused.1))
-
--- the limit of a topology comes before its own refusal; without the file there is no answer
-abbrev pub with_topology_bytes : List ℕ → (Network → Option Answer) → Option Answer
-with_topology_bytes bytes next =
-    if nat_lt most_topology_bytes (length bytes) then Some (refusal_of (TooLarge TopologyBytes most_topology_bytes)) else if_lawful (topology_of bytes) next
-
-abbrev pub with_topology : Option (List ℕ) → (Network → Option Answer) → Option Answer
-with_topology None next = None
-with_topology (Some bytes) next = with_topology_bytes bytes next
+with_script topology input next = with_lines_of (command_says topology) input next
 
 -- the answer to a run over a topology, and over the files of these names
 abbrev pub answer_over : List ℕ → Files → List ℕ → List ℕ → Network → Option Answer
@@ -176,12 +125,13 @@ generated_over number topology =
 unfoldable pub generated : ℕ → Option Answer
 generated number = with_topology_bytes (topology_text number) (generated_over number)
 
--- without a number the words are no command line
-abbrev pub generate_answer : Option ℕ → Option Answer
-generate_answer None = Some (refusal_of Usage)
-generate_answer (Some number) = generated number
+-- what a job is answered over these files; there is no answer where an input that is needed isn't there
+abbrev pub job_answer : Job → List (List ℕ) → Files → Option Answer
+job_answer Run words files = run_answer words files
+job_answer Check words files = check_answer words files
+job_answer (Generate number) words files = generated number
+job_answer Nothing words files = Some (refusal_of Usage)
 
--- what the words are answered over these files; there is no answer where an input that is needed isn't there
+-- what the words are answered over these files
 abbrev pub answer_of : List (List ℕ) → Files → Option Answer
-answer_of words files =
-    if is_run words then run_answer words files else if is_check words then check_answer words files else generate_answer (generator_number words)
+answer_of words files = job_answer (job_of words) words files

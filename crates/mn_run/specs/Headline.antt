@@ -1,5 +1,6 @@
 -- The promise of a call where all was done, in the words of a customer.
-use Rattle.std.specs.Prelude.{◌≡◌, true, ℕ, List, ◌++◌, Option, Some, option_map, Ok, ⊤}
+use Rattle.std.specs.Option.{ForSome}
+use Rattle.std.specs.Prelude.{◌≡◌, ℕ, List, ◌++◌, Option, Some, option_map, Ok, ⊤}
 use Rattle.mn_edge.specs.Files.{Files, file}
 use Rattle.mn_edge.specs.Written.{laid}
 use Rattle.mn_pcap.specs.Reading as pcap
@@ -20,10 +21,13 @@ use Rattle.mn_lines.specs.Lines.{total_line}
 use Rattle.mn_gen.specs.Topology.{topology_text}
 use Rattle.mn_gen.specs.Script.{script_text}
 use Rattle.mn_gen.specs.Capture.{capture_bytes}
-use Rattle.mn_run.specs.declared.outcome.Outcome.{Outcome}
-use Rattle.mn_run.specs.declared.outcome.Outcome.TheVariants.{Done}
-use Rattle.mn_run.specs.Words.{word, is_run, is_check, generator_number}
-use Rattle.mn_run.specs.Answer.{check_line, generated_line}
+use Rattle.mn_answer.specs.declared.outcome.Outcome.{Outcome}
+use Rattle.mn_answer.specs.declared.outcome.Outcome.TheVariants.{Done}
+use Rattle.mn_answer.specs.Endings.{Answers}
+use Rattle.mn_run.specs.declared.words.Job.{Job}
+use Rattle.mn_run.specs.declared.words.Job.TheVariants.{Run, Check, Generate, Nothing}
+use Rattle.mn_run.specs.Words.{word, job_of}
+use Rattle.mn_run.specs.Answer.{check_line, generated_line, job_answer}
 
 -- the script makes a journal of lawful steps, and every packet that it sends is accounted for: it reached only the site of the
 -- best route that its VRF held as it was sent, unchanged but for TTL and checksum, or it fell to the first rule that applied, or
@@ -75,15 +79,24 @@ abbrev pub IsGenerated : ℕ → List ℕ → Option (List ℕ) → Outcome → 
 IsGenerated number before written Done = TellsTotal number before written
 IsGenerated number before written outcome = ⊤
 
--- where all was done, a run over the files of these names keeps its promise
-abbrev pub IsKept : List ℕ → List ℕ → List ℕ → List ℕ → Files → List ℕ → Option Files → Option (List ℕ) → Outcome → Type 0
-IsKept topology script capture folder files before after written Done = KeepsItsPromise topology script capture folder files before after written
-IsKept topology script capture folder files before after written outcome = ⊤
+-- what each job has done: a run keeps its promise, a check tells the topology, and the generator's run tells the total and changes
+-- no file
+abbrev pub Keeps : Job → List (List ℕ) → Files → List ℕ → Option Files → Option (List ℕ) → Type 0
+Keeps Run words files before after written = KeepsItsPromise (word words 1) (word words 2) (word words 3) (word words 4) files before after written
+Keeps Check words files before after written = TellsTopology words files before after written
+Keeps (Generate number) words files before after written = TellsTotal number before written × (after ≡ Some files)
+Keeps Nothing words files before after written = ⊤
 
--- where all was done, a run keeps its promise, a check tells the topology, and the generator's run tells the total and changes no file
+-- where all was done, the job of the words was
+abbrev pub IsKept : Job → List (List ℕ) → Files → List ℕ → Option Files → Option (List ℕ) → Outcome → Type 0
+IsKept job words files before after written Done = Keeps job words files before after written
+IsKept job words files before after written outcome = ⊤
+
 abbrev pub HeadlineIs : List (List ℕ) → Files → List ℕ → Option Files → Option (List ℕ) → Outcome → Type 0
-HeadlineIs words files before after written Done =
-    (is_run words ≡ true → KeepsItsPromise (word words 1) (word words 2) (word words 3) (word words 4) files before after written)
-    × (is_check words ≡ true → TellsTopology words files before after written)
-    × ((number : ℕ) → generator_number words ≡ Some number → TellsTotal number before written × (after ≡ Some files))
-HeadlineIs words files before after written outcome = ⊤
+HeadlineIs words files before after written outcome = IsKept (job_of words) words files before after written outcome
+
+-- how a call ended for a job, where shelf and sink tell what they hold
+pub record Ends (job : Job) (words : List (List ℕ)) (files after : Option Files) (before written : Option (List ℕ)) (outcome : Outcome) : Type 0 where
+  pub answers : ForSome files (λ m. Answers (job_answer job words m) m after before written outcome)
+  pub kept : ForSome files (λ m. ForSome before (λ text. IsKept job words m text after written outcome))
+  pub told : (number : ℕ) → job ≡ Generate number → ForSome before (λ text. IsGenerated number text written outcome)

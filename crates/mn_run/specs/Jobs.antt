@@ -1,5 +1,5 @@
 -- What reading the inputs tells.
-use Rattle.std.specs.Prelude.{◌≡◌, ◌≢◌, ◌≤◌, ℕ, List, length, Option, Some, option_map, Result, Ok, Err, Vec, ⊤}
+use Rattle.std.specs.Prelude.{◌≡◌, ◌≤◌, ℕ, List, length, Option, Some, option_map, Result, Ok, Err, Vec, ⊤}
 use Rattle.std.specs.declared.alloc.Global.{Global}
 use Rattle.std.specs.Option.{ForSome}
 use Rattle.mn_base.specs.Limits.{most_script_lines, most_steps}
@@ -10,64 +10,32 @@ use Rattle.mn_perform.specs.declared.ended.Ended.TheVariants as ended
 use Rattle.mn_perform.specs.declared.ended.Fault.{Fault}
 use Rattle.mn_perform.specs.declared.ended.Fault.TheVariants as fault
 use Rattle.mn_script.specs.declared.command.Line.{Line}
-use Rattle.mn_script.specs.Script.{script_of, AllFit}
+use Rattle.mn_script.specs.Lines.{command_fits}
+use Rattle.mn_script.specs.Script.{command_says, script_of, AllFit}
 use Rattle.mn_pcap.specs.Reading as pcap
 use Rattle.mn_topo.specs.Network.{Network}
 use Rattle.mn_topo_toml.specs.Topology.{topology_of}
 use Rattle.mn_run.specs.declared.load.Inputs.{Inputs}
-use Rattle.mn_run.specs.declared.outcome.Limit.TheVariants.{Steps}
-use Rattle.mn_run.specs.declared.outcome.Outcome.{Outcome}
-use Rattle.mn_run.specs.declared.outcome.Outcome.TheVariants.{Done, Usage, ReadFault, WriteFault, NoMemory, BadTopology, BadScript, BadCapture, TooLarge}
+use Rattle.mn_answer.specs.declared.outcome.Limit.TheVariants.{Steps}
+use Rattle.mn_answer.specs.declared.outcome.Outcome.{Outcome}
+use Rattle.mn_answer.specs.declared.outcome.Outcome.TheVariants.{Done, ReadFault, WriteFault, NoMemory, TooLarge}
 use Rattle.mn_gen.specs.Topology.{topology_text}
 use Rattle.mn_gen.specs.Script.{script_text}
 use Rattle.mn_gen.specs.Capture.{capture_bytes}
 use Rattle.mn_perform.specs.Memory.{MemoryView, packets_at}
 use Rattle.mn_run.specs.declared.generate.Made.{Made}
-use Rattle.mn_run.specs.Answer.{Answer, refusal_of, run_done, answer_over, run_over, with_topology, with_script, with_capture, with_capture_bytes}
+use Rattle.mn_answer.specs.Answer.{Answer, refusal_of}
+use Rattle.mn_answer.specs.Inputs.{LinesAre, LinesFit}
+use Rattle.mn_run.specs.Answer.{run_done, answer_over, run_over, with_capture, with_capture_bytes}
 use Rattle.mn_run.specs.Answer.{generated_done, generated_over, generated}
 
--- an outcome that refuses the words or an input
-abbrev pub IsRefusal : Outcome → Type 0
-IsRefusal Usage = ⊤
-IsRefusal (BadTopology rule place) = ⊤
-IsRefusal (BadScript rule line) = ⊤
-IsRefusal (BadCapture rule place) = ⊤
-IsRefusal (TooLarge which limit) = which ≢ Steps
-IsRefusal outcome = ⊥
-
--- an outcome that refuses an input
-abbrev pub RefusesInput : Outcome → Type 0
-RefusesInput outcome = IsRefusal outcome × (outcome ≡ Usage → ⊥)
-
--- an outcome other than the refusal of an input by one of its rules
-abbrev pub HasPlainLine : Outcome → Type 0
-HasPlainLine (BadTopology rule place) = ⊥
-HasPlainLine (BadScript rule line) = ⊥
-HasPlainLine (BadCapture rule place) = ⊥
-HasPlainLine outcome = ⊤
-
--- an input was read, or refused
-abbrev pub IsSound : {T : Type 0} → Result T Outcome → Type 0
-IsSound (Ok x) = ⊤
-IsSound (Err outcome) = RefusesInput outcome
-
--- what follows a topology follows this one, or its refusal is the answer
-abbrev pub TopologyIs : Option (List ℕ) → Result Network Outcome → Type 0
-TopologyIs input (Ok topology) =
-    (option_map topology_of input ≡ Some (Ok topology)) × ((next : Network → Option Answer) → with_topology input next ≡ next topology)
-TopologyIs input (Err outcome) = (next : Network → Option Answer) → with_topology input next ≡ Some (refusal_of outcome)
-
--- the same of a script
+-- what follows a script follows this one, or its refusal is the answer
 abbrev pub ScriptIs : Network → Option (List ℕ) → Result (Vec Line Global) Outcome → Type 0
-ScriptIs topology input (Ok script) =
-    (option_map (script_of topology) input ≡ Some (Ok script.items))
-    × ((next : List Line → Option Answer) → with_script topology input next ≡ next script.items)
-ScriptIs topology input (Err outcome) = (next : List Line → Option Answer) → with_script topology input next ≡ Some (refusal_of outcome)
+ScriptIs topology input found = LinesAre (command_says topology) input found
 
 -- its lines fit the topology, and are few, also where the shelf tells no content
 abbrev pub ScriptFits : Network → Result (Vec Line Global) Outcome → Type 0
-ScriptFits topology (Ok script) = AllFit topology script.items × (length script.items ≤ most_script_lines)
-ScriptFits topology (Err outcome) = ⊤
+ScriptFits topology found = LinesFit (λ (line : Line). command_fits topology line.command) found
 
 -- the same of a capture, by the places of its records
 abbrev pub CaptureIs : Option (List ℕ) → Result CaptureView Outcome → Type 0

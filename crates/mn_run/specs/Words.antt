@@ -1,8 +1,10 @@
 -- The words of the command line.
-use Rattle.std.specs.Prelude.{ℕ, Bool, not, if◌then◌else◌, Option, None, is_some, ◌&&◌, ◌||◌, ◌==◌, nat_eq, List, [], length, slice_index_or, codes}
+use Rattle.std.specs.Prelude.{◌≡◌, ◌≤◌, ℕ, Bool, true, false, not, if◌then◌else◌, Option, Some, None, ◌&&◌, ◌||◌, ◌==◌, nat_eq, List, [], length, slice_index_or, codes, ⊤}
 use lib.Pointwise.{pointwise}
 use Rattle.mn_text.specs.Numbers.{number_up_to}
 use Rattle.mn_perform.specs.Inside.{is_inside}
+use Rattle.mn_run.specs.declared.words.Job.{Job}
+use Rattle.mn_run.specs.declared.words.Job.TheVariants.{Run, Check, Generate, Nothing}
 
 -- the word at this place, which is there where there are enough words
 abbrev pub word : List (List ℕ) → ℕ → List ℕ
@@ -22,6 +24,26 @@ is_check words = (length words == 2) && pointwise nat_eq (word words 0) (codes "
 abbrev pub generator_number : List (List ℕ) → Option ℕ
 generator_number words = if (length words == 2) && pointwise nat_eq (word words 0) (codes "generate") then number_up_to (word words 1) 99 else None
 
+-- what the words ask for
+abbrev pub generating : Option ℕ → Job
+generating None = Nothing
+generating (Some number) = Generate number
+
+abbrev pub job_of : List (List ℕ) → Job
+job_of words = if is_run words then Run else if is_check words then Check else generating (generator_number words)
+
+-- the words have the form of the job
+abbrev pub IsForm : Job → List (List ℕ) → Type 0
+IsForm Run words = is_run words ≡ true
+IsForm Check words = is_check words ≡ true
+IsForm (Generate number) words = number ≤ 99
+IsForm Nothing words = ⊤
+
+-- a job of the program
+abbrev pub is_job : Job → Bool
+is_job Nothing = false
+is_job job = true
+
 -- a command line of the program
 abbrev pub is_command : List (List ℕ) → Bool
-is_command words = is_run words || (is_check words || is_some (generator_number words))
+is_command words = is_job (job_of words)

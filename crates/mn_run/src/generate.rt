@@ -5,16 +5,16 @@ ghost use Rattle.mn_base.specs.Limits.{most_script_lines};
 ghost use Rattle.mn_script.specs.Script.{AllFit};
 ghost use Rattle.mn_perform.specs.Memory.{packets_at};
 ghost use Rattle.mn_run.specs.Answer.{generated_line, generated_done, generated};
-ghost use Rattle.mn_run.specs.Endings.{OutcomeIs, TextIs, CausedBy};
+ghost use Rattle.mn_answer.specs.Endings.{OutcomeIs, TextIs, CausedBy};
 ghost use Rattle.mn_run.specs.Headline.{IsGenerated};
 
-use crate::outcome::Outcome;
-use crate::parse::{parse_capture, parse_script, parse_topology};
-use crate::top::{outcome_of, refuse};
+use crate::parse::parse_capture;
+use crate::top::outcome_of;
+use mn_answer::{Outcome, parse_lines, parse_topology, refuse};
 use mn_edge::Sink;
 use mn_gen::{capture_bytes, script_text, topology_text};
 use mn_perform::{MemoryCapture, tally};
-use mn_script::Line;
+use mn_script::{Commands, Line};
 use mn_topo::Topology;
 use std::alloc::{AllocError, Global};
 
@@ -26,7 +26,8 @@ pub(crate) struct Made {
     pub capture: MemoryCapture,
 }
 
-ghost use Rattle.mn_run.specs.Jobs.{IsSound, MadeIs, MadeOverIs};
+ghost use Rattle.mn_answer.specs.Inputs.{IsSound};
+ghost use Rattle.mn_run.specs.Jobs.{MadeIs, MadeOverIs};
 
 /// Makes the inputs of a number, and plays them. No file is written; its number is put, and what all came to.
 pub(crate) fn generate<O: Sink>(alloc: Global, number: u32, out: &mut O) -> Outcome
@@ -40,7 +41,7 @@ pub(crate) fn generate<O: Sink>(alloc: Global, number: u32, out: &mut O) -> Outc
     match make(alloc, number) {
         Ok(Ok(made)) => {
             made.topology.laws();
-            play_made(alloc, number, made, out)
+            run_made(alloc, number, made, out)
         }
         Ok(Err(outcome)) => refuse(alloc, out, outcome),
         Err(_) => Outcome::NoMemory,
@@ -71,7 +72,7 @@ fn make_over(
     ensures sound { IfOk result IsSound }
 {
     let bytes = script_text(alloc, number)?;
-    let lines = match parse_script(alloc, &topology, &bytes)? {
+    let lines = match parse_lines(alloc, &Commands(&topology), &bytes)? {
         Ok(lines) => lines,
         Err(outcome) => return Ok(Err(outcome)),
     };
@@ -92,7 +93,7 @@ fn generated_line(alloc: Global, number: u32) -> Result<String, AllocError>
 }
 
 /// Plays the script of inputs that were made.
-fn play_made<O: Sink>(alloc: Global, number: u32, made: Made, out: &mut O) -> Outcome
+fn run_made<O: Sink>(alloc: Global, number: u32, made: Made, out: &mut O) -> Outcome
     requires fit { AllFit made.topology made.lines.items }
     requires few { length made.lines.items ≤ most_script_lines }
     ensures outcome { OutcomeIs (Some (generated_done number made.topology made.lines.items (packets_at made.capture))) result }

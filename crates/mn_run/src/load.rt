@@ -1,17 +1,14 @@
-//! Reading the inputs.
-ghost use Rattle.std.specs.Prelude.{◌≡◌, Err, IfOk};
+//! The inputs of a run from their files.
+ghost use Rattle.std.specs.Prelude.{◌≡◌, IfOk};
 ghost use Rattle.std.specs.Option.{ForSome};
 ghost use Rattle.mn_edge.specs.Faults.{Counted};
 ghost use Rattle.mn_edge.specs.Files.{file};
 
-use crate::outcome::{Limit, Outcome};
-use crate::parse::{
-    MOST_CAPTURE_BYTES, MOST_CAPTURE_RECORDS, MOST_SCRIPT_BYTES, MOST_TOPOLOGY_BYTES, parse_script,
-    parse_topology, too_large,
-};
+use crate::parse::{MOST_CAPTURE_BYTES, MOST_CAPTURE_RECORDS};
+use mn_answer::{Limit, Outcome, load_lines, load_topology, too_large};
 use mn_capture::{Capture, Scanned, scan};
-use mn_edge::{Content, DeviceBad, Shelf, read_all};
-use mn_script::Line;
+use mn_edge::{DeviceBad, Shelf};
+use mn_script::{Commands, Line};
 use mn_topo::Topology;
 use std::alloc::Global;
 
@@ -23,51 +20,8 @@ pub(crate) struct Inputs {
     pub capture: Capture,
 }
 
-ghost use Rattle.mn_run.specs.Jobs.{IsSound, TopologyIs, ScriptIs, ScriptFits, CaptureIs, CaptureOf, OverIs, LoadedIs, InputsFit};
-
-/// Reads a topology, or its refusal.
-pub(crate) fn load_topology<S: Shelf>(
-    alloc: Global,
-    name: &str,
-    shelf: &mut S,
-) -> Result<Result<Topology, Outcome>, DeviceBad>
-    ensures answer { IfOk result (λ t. ForSome (S.files shelf.old) (λ files. TopologyIs (file files name.now) t)) }
-    ensures sound { IfOk result IsSound }
-    ensures same { S.files shelf.new ≡ S.files shelf.old }
-    ensures reads { Counted (S.read_faults shelf.old) (S.read_faults shelf.new) result }
-    ensures writes { S.write_faults shelf.new ≡ S.write_faults shelf.old }
-{
-    match read_all(alloc, shelf, name, MOST_TOPOLOGY_BYTES)? {
-        Content::TooLarge => Ok(Err(too_large(Limit::TopologyBytes, MOST_TOPOLOGY_BYTES))),
-        Content::Whole(bytes) => match parse_topology(alloc, &bytes) {
-            Ok(found) => Ok(found),
-            Err(_) => Err(DeviceBad::NoMemory),
-        },
-    }
-}
-
-/// Reads a script over a topology, or its refusal.
-fn load_script<S: Shelf>(
-    alloc: Global,
-    name: &str,
-    shelf: &mut S,
-    topology: &Topology,
-) -> Result<Result<Vec<Line>, Outcome>, DeviceBad>
-    ensures answer { IfOk result (λ s. ForSome (S.files shelf.old) (λ files. ScriptIs topology.now (file files name.now) s)) }
-    ensures fits { IfOk result (ScriptFits topology.now) }
-    ensures sound { IfOk result IsSound }
-    ensures same { S.files shelf.new ≡ S.files shelf.old }
-    ensures reads { Counted (S.read_faults shelf.old) (S.read_faults shelf.new) result }
-    ensures writes { S.write_faults shelf.new ≡ S.write_faults shelf.old }
-{
-    match read_all(alloc, shelf, name, MOST_SCRIPT_BYTES)? {
-        Content::TooLarge => Ok(Err(too_large(Limit::ScriptBytes, MOST_SCRIPT_BYTES))),
-        Content::Whole(bytes) => match parse_script(alloc, topology, &bytes) {
-            Ok(found) => Ok(found),
-            Err(_) => Err(DeviceBad::NoMemory),
-        },
-    }
-}
+ghost use Rattle.mn_answer.specs.Inputs.{IsSound};
+ghost use Rattle.mn_run.specs.Jobs.{CaptureIs, CaptureOf, OverIs, LoadedIs, InputsFit};
 
 /// Finds the records of a capture, or its refusal.
 fn load_capture<S: Shelf>(
@@ -126,7 +80,7 @@ fn load_over<S: Shelf>(
     ensures reads { Counted (S.read_faults shelf.old) (S.read_faults shelf.new) result }
     ensures writes { S.write_faults shelf.new ≡ S.write_faults shelf.old }
 {
-    let lines = match load_script(alloc, script, shelf, &topology)? {
+    let lines = match load_lines(alloc, script, shelf, &Commands(&topology))? {
         Ok(lines) => lines,
         Err(outcome) => return Ok(Err(outcome)),
     };

@@ -2,15 +2,45 @@
 ghost use Rattle.std.specs.Prelude.{◌≡◌, ◌≤◌, IfSome};
 ghost use Rattle.mn_edge.specs.Written.{texts};
 ghost use Rattle.mn_perform.specs.Inside.{is_inside};
-ghost use Rattle.mn_run.specs.Words.{is_run, is_check, generator_number};
+ghost use Rattle.mn_run.specs.Words.{is_run, is_check, generator_number, job_of, IsForm};
 
 use mn_text::number_up_to;
 
 /// The greatest number of the generator.
 const MOST_NUMBER: u64 = 99;
 
+/// What the words of a command line ask for.
+#[derive(Clone, Copy, Debug, PartialEq, Eq)]
+pub(crate) enum Job {
+    /// `run TOPOLOGY SCRIPT CAPTURE FOLDER`.
+    Run,
+    /// `check TOPOLOGY`.
+    Check,
+    /// `generate NUMBER`, from 0 to 99.
+    Generate(u32),
+    /// Nothing that the program does.
+    Nothing,
+}
+
+/// What the words ask for.
+pub(crate) fn parse_job(words: &[String]) -> Job
+    ensures value { result ≡ job_of (texts words.now) }
+    ensures form { IsForm result (texts words.now) }
+{
+    if is_run(words) {
+        Job::Run
+    } else if is_check(words) {
+        Job::Check
+    } else {
+        match generator_number(words) {
+            Some(number) => Job::Generate(number),
+            None => Job::Nothing,
+        }
+    }
+}
+
 /// Whether the words are `run TOPOLOGY SCRIPT CAPTURE FOLDER`, and no input lies in the folder that is written.
-pub(crate) fn is_run(words: &[String]) -> bool
+fn is_run(words: &[String]) -> bool
     ensures { result ≡ is_run (texts words.now) }
 {
     let [command, topology, script, capture, folder] = words else {
@@ -26,7 +56,7 @@ pub(crate) fn is_run(words: &[String]) -> bool
 }
 
 /// Whether the words are `check TOPOLOGY`.
-pub(crate) fn is_check(words: &[String]) -> bool
+fn is_check(words: &[String]) -> bool
     ensures { result ≡ is_check (texts words.now) }
 {
     let [command, _] = words else {
@@ -36,7 +66,7 @@ pub(crate) fn is_check(words: &[String]) -> bool
 }
 
 /// The number of `generate NUMBER`, from 0 to 99.
-pub(crate) fn generator_number(words: &[String]) -> Option<u32>
+fn generator_number(words: &[String]) -> Option<u32>
     ensures number { result ≡ generator_number (texts words.now) }
     ensures small { IfSome result (λ number. number ≤ 99) }
 {

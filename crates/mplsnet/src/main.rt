@@ -8,8 +8,8 @@
 
 ghost use Rattle.std.specs.Prelude.{◌≡◌, Ok, Err};
 ghost use Rattle.mn_edge.specs.declared.device.DeviceBad.TheVariants as bad;
-ghost use Rattle.mn_run.specs.declared.outcome.Outcome.TheVariants as ends;
-ghost use Rattle.mn_run.specs.Status.{status_of};
+ghost use Rattle.mn_answer.specs.declared.outcome.Outcome.TheVariants as ends;
+ghost use Rattle.mn_answer.specs.Status.{status_of};
 
 use mn_edge::{DeviceBad, Sink};
 use mn_edge_real::{HostShelf, HostSink};

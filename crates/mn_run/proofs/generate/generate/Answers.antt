@@ -6,5 +6,5 @@ use Rattle.mn_run.proofs.generate.generate.Goals as goal
 pub returns-in-Ok-Ok-clause-told : goal.returns-in-Ok-Ok-clause-told
 returns-in-Ok-Ok-clause-told g c = λ before is.
     let are : AreMade c.args.number c.in-Ok-Ok.made = subst (MadeIs c.args.number) c.in-Ok-Ok.field-0-is c.in-Ok-Ok.ensures.answer in
-    total_told c.args.number c.in-Ok-Ok.made are c.laws.ensures before (g.O.Sink.written c.play_made.new.out) c.play_made.result
-    c.play_made.ensures.outcome (c.play_made.ensures.text before is)
+    total_told c.args.number c.in-Ok-Ok.made are c.laws.ensures before (g.O.Sink.written c.run_made.new.out) c.run_made.result
+    c.run_made.ensures.outcome (c.run_made.ensures.text before is)

@@ -1,6 +1,6 @@
 use Rattle.std.proofs.Common.{Some, ◌∙◌, subst}
-use Rattle.mn_run.specs.Jobs.{TopologyIs}
-use Rattle.mn_run.proofs.Results.{if_ok}
+use Rattle.mn_answer.specs.Inputs.{TopologyIs}
+use Rattle.mn_answer.proofs.Results.{if_ok}
 use Rattle.mn_run.proofs.Generating.{made, topology_refused}
 use Rattle.mn_run.proofs.generate.make.Goals as goal
 

@@ -1,7 +1,7 @@
 use Rattle.std.proofs.Common.{◌∙◌, subst}
 use Rattle.mn_edge.specs.Files.{file}
-use Rattle.mn_run.specs.Jobs.{TopologyIs}
-use Rattle.mn_run.proofs.Results.{if_ok}
+use Rattle.mn_answer.specs.Inputs.{TopologyIs}
+use Rattle.mn_answer.proofs.Results.{if_ok}
 use Rattle.mn_run.proofs.Loading.{loaded}
 use Rattle.mn_run.proofs.load.load.Goals as goal
 

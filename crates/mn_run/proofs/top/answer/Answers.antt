@@ -1,60 +1,47 @@
-use Rattle.std.proofs.Common.{◌≡◌, true, false, sym, ◌∙◌, ap, subst, if◌then◌else◌}
+use Rattle.std.proofs.Common.{true, refl, subst}
 use Rattle.mn_edge.specs.Written.{texts}
-use Rattle.mn_run.specs.Words.{is_run, is_check, generator_number}
-use Rattle.mn_run.specs.Answer.{run_answer, check_answer, generate_answer, answer_of}
-use Rattle.mn_run.specs.Endings.{FilesAre, TextIs, IsLate, IsUnread}
-use Rattle.mn_run.proofs.Ending.{sink_unread}
-use Rattle.mn_run.proofs.Generating.{check_is, other_is, writes_none, files_stay, late_stays}
+use Rattle.mn_answer.specs.Endings.{UsageIff}
+use Rattle.mn_answer.proofs.Ending.{not_usage, is_usage}
+use Rattle.mn_run.specs.Words.{is_job}
+use Rattle.mn_run.specs.Headline.{Ends}
+use Rattle.mn_run.proofs.Doing.{generate_ends, usage_ends}
 use Rattle.mn_run.proofs.top.answer.Goals as goal
 
-pub returns-then-is_run-clause-text : goal.returns-then-is_run-clause-text
-returns-then-is_run-clause-text g c = λ m is before begun.
-    let run : is_run (texts c.args.words.now) ≡ true = sym c.is_run.ensures ∙ c.if-is_run.true in
-    let here : answer_of (texts c.args.words.now) m ≡ run_answer (texts c.args.words.now) m =
-    ap (λ b. if b then run_answer (texts c.args.words.now) m else if is_check (texts c.args.words.now) then check_answer
-    (texts c.args.words.now) m else generate_answer (generator_number (texts c.args.words.now))) run in
-    subst (λ a. TextIs a before (g.O.Sink.written c.run.new.out) c.run.result) (sym here) (c.run.ensures.text m is before begun)
+pub returns-in-Run-clause-ends : goal.returns-in-Run-clause-ends
+returns-in-Run-clause-ends g c =
+    subst (λ j. Ends j (texts c.args.words.now) (g.S.Shelf.files c.args.shelf.now) (g.S.Shelf.files c.run.new.shelf) (g.O.Sink.written c.args.out.now)
+    (g.O.Sink.written c.run.new.out) c.run.result) c.in-Run.ensures.value c.run.ensures.ends
 
-pub returns-then-is_check-clause-text : goal.returns-then-is_check-clause-text
-returns-then-is_check-clause-text g c = λ m is before begun.
-    let run : is_run (texts c.args.words.now) ≡ false = sym c.is_run.ensures ∙ c.if-is_run.false in
-    let check : is_check (texts c.args.words.now) ≡ true = sym c.is_check.ensures ∙ c.if-is_check.true in
-    subst (λ a. TextIs a before (g.O.Sink.written c.check.new.out) c.check.result) (sym (check_is (texts c.args.words.now) m run check))
-    (c.check.ensures.text m is before begun)
+pub returns-in-Run-clause-usage : goal.returns-in-Run-clause-usage
+returns-in-Run-clause-usage g c = subst (λ j. UsageIff (is_job j) c.run.result) c.in-Run.ensures.value (not_usage true c.run.result refl c.run.ensures.usage)
 
-pub returns-then-is_run-clause-unread : goal.returns-then-is_run-clause-unread
-returns-then-is_run-clause-unread g c = λ m is before begun.
-    let run : is_run (texts c.args.words.now) ≡ true = sym c.is_run.ensures ∙ c.if-is_run.true in
-    let here : answer_of (texts c.args.words.now) m ≡ run_answer (texts c.args.words.now) m =
-    ap (λ b. if b then run_answer (texts c.args.words.now) m else if is_check (texts c.args.words.now) then check_answer
-    (texts c.args.words.now) m else generate_answer (generator_number (texts c.args.words.now))) run in
-    subst (λ a. IsUnread a m (g.S.Shelf.files c.run.new.shelf) before (g.O.Sink.written c.run.new.out) c.run.result) (sym here)
-    (c.run.ensures.unread m is before begun)
+pub returns-in-Check-clause-ends : goal.returns-in-Check-clause-ends
+returns-in-Check-clause-ends g c =
+    subst (λ j. Ends j (texts c.args.words.now) (g.S.Shelf.files c.args.shelf.now) (g.S.Shelf.files c.check.new.shelf) (g.O.Sink.written c.args.out.now)
+    (g.O.Sink.written c.check.new.out) c.check.result) c.in-Check.ensures.value c.check.ensures.ends
 
-pub returns-then-is_check-clause-unread : goal.returns-then-is_check-clause-unread
-returns-then-is_check-clause-unread g c = λ m is before begun.
-    let run : is_run (texts c.args.words.now) ≡ false = sym c.is_run.ensures ∙ c.if-is_run.false in
-    let check : is_check (texts c.args.words.now) ≡ true = sym c.is_check.ensures ∙ c.if-is_check.true in
-    subst (λ a. IsUnread a m (g.S.Shelf.files c.check.new.shelf) before (g.O.Sink.written c.check.new.out) c.check.result)
-    (sym (check_is (texts c.args.words.now) m run check))
-    (c.check.ensures.unread m is before begun)
+pub returns-in-Check-clause-usage : goal.returns-in-Check-clause-usage
+returns-in-Check-clause-usage g c =
+    subst (λ j. UsageIff (is_job j) c.check.result) c.in-Check.ensures.value (not_usage true c.check.result refl c.check.ensures.usage)
 
-pub returns-else-is_check-clause-files : goal.returns-else-is_check-clause-files
-returns-else-is_check-clause-files g c = λ m is.
-    let run : is_run (texts c.args.words.now) ≡ false = sym c.is_run.ensures ∙ c.if-is_run.false in
-    let check : is_check (texts c.args.words.now) ≡ false = sym c.is_check.ensures ∙ c.if-is_check.false in
-    subst (λ a. FilesAre a m (g.S.Shelf.files c.args.shelf.now) c.generate_or_refuse.result) (sym (other_is (texts c.args.words.now) m run check))
-    (files_stay (generate_answer (generator_number (texts c.args.words.now))) m _ c.generate_or_refuse.result
-    (writes_none (generator_number (texts c.args.words.now)))
-    c.generate_or_refuse.ensures.outcome is)
+pub returns-in-Generate-clause-ends : goal.returns-in-Generate-clause-ends
+returns-in-Generate-clause-ends g c =
+    subst (λ j. Ends j (texts c.args.words.now) (g.S.Shelf.files c.args.shelf.now) (g.S.Shelf.files c.args.shelf.now) (g.O.Sink.written c.args.out.now)
+    (g.O.Sink.written c.generate.new.out) c.generate.result) c.in-Generate.ensures.value
+    (generate_ends (texts c.args.words.now) _ _ _ _ _ _ c.generate.result c.generate.ensures.outcome c.generate.ensures.text c.generate.ensures.cause
+    c.generate.ensures.told)
 
-pub returns-else-is_check-clause-late : goal.returns-else-is_check-clause-late
-returns-else-is_check-clause-late g c = λ m is before begun.
-    let run : is_run (texts c.args.words.now) ≡ false = sym c.is_run.ensures ∙ c.if-is_run.false in
-    let check : is_check (texts c.args.words.now) ≡ false = sym c.is_check.ensures ∙ c.if-is_check.false in
-    subst (λ a. IsLate a m (g.S.Shelf.files c.args.shelf.now) before (g.O.Sink.written c.generate_or_refuse.new.out))
-    (sym (other_is (texts c.args.words.now) m run check))
-    (late_stays (generate_answer (generator_number (texts c.args.words.now))) m _ before _ (writes_none (generator_number (texts c.args.words.now))) is)
+pub returns-in-Generate-clause-usage : goal.returns-in-Generate-clause-usage
+returns-in-Generate-clause-usage g c =
+    subst (λ j. UsageIff (is_job j) c.generate.result) c.in-Generate.ensures.value (not_usage true c.generate.result refl c.generate.ensures.usage)
 
-pub returns-else-is_check-clause-unread : goal.returns-else-is_check-clause-unread
-returns-else-is_check-clause-unread g c = λ m is before begun. sink_unread _ m _ before _ _ _ c.generate_or_refuse.result c.generate_or_refuse.ensures.cause
+pub returns-in-Nothing-clause-ends : goal.returns-in-Nothing-clause-ends
+returns-in-Nothing-clause-ends g c =
+    subst (λ j. Ends j (texts c.args.words.now) (g.S.Shelf.files c.args.shelf.now) (g.S.Shelf.files c.args.shelf.now) (g.O.Sink.written c.args.out.now)
+    (g.O.Sink.written c.refuse.new.out) c.refuse.result) c.in-Nothing.ensures.value
+    (usage_ends (texts c.args.words.now) _ _ _ _ _ c.refuse.result c.refuse.ensures.outcome c.refuse.ensures.text c.refuse.ensures.cause
+    c.refuse.ensures.undone)
+
+pub returns-in-Nothing-clause-usage : goal.returns-in-Nothing-clause-usage
+returns-in-Nothing-clause-usage g c =
+    subst (λ j. UsageIff (is_job j) c.refuse.result) c.in-Nothing.ensures.value (is_usage _ _ c.refuse.result c.refuse.ensures.outcome c.refuse.ensures.cause)

@@ -1,27 +1,28 @@
-use Rattle.std.proofs.Common.{◌≡◌, length, sym, subst, arith}
+use Rattle.std.proofs.Common.{◌≡◌, Ok, Err, length, sym, ◌∙◌, ap, subst, arith}
 use Rattle.mn_edge.specs.Written.{texts}
+use Rattle.mn_perform.specs.Inside.{is_inside}
+use Rattle.mn_answer.specs.Endings.{Answers}
+use Rattle.mn_run.specs.declared.words.Job.TheVariants.{Run}
 use Rattle.mn_run.specs.Words.{word}
-use Rattle.mn_run.specs.Endings.{TextIs, IsUnread}
-use Rattle.mn_run.specs.Headline.{IsKept}
-use Rattle.mn_run.proofs.Loading.{word_at, run_len, run_names}
+use Rattle.mn_run.specs.Jobs.{LoadedIs, InputsFit, ForDone}
+use Rattle.mn_run.proofs.Doing.{run_makes_none, run_ends, refusal_ends, fault_ends, memory_ends}
+use Rattle.mn_run.proofs.Forms.{apart}
+use Rattle.mn_run.proofs.Loading.{word_at, run_len, loaded_by_words}
 use Rattle.mn_run.proofs.top.run.Goals as goal
 
-pub returns-clause-text : goal.returns-clause-text
-returns-clause-text g c = λ m is before begun.
+pub run_inputs-requires-clause-apart : goal.run_inputs-requires-clause-apart
+run_inputs-requires-clause-apart g c =
     let five : length c.args.words.now ≡ 5 = run_len c.args.words.now c.requires in
-    let one : word (texts c.args.words.now) 1 ≡ c.as_str.result.now =
-    word_at c.args.words.now 1 c.index-words-1.result c.as_str.result.now (omega (arith, five)) c.index-words-1.is c.as_str.ensures.value in
-    let two : word (texts c.args.words.now) 2 ≡ c.as_str-2.result.now =
-    word_at c.args.words.now 2 c.index-words-2.result c.as_str-2.result.now (omega (arith, five)) c.index-words-2.is c.as_str-2.ensures.value in
     let three : word (texts c.args.words.now) 3 ≡ c.as_str-3.result.now =
     word_at c.args.words.now 3 c.index-words-3.result c.as_str-3.result.now (omega (arith, five)) c.index-words-3.is c.as_str-3.ensures.value in
-    let four : word (texts c.args.words.now) 4 ≡ c.as_str-4.result.now =
-    word_at c.args.words.now 4 c.index-words-4.result c.as_str-4.result.now (omega (arith, five)) c.index-words-4.is c.as_str-4.ensures.value in
-    subst (λ a. TextIs a before (g.O.Sink.written c.run_over.new.out) c.run_over.result) (sym (run_names (texts c.args.words.now) _ _ _ _ m one two three four))
-    (c.run_over.ensures.text m is before begun)
+    let four : word (texts c.args.words.now) 4 ≡ c.as_str-folder.result.now =
+    word_at c.args.words.now 4 c.index-words-4.result c.as_str-folder.result.now (omega (arith, five)) c.index-words-4.is c.as_str-folder.ensures.value in
+    let fit : InputsFit c.as_str-3.result.now (Ok c.in-Ok-Ok.inputs) = subst (InputsFit c.as_str-3.result.now) c.in-Ok-Ok.field-0-is c.in-Ok-Ok.ensures.fits in
+    ap (λ name. is_inside name c.as_str-folder.result.now) (fit.2 ∙ sym three) ∙ ap (is_inside (word (texts c.args.words.now) 3)) (sym four)
+    ∙ apart (texts c.args.words.now) c.requires
 
-pub returns-clause-unread : goal.returns-clause-unread
-returns-clause-unread g c = λ m is before begun.
+pub returns-in-Ok-Ok-clause-ends : goal.returns-in-Ok-Ok-clause-ends
+returns-in-Ok-Ok-clause-ends g c =
     let five : length c.args.words.now ≡ 5 = run_len c.args.words.now c.requires in
     let one : word (texts c.args.words.now) 1 ≡ c.as_str.result.now =
     word_at c.args.words.now 1 c.index-words-1.result c.as_str.result.now (omega (arith, five)) c.index-words-1.is c.as_str.ensures.value in
@@ -29,14 +30,21 @@ returns-clause-unread g c = λ m is before begun.
     word_at c.args.words.now 2 c.index-words-2.result c.as_str-2.result.now (omega (arith, five)) c.index-words-2.is c.as_str-2.ensures.value in
     let three : word (texts c.args.words.now) 3 ≡ c.as_str-3.result.now =
     word_at c.args.words.now 3 c.index-words-3.result c.as_str-3.result.now (omega (arith, five)) c.index-words-3.is c.as_str-3.ensures.value in
-    let four : word (texts c.args.words.now) 4 ≡ c.as_str-4.result.now =
-    word_at c.args.words.now 4 c.index-words-4.result c.as_str-4.result.now (omega (arith, five)) c.index-words-4.is c.as_str-4.ensures.value in
-    subst (λ a. IsUnread a m (g.S.Shelf.files c.run_over.new.shelf) before (g.O.Sink.written c.run_over.new.out) c.run_over.result)
-    (sym (run_names (texts c.args.words.now) _ _ _ _ m one two three four))
-    (c.run_over.ensures.unread m is before begun)
+    let four : word (texts c.args.words.now) 4 ≡ c.as_str-folder.result.now =
+    word_at c.args.words.now 4 c.index-words-4.result c.as_str-folder.result.now (omega (arith, five)) c.index-words-4.is c.as_str-folder.ensures.value in
+    let fit : InputsFit c.as_str-3.result.now (Ok c.in-Ok-Ok.inputs) = subst (InputsFit c.as_str-3.result.now) c.in-Ok-Ok.field-0-is c.in-Ok-Ok.ensures.fits in
+    run_ends (texts c.args.words.now) c.in-Ok-Ok.inputs _ _ _ _ c.run_inputs.result
+    (λ m is. loaded_by_words (texts c.args.words.now) _ _ _ m (Ok c.in-Ok-Ok.inputs) one two three
+    (subst (LoadedIs c.as_str.result.now c.as_str-2.result.now c.as_str-3.result.now m) c.in-Ok-Ok.field-0-is (c.in-Ok-Ok.ensures.answer m is)))
+    (fit.2 ∙ sym three) c.laws.ensures fit.0
+    (subst (λ n. ForDone (λ answer m. Answers answer m (g.S.Shelf.files c.run_inputs.new.shelf) (g.O.Sink.written c.args.out.now) (g.O.Sink.written c.run_inputs.new.out)
+    c.run_inputs.result) n c.in-Ok-Ok.inputs.topology c.in-Ok-Ok.inputs.lines.items c.in-Ok-Ok.inputs.capture (g.S.Shelf.files c.args.shelf.now)) (sym four)
+    (subst (ForDone (λ answer m. Answers answer m (g.S.Shelf.files c.run_inputs.new.shelf) (g.O.Sink.written c.args.out.now) (g.O.Sink.written c.run_inputs.new.out)
+    c.run_inputs.result) c.as_str-folder.result.now c.in-Ok-Ok.inputs.topology c.in-Ok-Ok.inputs.lines.items c.in-Ok-Ok.inputs.capture) c.load.ensures.same
+    c.run_inputs.ensures.answers))
 
-pub returns-clause-kept : goal.returns-clause-kept
-returns-clause-kept g c = λ m is before begun.
+pub returns-in-Ok-Err-clause-ends : goal.returns-in-Ok-Err-clause-ends
+returns-in-Ok-Err-clause-ends g c =
     let five : length c.args.words.now ≡ 5 = run_len c.args.words.now c.requires in
     let one : word (texts c.args.words.now) 1 ≡ c.as_str.result.now =
     word_at c.args.words.now 1 c.index-words-1.result c.as_str.result.now (omega (arith, five)) c.index-words-1.is c.as_str.ensures.value in
@@ -44,16 +52,14 @@ returns-clause-kept g c = λ m is before begun.
     word_at c.args.words.now 2 c.index-words-2.result c.as_str-2.result.now (omega (arith, five)) c.index-words-2.is c.as_str-2.ensures.value in
     let three : word (texts c.args.words.now) 3 ≡ c.as_str-3.result.now =
     word_at c.args.words.now 3 c.index-words-3.result c.as_str-3.result.now (omega (arith, five)) c.index-words-3.is c.as_str-3.ensures.value in
-    let four : word (texts c.args.words.now) 4 ≡ c.as_str-4.result.now =
-    word_at c.args.words.now 4 c.index-words-4.result c.as_str-4.result.now (omega (arith, five)) c.index-words-4.is c.as_str-4.ensures.value in
-    let kept = c.run_over.ensures.kept m is before begun in
-    subst (λ n. IsKept n (word (texts c.args.words.now) 2) (word (texts c.args.words.now) 3) (word (texts c.args.words.now) 4) m before
-    (g.S.Shelf.files c.run_over.new.shelf)
-    (g.O.Sink.written c.run_over.new.out) c.run_over.result) (sym one)
-    (subst (λ n. IsKept c.as_str.result.now n (word (texts c.args.words.now) 3) (word (texts c.args.words.now) 4) m before
-    (g.S.Shelf.files c.run_over.new.shelf)
-    (g.O.Sink.written c.run_over.new.out) c.run_over.result) (sym two)
-    (subst (λ n. IsKept c.as_str.result.now c.as_str-2.result.now n (word (texts c.args.words.now) 4) m before (g.S.Shelf.files c.run_over.new.shelf)
-    (g.O.Sink.written c.run_over.new.out) c.run_over.result) (sym three)
-    (subst (λ n. IsKept c.as_str.result.now c.as_str-2.result.now c.as_str-3.result.now n m before (g.S.Shelf.files c.run_over.new.shelf)
-    (g.O.Sink.written c.run_over.new.out) c.run_over.result) (sym four) kept)))
+    refusal_ends Run (texts c.args.words.now) c.in-Ok-Err.outcome _ _ _ _ _ _ c.refuse.result run_makes_none
+    (λ m is. loaded_by_words (texts c.args.words.now) _ _ _ m (Err c.in-Ok-Err.outcome) one two three
+    (subst (LoadedIs c.as_str.result.now c.as_str-2.result.now c.as_str-3.result.now m) c.in-Ok-Err.field-0-is (c.in-Ok-Err.ensures.answer m is))
+    (word (texts c.args.words.now) 4))
+    c.load.ensures.same c.refuse.ensures.outcome c.refuse.ensures.text c.refuse.ensures.cause c.refuse.ensures.undone
+
+pub returns-in-Err-Failed-clause-ends : goal.returns-in-Err-Failed-clause-ends
+returns-in-Err-Failed-clause-ends g c = fault_ends Run (texts c.args.words.now) _ _ _ c.load.ensures.same
+
+pub returns-in-Err-NoMemory-clause-ends : goal.returns-in-Err-NoMemory-clause-ends
+returns-in-Err-NoMemory-clause-ends g c = memory_ends Run (texts c.args.words.now) _ _ _ c.load.ensures.same

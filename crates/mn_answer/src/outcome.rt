@@ -45,7 +45,7 @@ pub enum Outcome {
     TooLarge { which: Limit, limit: u64 },
 }
 
-ghost use Rattle.mn_run.specs.Status.{status_of};
+ghost use Rattle.mn_answer.specs.Status.{status_of};
 
 impl Outcome {
     /// The status with which the program ends.

@@ -5,10 +5,10 @@ use Rattle.mn_perform.specs.Memory.{packets_at}
 use Rattle.mn_perform.specs.Running.{is_stopped}
 use Rattle.mn_perform.specs.Total.{total_text, PutsWhole}
 use Rattle.mn_run.specs.Answer.{generated_line, generated_done}
-use Rattle.mn_run.specs.Endings.{OutcomeIs, TextIs, CausedBy}
+use Rattle.mn_answer.specs.Endings.{OutcomeIs, TextIs, CausedBy}
 use Rattle.std.specs.Prelude.{Some}
 use Rattle.mn_run.proofs.Generating.{ends, tells, sink_blames}
-use Rattle.mn_run.proofs.generate.play_made.Goals as goal
+use Rattle.mn_run.proofs.generate.run_made.Goals as goal
 
 pub returns-clause-outcome : goal.returns-clause-outcome
 returns-clause-outcome g c =

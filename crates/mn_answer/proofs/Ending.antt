@@ -1,14 +1,22 @@
 -- What is left where a call is cut off.
-use Rattle.std.proofs.Common.{◌≡◌, ◌≤◌, ◌+◌, ℕ, arith, List, [], ◌∷◌, ◌++◌, take, drop, Option, Some}
-use Rattle.std.proofs.Common.{None, refl, sym, ◌∙◌, ap, append_assoc, inl, inr, IsSomeAnd, Bool, true, subst}
+use Rattle.std.proofs.Common.{◌≡◌, ◌≤◌, ℕ, arith, List, [], ◌∷◌, ◌++◌, take, drop, Option, Some}
+use Rattle.std.proofs.Common.{None, refl, sym, ◌∙◌, ap, append_assoc, inl, inr, IsSomeAnd, Bool, true, false, subst, if◌then◌else◌, MatchOption, Result, Ok, Err}
+use Rattle.std.specs.Prelude.{⊤}
+use Rattle.std.specs.Option.{ForSome}
+use Rattle.mn_base.specs.Limits.{most_script_lines}
+use Rattle.mn_script.specs.declared.refusal.ScriptRule.{ScriptRule}
+use Rattle.mn_topo.specs.Network.{Network}
+use Rattle.mn_topo_toml.specs.declared.refusal.TopoRule.{TopoRule}
+use Rattle.mn_topo_toml.specs.declared.refusal.Place.{Place}
+use Rattle.mn_answer.specs.declared.outcome.Limit.TheVariants.{TopologyBytes, ScriptBytes, ScriptLines}
 use Rattle.std.proofs.lemmas.List.{take-append-drop, append-nil}
 use Rattle.mn_edge.specs.Files.{Files}
 use Rattle.mn_edge.specs.Written.{laid, IsPart, PartWritten}
-use Rattle.mn_run.specs.declared.outcome.Outcome.{Outcome}
-use Rattle.mn_run.specs.declared.outcome.Outcome.TheVariants.{Done, Usage, ReadFault, WriteFault, NoMemory, BadTopology, BadScript, BadCapture, TooLarge}
+use Rattle.mn_answer.specs.declared.outcome.Outcome.{Outcome}
+use Rattle.mn_answer.specs.declared.outcome.Outcome.TheVariants.{Done, Usage, ReadFault, WriteFault, NoMemory, BadTopology, BadScript, BadCapture, TooLarge}
 use Rattle.mn_lines.specs.Putting.{PartPut}
-use Rattle.mn_run.specs.Answer.{Answer, refusal_of}
-use Rattle.mn_run.specs.Endings.{PartText, PartFiles, OutcomeIs, FilesAre, IsLate, IsUnread, CausedBy, Completes, Counts, UsageIff}
+use Rattle.mn_answer.specs.Answer.{Answer, refusal_of, if_lawful, if_accepted, most_topology_bytes, most_script_bytes}
+use Rattle.mn_answer.specs.Endings.{PartText, PartFiles, OutcomeIs, FilesAre, TextIs, IsLate, IsUnread, Answers, CausedBy, Completes, Counts, UsageIff}
 
 -- the first bytes of the next piece
 pub part_put : (done piece rest t : List ℕ) (n : ℕ) (after : Option (List ℕ)) → after ≡ Some ((t ++ done) ++ take n piece) →
@@ -124,3 +132,93 @@ sink_unread a m after before written old new (BadTopology rule place) h = tt
 sink_unread a m after before written old new (BadScript rule line) h = tt
 sink_unread a m after before written old new (BadCapture rule place) h = tt
 sink_unread a m after before written old new (TooLarge which limit) h = tt
+
+-- an answer that writes no file
+abbrev pub WritesNone : Option Answer → Type 0
+WritesNone answer = MatchOption answer ⊤ (λ a. a.files ≡ [])
+
+pub topology_writes : (found : Result Network (TopoRule × Place)) (next : Network → Option Answer) →
+    ((t : Network) → WritesNone (next t)) → WritesNone (if_lawful found next)
+topology_writes (Ok t) next h = h t
+topology_writes (Err refused) next h = refl
+
+pub topology_bytes_write : (b : Bool) (found : Result Network (TopoRule × Place)) (next : Network → Option Answer) → ((t : Network) → WritesNone (next t))
+    → WritesNone (if b then Some (refusal_of (TooLarge TopologyBytes most_topology_bytes)) else if_lawful found next)
+topology_bytes_write true found next h = refl
+topology_bytes_write false found next h = topology_writes found next h
+
+pub script_writes : {L : Type 0} (found : Result (List L) (ScriptRule × ℕ)) (next : List L → Option Answer) →
+    ((s : List L) → WritesNone (next s)) → WritesNone (if_accepted found next)
+script_writes (Ok s) next h = h s
+script_writes (Err refused) next h = refl
+
+pub script_bytes_write : {L : Type 0} (b many : Bool) (found : Result (List L) (ScriptRule × ℕ)) (next : List L → Option Answer) →
+    ((s : List L) → WritesNone (next s))
+    → WritesNone
+    (if b then Some (refusal_of (TooLarge ScriptBytes most_script_bytes)) else if many then Some
+    (refusal_of (TooLarge ScriptLines most_script_lines)) else if_accepted found next)
+script_bytes_write true many found next h = refl
+script_bytes_write false true found next h = refl
+script_bytes_write false false found next h = script_writes found next h
+
+pub files_stay : (a : Option Answer) (m : Files) (after : Option Files) (o : Outcome) → WritesNone a → OutcomeIs a o → after ≡ Some m → FilesAre a m after o
+files_stay (Some a) m after o none h same = files_untouched a m after o none same
+files_stay None m after ReadFault none h same = same
+files_stay None m after WriteFault none h same = same
+files_stay None m after NoMemory none h same = same
+files_stay None m after Done none h same = h
+files_stay None m after Usage none h same = h
+files_stay None m after (BadTopology rule place) none h same = h
+files_stay None m after (BadScript rule line) none h same = h
+files_stay None m after (BadCapture rule place) none h same = h
+files_stay None m after (TooLarge which limit) none h same = h
+
+pub late_stays : (a : Option Answer) (m : Files) (after : Option Files) (before : List ℕ) (written : Option (List ℕ)) → WritesNone a → after ≡ Some m →
+    IsLate a m after before written
+late_stays (Some a) m after before written none same = whole_untouched a m after before written none same
+late_stays None m after before written none same = tt
+
+-- a call on the sink alone, whose answer writes no file
+pub sink_answers : (a : Option Answer) (m : Files) (after : Option Files) (before written : Option (List ℕ)) (old new : ℕ) (o : Outcome) → WritesNone a →
+    after ≡ Some m → OutcomeIs a o → ForSome before (λ text. TextIs a text written o) → CausedBy (0, 0, old) (0, 0, new) o →
+    Answers a m after before written o
+sink_answers a m after before written old new o none same outcome text cause = record {
+  outcome_is = outcome;
+  files_are = files_stay a m after o none outcome same;
+  text_is = text;
+  is_late = λ t is. late_stays a m after t written none same;
+  is_unread = λ t is. sink_unread a m after t written old new o cause;
+}
+
+-- an input could not be read, or there was no memory for it: nothing was begun and nothing put
+pub fault_answers : (a : Option Answer) (m : Files) (after : Option Files) (before : Option (List ℕ)) → after ≡ Some m →
+    Answers a m after before before ReadFault
+fault_answers a m after before same = record {
+  outcome_is = tt;
+  files_are = untouched_files a m after same;
+  text_is = λ t is. untouched_text a t before is;
+  is_late = λ t is. nothing_put a m after t before is;
+  is_unread = λ t is. inl (same, is);
+}
+
+pub memory_answers : (a : Option Answer) (m : Files) (after : Option Files) (before : Option (List ℕ)) → after ≡ Some m →
+    Answers a m after before before NoMemory
+memory_answers a m after before same = record {
+  outcome_is = tt;
+  files_are = untouched_files a m after same;
+  text_is = λ t is. untouched_text a t before is;
+  is_late = λ t is. nothing_put a m after t before is;
+  is_unread = λ t is. tt;
+}
+
+-- words that are no command line are refused so
+pub is_usage : (old new : ℕ) (o : Outcome) → OutcomeIs (Some (refusal_of Usage)) o → CausedBy (0, 0, old) (0, 0, new) o → UsageIff false o
+is_usage old new Usage h c = refl
+is_usage old new WriteFault h c = tt
+is_usage old new NoMemory h c = tt
+is_usage old new ReadFault h c = absurd (let e : 1 ≤ 0 = c.0.1 in omega (arith, e))
+is_usage old new Done h c = absurd (let e : Usage ≡ Done = h in cc)
+is_usage old new (BadTopology rule place) h c = absurd (let e : Usage ≡ BadTopology rule place = h in cc)
+is_usage old new (BadScript rule line) h c = absurd (let e : Usage ≡ BadScript rule line = h in cc)
+is_usage old new (BadCapture rule place) h c = absurd (let e : Usage ≡ BadCapture rule place = h in cc)
+is_usage old new (TooLarge which limit) h c = absurd (let e : Usage ≡ TooLarge which limit = h in cc)

@@ -11,10 +11,10 @@ use Rattle.mn_topo_toml.specs.declared.refusal.Place.TheVariants.{Top, Node, Lin
 use Rattle.mn_script.specs.declared.refusal.ScriptRule.{ScriptRule}
 use Rattle.mn_script.specs.declared.refusal.ScriptRule.TheVariants as script
 use Rattle.mn_lines.specs.Lines.{text}
-use Rattle.mn_run.specs.declared.outcome.Limit.{Limit}
-use Rattle.mn_run.specs.declared.outcome.Limit.TheVariants.{TopologyBytes, ScriptBytes, ScriptLines, CaptureBytes, CaptureRecords, Steps}
-use Rattle.mn_run.specs.declared.outcome.Outcome.{Outcome}
-use Rattle.mn_run.specs.declared.outcome.Outcome.TheVariants.{Usage, BadTopology, BadScript, BadCapture, TooLarge}
+use Rattle.mn_answer.specs.declared.outcome.Limit.{Limit}
+use Rattle.mn_answer.specs.declared.outcome.Limit.TheVariants.{TopologyBytes, ScriptBytes, ScriptLines, CaptureBytes, CaptureRecords, Steps}
+use Rattle.mn_answer.specs.declared.outcome.Outcome.{Outcome}
+use Rattle.mn_answer.specs.declared.outcome.Outcome.TheVariants.{Usage, BadTopology, BadScript, BadCapture, TooLarge}
 
 -- a rule of topologies by its number and name
 abbrev pub topo_rule_name : TopoRule → List ℕ

@@ -1,13 +1,13 @@
 -- How a call may end, beside the answer that is to be given.
-use Rattle.std.specs.Prelude.{◌≡◌, ◌≢◌, ◌⊎◌, ◌≤◌, ℕ, Bool, true, false, List, [], ◌++◌, Option, Some, MatchOption, IsSomeAnd, ⊤}
-use Rattle.mn_run.specs.declared.outcome.Outcome.{Outcome}
-use Rattle.mn_run.specs.declared.outcome.Outcome.TheVariants.{Usage, ReadFault, WriteFault, NoMemory}
+use Rattle.std.specs.Option.{ForSome}
+use Rattle.std.specs.Prelude.{◌≡◌, ◌≢◌, ◌⊎◌, ◌≤◌, ℕ, Bool, true, false, List, [], ◌++◌, map, Option, Some, MatchOption, IsSomeAnd, ⊤}
+use Rattle.mn_answer.specs.declared.outcome.Outcome.{Outcome}
+use Rattle.mn_answer.specs.declared.outcome.Outcome.TheVariants.{Usage, ReadFault, WriteFault, NoMemory}
 use Rattle.mn_edge.specs.Files.{Files}
 use Rattle.mn_edge.specs.Faults.{Rose}
-use Rattle.mn_edge.specs.Written.{laid, PartWritten}
+use Rattle.mn_edge.specs.Written.{laid, IsPart, PartWritten}
 use Rattle.mn_lines.specs.Putting.{PartPut}
-use Rattle.mn_perform.specs.Whole.{AllBegun}
-use Rattle.mn_run.specs.Answer.{Answer}
+use Rattle.mn_answer.specs.Answer.{Answer}
 
 -- the call was cut off: the answer's files stand in part, or nothing was begun where there is no answer
 abbrev pub PartFiles : Option Answer → Files → Option Files → Type 0
@@ -42,6 +42,13 @@ TextIs answer before after outcome = IsSomeAnd answer (λ a. after ≡ Some (bef
 abbrev pub IsLate : Option Answer → Files → Option Files → List ℕ → Option (List ℕ) → Type 0
 IsLate answer files after before written = MatchOption answer ⊤ (λ a. (after ≡ Some (laid a.files files)) ⊎ PartPut a.early before written)
 
+-- each of the files was begun: it has a first part of its bytes, and no other file has changed
+pub record AllBegun (files : List (List ℕ × List ℕ)) (m : Files) (after : Option Files) : Type 0 where
+  pub stands : List (List ℕ × List ℕ)
+  pub names : map (λ f. f.0) stands ≡ map (λ f. f.0) files
+  pub is_part : IsPart stands files
+  pub after_is : after ≡ Some (laid stands m)
+
 -- where an input could not be read no file was begun and nothing was put; a read that failed later failed among the lines: every file
 -- of the run was begun, with no more in it than while they are played, and no more than the early part was put
 abbrev pub IsUnread : Option Answer → Files → Option Files → List ℕ → Option (List ℕ) → Outcome → Type 0
@@ -49,6 +56,14 @@ IsUnread answer files after before written ReadFault =
     ((after ≡ Some files) × (written ≡ Some before))
     ⊎ IsSomeAnd answer (λ a. (a.running ≢ []) × AllBegun a.running files after × PartPut a.early before written)
 IsUnread answer files after before written outcome = ⊤
+
+-- how a call ended is its answer's: the outcome and the files, and what was put where the sink tells it
+pub record Answers (answer : Option Answer) (files : Files) (after : Option Files) (before written : Option (List ℕ)) (outcome : Outcome) : Type 0 where
+  pub outcome_is : OutcomeIs answer outcome
+  pub files_are : FilesAre answer files after outcome
+  pub text_is : ForSome before (λ text. TextIs answer text written outcome)
+  pub is_late : ForSome before (λ text. IsLate answer files after text written)
+  pub is_unread : ForSome before (λ text. IsUnread answer files after text written outcome)
 
 -- the counts of faults: of the shelf's reads, of its writes, of the sink
 abbrev pub Counts : Type 0

@@ -1,9 +1,15 @@
 //! The line of an outcome that refuses.
-ghost use Rattle.std.specs.Prelude.{◌≡◌, IfOk, string_bytes};
-ghost use Rattle.mn_run.specs.Refusals.{topo_rule_name, place_text, script_rule_name, pcap_rule_name, limit_line, refusal_line};
-ghost use Rattle.mn_run.specs.Jobs.{HasPlainLine};
+ghost use Rattle.std.specs.Prelude.{◌≡◌, ◌≢◌, ◌++◌, IfOk, OnErr, OnOk, Some, string_bytes};
+ghost use Rattle.std.specs.Option.{ForSome};
+ghost use Rattle.mn_edge.specs.Faults.{Counted};
+ghost use Rattle.mn_lines.specs.Putting.{PartPut};
+ghost use Rattle.mn_answer.specs.Refusals.{topo_rule_name, place_text, script_rule_name, pcap_rule_name, limit_line, refusal_line};
+ghost use Rattle.mn_answer.specs.Answer.{refusal_of};
+ghost use Rattle.mn_answer.specs.Inputs.{HasPlainLine, IsRefusal};
+ghost use Rattle.mn_answer.specs.Endings.{OutcomeIs, TextIs, CausedBy};
 
 use crate::outcome::{Limit, Outcome};
+use mn_edge::{DeviceBad, Sink};
 use mn_pcap::PcapRule;
 use mn_script::ScriptRule;
 use mn_topo_toml::{Place, TopoRule};
@@ -75,7 +81,7 @@ fn pcap_rule_name(rule: PcapRule) -> &'static str
 }
 
 /// The line of an outcome that refuses, and the empty text for another.
-pub(crate) fn refusal_line(alloc: Global, outcome: Outcome) -> Result<String, AllocError>
+pub fn refusal_line(alloc: Global, outcome: Outcome) -> Result<String, AllocError>
     ensures { IfOk result (λ line. string_bytes line ≡ refusal_line outcome) }
 {
     match outcome {
@@ -128,4 +134,32 @@ fn limit_line(which: Limit) -> &'static str
         Limit::CaptureRecords => "too large capture records\n",
         Limit::Steps => "too large steps\n",
     }
+}
+
+/// Puts the line of a refusal.
+pub fn refuse<O: Sink>(alloc: Global, out: &mut O, outcome: Outcome) -> Outcome
+    requires { IsRefusal outcome }
+    ensures outcome { OutcomeIs (Some (refusal_of outcome)) result }
+    ensures text { ForSome (O.written out.old) (λ before. TextIs (Some (refusal_of outcome)) before (O.written out.new) result) }
+    ensures cause { CausedBy (0, 0, O.faults out.old) (0, 0, O.faults out.new) result }
+    ensures usage { outcome ≢ Outcome.Usage → result ≢ Outcome.Usage }
+    ensures undone { result ≢ Outcome.Done }
+{
+    let Ok(line) = refusal_line(alloc, outcome) else {
+        return Outcome::NoMemory;
+    };
+    match put_line(out, line.as_bytes()) {
+        Ok(()) => outcome,
+        Err(DeviceBad::Failed) => Outcome::WriteFault,
+        Err(DeviceBad::NoMemory) => Outcome::NoMemory,
+    }
+}
+
+/// Puts a line; of one whose write failed a first part may stand.
+pub fn put_line<O: Sink>(out: &mut O, line: &[u8]) -> Result<(), DeviceBad>
+    ensures put { OnOk result (ForSome (O.written out.old) (λ before. O.written out.new ≡ Some (before ++ line.now))) }
+    ensures part { OnErr result (ForSome (O.written out.old) (λ before. PartPut line.now before (O.written out.new))) }
+    ensures cause { Counted (O.faults out.old) (O.faults out.new) result }
+{
+    out.put(line)
 }

@@ -1,0 +1,68 @@
+-- What a call is to answer, and how it goes on with an input that was read or ends with its refusal.
+use Rattle.std.specs.Prelude.{ℕ, ◌^◌, nat_lt, if◌then◌else◌, List, [], length, Option, Some, None, Result, Ok, Err}
+use Rattle.std.specs.Str.Lines.{lines}
+use Rattle.mn_base.specs.Limits.{most_script_lines}
+use Rattle.mn_script.specs.declared.refusal.ScriptRule.{ScriptRule}
+use Rattle.mn_script.specs.Reading.{Says, lines_of}
+use Rattle.mn_topo_toml.specs.declared.refusal.TopoRule.{TopoRule}
+use Rattle.mn_topo_toml.specs.declared.refusal.Place.{Place}
+use Rattle.mn_topo.specs.Network.{Network}
+use Rattle.mn_topo_toml.specs.Topology.{topology_of}
+use Rattle.mn_answer.specs.declared.outcome.Limit.TheVariants.{TopologyBytes, ScriptBytes, ScriptLines}
+use Rattle.mn_answer.specs.declared.outcome.Outcome.{Outcome}
+use Rattle.mn_answer.specs.declared.outcome.Outcome.TheVariants.{BadTopology, BadScript, TooLarge}
+use Rattle.mn_answer.specs.Refusals.{refusal_line}
+
+-- how the call ends, the files that it writes, what is in them while the lines of a script are played, and the text that it puts,
+-- of which the early part may be put before all files are whole
+pub record Answer : Type 0 where
+  pub outcome : Outcome
+  pub files : List (List ℕ × List ℕ)
+  pub running : List (List ℕ × List ℕ)
+  pub early : List ℕ
+  pub text : List ℕ
+
+-- a refusal writes nothing and puts one line
+abbrev pub refusal_of : Outcome → Answer
+refusal_of outcome = record { outcome = outcome; files = []; running = []; early = []; text = refusal_line outcome }
+
+-- a topology has at most 1 MiB
+abbrev pub most_topology_bytes : ℕ
+most_topology_bytes = 2 ^ 20
+
+-- a topology goes on, or is refused by rule and place
+abbrev pub if_lawful : Result Network (TopoRule × Place) → (Network → Option Answer) → Option Answer
+if_lawful (Ok topology) next = next topology
+if_lawful (Err refused) next = Some (refusal_of (BadTopology refused.0 refused.1))
+
+-- the limit of a topology comes before its own refusal; without the file there is no answer
+abbrev pub with_topology_bytes : List ℕ → (Network → Option Answer) → Option Answer
+with_topology_bytes bytes next =
+    if nat_lt most_topology_bytes (length bytes) then Some (refusal_of (TooLarge TopologyBytes most_topology_bytes)) else if_lawful (topology_of bytes) next
+
+abbrev pub with_topology : Option (List ℕ) → (Network → Option Answer) → Option Answer
+with_topology None next = None
+with_topology (Some bytes) next = with_topology_bytes bytes next
+
+-- a script has at most 64 MiB, and at most 3,000,000 lines
+abbrev pub most_script_bytes : ℕ
+most_script_bytes = 2 ^ 26
+
+-- a script in a language of lines goes on with them, or is refused by rule and line
+abbrev pub if_accepted : {L : Type 0} → Result (List L) (ScriptRule × ℕ) → (List L → Option Answer) → Option Answer
+if_accepted (Ok script) next = next script
+if_accepted (Err refused) next = Some (refusal_of (BadScript refused.0 refused.1))
+
+-- the limits of a script come before its own refusal: its lines are counted before any is looked at
+abbrev pub with_lines_within : {L : Type 0} → Says L → List ℕ → (List L → Option Answer) → Option Answer
+with_lines_within says bytes next =
+    if nat_lt most_script_lines (length (lines bytes)) then Some (refusal_of (TooLarge ScriptLines most_script_lines)) else if_accepted
+    (lines_of says 1 bytes) next
+
+abbrev pub with_lines_of_bytes : {L : Type 0} → Says L → List ℕ → (List L → Option Answer) → Option Answer
+with_lines_of_bytes says bytes next =
+    if nat_lt most_script_bytes (length bytes) then Some (refusal_of (TooLarge ScriptBytes most_script_bytes)) else with_lines_within says bytes next
+
+abbrev pub with_lines_of : {L : Type 0} → Says L → Option (List ℕ) → (List L → Option Answer) → Option Answer
+with_lines_of says None next = None
+with_lines_of says (Some bytes) next = with_lines_of_bytes says bytes next

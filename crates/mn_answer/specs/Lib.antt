@@ -1,0 +1,5 @@
+pub mod Refusals
+pub mod Answer
+pub mod Inputs
+pub mod Endings
+pub mod Status

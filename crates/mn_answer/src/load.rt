@@ -1,0 +1,59 @@
+//! Inputs from their files.
+ghost use Rattle.std.specs.Prelude.{◌≡◌, IfOk};
+ghost use Rattle.std.specs.Option.{ForSome};
+ghost use Rattle.mn_edge.specs.Faults.{Counted};
+ghost use Rattle.mn_edge.specs.Files.{file};
+ghost use Rattle.mn_answer.specs.Inputs.{IsSound, TopologyIs, LinesAre, LinesFit};
+
+use crate::outcome::{Limit, Outcome};
+use crate::parse::{
+    MOST_SCRIPT_BYTES, MOST_TOPOLOGY_BYTES, parse_lines, parse_topology, too_large,
+};
+use mn_edge::{Content, DeviceBad, Shelf, read_all};
+use mn_script::Language;
+use mn_topo::Topology;
+use std::alloc::Global;
+
+/// Reads the topology of this name, or its refusal.
+pub fn load_topology<S: Shelf>(
+    alloc: Global,
+    name: &str,
+    shelf: &mut S,
+) -> Result<Result<Topology, Outcome>, DeviceBad>
+    ensures answer { IfOk result (λ t. ForSome (S.files shelf.old) (λ files. TopologyIs (file files name.now) t)) }
+    ensures sound { IfOk result IsSound }
+    ensures same { S.files shelf.new ≡ S.files shelf.old }
+    ensures reads { Counted (S.read_faults shelf.old) (S.read_faults shelf.new) result }
+    ensures writes { S.write_faults shelf.new ≡ S.write_faults shelf.old }
+{
+    match read_all(alloc, shelf, name, MOST_TOPOLOGY_BYTES)? {
+        Content::TooLarge => Ok(Err(too_large(Limit::TopologyBytes, MOST_TOPOLOGY_BYTES))),
+        Content::Whole(bytes) => match parse_topology(alloc, &bytes) {
+            Ok(found) => Ok(found),
+            Err(_) => Err(DeviceBad::NoMemory),
+        },
+    }
+}
+
+/// Reads the script of this name in a language of lines, or its refusal.
+pub fn load_lines<L: Language, S: Shelf>(
+    alloc: Global,
+    name: &str,
+    shelf: &mut S,
+    language: &L,
+) -> Result<Result<Vec<L::Line>, Outcome>, DeviceBad>
+    ensures answer { IfOk result (λ s. ForSome (S.files shelf.old) (λ files. LinesAre (L.says language.now) (file files name.now) s)) }
+    ensures fits { IfOk result (LinesFit (L.fits language.now)) }
+    ensures sound { IfOk result IsSound }
+    ensures same { S.files shelf.new ≡ S.files shelf.old }
+    ensures reads { Counted (S.read_faults shelf.old) (S.read_faults shelf.new) result }
+    ensures writes { S.write_faults shelf.new ≡ S.write_faults shelf.old }
+{
+    match read_all(alloc, shelf, name, MOST_SCRIPT_BYTES)? {
+        Content::TooLarge => Ok(Err(too_large(Limit::ScriptBytes, MOST_SCRIPT_BYTES))),
+        Content::Whole(bytes) => match parse_lines(alloc, language, &bytes) {
+            Ok(found) => Ok(found),
+            Err(_) => Err(DeviceBad::NoMemory),
+        },
+    }
+}

@@ -1,0 +1,61 @@
+//! Inputs from their bytes, and their limits.
+ghost use Rattle.std.specs.Prelude.{◌≡◌, IfOk, Some};
+ghost use Rattle.mn_answer.specs.Inputs.{IsSound, TopologyIs, LinesAre, LinesFit};
+
+use crate::outcome::{Limit, Outcome};
+use mn_base::MOST_SCRIPT_LINES;
+use mn_script::{Language, ScriptBad, count_lines, read_lines};
+use mn_topo::Topology;
+use mn_topo_toml::{TopoBad, read_topology};
+use std::alloc::{AllocError, Global};
+
+/// The most bytes of a topology: 1 MiB.
+pub(crate) const MOST_TOPOLOGY_BYTES: u64 = 1 << 20;
+
+/// The most bytes of a script: 64 MiB.
+pub(crate) const MOST_SCRIPT_BYTES: u64 = 1 << 26;
+
+/// The refusal of what passes a limit.
+pub fn too_large(which: Limit, limit: u64) -> Outcome
+    ensures { result ≡ Outcome.TooLarge which limit }
+{
+    Outcome::TooLarge { which, limit }
+}
+
+/// Reads the bytes of a topology, at most 1 MiB, or its refusal.
+pub fn parse_topology(alloc: Global, bytes: &[u8]) -> Result<Result<Topology, Outcome>, AllocError>
+    ensures answer { IfOk result (TopologyIs (Some bytes.now)) }
+    ensures sound { IfOk result IsSound }
+{
+    if bytes.len() as u64 > MOST_TOPOLOGY_BYTES {
+        return Ok(Err(too_large(Limit::TopologyBytes, MOST_TOPOLOGY_BYTES)));
+    }
+    match read_topology(alloc, bytes) {
+        Ok(topology) => Ok(Ok(topology)),
+        Err(TopoBad::Refused { rule, place }) => Ok(Err(Outcome::BadTopology { rule, place })),
+        Err(TopoBad::NoMemory) => Err(AllocError),
+    }
+}
+
+/// Reads the bytes of a script in a language of lines, at most 64 MiB and 3,000,000 lines, or its refusal.
+pub fn parse_lines<L: Language>(
+    alloc: Global,
+    language: &L,
+    bytes: &[u8],
+) -> Result<Result<Vec<L::Line>, Outcome>, AllocError>
+    ensures answer { IfOk result (LinesAre (L.says language.now) (Some bytes.now)) }
+    ensures fits { IfOk result (LinesFit (L.fits language.now)) }
+    ensures sound { IfOk result IsSound }
+{
+    if bytes.len() as u64 > MOST_SCRIPT_BYTES {
+        return Ok(Err(too_large(Limit::ScriptBytes, MOST_SCRIPT_BYTES)));
+    }
+    if count_lines(bytes) > MOST_SCRIPT_LINES {
+        return Ok(Err(too_large(Limit::ScriptLines, MOST_SCRIPT_LINES)));
+    }
+    match read_lines(alloc, language, 1, bytes) {
+        Ok(lines) => Ok(Ok(lines)),
+        Err(ScriptBad::Refused { rule, line }) => Ok(Err(Outcome::BadScript { rule, line })),
+        Err(ScriptBad::NoMemory) => Err(AllocError),
+    }
+}
