@@ -13,7 +13,7 @@ use std::fmt::Write;
 const MOST: usize = 60_000;
 
 /// The next hop, and then the routes and targets, each behind its word.
-fn put_update(text: &mut String, update: &Update) -> Result<(), AllocError> {
+pub(crate) fn put_update(text: &mut String, update: &Update) -> Result<(), AllocError> {
     text.push_str("Update, next hop ")?;
     put_address(text, update.next_hop())?;
     for route in update.reached() {

@@ -7,7 +7,7 @@
 //! | `captures` | `pcap`, `scan` |
 //! | `ldp`, `sessions` | `ldp`, `session` |
 //! | `routes` | `route`, `targets` |
-//! | `bgp`, `peers` | `bgp`, `peer` |
+//! | `bgp`, `reflected`, `peers` | `bgp`, `reflected`, `peer` |
 //!
 //! `bytes` has bytes as the words of a row, and answers of all fronts of some bytes; `text` has values as text.
 #![tactic(auto)]
@@ -20,6 +20,7 @@ mod ldp;
 mod packets;
 mod peers;
 mod prefixes;
+mod reflected;
 mod routes;
 mod sessions;
 mod text;
@@ -36,6 +37,7 @@ use mn_stack::Frame;
 use packets::ipv4_row;
 use peers::{peer_row, second_edge};
 use prefixes::prefix_row;
+use reflected::reflected_row;
 use routes::{route_row, target_row};
 use sessions::{first_router, session_row};
 use std::alloc::{AllocError, Global};
@@ -74,6 +76,7 @@ impl World for Wire {
             b"route" => route_row(alloc, call),
             b"targets" => target_row(alloc, call),
             b"bgp" => bgp_row(alloc, call),
+            b"reflected" => reflected_row(alloc, call),
             b"peer" => peer_row(alloc, &mut self.peer, call),
             _ => Ok(None),
         }

@@ -1,0 +1,4 @@
+pub mod Walk
+pub mod Values
+pub mod Messages
+pub mod Spelling

@@ -1,0 +1,4 @@
+pub mod Says
+pub mod Grammar
+pub mod Written
+pub mod Reading
