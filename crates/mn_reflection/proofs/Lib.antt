@@ -1,0 +1,11 @@
+pub mod Through
+pub mod Rows
+pub mod Chosen
+pub mod Mentions
+pub mod Saying
+pub mod Offering
+pub mod Steps
+pub mod Runs
+pub mod Holding
+pub mod Apart
+pub mod Quiet

@@ -1,0 +1,9 @@
+pub mod Words
+pub mod Picks
+pub mod World
+pub mod Quiet
+pub mod Refusal
+pub mod Holding
+pub mod TwoEdges
+pub mod TwoReflectors
+pub mod Through
