@@ -1,5 +1,5 @@
 -- What is left where a call is cut off.
-use Rattle.std.proofs.Common.{◌≡◌, ◌≤◌, ℕ, arith, List, [], ◌∷◌, ◌++◌, take, drop, Option, Some}
+use Rattle.std.proofs.Common.{◌≡◌, ◌≤◌, ℕ, arith, List, [], ◌++◌, take, drop, Option, Some}
 use Rattle.std.proofs.Common.{None, refl, sym, ◌∙◌, ap, append_assoc, inl, inr, IsSomeAnd, Bool, true, false, subst, if◌then◌else◌, MatchOption, Result, Ok, Err}
 use Rattle.std.specs.Prelude.{⊤}
 use Rattle.std.specs.Option.{ForSome}
@@ -11,7 +11,7 @@ use Rattle.mn_topo_toml.specs.declared.refusal.Place.{Place}
 use Rattle.mn_answer.specs.declared.outcome.Limit.TheVariants.{TopologyBytes, ScriptBytes, ScriptLines}
 use Rattle.std.proofs.lemmas.List.{take-append-drop, append-nil}
 use Rattle.mn_edge.specs.Files.{Files}
-use Rattle.mn_edge.specs.Written.{laid, IsPart, PartWritten}
+use Rattle.mn_edge.specs.Written.{laid, PartWritten}
 use Rattle.mn_answer.specs.declared.outcome.Outcome.{Outcome}
 use Rattle.mn_answer.specs.declared.outcome.Outcome.TheVariants.{Done, Usage, ReadFault, WriteFault, NoMemory, BadTopology, BadScript, BadCapture, TooLarge}
 use Rattle.mn_lines.specs.Putting.{PartPut}
@@ -35,14 +35,6 @@ part_put done piece rest t n after e = (
 pub part_one : (piece t : List ℕ) (n : ℕ) (after : Option (List ℕ)) → after ≡ Some (t ++ take n piece) → PartPut piece t after
 part_one piece t n after e =
     subst (λ l. PartPut l t after) (append-nil piece) (part_put [] piece [] t n after (e ∙ ap (λ l. Some (l ++ take n piece)) (sym (append-nil t))))
-
-all_part : (fs : List (List ℕ × List ℕ)) → IsPart fs fs
-all_part [] = tt
-all_part (f ∷ fs) = (refl, ([], append-nil f.1), all_part fs)
-
--- whole files are also a first part of themselves
-pub whole_part : (fs : List (List ℕ × List ℕ)) (m : Files) (after : Option Files) → after ≡ Some (laid fs m) → PartWritten fs m after
-whole_part fs m after e = record { stands = fs; is_part = all_part fs; after_is = e }
 
 -- nothing was begun
 none_part : (fs : List (List ℕ × List ℕ)) (m : Files) (after : Option Files) → after ≡ Some m → PartWritten fs m after
@@ -72,18 +64,6 @@ completes a old new (BadTopology rule place) h c x e none = inl (given a (BadTop
 completes a old new (BadScript rule line) h c x e none = inl (given a (BadScript rule line) h x e)
 completes a old new (BadCapture rule place) h c x e none = inl (given a (BadCapture rule place) h x e)
 completes a old new (TooLarge which limit) h c x e none = inl (given a (TooLarge which limit) h x e)
-
--- a refusal of an input is no usage
-pub of_input : (good : Bool) (o r : Outcome) → good ≡ true → (o ≡ Usage → ⊥) → OutcomeIs (Some (refusal_of o)) r → UsageIff good r
-of_input good o Usage e i h = absurd (i h)
-of_input good o WriteFault e i h = tt
-of_input good o NoMemory e i h = tt
-of_input good o ReadFault e i h = e
-of_input good o Done e i h = e
-of_input good o (BadTopology rule place) e i h = e
-of_input good o (BadScript rule line) e i h = e
-of_input good o (BadCapture rule place) e i h = e
-of_input good o (TooLarge which limit) e i h = e
 
 -- the words were a command line
 pub not_usage : (good : Bool) (o : Outcome) → good ≡ true → (o ≡ Usage → ⊥) → UsageIff good o

@@ -1,17 +1,9 @@
 -- A fact of one outcome, carried to another fact of it.
-use Rattle.std.proofs.Common.{Result, Ok, Err, OnOk, OnErr, IfOk}
-
-pub on_ok : {T E : Type 0} (r : Result T E) (P Q : Type 0) → (P → Q) → OnOk r P → OnOk r Q
-on_ok (Ok x) P Q f p = f p
-on_ok (Err e) P Q f p = tt
+use Rattle.std.proofs.Common.{Result, Ok, Err, OnErr, IfOk}
 
 pub on_err : {T E : Type 0} (r : Result T E) (P Q : Type 0) → (P → Q) → OnErr r P → OnErr r Q
 on_err (Ok x) P Q f p = tt
 on_err (Err e) P Q f p = f p
-
-pub err : {T E : Type 0} (r : Result T E) (P : Type 0) → P → OnErr r P
-err (Ok x) P p = tt
-err (Err e) P p = p
 
 pub if_ok : {T E : Type 0} (r : Result T E) (P Q : T → Type 0) → ((x : T) → P x → Q x) → IfOk r P → IfOk r Q
 if_ok (Ok x) P Q f p = f x p
