@@ -1,0 +1,16 @@
+pub mod Counting
+pub mod Answering
+pub mod Blocking
+pub mod Resting
+pub mod Turns
+pub mod Labelling
+pub mod Waking
+pub mod Over
+pub mod ByTurns
+pub mod Flying
+pub mod Laws
+pub mod Relabelling
+pub mod Runs
+pub mod Keeping
+pub mod Alike
+pub mod Witness

@@ -1,0 +1,5 @@
+pub mod Answers
+pub mod Resting
+pub mod Labels
+pub mod Laws
+pub mod Relabelled
