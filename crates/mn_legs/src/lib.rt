@@ -1,0 +1,52 @@
+//! Two networks of two providers, joined VRF to VRF (RFC 4364, section 10, option a): definitions and laws.
+//!
+//! Each edge at a joint takes the other for a site of its own: it attaches it to a VRF, and plain IPv4 packets, without labels, go over.
+//! So each network has a journal and a ledger of its own, and a packet that crosses both is a packet of each.
+//!
+//! ```text
+//!   line of a script --> Inject at a site of one network --> Delivered at a site ---- not joined: its end
+//!                            ^                                      |
+//!                            |      at once, with what was          | joined to a site of the other network
+//!                            +------ delivered: its next leg -------+
+//! ```
+//!
+//! - `specs/Pairing`: networks, joints and legs; what has happened in both, and what the last step of a network delivered
+//! - `specs/Course`: what each line of a script does, as in `mn_course` but over both networks
+//! - `specs/Crossing`: a packet that crosses any number of networks, in the words that a customer is promised (`mn_laws`)
+//! - `specs/TwoProviders`: two such networks, worked by hand
+#![tactic(auto)]
+
+ghost use Rattle.std.specs.Prelude.{◌≡◌, ◌≤◌, ◌+◌, ℕ, List, ◌∷◌, length};
+ghost use Rattle.mn_topo.specs.Lawful.{IsLawful};
+ghost use Rattle.mn_ledger.specs.Held.{HeldRoute};
+ghost use Rattle.mn_ledger.specs.Lawful.{IsLawfulJournal};
+ghost use Rattle.mn_ledger.specs.Verdicts.{injections};
+ghost use Rattle.mn_ipv4.specs.Header.{ttl_of};
+ghost use Rattle.mn_laws.specs.Accounts.{IsPassedOn};
+ghost use Rattle.mn_legs.specs.TwoProviders.{TheyAreJoined};
+ghost use Rattle.mn_legs.specs.Crossing.{Passage, CrossesAll, all_nodes, ItCrosses};
+
+/// A packet that crosses networks one after another arrives as it was sent but for TTL and checksum, and each node of each
+/// network has lowered its TTL by one. With a TTL for all nodes it has enough left for each leg to come.
+pub fn what_crosses_is_passed_on()
+    ensures passed { (bytes last : List ℕ) (passage : Passage) (passages : List Passage) (ttl : ℕ) →
+        CrossesAll bytes (passage ∷ passages) ttl last → IsPassedOn bytes ttl last }
+    ensures lowered { (bytes last : List ℕ) (passages : List Passage) (ttl : ℕ) →
+        CrossesAll bytes passages ttl last → ttl + all_nodes passages ≡ ttl_of bytes }
+    ensures lives { (bytes last : List ℕ) (passages : List Passage) (ttl rest : ℕ) →
+        CrossesAll bytes passages ttl last → 1 + all_nodes passages + rest ≤ ttl_of bytes → 1 + rest ≤ ttl_of last }
+{}
+
+/// A leg crosses its network by a walk of least cost where it is sent in a steady stretch there, its VRF holds a route whose edge
+/// is reached, and its TTL is enough. It follows from that network's ledger alone.
+pub fn a_leg_with_a_way_crosses()
+    ensures { (passage : Passage) (from to : ℕ) (route : HeldRoute) →
+        IsLawful passage.topology → IsLawfulJournal passage.topology passage.entries passage.inputs →
+        length passage.inputs ≡ injections passage.entries → ItCrosses passage from to route }
+{}
+
+/// A packet that is sent at a site of one provider reaches a site of the other, step by step and by lines; and with too small a TTL
+/// it expires in the second network.
+pub fn two_providers_are_joined()
+    ensures { TheyAreJoined }
+{}
