@@ -1,0 +1,4 @@
+pub mod Damages
+pub mod Refusals
+pub mod Allowed
+pub mod Same
