@@ -66,7 +66,7 @@ lawful_unmarked t (e ∷ es) tick w k n ps l =
     (l.0, l.1, l.2, lawful_unmarked t es (clock_after e) v (packets_by t v k e (next_of ps)) (n + 1) (left_by e.step ps) l.3)
 
 -- what two lists without their marks have in common, where each has it with them
-both : {A : Type 0} (f : List JournalEntry → A) (one other : List JournalEntry) → f (map unmarked one) ≡ f one → f (map unmarked other) ≡ f other →
+pub both : {A : Type 0} (f : List JournalEntry → A) (one other : List JournalEntry) → f (map unmarked one) ≡ f one → f (map unmarked other) ≡ f other →
     map unmarked one ≡ map unmarked other → f one ≡ f other
 both f one other h g e = sym h ∙ ap f e ∙ g
 

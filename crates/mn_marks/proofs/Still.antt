@@ -14,7 +14,7 @@ use Rattle.mn_course.specs.Coming.{is_each, is_lost}
 use Rattle.mn_frames.specs.Given.{given, given_first, given_from, given_in}
 use Rattle.mn_frames.specs.Numbers.{Labels, labels_of, labels_from, labels_after, first_labels}
 use Rattle.mn_damage.specs.Same.{unmarked, AreOne}
-use Rattle.mn_damage.proofs.Marks.{are_one}
+use Rattle.mn_damage.proofs.Marks.{both, are_one}
 use Rattle.mn_timetable.specs.Keys.{keys_on, of_notices, of_messages, of_routes, of_frames}
 use Rattle.mn_transit.specs.Stands as transit
 use Rattle.mn_transport_model.specs.Stands as transport
@@ -32,10 +32,6 @@ given_un t node c (e ∷ es) = ap (λ xs. given_in t node c e.step ++ xs) (given
 labels_un : (t : Network) (c : Config) (l : Labels) (es : List JournalEntry) → labels_from t c l (map unmarked es) ≡ labels_from t c l es
 labels_un t c l [] = refl
 labels_un t c l (e ∷ es) = labels_un t (config_after c e.step) (labels_after t c l e.step) es
-
-both : {A : Type 0} (f : List JournalEntry → A) (one other : List JournalEntry) → f (map unmarked one) ≡ f one → f (map unmarked other) ≡ f other →
-    map unmarked one ≡ map unmarked other → f one ≡ f other
-both f one other h g e = sym h ∙ ap f e ∙ g
 
 module _ (t : Network) (one other : List JournalEntry) (e : map unmarked one ≡ map unmarked other) where
   same : AreOne t one other
