@@ -4,6 +4,7 @@ ghost use Rattle.mn_base.specs.Limits.{most_steps};
 ghost use Rattle.mn_topo.specs.Network.{wiring_of};
 ghost use Rattle.mn_linkdb.specs.Trees.{IsTree};
 ghost use Rattle.mn_flooding.specs.Flood.{FloodEvent, Change, Hear, flooded, is_flooded};
+ghost use Rattle.mn_flooding.specs.Laws.{IsFlood};
 ghost use Rattle.mn_flood.specs.Queue.{way_of};
 ghost use Rattle.mn_flood.specs.Floods.{FloodNow, first_flood, happened, refusal_of};
 
@@ -122,6 +123,13 @@ impl Flood {
         self.done += 1;
         self.failed = false;
         Ok(())
+    }
+
+    /// What holds of every flood, if memory was never refused to this one.
+    pub fn laws(&self)
+        ensures { self.now.failed ≡ false → IsFlood self.now.wiring self.now.world }
+    {
+        let _ = &self.world;
     }
 
     /// How many changes and hearings were done.
