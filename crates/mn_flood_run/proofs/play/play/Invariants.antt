@@ -1,0 +1,13 @@
+use Rattle.std.proofs.Common.{◌≡◌, ◌≤◌, take}
+use Rattle.mn_topo.specs.Network.{wiring_of}
+use Rattle.mn_tables.specs.Telling.{standing}
+use Rattle.mn_flood_run.specs.Playing.{ArePlayed}
+use Rattle.mn_flood_run.proofs.play.play.Given as goal
+
+abbrev pub invariant-loop-line : goal.invariant-loop-line
+invariant-loop-line g l = record {
+  over : l.flood.wiring ≡ wiring_of l.topology;
+  few : l.refused ≤ l.line-index;
+  played : ArePlayed l.topology (take l.line-index l.lines) l.flood l.refused
+      (standing l.fn.page (g.O.Sink.written l.fn.out) (g.O.Sink.faults l.fn.out)) (standing l.page (g.O.Sink.written l.out) (g.O.Sink.faults l.out));
+}

@@ -1,0 +1,6 @@
+pub mod Language
+pub mod Report
+pub mod Playing
+pub mod Laws
+pub mod Answer
+pub mod Headline
