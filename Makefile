@@ -41,7 +41,7 @@ runs:
 
 tools:
 	@python3 -B -m unittest discover -q -s tools/tests
-	@tools/mplsnet-decode examples/*/expected || [ $$? = 3 ]
+	@tools/mplsnet-decode $(patsubst %/journal.txt,%,$(wildcard examples/*/expected/journal.txt)) || [ $$? = 3 ]
 
 index:
 	@python3 scripts/index

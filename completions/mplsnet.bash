@@ -45,9 +45,9 @@ _mplsnet() {
     COMPREPLY=()
     case $COMP_CWORD:${COMP_WORDS[1]} in
         1:-*) _mplsnet_words '--help --version' "$word" ;;
-        1:*) _mplsnet_words 'run check generate' "$word" ;;
-        2:run | 2:check) _mplsnet_files "$word" .toml ;;
-        3:run) _mplsnet_files "$word" ;;
+        1:*) _mplsnet_words 'run check generate flood' "$word" ;;
+        2:run | 2:check | 2:flood) _mplsnet_files "$word" .toml ;;
+        3:run | 3:flood) _mplsnet_files "$word" ;;
         4:run) _mplsnet_files "$word" .pcap ;;
         5:run) _mplsnet_folders "$word" ;;
     esac

@@ -1,11 +1,12 @@
 #!/usr/bin/env python3
-"""Works out what `mplsnet run` leaves and reports for any topology, script and capture, without the program.
+"""Works out what `mplsnet run` leaves and reports for any topology, script and capture, and what `mplsnet flood`
+reports for any topology and script, without the program.
 
 It is a second telling of the rules of docs/FORMATS.md and docs/WIRE.md (texts, bytes) and docs/LEDGER.md (who says
 what, and when), written from these and not from the program's source. It goes by the definitions and not by speed:
 the best route is chosen from the whole list, what a neighbour mentioned last is looked up in all that it said, what
 comes next in all that is in flight. The inputs are read by reference_inputs.py; here are IPv4, the network and its
-steps, a script's course, the bytes of frames, LDP and BGP, the report, the files.
+steps, a script's course, the bytes of frames, LDP and BGP, the report, the files. Flooding is in reference_flood.py.
 """
 
 import argparse
@@ -14,13 +15,19 @@ import sys
 from dataclasses import dataclass
 from pathlib import Path
 
-from reference_inputs import ROUTES, TARGETS, Refused, address_text, contains, is_unicast, prefix_text, target_text
-from reference_inputs import read_capture, read_script, read_topology
+import reference_flood
+from reference_inputs import FLOOD_FORMS, ROUTES, TARGETS, Refused, address_text, contains, is_unicast, prefix_text
+from reference_inputs import read_capture, read_script, read_topology, target_text
+from reference_walks import costs_to, first_hop, tree_lines
 
+USAGE = """\
+reference.py [--compare] TOPOLOGY SCRIPT CAPTURE FOLDER
+       reference.py [--compare] flood TOPOLOGY SCRIPT FOLDER"""
 HELP = """\
-Writes every file of the run and its report, as report.txt, into FOLDER, which is made where it isn't there. With
---compare nothing is written: the files of FOLDER, report.txt among them, are compared with those that are due, and
-the first difference is told. A refused input leaves report.txt alone, with the line of the refusal.
+Writes every file of the run and its report, as report.txt, into FOLDER, which is made where it isn't there; flood has
+report.txt alone. With --compare nothing is written: the files of FOLDER, report.txt among them, are compared with
+those that are due, and the first difference is told. A refused input leaves report.txt alone, with the line of the
+refusal.
 
 Not covered: the words of the command line, faults of reading and writing, want of memory; and of TOML what 1.1 has
 beyond 1.0, the limit of 80 on nesting, numbers like 1e309, and a byte order mark. It is for small networks: a
@@ -140,7 +147,7 @@ class Network:
 
         self.changes = [0 for _ in self.links]
         self.learned = [[0 for _ in self.links] for _ in self.nodes]
-        self.costs = {}  # what costs_to found
+        self.costs = {}  # the least costs by view and end
 
         ends = [(no, end) for no, link in enumerate(self.links) for end in (link.a, link.b)]
         self.ldp_on = [True for _ in self.links]
@@ -183,14 +190,8 @@ class Network:
     # Views and least walks
 
     def costs_to(self, view, to):
-        """Of each node from which a walk over the links of the view leads to this one, the least cost of any."""
         if (view, to) not in self.costs:
-            costs, ways = {to: 0}, [(link.a, link.b, link.cost) for up, link in zip(view, self.links) if up]
-            for _ in self.nodes:  # a least walk passes no node twice
-                for x, y, cost in ways + [(y, x, cost) for x, y, cost in ways]:
-                    if y in costs:
-                        costs[x] = min(costs.get(x, cost + costs[y]), cost + costs[y])
-            self.costs[view, to] = costs
+            self.costs[view, to] = costs_to(self.links, len(self.nodes), view, to)
         return self.costs[view, to]
 
     def view(self, node):
@@ -200,11 +201,7 @@ class Network:
     def next_hop(self, node, to):
         """The neighbour of least number on a least walk to another node, and the link to it."""
         view = self.view(node)
-        costs = self.costs_to(view, to)
-        for neighbour, link in self.neighbours[node]:
-            if view[link] and neighbour in costs and self.links[link].cost + costs[neighbour] == costs[node]:
-                return neighbour, link
-        return None
+        return first_hop(self.links, self.neighbours[node], view, self.costs_to(view, to), node)
 
     # LDP: a message is its kind and, of a mapping, a withdraw and a release, the node whose FEC it is
 
@@ -772,15 +769,12 @@ def links_table(network):
 
 
 def tree_table(network, node):
-    names = [node.name for node in network.topology.nodes]
-    lines = []
+    names, ways = [node.name for node in network.topology.nodes], []
     for to in network.nodes:
-        cost = network.costs_to(network.view(node), to).get(node)
-        if to != node and cost is None:
-            lines.append(f"tree {names[node]} to {names[to]} unreachable")
-        elif to != node:
-            lines.append(f"tree {names[node]} to {names[to]} cost {cost} next {names[network.next_hop(node, to)[0]]}")
-    return lines
+        if to != node:
+            hop = network.next_hop(node, to)
+            ways.append((to, network.costs_to(network.view(node), to).get(node), hop and hop[0]))
+    return [*tree_lines(names, node, ways)]
 
 
 def ldp_table(network):
@@ -916,6 +910,18 @@ def run_of(topology_bytes, script_bytes, capture_bytes):
     return text_of(report), files_of(network)
 
 
+def flood_of(topology_bytes, script_bytes):
+    """The report of `flood`, which has no files."""
+    try:
+        topology = read_topology(topology_bytes)
+        return text_of(reference_flood.report_of(topology, read_script(topology, script_bytes, FLOOD_FORMS))), {}
+    except Refused as refused:
+        return text_of([str(refused)]), {}
+
+
+COMMANDS = {"run": run_of, "flood": flood_of}
+
+
 # The command line
 
 
@@ -949,26 +955,30 @@ def files_in(folder):
 
 
 def words_given():
+    """The command, its inputs, the folder, and whether that is compared."""
     about = __doc__.split("\n\n")[0]
-    form = argparse.ArgumentParser(description=about, epilog=HELP, formatter_class=argparse.RawDescriptionHelpFormatter)
-    for name in ("topology", "script", "capture", "folder"):
-        form.add_argument(name, metavar=name.upper(), type=Path)
+    how = argparse.RawDescriptionHelpFormatter
+    form = argparse.ArgumentParser(usage=USAGE, description=about, epilog=HELP, formatter_class=how)
+    form.add_argument("words", nargs=4, metavar="WORD", help="an input, 'flood' before the first, or FOLDER")
     form.add_argument("--compare", action="store_true", help="compare FOLDER with what is due, and write nothing")
-    return form.parse_args()
+    given = form.parse_args()
+    *inputs, folder = given.words
+    command = "flood" if inputs[0] == "flood" else "run"
+    return command, inputs[command == "flood" :], Path(folder), given.compare
 
 
 def main():
-    words = words_given()
+    command, inputs, folder, is_compared = words_given()
     try:
-        report, files = run_of(*(path.read_bytes() for path in (words.topology, words.script, words.capture)))
+        report, files = COMMANDS[command](*(Path(name).read_bytes() for name in inputs))
         files["report.txt"] = report
-        if words.compare:
-            differs = difference(files, files_in(words.folder))
+        if is_compared:
+            differs = difference(files, files_in(folder))
             print(differs or f"{len(files)} files are as worked out here")
             return 1 if differs else 0
-        words.folder.mkdir(parents=True, exist_ok=True)
+        folder.mkdir(parents=True, exist_ok=True)
         for name, bytes_ in files.items():
-            (words.folder / name).write_bytes(bytes_)
+            (folder / name).write_bytes(bytes_)
     except OSError as error:
         print(f"reference.py: {error.filename}: {error.strerror}", file=sys.stderr)
         return 1

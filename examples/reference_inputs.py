@@ -331,6 +331,12 @@ FORMS = {
     "show vrf": ["vrf"],
     "show flight": [],
 }
+FLOOD_FORMS = {
+    "link up": ["node", "node"],
+    "link down": ["node", "node"],
+    "hear flood": ["node", "node"],
+    "drain": [],
+}
 
 
 def lines_of(bytes_):
@@ -346,8 +352,8 @@ def words_of(line):
     return words[:comment]
 
 
-def read_script(topology, bytes_):
-    """The commands, each with the number of its line."""
+def read_script(topology, bytes_, forms=FORMS):
+    """The commands of these forms, each with the number of its line."""
     if len(bytes_) > 67_108_864:
         raise Refused("too large script bytes")
     lines = lines_of(bytes_)
@@ -357,25 +363,25 @@ def read_script(topology, bytes_):
     for at, line in enumerate(lines, 1):
         words = words_of(line)
         if words:
-            commands.append((at, read_line(topology, words, at)))
+            commands.append((at, read_line(topology, words, at, forms)))
     return commands
 
 
-def read_line(topology, words, line):
+def read_line(topology, words, line, forms=FORMS):
     def refused(rule):
         raise Refused(f"script refused {rule} at line {line}")
 
-    firsts = {form.split()[0] for form in FORMS}
+    firsts = {form.split()[0] for form in forms}
     if words[0] not in firsts:
         refused("S1 UnknownWord")
     verb, given = words[0], words[1:]
-    if verb not in FORMS:
+    if verb not in forms:
         if not given:
             refused("S2 WrongCount")
         verb, given = f"{verb} {given[0]}", given[1:]
-        if verb not in FORMS:
+        if verb not in forms:
             refused("S1 UnknownWord")
-    form = FORMS[verb]
+    form = forms[verb]
     if len(given) != len(form) and (verb, given) != ("drain", []):
         refused("S2 WrongCount")
     values = [read_word(topology, word, kind) for word, kind in zip(given, form)]
@@ -400,13 +406,13 @@ def command_of(topology, verb, values, refused):
         return verb, *(values if verb == "hear bgp" else sorted(values))
     if verb == "drain":
         return verb, *(values or [None])
-    if verb not in ("link up", "link down", "learn", "ldp on", "ldp off", "hear ldp", "carry", "lose"):
+    if verb not in ("link up", "link down", "learn", "ldp on", "ldp off", "hear ldp", "hear flood", "carry", "lose"):
         return verb, *values
     learner = [values.pop(0)] if verb == "learn" else []
     link = topology.link_between(*values[:2])
     if link is None:
         refused("S5 NotLinked")
-    sender = values[:1] if verb in ("hear ldp", "carry", "lose") else []
+    sender = values[:1] if verb in ("hear ldp", "hear flood", "carry", "lose") else []
     return verb, *learner, link, *sender, *values[2:]
 
 

@@ -33,13 +33,14 @@ class Inputs:
 
 @dataclass(frozen=True)
 class Case:
-    """What is run: `generate` of a number, or inputs that are made. Cases of a family differ in size alone."""
+    """What is run: `generate` of a number, or a command on inputs that are made. Cases of a family differ in size alone."""
 
     name: str
     says: str
     make: Callable[[], Inputs] | None = None
     number: int | None = None
     size: int | None = None
+    command: str = "run"
 
     @property
     def family(self):
@@ -355,14 +356,15 @@ def show_all(times=100):
     return Inputs(topology, script())
 
 
-def sized(name, says, make, sizes):
-    return [Case(f"{name}-{size}", says.format(f"{size:,}"), lambda size=size: make(size), size=size) for size in sizes]
+def sized(name, says, make, sizes, **how):
+    return [Case(f"{name}-{size}", says.format(f"{size:,}"), lambda size=size: make(size), size=size, **how) for size in sizes]
 
 
 CASES = [
     Case("tiny", "the example two-links", tiny),
     Case("refused", "3,000,000 refused lines", refused),
     *sized("up", "{} nodes with four links each come up, drained", come_up, (64, 128, 256)),
+    *sized("flood", "{} nodes with four links each: links come up, and each advert is heard", come_up, (64, 128, 256), command="flood"),
     Case("links", "64 of the 256 links of 64 nodes go down and come up, drained", lambda: down_and_up(64, 64)),
     Case("links-large", "64 of the 1,024 links of 256 nodes go down and come up, drained", lambda: down_and_up(256, 64)),
     *sized("mesh", "16 edges with 32 VRFs each, {} routes", mesh, (8_192, 49_152)),

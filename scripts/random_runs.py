@@ -1,7 +1,8 @@
 """Makes random topologies, scripts and captures: small networks in which much happens, and now and then a wrong input.
 
 The script is made line by line beside the network of examples/reference.py as the lines so far have left it, so that
-most lines ask for something that can be done: in any order, though, and not for what would come next.
+most lines ask for something that can be done: in any order, though, and not for what would come next. So too the script
+of a flood, beside that of examples/reference_flood.py.
 """
 
 import random
@@ -12,6 +13,7 @@ from pathlib import Path
 
 sys.path.insert(0, str(Path(__file__).resolve().parents[1] / "examples"))
 import reference  # noqa: E402
+import reference_flood  # noqa: E402
 import reference_inputs as inputs  # noqa: E402
 
 PREFIXES = """
@@ -305,13 +307,14 @@ def random_lines(rng, top, packets, network):
             yield words
 
 
-def random_script(rng, top, packets, network):
+def script_text(rng, all_words, ends):
+    """The lines of these words, with blanks and comments here and there, and one of the ends."""
     lines = []
-    for words in random_lines(rng, top, packets, network):
+    for words in all_words:
         line = rng.choice([" ", " ", " ", " ", "  ", "\t", " \t "]).join(words)
         lines.append(line + (rng.choice([" # why", " #", "\r", "\t", " #\r"]) if rng.random() < 0.1 else ""))
         lines += [rng.choice(["", "  ", "# a comment", "\t# one more"])] * (rng.random() < 0.03)
-    return "\n".join(lines + rng.choice([["flush"], ["drain", "show flight"], [], []])) + rng.choice(["\n", "\n", ""])
+    return "\n".join(lines + rng.choice(ends)) + rng.choice(["\n", "\n", ""])
 
 
 def checksum(header):
@@ -393,10 +396,85 @@ def random_run(seed):
     network = reference.Network(inputs.read_topology(toml_text(top).encode()))
     _, link_type, records = inputs.scan(capture)
     packets = [inputs.packet_of(link_type, record) for record in records]
-    script = random_script(rng, top, packets, network)
+    lines = random_lines(rng, top, packets, network)
+    script = script_text(rng, lines, [["flush"], ["drain", "show flight"], [], []])
+    return *perhaps_wrong(rng, top, script), capture
+
+
+def perhaps_wrong(rng, top, script):
+    """Topology and script as bytes, now and then wrong."""
     if rng.random() < 0.06:
         script = damaged(rng, script)
     text = toml_text(wrong_topology(rng, top) if rng.random() < 0.12 else top)
     if rng.random() < 0.02:
         text = damaged(rng, text)
-    return text.encode(), script.encode(), capture
+    return text.encode(), script.encode()
+
+
+# Floods
+
+FLOOD_VERBS = {"link up": 20, "link down": 8, "hear flood": 60, "drain": 4}
+NO_LINES = [["drain", "5"], ["hear", "ldp"], ["hear"], ["hear", "flood", "nobody"], ["learn"], ["show", "links"], ["link"]]
+
+
+def flood_topology(rng):
+    """Nodes and links alone, the links often more than a tree has."""
+    count = rng.choice([1, 2, 3, 3, 4, 4, 5, 5, 6, 6, 7])
+    names, loopbacks = rng.sample(NAMES, count), rng.sample(LOOPBACKS, count)
+    nodes = [{"name": name, "loopback": loopback} for name, loopback in zip(names, loopbacks)]
+    links = list(random_links(rng, nodes))
+    linked = [{link["a"], link["b"]} for link in links]
+    for a, b in [(a["name"], b["name"]) for i, a in enumerate(nodes) for b in nodes[i + 1 :]]:
+        if {a, b} not in linked and rng.random() < 0.3:
+            links.append(some(rng, {"a": a, "b": b}, 0.4, cost=lambda: rng.choice([1, 5, 10, 20, 65535])))
+    return {"node": nodes, "link": links, "vrf": [], "site": []}
+
+
+def flood_words(rng, flood):
+    """The words of a line, which mostly asks for what can be done."""
+    if rng.random() < 0.001:
+        return rng.choice(NO_LINES)
+    names = [node.name for node in flood.topology.nodes]
+    verb = rng.choices([*FLOOD_VERBS], FLOOD_VERBS.values())[0]
+    links = [no for no, up in enumerate(flood.up) if up != (verb == "link up")]
+    ways = [way for way, queue in flood.flying.items() if queue]
+    if verb == "hear flood" and ways:
+        link, sender = rng.choice(ways)
+    elif verb != "drain" and flood.links:
+        link = rng.choice(links or [0]) if rng.random() < 0.9 else rng.randrange(len(flood.links))
+        sender = rng.choice([flood.links[link].a, flood.links[link].b])
+    else:
+        return ["drain"]
+    return [*verb.split(), names[sender], names[flood.links[link].other(sender)]]
+
+
+def is_refused_in(flood, words):
+    """Does the line's command; whether it was refused, in which case nothing was done."""
+    try:
+        verb, *given = inputs.read_line(flood.topology, words, 1, inputs.FLOOD_FORMS)
+    except inputs.Refused:
+        return False  # it is written as it is
+    if verb == "drain":
+        return flood.drain()
+    return bool(reference_flood.do(flood, verb, *given))
+
+
+def flood_lines(rng, flood):
+    """Lines one after another; of those that would be refused most are left out."""
+    for _ in range(rng.choice([0, 3, 10, 20, 40, 80, 160])):
+        for _ in range(6):
+            words = flood_words(rng, flood)
+            if not is_refused_in(flood, words) or rng.random() < 0.1:
+                yield words
+                break
+
+
+def random_flood(seed):
+    """Topology and script of a flood as bytes."""
+    rng = random.Random(f"flood {seed}")
+    top = flood_topology(rng)
+    flood = reference_flood.Flood(inputs.read_topology(toml_text(top).encode()))
+    return perhaps_wrong(rng, top, script_text(rng, flood_lines(rng, flood), [["drain"], [], [], []]))
+
+
+COMMANDS = {"run": random_run, "flood": random_flood}

@@ -13,15 +13,18 @@ import reference_inputs  # noqa: E402
 NAMES = ("topology.toml", "script.txt", "capture.pcap")
 STAND_IN = """\
 #!{python} -B
-# What 'mplsnet run' does, by examples/reference.py.
+# What 'mplsnet run' and 'mplsnet flood' do, by examples/reference.py.
 import sys
 sys.path.insert(0, {examples!r})
 import reference
 words = sys.argv[1:]
-if len(words) != 5 or words[0] != "run":
-    print("usage: mplsnet run TOPOLOGY SCRIPT CAPTURE FOLDER | check TOPOLOGY | generate NUMBER")
+if words[:1] == ["check"]:  # of any topology
+    print("topology ok nodes 0")
+    sys.exit(0)
+if words[:1] + [len(words)] not in (["run", 5], ["flood", 3]):
+    print("usage: mplsnet run TOPOLOGY SCRIPT CAPTURE FOLDER | check TOPOLOGY | generate NUMBER | flood TOPOLOGY SCRIPT")
     sys.exit(2)
-report, files = reference.run_of(*(open(path, "rb").read() for path in words[1:4]))
+report, files = reference.COMMANDS[words[0]](*(open(path, "rb").read() for path in words[1:4]))
 for name, content in files.items():
     with open(words[4] + "/" + name, "wb") as file:
         file.write(content)
@@ -32,7 +35,7 @@ sys.exit({{"topology": 3, "script": 4, "capture": 5, "too": 9}}.get(first, 0))
 
 
 def stand_in(folder):
-    """A program that answers 'run' as mplsnet does, for small networks."""
+    """A program that answers 'run' and 'flood' as mplsnet does, for small networks, and takes any topology for a good one."""
     path = Path(folder) / "mplsnet"
     path.write_text(STAND_IN.format(python=sys.executable, examples=str(ROOT / "examples")))
     path.chmod(0o755)

@@ -80,6 +80,9 @@ class Inputs(unittest.TestCase):
         self.assertEqual(0xFFFF, int.from_bytes(packet[2:4], "big"))
         self.assertEqual(0, bench_cases.packets.checksum(packet[:20]))
 
+    def test_a_flood_is_given_a_topology_and_a_script(self):
+        self.assertEqual(["flood", "in/topology.toml", "in/script.txt"], bench.words_of(case("flood-64"), Path("in"), Path("out")))
+
     def test_names_of_cases_differ(self):
         names = [one.name for one in bench_cases.CASES]
         self.assertEqual(len(names), len(set(names)))

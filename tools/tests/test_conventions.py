@@ -75,6 +75,9 @@ class Bash(unittest.TestCase):
         self.assertIn("script.txt", self.completed(first, "mplsnet", "run", "topology.toml", ""))
         self.assertEqual({"capture.pcap", "expected"}, self.completed(first, "mplsnet", "run", "topology.toml", "script.txt", ""))
         self.assertEqual({"expected"}, self.completed(first, "mplsnet", "run", "topology.toml", "script.txt", "capture.pcap", ""))
+        self.assertEqual({"topology.toml", "expected"}, self.completed(first, "mplsnet", "flood", ""))
+        self.assertIn("script.txt", self.completed(first, "mplsnet", "flood", "topology.toml", ""))
+        self.assertEqual(set(), self.completed(first, "mplsnet", "flood", "topology.toml", "script.txt", ""))
         self.assertEqual(set(), self.completed(first, "mplsnet", "check", "topology.toml", ""))
 
     def test_options_of_the_tools_are_those_of_their_help(self):

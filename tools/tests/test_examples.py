@@ -1,4 +1,4 @@
-"""Tests of the examples: each is whole, its capture is what its script makes, and what is expected is what reference.py works out."""
+"""Tests of the examples: each is whole, a capture is what its script makes, and what is expected is what reference.py works out."""
 
 import shutil
 import subprocess
@@ -8,8 +8,11 @@ import unittest
 from pathlib import Path
 
 EXAMPLES = Path(__file__).resolve().parents[2] / "examples"
-NAMES = "first two-links overlap hub-and-spoke extranet micro-loop ordered-control site-moves loss late ring".split()
-PARTS = ["README.md", "topology.toml", "script.txt", "capture.py", "capture.pcap", "drawing.svg", "expected/report.txt"]
+RUNS = "first two-links overlap hub-and-spoke extranet micro-loop ordered-control site-moves loss late ring".split()
+FLOODS = "flood older-database".split()
+OF_ALL = ["README.md", "topology.toml", "script.txt", "expected/report.txt"]
+OF_RUNS = [*OF_ALL, "capture.py", "capture.pcap", "drawing.svg"]
+OF_FLOODS = [*OF_ALL, "command.txt"]
 
 
 def run(*words, **how):
@@ -19,13 +22,19 @@ def run(*words, **how):
 class Examples(unittest.TestCase):
     def test_each_folder_is_an_example_with_all_its_parts(self):
         folders = {path.name for path in EXAMPLES.iterdir() if (path / "expected").is_dir()}
-        self.assertEqual(folders, set(NAMES))
-        for name in NAMES:
-            for part in PARTS:
-                self.assertTrue((EXAMPLES / name / part).is_file(), f"{name}/{part}")
+        self.assertEqual(folders, {*RUNS, *FLOODS})
+        for names, parts in ((RUNS, OF_RUNS), (FLOODS, OF_FLOODS)):
+            for name in names:
+                for part in parts:
+                    self.assertTrue((EXAMPLES / name / part).is_file(), f"{name}/{part}")
+
+    def test_a_flood_has_a_report_alone(self):
+        for name in FLOODS:
+            self.assertEqual("flood\n", (EXAMPLES / name / "command.txt").read_text())
+            self.assertEqual(["report.txt"], [path.name for path in (EXAMPLES / name / "expected").iterdir()])
 
     def test_each_capture_is_what_its_script_makes(self):
-        for name in NAMES:
+        for name in RUNS:
             with self.subTest(name), tempfile.TemporaryDirectory() as room:
                 copy = Path(room) / name
                 copy.mkdir()
@@ -36,14 +45,16 @@ class Examples(unittest.TestCase):
                 self.assertEqual((copy / "capture.pcap").read_bytes(), (EXAMPLES / name / "capture.pcap").read_bytes())
 
     def test_what_is_expected_is_what_the_reference_works_out(self):
-        for name in NAMES:
-            with self.subTest(name):
-                compared = run("../reference.py", "topology.toml", "script.txt", "capture.pcap", "expected", "--compare", cwd=EXAMPLES / name)
-                self.assertEqual(compared.returncode, 0, compared.stdout)
+        inputs = ["topology.toml", "script.txt"]
+        for names, words in ((RUNS, [*inputs, "capture.pcap"]), (FLOODS, ["flood", *inputs])):
+            for name in names:
+                with self.subTest(name):
+                    compared = run("../reference.py", *words, "expected", "--compare", cwd=EXAMPLES / name)
+                    self.assertEqual(compared.returncode, 0, compared.stdout)
 
     def test_each_page_tells_what_becomes_of_each_packet(self):
         """Every rule by which a packet is dropped in a report stands in the example's page."""
-        for name in NAMES:
+        for name in RUNS:
             page = (EXAMPLES / name / "README.md").read_text()
             for line in (EXAMPLES / name / "expected" / "report.txt").read_text().splitlines():
                 words = line.split()

@@ -1,6 +1,7 @@
-"""The program by hand: help and version, and the line on standard error after a failed call or a limit.
+"""The program by hand: help and version, the line on standard error after a failed call or a limit, and `flood`.
 
-It is the proved one where it is built, else the trial build, or what MPLSNET names; where neither is there these are passed over.
+It is the proved one where it is built, else the trial build, or what MPLSNET names; where neither is there these are passed over. So are
+those of `flood` where an older program doesn't know it.
 """
 
 import os
@@ -18,13 +19,18 @@ import sources  # noqa: E402
 BUILT = [sources.PROGRAM] * sources.is_proved() + [sources.TRIAL] * sources.is_tried()
 PROGRAM = Path(os.environ["MPLSNET"]) if "MPLSNET" in os.environ else next(iter(BUILT), None)
 FIRST = ROOT / "examples/first"
+FLOOD = ROOT / "examples/flood"
 INPUTS = [FIRST / "topology.toml", FIRST / "script.txt", FIRST / "capture.pcap"]
-USAGE = "usage: mplsnet run TOPOLOGY SCRIPT CAPTURE FOLDER | check TOPOLOGY | generate NUMBER\n"
 
 
 def run(*words, **how):
     ran = subprocess.run([PROGRAM, *words], stdin=subprocess.DEVNULL, stderr=subprocess.PIPE, text=True, **({"stdout": subprocess.PIPE} | how))
     return ran.returncode, ran.stdout, ran.stderr
+
+
+KNOWS_FLOOD = bool(PROGRAM) and "flood TOPOLOGY SCRIPT" in run()[1]
+FORMS = ["run TOPOLOGY SCRIPT CAPTURE FOLDER", "check TOPOLOGY", "generate NUMBER"] + ["flood TOPOLOGY SCRIPT"] * KNOWS_FLOOD
+USAGE = f"usage: mplsnet {' | '.join(FORMS)}\n"
 
 
 @unittest.skipUnless(PROGRAM, "the program isn't built")
@@ -43,7 +49,7 @@ class Program(unittest.TestCase):
     def test_help_and_version_alone(self):
         status, out, err = run("--help")
         self.assertEqual((0, ""), (status, err))
-        for form in ("run TOPOLOGY SCRIPT CAPTURE FOLDER", "check TOPOLOGY", "generate NUMBER"):
+        for form in FORMS:
             self.assertIn(f"mplsnet {form}\n", out)
         self.assertEqual((0, f"mplsnet {sources.version()}\n", ""), run("--version"))
 
@@ -84,6 +90,54 @@ class Program(unittest.TestCase):
     def test_a_refusal_has_no_line_on_standard_error(self):
         bad = self.file("bad", b"x = 1\n")
         self.assertEqual((3, "topology refused T2 UnknownKey at top\n", ""), run("check", bad))
+
+
+@unittest.skipUnless(KNOWS_FLOOD, "the program isn't built, or doesn't know 'flood' yet")
+class Flood(unittest.TestCase):
+    def setUp(self):
+        self.room = tempfile.TemporaryDirectory()
+        self.addCleanup(self.room.cleanup)
+
+    def file(self, name, content):
+        path = Path(self.room.name) / name
+        path.write_bytes(content)
+        return path
+
+    def test_puts_the_report_and_writes_nothing(self):
+        for example in (FLOOD, ROOT / "examples/older-database"):
+            report = (example / "expected/report.txt").read_text()
+            self.assertEqual((0, report, ""), run("flood", example / "topology.toml", example / "script.txt", cwd=self.room.name))
+        self.assertEqual([], list(Path(self.room.name).iterdir()))
+
+    def test_other_words_are_usage(self):
+        topology, script = FLOOD / "topology.toml", FLOOD / "script.txt"
+        for words in (["flood"], ["flood", topology], ["flood", topology, script, INPUTS[2]], ["Flood", topology, script]):
+            self.assertEqual((2, USAGE, ""), run(*words), words)
+
+    def test_inputs_are_those_of_a_run(self):
+        topology, script, gone = FLOOD / "topology.toml", FLOOD / "script.txt", Path(self.room.name) / "gone"
+        line = f"mplsnet: {gone}: can't be read: No such file or directory (os error 2)\n"
+        for inputs in ([gone, script], [topology, gone]):
+            self.assertEqual((6, "", line), run("flood", *inputs))
+        bad = self.file("bad", b"x = 1\n")
+        self.assertEqual((3, "topology refused T2 UnknownKey at top\n", ""), run("flood", bad, gone))
+        bad = self.file("bad", b"link up r1 r2\ninject a 1\n")
+        self.assertEqual((4, "script refused S1 UnknownWord at line 2\n", ""), run("flood", topology, bad))
+        lines = self.file("lines", b"\n" * 3_000_001)
+        told = (9, "too large script lines\n", f"mplsnet: {lines}: more than 3000000 lines\n")
+        self.assertEqual(told, run("flood", topology, lines))
+
+    @unittest.skipUnless(PROGRAM and PROGRAM != sources.TRIAL, "a trial build takes minutes")
+    def test_a_step_past_the_last_ends_it(self):
+        """45 nodes, each linked to each: the first drain hears some 3.8 million adverts, and each change of a link then some 3,800."""
+        nodes = [f"n{number}" for number in range(1, 46)]
+        links = [(a, b) for at, a in enumerate(nodes) for b in nodes[at + 1 :]]
+        text = "".join(f'[[node]]\nname = "{name}"\nloopback = "192.0.2.{at}"\n' for at, name in enumerate(nodes, 1))
+        text += "".join(f'[[link]]\na = "{a}"\nb = "{b}"\n' for a, b in links)
+        lines = [f"link up {a} {b}" for a, b in links] + ["drain", "link up n1 n2"]
+        lines += ["link down n1 n2", "drain", "link up n1 n2", "drain"] * 60
+        inputs = self.file("topology", text.encode()), self.file("script", "\n".join(lines).encode())
+        self.assertEqual((9, f"line {len(links) + 2} refused Unchanged\ntoo large steps\n"), run("flood", *inputs)[:2])
 
 
 class Version(unittest.TestCase):

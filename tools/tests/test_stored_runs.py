@@ -7,6 +7,7 @@ import shutil
 import subprocess
 import tempfile
 import unittest
+from collections import Counter
 from contextlib import redirect_stderr, redirect_stdout
 from pathlib import Path
 
@@ -30,7 +31,7 @@ class StoredRuns(unittest.TestCase):
     def setUp(self):
         self.root = Path(tempfile.mkdtemp())
         self.addCleanup(shutil.rmtree, self.root)
-        for name in ["first", "two-links"]:
+        for name in ["first", "two-links", "flood"]:
             shutil.copytree(ROOT / "examples" / name, self.root / "examples" / name)
         run = f"{CRATE}/data/runs/an-unknown-word"
         shutil.copytree(ROOT / run, self.root / run)
@@ -51,14 +52,16 @@ class StoredRuns(unittest.TestCase):
     def test_all_runs_are_rows(self):
         names = [f"examples/{path.parent.name}" for path in sorted(ROOT.glob("examples/*/expected"))]
         names += [f"runs/{path.parent.name}" for path in sorted((ROOT / CRATE / "data/runs").glob("*/expected"))]
-        self.assertEqual(names, (ROOT / CRATE / "stdin").read_text().split())
-        self.assertEqual(49, len(names))
+        rows = [line.split() for line in (ROOT / CRATE / "stdin").read_text().splitlines()]
+        self.assertEqual(names, [name for _, name in rows])
+        self.assertEqual({"run": 49, "flood": 8}, dict(Counter(command for command, _ in rows)))
 
     def test_rows_have_status_and_number_of_files(self):
         self.assertEqual((0, ""), self.called())
-        self.assertEqual("examples/first\nexamples/two-links\nruns/an-unknown-word\n", self.read("stdin"))
+        self.assertEqual("run examples/first\nflood examples/flood\nrun examples/two-links\nrun runs/an-unknown-word\n", self.read("stdin"))
         self.assertEqual(
             "examples/first: status 0, 4 files as expected\n"
+            "examples/flood: status 0, 1 files as expected\n"
             "examples/two-links: status 0, 12 files as expected\n"
             "runs/an-unknown-word: status 4, 1 files as expected\n",
             self.read("stdout"),
@@ -92,6 +95,18 @@ class StoredRuns(unittest.TestCase):
     def test_a_run_without_a_capture_is_told_and_nothing_is_laid(self):
         (self.root / "examples/first/capture.pcap").unlink()
         self.assertEqual((1, f"{self.root}/examples/first/capture.pcap: isn't there\n"), self.called())
+        self.assertFalse((self.root / CRATE / "stdin").exists())
+
+    def test_a_flood_needs_no_capture_and_its_word_is_laid(self):
+        self.called()
+        self.assertEqual("flood\n", (self.root / CRATE / "data/examples/flood/command.txt").read_text())
+        (self.root / "examples/flood/script.txt").unlink()
+        self.assertEqual((1, f"{self.root}/examples/flood/script.txt: isn't there\n"), self.called())
+
+    def test_a_command_whose_runs_are_not_kept_is_told(self):
+        (self.root / "examples/flood/command.txt").write_text("generate\n")
+        said = f"{self.root}/examples/flood/command.txt: runs of such a command aren't kept: generate\n"
+        self.assertEqual((1, said), self.called())
         self.assertFalse((self.root / CRATE / "stdin").exists())
 
     def test_a_folder_of_ones_own_is_passed_over(self):

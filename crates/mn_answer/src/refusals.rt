@@ -109,7 +109,7 @@ fn plain_line(outcome: Outcome) -> &'static str
 {
     match outcome {
         Outcome::Usage => {
-            "usage: mplsnet run TOPOLOGY SCRIPT CAPTURE FOLDER | check TOPOLOGY | generate NUMBER\n"
+            "usage: mplsnet run TOPOLOGY SCRIPT CAPTURE FOLDER | check TOPOLOGY | generate NUMBER | flood TOPOLOGY SCRIPT\n"
         }
         Outcome::TooLarge { which, .. } => limit_line(which),
         Outcome::BadTopology { .. }

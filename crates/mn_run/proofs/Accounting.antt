@@ -21,7 +21,7 @@ use Rattle.mn_answer.specs.declared.outcome.Limit.TheVariants.{Steps}
 use Rattle.mn_answer.specs.declared.outcome.Outcome.{Outcome}
 use Rattle.mn_answer.specs.declared.outcome.Outcome.TheVariants.{Done, Usage, BadTopology, BadScript, BadCapture, TooLarge, ReadFault, WriteFault, NoMemory}
 use Rattle.mn_run.specs.declared.words.Job.{Job}
-use Rattle.mn_run.specs.declared.words.Job.TheVariants.{Run, Check, Generate}
+use Rattle.mn_run.specs.declared.words.Job.TheVariants.{Run, Check, Flood, Generate}
 use Rattle.mn_run.specs.Words.{word}
 use Rattle.mn_run.specs.Answer.{run_done, checked}
 use Rattle.mn_answer.specs.Endings.{OutcomeIs, FilesAre, TextIs}
@@ -33,6 +33,7 @@ use Rattle.mn_run.specs.declared.load.Inputs.{Inputs}
 use Rattle.mn_run.specs.Jobs.{AreRead, AreMade}
 use Rattle.mn_run.specs.declared.generate.Made.{Made}
 use Rattle.mn_run.specs.Answer.{generated_line, generated_done}
+use Rattle.mn_flood_run.specs.Headline.{IsFloodTold}
 use Rattle.mn_run.specs.Headline.{IsKept, KeepsItsPromise, IsGenerated}
 
 pub promise : (topology script capture folder : List ℕ) (files : Files) (before : List ℕ) (after : Option Files) (written : Option (List ℕ))
@@ -108,6 +109,19 @@ topology_told words files before after written (BadTopology rule place) t read s
 topology_told words files before after written (BadScript rule line) t read same text = tt
 topology_told words files before after written (BadCapture rule place) t read same text = tt
 topology_told words files before after written (TooLarge which limit) t read same text = tt
+
+-- what a flood tells, where it was done, and no file changed
+pub flood_kept : (words : List (List ℕ)) (files : Files) (before : List ℕ) (after : Option Files) (written : Option (List ℕ)) (outcome : Outcome)
+    → IsFloodTold (word words 1) (word words 2) files before written outcome → after ≡ Some files → IsKept Flood words files before after written outcome
+flood_kept words files before after written Done told same = (told, same)
+flood_kept words files before after written Usage told same = tt
+flood_kept words files before after written ReadFault told same = tt
+flood_kept words files before after written WriteFault told same = tt
+flood_kept words files before after written NoMemory told same = tt
+flood_kept words files before after written (BadTopology rule place) told same = tt
+flood_kept words files before after written (BadScript rule line) told same = tt
+flood_kept words files before after written (BadCapture rule place) told same = tt
+flood_kept words files before after written (TooLarge which limit) told same = tt
 
 -- what the generator's run tells, where it was done, and no file changed
 pub generated_kept : (words : List (List ℕ)) (files : Files) (before : List ℕ) (after : Option Files) (written : Option (List ℕ)) (outcome : Outcome)

@@ -12,14 +12,16 @@ use Rattle.mn_answer.specs.Answer.{refusal_of}
 use Rattle.mn_answer.specs.Endings.{Answers, OutcomeIs, TextIs, CausedBy}
 use Rattle.mn_answer.specs.Inputs.{TopologyIs}
 use Rattle.mn_answer.proofs.Ending.{sink_answers, fault_answers, memory_answers}
+use Rattle.mn_flood_run.specs.Answer.{flood_answer}
+use Rattle.mn_flood_run.specs.Headline.{IsFloodTold}
 use Rattle.mn_run.specs.declared.load.Inputs.{Inputs}
 use Rattle.mn_run.specs.declared.words.Job.{Job}
-use Rattle.mn_run.specs.declared.words.Job.TheVariants.{Run, Check, Generate, Nothing}
+use Rattle.mn_run.specs.declared.words.Job.TheVariants.{Run, Check, Flood, Generate, Nothing}
 use Rattle.mn_run.specs.Words.{word}
 use Rattle.mn_run.specs.Answer.{job_answer, run_done, checked, generated}
 use Rattle.mn_run.specs.Jobs.{AreRead, ForDone}
 use Rattle.mn_run.specs.Headline.{IsGenerated, Ends}
-use Rattle.mn_run.proofs.Accounting.{kept, undone, topology_told, generated_kept}
+use Rattle.mn_run.proofs.Accounting.{kept, undone, topology_told, flood_kept, generated_kept}
 use Rattle.mn_run.proofs.Generating.{generated_writes}
 use Rattle.mn_run.proofs.Loading.{answer_is}
 
@@ -28,6 +30,9 @@ run_makes_none number e = cc
 
 pub check_makes_none : (number : ℕ) → Check ≡ Generate number → ⊥
 check_makes_none number e = cc
+
+flood_makes_none : (number : ℕ) → Flood ≡ Generate number → ⊥
+flood_makes_none number e = cc
 
 nothing_makes_none : (number : ℕ) → Nothing ≡ Generate number → ⊥
 nothing_makes_none number e = cc
@@ -60,6 +65,17 @@ check_ends words t files after before written old new o read same outcome text c
       (sink_answers (Some (checked t)) m after before written old new o refl (same ∙ is) outcome text cause);
   kept = λ m is before begun. topology_told words m before after written o t (read m is).0 (same ∙ is) (text before begun);
   told = λ number e. absurd (check_makes_none number e);
+}
+
+-- a flood was told
+pub flood_ends : (words : List (List ℕ)) (files after : Option Files) (before written : Option (List ℕ)) (o : Outcome) →
+    ForSome files (λ m. Answers (flood_answer (word words 1) (word words 2) m) m after before written o) →
+    ForSome files (λ m. ForSome before (λ text. IsFloodTold (word words 1) (word words 2) m text written o)) → after ≡ files →
+    Ends Flood words files after before written o
+flood_ends words files after before written o answers told same = record {
+  answers = answers;
+  kept = λ m is before begun. flood_kept words m before after written o (told m is before begun) (same ∙ is);
+  told = λ number e. absurd (flood_makes_none number e);
 }
 
 -- the generator's run was played

@@ -7,11 +7,14 @@ use Rattle.mn_base.proofs.Bools.{and_left, and_right}
 use Rattle.mn_edge.proofs.Entries.{text-eq}
 use Rattle.mn_text.specs.Numbers.{number_up_to}
 use Rattle.mn_perform.specs.Inside.{is_inside}
-use Rattle.mn_run.specs.declared.words.Job.TheVariants.{Run, Check, Generate}
-use Rattle.mn_run.specs.Words.{word, is_run, is_check, generator_number, generating, job_of}
+use Rattle.mn_run.specs.declared.words.Job.TheVariants.{Run, Check, Flood, Generate}
+use Rattle.mn_run.specs.Words.{word, is_run, is_check, is_flood, generator_number, generating, job_of}
 
 pub is_five : (n : ℕ) → (n == 5) ≡ true → n ≡ 5
 is_five n h = grind (arith, nat_tests)
+
+pub is_three : (n : ℕ) → (n == 3) ≡ true → n ≡ 3
+is_three n h = grind (arith, nat_tests)
 
 pub is_two : (n : ℕ) → (n == 2) ≡ true → n ≡ 2
 is_two n h = grind (arith, nat_tests)
@@ -28,7 +31,7 @@ apart words run =
     outside false true true h = cc
     outside false false true h = cc
 
--- the generator's words are none of a run, and none of a check
+-- the generator's words are none of a run, of a check or of a flood
 no_number_run : (words : List (List ℕ)) (number : ℕ) → is_run words ≡ true → generator_number words ≡ Some number → ⊥
 no_number_run words number run is = not_both (length words) _ _ (number_up_to (word words 1) 99) run is
   where
@@ -46,14 +49,24 @@ no_number_check words number check is = not_both (length words == 2) (word words
         let none : None ≡ Some number = sym (ap (λ w. if pointwise nat_eq w (codes "generate") then x else None) (text-eq w (codes "check") h)) ∙ e in cc
     not_both false w x h e = let none : None ≡ Some number = e in cc
 
+no_number_flood : (words : List (List ℕ)) (number : ℕ) → is_flood words ≡ true → generator_number words ≡ Some number → ⊥
+no_number_flood words number flood is = not_both (length words) _ _ (number_up_to (word words 1) 99) flood is
+  where
+    not_both : (n : ℕ) (a b : Bool) (x : Option ℕ) → ((n == 3) && a) ≡ true → (if (n == 2) && b then x else None) ≡ Some number → ⊥
+    not_both n a b x h e =
+        let three : n ≡ 3 = is_three n (and_left (n == 3) a h) in
+        let none : None ≡ Some number = sym (ap (λ n. if (n == 2) && b then x else None) three) ∙ e in cc
+
 -- words with a number ask for its run
 pub number_job : (words : List (List ℕ)) (number : ℕ) → generator_number words ≡ Some number → job_of words ≡ Generate number
 number_job words number is =
-    by (is_run words) (is_check words) (λ run. no_number_run words number run is) (λ check. no_number_check words number check is)
+    by (is_run words) (is_check words) (is_flood words) (λ run. no_number_run words number run is) (λ check. no_number_check words number check is)
+    (λ flood. no_number_flood words number flood is)
     ∙ ap generating is
   where
-    by : (run check : Bool) → (run ≡ true → ⊥) → (check ≡ true → ⊥) →
-        (if run then Run else if check then Check else generating (generator_number words)) ≡ generating (generator_number words)
-    by true check no_run no_check = absurd (no_run refl)
-    by false true no_run no_check = absurd (no_check refl)
-    by false false no_run no_check = refl
+    by : (run check flood : Bool) → (run ≡ true → ⊥) → (check ≡ true → ⊥) → (flood ≡ true → ⊥) →
+        (if run then Run else if check then Check else if flood then Flood else generating (generator_number words)) ≡ generating (generator_number words)
+    by true check flood no_run no_check no_flood = absurd (no_run refl)
+    by false true flood no_run no_check no_flood = absurd (no_check refl)
+    by false false true no_run no_check no_flood = absurd (no_flood refl)
+    by false false false no_run no_check no_flood = refl

@@ -24,8 +24,9 @@ use Rattle.mn_topo.specs.SiteTable.{statics_of}
 use Rattle.mn_answer.specs.declared.outcome.Limit.TheVariants.{CaptureBytes, CaptureRecords, Steps}
 use Rattle.mn_answer.specs.declared.outcome.Outcome.TheVariants.{Done, Usage, NoMemory, BadCapture, TooLarge}
 use Rattle.mn_answer.specs.Answer.{Answer, refusal_of, with_topology_bytes, with_topology, with_lines_of_bytes, with_lines_of}
+use Rattle.mn_flood_run.specs.Answer.{flood_answer}
 use Rattle.mn_run.specs.declared.words.Job.{Job}
-use Rattle.mn_run.specs.declared.words.Job.TheVariants.{Run, Check, Generate, Nothing}
+use Rattle.mn_run.specs.declared.words.Job.TheVariants.{Run, Check, Flood, Generate, Nothing}
 use Rattle.mn_run.specs.Words.{word, job_of}
 
 -- what a run leaves and puts: refused lines and tables come early; where its journal was full it is too large, and its files are
@@ -129,6 +130,7 @@ generated number = with_topology_bytes (topology_text number) (generated_over nu
 abbrev pub job_answer : Job → List (List ℕ) → Files → Option Answer
 job_answer Run words files = run_answer words files
 job_answer Check words files = check_answer words files
+job_answer Flood words files = flood_answer (word words 1) (word words 2) files
 job_answer (Generate number) words files = generated number
 job_answer Nothing words files = Some (refusal_of Usage)
 

@@ -2,7 +2,7 @@
 ghost use Rattle.std.specs.Prelude.{◌≡◌, ◌≤◌, IfSome};
 ghost use Rattle.mn_edge.specs.Written.{texts};
 ghost use Rattle.mn_perform.specs.Inside.{is_inside};
-ghost use Rattle.mn_run.specs.Words.{is_run, is_check, generator_number, job_of, IsForm};
+ghost use Rattle.mn_run.specs.Words.{is_run, is_check, is_flood, generator_number, job_of, IsForm};
 
 use mn_text::number_up_to;
 
@@ -16,6 +16,8 @@ pub(crate) enum Job {
     Run,
     /// `check TOPOLOGY`.
     Check,
+    /// `flood TOPOLOGY SCRIPT`.
+    Flood,
     /// `generate NUMBER`, from 0 to 99.
     Generate(u32),
     /// Nothing that the program does.
@@ -31,6 +33,8 @@ pub(crate) fn parse_job(words: &[String]) -> Job
         Job::Run
     } else if is_check(words) {
         Job::Check
+    } else if is_flood(words) {
+        Job::Flood
     } else {
         match generator_number(words) {
             Some(number) => Job::Generate(number),
@@ -63,6 +67,16 @@ fn is_check(words: &[String]) -> bool
         return false;
     };
     command.as_str() == "check"
+}
+
+/// Whether the words are `flood TOPOLOGY SCRIPT`.
+fn is_flood(words: &[String]) -> bool
+    ensures { result ≡ is_flood (texts words.now) }
+{
+    let [command, _, _] = words else {
+        return false;
+    };
+    command.as_str() == "flood"
 }
 
 /// The number of `generate NUMBER`, from 0 to 99.

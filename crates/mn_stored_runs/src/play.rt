@@ -1,6 +1,5 @@
 // One run, from its folder into another.
 use mn_edge_real::{HostShelf, HostSink};
-use mn_run::command;
 use std::alloc::{AllocError, Global};
 use std::io::{BufWriter, Error, ErrorKind};
 use std::{fs, io};
@@ -40,29 +39,32 @@ fn capture_of(rt: &HostRuntime, run: &str, left: &str) -> io::Result<String> {
     }
 }
 
-/// The words of the run's command line.
-fn words_of(
-    alloc: Global,
-    run: &str,
-    capture: String,
-    left: &str,
-) -> Result<Vec<String>, AllocError> {
+/// The first words of the run's command line, which every command has.
+fn first_words(alloc: Global, command: &str, run: &str) -> Result<Vec<String>, AllocError> {
     let mut words = Vec::new(alloc);
-    words.push(String::from_str(alloc, "run")?)?;
+    words.push(String::from_str(alloc, command)?)?;
     words.push(format!(in alloc; "{run}/topology.toml")?)?;
     words.push(format!(in alloc; "{run}/script.txt")?)?;
-    words.push(capture)?;
-    words.push(String::from_str(alloc, left)?)?;
+    Ok(words)
+}
+
+/// The words of the run's command line. `run` alone has a capture, and a folder for its files.
+fn words_of(rt: &HostRuntime, command: &str, run: &str, left: &str) -> io::Result<Vec<String>> {
+    let mut words = first_words(rt.alloc(), command, run)?;
+    if command == "run" {
+        words.push(capture_of(rt, run, left)?)?;
+        words.push(String::from_str(rt.alloc(), left)?)?;
+    }
     Ok(words)
 }
 
 /// Does the run, and answers its status.
-pub(crate) fn play(rt: &HostRuntime, run: &str, left: &str) -> io::Result<u8> {
-    let words = words_of(rt.alloc(), run, capture_of(rt, run, left)?, left)?;
+pub(crate) fn play(rt: &HostRuntime, command: &str, run: &str, left: &str) -> io::Result<u8> {
+    let words = words_of(rt, command, run, left)?;
     let report = format!(in rt.alloc(); "{left}/report.txt")?;
     let mut shelf = HostShelf::new(rt);
     let mut out = HostSink::new(BufWriter::new(rt.alloc(), fs::create(rt, report.as_str())?)?);
-    let outcome = command(rt.alloc(), &words, &mut shelf, &mut out);
+    let outcome = mn_run::command(rt.alloc(), &words, &mut shelf, &mut out);
     match out.flush() {
         Ok(()) => Ok(outcome.status()),
         Err(_) => Err(Error::from(ErrorKind::Other)),

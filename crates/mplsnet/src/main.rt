@@ -28,12 +28,14 @@ const HELP: &str =
 usage: mplsnet run TOPOLOGY SCRIPT CAPTURE FOLDER
        mplsnet check TOPOLOGY
        mplsnet generate NUMBER
+       mplsnet flood TOPOLOGY SCRIPT
        mplsnet --help | --version
 
 run       reads a topology (TOML), a script of events and a capture (pcap) of customer packets, writes what nodes said
           and sent as files into FOLDER, which must exist, and puts a report with a line for each packet
 check     reads a topology and tells how much it has, or the first rule that it breaks and where
 generate  makes a network of a number, 0 to 99, runs it without files and puts its total
+flood     floods adverts of links through a topology by a script of its own, and puts each node's tree and a total
 
 status: 0 all was done; 2 wrong words; 3, 4, 5 the topology, the script or the capture is refused; 6 an input can't be
 read; 7 a file or the report can't be written; 8 memory ran out; 9 a limit is passed. With 6 to 9 a line on standard

@@ -24,6 +24,15 @@ pub returns-in-Check-clause-usage : goal.returns-in-Check-clause-usage
 returns-in-Check-clause-usage g c =
     subst (λ j. UsageIff (is_job j) c.check.result) c.in-Check.ensures.value (not_usage true c.check.result refl c.check.ensures.usage)
 
+pub returns-in-Flood-clause-ends : goal.returns-in-Flood-clause-ends
+returns-in-Flood-clause-ends g c =
+    subst (λ j. Ends j (texts c.args.words.now) (g.S.Shelf.files c.args.shelf.now) (g.S.Shelf.files c.flood.new.shelf) (g.O.Sink.written c.args.out.now)
+    (g.O.Sink.written c.flood.new.out) c.flood.result) c.in-Flood.ensures.value c.flood.ensures.ends
+
+pub returns-in-Flood-clause-usage : goal.returns-in-Flood-clause-usage
+returns-in-Flood-clause-usage g c =
+    subst (λ j. UsageIff (is_job j) c.flood.result) c.in-Flood.ensures.value (not_usage true c.flood.result refl c.flood.ensures.usage)
+
 pub returns-in-Generate-clause-ends : goal.returns-in-Generate-clause-ends
 returns-in-Generate-clause-ends g c =
     subst (λ j. Ends j (texts c.args.words.now) (g.S.Shelf.files c.args.shelf.now) (g.S.Shelf.files c.args.shelf.now) (g.O.Sink.written c.args.out.now)
