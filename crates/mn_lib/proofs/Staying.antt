@@ -1,22 +1,24 @@
 -- A FEC that no event is of is used and offered as before, and so nothing is told of it.
 use Rattle.std.proofs.Common.{ℕ, zero, suc, ◌≡◌, ◌≢◌, ◌+◌, ◌<◌, ◌≤◌, false, List, [], ◌∷◌, ◌++◌, length, map, drop, refl, arith, sym, ◌∙◌, ap, subst, inl}
-use Rattle.std.proofs.Common.{inr, Option, Some, None}
-use Rattle.std.specs.Prelude.{◌==◌, ◌||◌, is_some, slice_index_or, slice_set, ⊤}
+use Rattle.std.proofs.Common.{inr, Option, Some, None, Bool, cond, append-nil}
+use Rattle.std.specs.Prelude.{◌==◌, ◌||◌, ◌&&◌, not, is_some, slice_index_or, slice_set, ⊤}
 use Rattle.std.specs.List.{flat_map, range_with_len}
 use Rattle.std.specs.Option.{option_to_list}
-use Rattle.std.proofs.lemmas.Bool.Decides.{eqb_tells}
-use Rattle.std.proofs.lemmas.List.{append_assoc, drop_more, get_or-set_other, map-append}
+use Rattle.std.proofs.lemmas.Bool.Decides.{eqb_tells, leb_tells}
+use Rattle.std.proofs.lemmas.List.{append_assoc, drop_more, get_or-set_other, get_or_past, map-append}
 use Rattle.std.proofs.lemmas.List.FromFn.{get_or-map-range_with_len}
 use Rattle.mn_base.specs.declared.numbers.NodeNo.{NodeNo}
 use Rattle.mn_base.proofs.Bools.{none_below}
 use Rattle.mn_lib.specs.declared.event.LibEvent.{LibEvent}
 use Rattle.mn_lib.specs.declared.event.LibEvent.TheVariants.{Opened, Closed, Map, Withdraw, Next}
+use Rattle.mn_lib.specs.declared.event.Tell.{Tell}
 use Rattle.mn_lib.specs.declared.news.SoFar.{SoFar}
-use Rattle.mn_lib.specs.Bindings.{Bindings, nodes, row_of, label_learned, labelled, usable, usable_by, offers, with_label, after_event, after_events, EventFits}
+use Rattle.mn_lib.specs.Bindings.{Bindings, nodes, is_open, row_of, label_learned, labelled, usable, usable_by, offers, with_label, after_event, after_events, EventFits}
 use Rattle.mn_lib.specs.Bindings.{EventsFit}
-use Rattle.mn_lib.specs.Tells.{opens, tells_of, offered}
+use Rattle.mn_lib.specs.Tells.{opens, told, tells_of, tell, mention, offered}
 use Rattle.mn_lib.specs.News.{fec_of, fecs_in, IsFrom, one_past, InOrder, so_far, so_far_in, told_since, AreBelow, Apart, AreAllNews}
-use Rattle.mn_lib.proofs.Events.{nodes-after_event, nodes-after_events, told_of-same}
+use Rattle.mn_lib.proofs.Events.{nodes-after_event, nodes-after_events, told-same, told_of-same}
+use Rattle.mn_lib.proofs.Ranges.{flat_none}
 
 -- 1. Other FECs stay as they were
 
@@ -232,6 +234,34 @@ map_all g h (x ∷ xs) = map-append g (h x) (flat_map h xs) ∙ ap (λ ys. map g
 
 pub named_are_news : (b : Bindings) (es : List LibEvent) → EventsFit b es → InOrder 0 es → AreAllNews b es (flat_map (so_far_in b) es)
 named_are_news b es f i = subst (AreAllNews b es) (map_all (so_far b) (λ e. option_to_list (fec_of e)) es) (by_fecs b es f i)
+
+-- where all that happens is that one neighbour opens, a FEC whose offer stayed is told to it alone
+module _ (before : Bool) (a : Bindings) (k : NodeNo) (p : ℕ) (rows : length a.heard ≡ nodes a) (stays : before ≡ offers a p) where
+  abbrev to_one : ℕ → List Tell
+  to_one = told before a (Opened k ∷ []) p
+
+  other : (h : ℕ) → h ≢ k.0 → opens (Opened k ∷ []) h ≡ false
+  other h d = elim (eqb_tells k.0 h) [ inl q ↦ absurd (d (sym q.1)) | inr q ↦ ap (λ b. b || false) q.0 ]
+
+  none-other : (h : ℕ) → h ≢ k.0 → to_one h ≡ []
+  none-other h d =
+      ap (λ o. cond (is_open a h) (map (λ kind. tell h kind p) (mention (before && not o) (offers a p))) []) (other h d)
+      ∙ told-same before (offers a p) (is_open a h) h p stays
+
+  none-past : nodes a ≤ k.0 → to_one k.0 ≡ []
+  none-past past =
+      ap (λ r. cond (is_some r) (map (λ kind. tell k.0 kind p) (mention (before && not (opens (Opened k ∷ []) k.0)) (offers a p))) [])
+      (get_or_past a.heard k.0 None (subst (λ n. n ≤ k.0) (sym rows) past))
+
+  pub told_of-opened : tells_of before a (Opened k ∷ []) p ≡ to_one k.0
+  told_of-opened = elim (leb_tells (nodes a) k.0) [
+    | inl q ↦ flat_none to_one (λ h. elim (eqb_tells k.0 h) [
+      | inl e ↦ subst (λ x. to_one x ≡ []) e.1 (none-past q.1)
+      | inr e ↦ none-other h (λ f. e.1 (sym f))
+    ]) (range_with_len 0 (nodes a)) ∙ sym (none-past q.1)
+    | inr q ↦ flat_some to_one to_one (nodes a) 0 (k.0 ∷ []) (omega arith, tt) (subst (λ n. k.0 < n) (from_none (nodes a)) q.1, tt) (λ h i. refl)
+        (λ h i j d. none-other h d.0) ∙ append-nil (to_one k.0)
+  ]
 
 -- 4. Loops
 

@@ -6,7 +6,7 @@ ghost use Rattle.mn_lib.specs.Undoing.{heard_label, undone, all_undone, undo_of}
 ghost use Rattle.mn_lib.specs.Tells.{tells, told, tells_of, releases, closes, opens};
 ghost use Rattle.mn_lib.specs.News.{fecs_in, InOrder, AreBelow, so_far, so_far_in, told_since, AreAllNews};
 
-use crate::event::{LibEvent, Tell, TellKind, closes, opens, opens_any};
+use crate::event::{LibEvent, Tell, TellKind, closes, opened_alone, opens, opens_any};
 use crate::news::{SoFar, are_of_fecs};
 use crate::row::Row;
 use crate::undo::Undo;
@@ -84,7 +84,8 @@ impl Lib {
 
     /// Whether the node is open to this neighbour.
     fn is_open(&self, to: NodeNo) -> bool
-        ensures { result ≡ is_open self.now to.0 }
+        ensures open { result ≡ is_open self.now to.0 }
+        ensures rows { length self.now.heard ≡ nodes self.now }
     {
         let at = to.0 as usize;
         if at < self.heard.len() {
@@ -281,7 +282,8 @@ impl Lib {
         tells: &mut Vec<Tell>,
     ) -> Result<(), AllocError>
         requires fec { fec.0 < nodes self.now }
-        ensures { OnOk result (tells.new.items ≡ tells.old.items ++ told before self.now events.now fec.0 to.0) }
+        ensures told { OnOk result (tells.new.items ≡ tells.old.items ++ told before self.now events.now fec.0 to.0) }
+        ensures rows { length self.now.heard ≡ nodes self.now }
     {
         if !self.is_open(to) {
             return Ok(());
@@ -313,7 +315,31 @@ impl Lib {
         Ok(())
     }
 
-    /// Tells the changes of these FECs since then. A FEC whose offer stayed is news for a new neighbour alone.
+    /// Tells what must be known of a FEC whose offer stayed: it is news for a new neighbour alone, and where all that
+    /// happened is that one opened, no other is looked at.
+    fn tell_stayed(
+        &self,
+        events: &[LibEvent],
+        fec: NodeNo,
+        offered: bool,
+        fresh: bool,
+        tells: &mut Vec<Tell>,
+    ) -> Result<(), AllocError>
+        requires fec { fec.0 < nodes self.now }
+        requires stayed { offered ≡ offers self.now fec.0 }
+        requires fresh { fresh ≡ false → (neighbour : ℕ) → opens events.now neighbour ≡ false }
+        ensures { OnOk result (tells.new.items ≡ tells.old.items ++ tells_of offered self.now events.now fec.0) }
+    {
+        if !fresh {
+            return Ok(());
+        }
+        match opened_alone(events) {
+            Some(to) => self.tell_one(events, fec, offered, to, tells),
+            None => self.tell(events, fec, offered, tells),
+        }
+    }
+
+    /// Tells the changes of these FECs since then.
     fn changes(
         &self,
         events: &[LibEvent],
@@ -325,7 +351,9 @@ impl Lib {
     {
         let fresh = opens_any(events);
         for one in before {
-            if fresh || one.offered != self.offers(one.fec) {
+            if one.offered == self.offers(one.fec) {
+                self.tell_stayed(events, one.fec, one.offered, fresh, tells)?;
+            } else {
                 self.tell(events, one.fec, one.offered, tells)?;
             }
         }

@@ -1,4 +1,5 @@
-ghost use Rattle.std.specs.Prelude.{◌≡◌, ℕ, false};
+ghost use Rattle.std.specs.Prelude.{◌≡◌, ◌∷◌, [], ℕ, false, IfSome};
+ghost use Rattle.mn_lib.specs.declared.event.LibEvent.TheVariants.{Opened};
 ghost use Rattle.mn_lib.specs.Tells.{closes, opens};
 
 use mn_base::NodeNo;
@@ -73,4 +74,14 @@ pub(crate) fn opens_any(events: &[LibEvent]) -> bool
         }
     }
     false
+}
+
+/// The neighbour that is opened, where nothing else happens.
+pub(crate) fn opened_alone(events: &[LibEvent]) -> Option<NodeNo>
+    ensures { IfSome result (λ to. events.now ≡ Opened to ∷ []) }
+{
+    match events {
+        [LibEvent::Opened(to)] => Some(*to),
+        _ => None,
+    }
 }
