@@ -20,3 +20,4 @@ pub mod Ids
 pub mod Inside
 pub mod Wired
 pub mod Mended
+pub mod Opened

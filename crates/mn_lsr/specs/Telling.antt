@@ -1,5 +1,5 @@
 -- What the bindings tell, said on the links that join the node with its neighbours.
-use Rattle.std.specs.Prelude.{ℕ, ◌≡◌, ◌<◌, ◌==◌, if◌then◌else◌, List, [], ◌∷◌, length, slice_index_or, Option, Some, None, option_map, ⊤}
+use Rattle.std.specs.Prelude.{Bool, true, false, ℕ, ◌≡◌, ◌<◌, ◌==◌, if◌then◌else◌, List, [], ◌∷◌, length, slice_index_or, Option, Some, None, option_map, ⊤}
 use Rattle.std.specs.Option.{option_to_list}
 use Rattle.std.specs.List.{flat_map}
 use Rattle.mn_base.specs.declared.numbers.LinkNo.{LinkNo}
@@ -7,6 +7,8 @@ use Rattle.mn_wiring.specs.Wiring.{Wiring, joining}
 use Rattle.mn_wiring.specs.declared.links.LinkEnds.{LinkEnds}
 use Rattle.mn_ldp_wire.specs.Grammar.{IsLabel}
 use Rattle.mn_node.specs.Ldp.{Message, Mapping, Withdraw, Release, Said, said_on}
+use Rattle.mn_lib.specs.declared.event.LibEvent.{LibEvent}
+use Rattle.mn_lib.specs.declared.event.LibEvent.TheVariants as event
 use Rattle.mn_lib.specs.declared.event.Tell.{Tell}
 use Rattle.mn_lib.specs.declared.event.TellKind.{TellKind}
 use Rattle.mn_lib.specs.declared.event.TellKind.TheVariants as tells
@@ -30,6 +32,11 @@ message_of tells.Release fec = Release fec
 
 abbrev pub said_by_tell : Wiring → ℕ → Tell → List Said
 said_by_tell wiring me tell = flat_map (λ l. said_on l me (message_of tell.kind tell.fec.0 ∷ [])) (joining wiring me tell.to.0)
+
+-- all that happens is that one neighbour opens
+abbrev pub opens_one : List LibEvent → Bool
+opens_one (event.Opened from ∷ []) = true
+opens_one _ = false
 
 -- a Release brings a lawful label
 abbrev pub MayBring : ℕ → TellKind → Type 0

@@ -1,7 +1,8 @@
-ghost use Rattle.std.specs.Prelude.{◌≡◌, ◌≢◌, ◌≤◌, ◌<◌, ℕ, OnOk};
+ghost use Rattle.std.specs.Prelude.{◌≡◌, ◌≢◌, ◌≤◌, ◌<◌, ℕ, OnOk, true};
 ghost use Rattle.mn_node.specs.Node.{label_of};
 ghost use Rattle.mn_lib.specs.Bindings.{nodes, usable};
 ghost use Rattle.mn_lib.specs.News.{InOrder, AreBelow, Apart, fecs_in};
+ghost use Rattle.mn_lsr.specs.Telling.{opens_one};
 ghost use Rattle.mn_lfib.specs.Uses.{use_of, fec_use, IsNotSite, IsNextHop};
 
 use mn_base::NodeNo;
@@ -78,8 +79,18 @@ fn use_ways_of(
     Ok(())
 }
 
+/// Whether all that happens is that one neighbour opens, which has said no label yet.
+fn opens_one(events: &[LibEvent]) -> bool
+    ensures { result ≡ opens_one events.now }
+{
+    match events {
+        [LibEvent::Opened(_)] => true,
+        _ => false,
+    }
+}
+
 /// Uses the labels of FECs for the ways that are left after events. Where each event is of a FEC, in node order and none
-/// twice, no other FEC is looked at.
+/// twice, no other FEC is looked at, and where one neighbour opens none at all.
 pub(crate) fn use_new_ways(
     lfib: &mut Lfib,
     bindings: &Lib,
@@ -94,11 +105,14 @@ pub(crate) fn use_new_ways(
     requires fit { (fec : ℕ) → IsNextHop (usable bindings.now fec) }
     ensures ways { OnOk result ((fec : ℕ) → fec < count → fec ≢ me.0 →
         (InOrder 0 events.now → Apart fec (fecs_in events.now) → use_of lfib.old (label_of me.0 fec) ≡ fec_use (usable bindings.now fec)) →
+        (opens_one events.now ≡ true → use_of lfib.old (label_of me.0 fec) ≡ fec_use (usable bindings.now fec)) →
         use_of lfib.new (label_of me.0 fec) ≡ fec_use (usable bindings.now fec)) }
     ensures others { OnOk result ((label : ℕ) → ((fec : ℕ) → fec < count → fec ≢ me.0 → label ≢ label_of me.0 fec) → use_of lfib.new label ≡ use_of lfib.old label) }
 {
     if are_of_fecs(events) {
         use_ways_of(lfib, bindings, me, events)
+    } else if opens_one(events) {
+        Ok(())
     } else {
         use_ways(lfib, bindings, me, count)
     }

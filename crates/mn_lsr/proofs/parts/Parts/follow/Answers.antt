@@ -6,6 +6,7 @@ use Rattle.mn_lib.specs.News.{AreBelow, fecs_in}
 use Rattle.mn_lib.proofs.Events.{nodes-after_events}
 use Rattle.mn_lib.proofs.Staying.{below, usable_stays}
 use Rattle.mn_lsr.specs.declared.parts.Parts.{Parts}
+use Rattle.mn_lsr.proofs.Opened.{usable_opened}
 use Rattle.mn_lsr.proofs.parts.Parts.follow.Goals as goal
 
 pub use_new_ways-requires-clause-all : goal.use_new_ways-requires-clause-all
@@ -27,5 +28,7 @@ returns-clause-ways c =
     f fec (omega (arith, h, counted)) d
     (λ order apart. c.requires.ways fec h d
     ∙ ap fec_use (sym (ap (λ b. usable b fec) c.in_ok-tells.ensures.after ∙ usable_stays p.lib c.args.events.now 0 order fec apart)))
+    (λ one. c.requires.ways fec h d
+    ∙ ap fec_use (sym (ap (λ b. usable b fec) c.in_ok-tells.ensures.after ∙ usable_opened p.lib c.args.events.now c.requires.fit one fec)))
     ∙ ap (λ b. fec_use (usable b fec)) c.in_ok-tells.ensures.after)
     c.use_new_ways.ensures.ways
