@@ -9,3 +9,4 @@ pub mod Making
 pub mod Settled
 pub mod Clocks
 pub mod Elapsed
+pub mod Few

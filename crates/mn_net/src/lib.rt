@@ -18,7 +18,6 @@
 //! - `nodes`: what is told of links and of the transport of nodes
 //! - `edges`: what is told of sessions and routes
 //! - `flight`: what is told of items in flight
-//! - `numbers`: the numbers of items
 //! - `made`: a law: the items of a step are told by their numbers
 //! - `tell`: what became of packets
 #![tactic(auto)]
@@ -31,7 +30,6 @@ mod moving;
 mod net;
 mod next;
 mod nodes;
-mod numbers;
 mod sessions;
 mod sites;
 mod tell;

@@ -1,5 +1,5 @@
 //! The steps of links and of LDP.
-ghost use Rattle.std.specs.Prelude.{◌≡◌, ◌<◌, ◌≤◌, ◌^◌, [], true, false, IfOk, OnOk, OnErr};
+ghost use Rattle.std.specs.Prelude.{◌≡◌, ◌<◌, ◌≤◌, ◌-◌, ◌^◌, ℕ, [], true, false, slice_index, IfOk, OnOk, OnErr};
 ghost use Rattle.std.specs.List.{All};
 ghost use Rattle.mn_topo.specs.declared.steps.Step.TheVariants as step;
 ghost use Rattle.mn_transport_model.specs.Steps.{MayDo, Did};
@@ -7,7 +7,6 @@ ghost use Rattle.mn_net_now.specs.Done.{MayBeDone, IsDone, HasFailed};
 ghost use Rattle.mn_net.specs.Turns.{link_step};
 
 use crate::net::Net;
-use crate::numbers::number_after;
 use crate::turns::LinkTurn;
 use mn_base::LinkNo;
 use mn_flight::Clock;
@@ -24,6 +23,8 @@ fn act(
     clock: Clock,
 ) -> Result<u64, AllocError>
     requires tick { clock.tick ≤ 2 ^ 63 }
+    requires numbers { clock.number ≤ 2 ^ 62 }
+    requires changes { transport.old.failed ≡ false → (l : ℕ) → slice_index transport.old.changes l < 2 ^ 32 - 1 }
     requires notices { All (λ item. item.number < clock.number) transport.old.notices }
     requires messages { All (λ item. item.number < clock.number) transport.old.messages }
     requires may { transport.old.failed ≡ false → MayDo topology.now (link_step turn.now) transport.old }
@@ -53,8 +54,8 @@ impl Net {
         self.failed = true;
         self.journal.reserve(1)?;
         let more = act(&mut self.transport, &self.topology, &turn, clock)?;
-        self.made = number_after(self.made, more)?;
         self.transit.begin();
+        self.made += more;
         self.journal.push_reserved(JournalEntry {
             tick: self.tick,
             step: turn.step(),
@@ -79,8 +80,8 @@ impl Net {
         self.failed = true;
         self.journal.reserve(1)?;
         let more = self.transport.link_down(&self.topology, link, clock)?;
-        self.made = number_after(self.made, more)?;
         self.transit.link_down(&self.topology, link);
+        self.made += more;
         self.journal.push_reserved(JournalEntry {
             tick: self.tick,
             step: Step::LinkDown(link),

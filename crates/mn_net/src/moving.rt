@@ -57,9 +57,6 @@ impl Net {
         routes_stay_as_they_were();
         self.topology.laws();
         self.failed = true;
-        if self.made == u64::MAX {
-            return Err(AllocError);
-        }
         self.journal.reserve(1)?;
         self.tally.reserve(1)?;
         let clock = Clock {
@@ -145,9 +142,6 @@ impl Net {
         self.topology.laws();
         let _flying = self.transit.flying_bytes();
         self.failed = true;
-        if self.made == u64::MAX {
-            return Err(AllocError);
-        }
         self.journal.reserve(1)?;
         self.tally.reserve(1)?;
         let entered = self.routes.enter(&self.topology, site, packet)?;

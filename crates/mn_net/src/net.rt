@@ -162,7 +162,8 @@ impl Net {
         ensures stands { (inputs : List (List ℕ)) → StandsFor self.old inputs → StandsFor self.new inputs }
         ensures for_good { self.old.failed ≡ true → (IsErr result) × (self.new ≡ self.old) }
     {
-        if self.failed || u64::MAX - self.made < u64::from(more) {
+        self.topology.laws();
+        if self.failed {
             return Err(AllocError);
         }
         self.journal.reserve(more as usize)?;

@@ -6,7 +6,6 @@ ghost use Rattle.mn_net_now.specs.Done.{MayBeDone, IsDone, HasFailed};
 ghost use Rattle.mn_net.specs.Turns.{route_step};
 
 use crate::net::Net;
-use crate::numbers::number_after;
 use crate::turns::RouteTurn;
 use mn_flight::Clock;
 use mn_net_tally::count_static;
@@ -54,10 +53,10 @@ impl Net {
         self.failed = true;
         self.journal.reserve(1)?;
         let more = act(&mut self.routes, &self.topology, &turn, clock)?;
-        self.made = number_after(self.made, more)?;
         self.transit.begin();
         let step = turn.step();
         count_static(&mut self.tally, &step);
+        self.made += more;
         self.journal.push_reserved(JournalEntry {
             tick: self.tick,
             step,

@@ -4,7 +4,6 @@ ghost use Rattle.mn_topo.specs.declared.steps.Step.TheVariants as step;
 ghost use Rattle.mn_net_now.specs.Done.{MayBeDone, IsDone, HasFailed};
 
 use crate::net::Net;
-use crate::numbers::number_after;
 use mn_base::SiteNo;
 use mn_flight::Clock;
 use mn_topo::{Damaged, JournalEntry, Step};
@@ -28,8 +27,8 @@ impl Net {
             return Err(AllocError);
         };
         let more = self.routes.attach(&self.topology, site, label, clock)?;
-        self.made = number_after(self.made, more)?;
         self.transit.begin();
+        self.made += more;
         self.journal.push_reserved(JournalEntry {
             tick: self.tick,
             step: Step::Attach(site),
@@ -54,8 +53,8 @@ impl Net {
         self.journal.reserve(1)?;
         let more = self.routes.detach(&self.topology, site, clock)?;
         self.transport.detach(&self.topology, site);
-        self.made = number_after(self.made, more)?;
         self.transit.begin();
+        self.made += more;
         self.journal.push_reserved(JournalEntry {
             tick: self.tick,
             step: Step::Detach(site),

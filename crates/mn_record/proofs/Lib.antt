@@ -8,3 +8,4 @@ pub mod Opening
 pub mod Recording
 pub mod Stepping
 pub mod Closing
+pub mod Few

@@ -170,6 +170,7 @@ fn unbegun(alloc: Global, topology: &Topology, folder: &str) -> Result<Output, A
 {
     let places = EdgePlaces::new(alloc, topology)?;
     let names = file_names(alloc, topology, folder)?;
+    topology.laws();
     Output::new(alloc, names, places)
 }
 

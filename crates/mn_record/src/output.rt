@@ -1,5 +1,5 @@
 //! The files, by number, and what waits for them.
-ghost use Rattle.std.specs.Prelude.{◌≡◌, ◌++◌, ◌<◌, ℕ, List, [], true, length, replicate, IfOk, OnOk, OnErr, IsTrue};
+ghost use Rattle.std.specs.Prelude.{◌≡◌, ◌++◌, ◌<◌, ◌^◌, ℕ, List, [], true, length, replicate, IfOk, OnOk, OnErr, IsTrue};
 ghost use Rattle.mn_edge.specs.Faults.{Counted};
 ghost use Rattle.mn_edge.specs.Files.{Files};
 ghost use Rattle.mn_edge.specs.Kept.{Framed, HoldsOn, BeginsOn, none_held};
@@ -81,14 +81,12 @@ impl Output {
         names: Vec<String>,
         places: EdgePlaces,
     ) -> Result<Output, AllocError>
-        requires { IsTrue (all_differ (texts names.items)) }
+        requires differ { IsTrue (all_differ (texts names.items)) }
+        requires few { length names.items < 2 ^ 32 }
         ensures { IfOk result (λ output. output ≡ record { names = texts names.items; held = replicate (length names.items) []; places = places }) }
     {
-        let Ok(count) = u32::try_from(names.len()) else {
-            return Err(AllocError);
-        };
         Ok(Output {
-            gather: Gather::new(alloc, count)?,
+            gather: Gather::new(alloc, names.len() as u32)?,
             names,
             places,
             line: Vec::new(alloc),

@@ -10,7 +10,7 @@ ghost use Rattle.mn_timetable.specs.Keys.{channel_from};
 ghost use Rattle.mn_transport_model.specs.Sending.{notices_to, put_pdus, off_link};
 
 use mn_base::{LinkNo, ListOf, NodeNo};
-use mn_flight::{Clock, Flight, next_number};
+use mn_flight::{Clock, Flight};
 use mn_flight_pool::PoolFlight;
 use mn_lsr::Said;
 use mn_topo::Topology;
@@ -74,6 +74,7 @@ pub(crate) fn tell_all(
     requires channels { notices.old.channels ≡ length topology.now.links * length topology.now.loopbacks }
     requires tick { clock.tick ≤ 2 ^ 63 }
     requires number { All (λ item. item.number < clock.number) notices.old.items }
+    requires numbers { clock.number + length topology.now.loopbacks < 2 ^ 64 }
     requires flight { IsFlight notices.old.channels notices.old.items }
     ensures told { OnOk result (notices.new.items ≡ notices.old.items ++ notices_to (link.0 * length topology.now.loopbacks) (clock.tick + topology.now.notice_delay) clock.number (nodes_of (wiring_of topology.now))) }
     ensures next { IfOk result (λ next. next ≡ clock.number + length topology.now.loopbacks) }
@@ -87,7 +88,7 @@ pub(crate) fn tell_all(
     let mut number = clock.number;
     for node in 0..nodes {
         tell(notices, topology, link, node, Clock { tick, number })?;
-        number = next_number(number)?;
+        number += 1;
     }
     Ok(number)
 }
@@ -136,6 +137,7 @@ pub(crate) fn send(
     requires channels { messages.old.channels ≡ 2 * length topology.now.links }
     requires tick { clock.tick ≤ 2 ^ 63 }
     requires number { All (λ item. item.number < clock.number) messages.old.items }
+    requires numbers { clock.number + length out.items < 2 ^ 64 }
     requires flight { IsFlight messages.old.channels messages.old.items }
     ensures sent { OnOk result (messages.new.items ≡ messages.old.items ++ put_pdus (wiring_of topology.now) node.0 clock.tick clock.number (map pdu_of out.items)) }
     ensures next { IfOk result (λ next. next ≡ clock.number + length out.items) }
@@ -147,7 +149,7 @@ pub(crate) fn send(
     let mut number = clock.number;
     for said in out {
         send_one(messages, topology, node, said, Clock { tick, number })?;
-        number = next_number(number)?;
+        number += 1;
     }
     Ok(number)
 }

@@ -1,5 +1,5 @@
 //! One call for each step of the transport.
-ghost use Rattle.std.specs.Prelude.{◌≡◌, ◌≢◌, ◌<◌, ◌≤◌, ◌+◌, ◌*◌, ◌^◌, ℕ, Bool, true, false, length, slice_get, slice_index, slice_set, IfOk, OnOk, OnErr, IsErr};
+ghost use Rattle.std.specs.Prelude.{◌≡◌, ◌≢◌, ◌<◌, ◌≤◌, ◌+◌, ◌*◌, ◌-◌, ◌^◌, ℕ, Bool, true, false, length, slice_get, slice_index, slice_set, IfOk, OnOk, OnErr, IsErr};
 ghost use Rattle.std.specs.List.{All};
 ghost use Rattle.mn_wiring.specs.Wiring.{link as link_of, sender, receiver, is_end};
 ghost use Rattle.mn_wiring.specs.declared.links.Dir.TheVariants.{Forth, Back};
@@ -42,11 +42,13 @@ impl Transport {
         clock: Clock,
     ) -> Result<u64, AllocError>
         requires tick { clock.tick ≤ 2 ^ 63 }
+        requires numbers { clock.number ≤ 2 ^ 63 }
         requires number { All (λ item. item.number < clock.number) self.old.messages }
         requires may { MayAct topology.now self.old end.0 (Opens link.0) }
         ensures acts { IfOk result (λ next. Acts topology.now clock.tick clock.number end.0 (Opens link.0) self.old self.new next) }
         ensures number { IfOk result (λ next. All (λ item. item.number < next) self.new.messages) }
     {
+        topology.laws();
         let out = self.nodes[usize::from(end.0)].open(link)?;
         send(&mut self.messages, topology, end, out, clock)
     }
@@ -60,11 +62,13 @@ impl Transport {
         clock: Clock,
     ) -> Result<u64, AllocError>
         requires tick { clock.tick ≤ 2 ^ 63 }
+        requires numbers { clock.number ≤ 2 ^ 63 }
         requires number { All (λ item. item.number < clock.number) self.old.messages }
         requires may { MayAct topology.now self.old end.0 (Closes link.0) }
         ensures acts { IfOk result (λ next. Acts topology.now clock.tick clock.number end.0 (Closes link.0) self.old self.new next) }
         ensures number { IfOk result (λ next. All (λ item. item.number < next) self.new.messages) }
     {
+        topology.laws();
         let out = self.nodes[usize::from(end.0)].close(link)?;
         send(&mut self.messages, topology, end, out, clock)
     }
@@ -79,6 +83,7 @@ impl Transport {
         clock: Clock,
     ) -> Result<u64, AllocError>
         requires tick { clock.tick ≤ 2 ^ 63 }
+        requires numbers { clock.number ≤ 2 ^ 63 }
         requires number { All (λ item. item.number < clock.number) self.old.messages }
         requires may { MayAct topology.now self.old end.0 (turned_by opens link.0) }
         ensures acts { IfOk result (λ next. Acts topology.now clock.tick clock.number end.0 (turned_by opens link.0) self.old self.new next) }
@@ -101,6 +106,7 @@ impl Transport {
     ) -> Result<u64, AllocError>
         requires link { link.0 < length topology.now.links }
         requires tick { clock.tick ≤ 2 ^ 63 }
+        requires numbers { clock.number ≤ 2 ^ 62 + 256 }
         requires number { All (λ item. item.number < clock.number) self.old.messages }
         requires both { MayBoth topology.now self.old link.0 (turned_by opens link.0) }
         ensures number { IfOk result (λ next. All (λ item. item.number < next) self.new.messages) }
@@ -117,17 +123,14 @@ impl Transport {
     }
 
     /// A link's changes are one more.
-    fn change(&mut self, link: LinkNo, up: bool) -> Result<(), AllocError>
+    fn change(&mut self, link: LinkNo, up: bool)
         requires link { link.0 < length self.old.changes }
+        requires few { slice_index self.old.changes link.0 < 2 ^ 32 - 1 }
         requires turns { is_link_up self.old.changes link.0 ≢ up }
-        ensures { OnOk result (self.new ≡ record self.old { changes = slice_set self.old.changes link.0 (slice_index self.old.changes link.0 + 1) }) }
+        ensures { self.new ≡ record self.old { changes = slice_set self.old.changes link.0 (slice_index self.old.changes link.0 + 1) } }
     {
-        // No journal is so long.
-        if self.changes.changes(link) == u32::MAX {
-            return Err(AllocError);
-        }
         match self.changes.change(link, up) {
-            Ok(_) => Ok(()),
+            Ok(_) => {}
             Err(_) => unreachable!(),
         }
     }
@@ -141,6 +144,8 @@ impl Transport {
         clock: Clock,
     ) -> Result<u64, AllocError>
         requires tick { clock.tick ≤ 2 ^ 63 }
+        requires numbers { clock.number ≤ 2 ^ 62 }
+        requires changes { slice_index self.old.changes link.0 < 2 ^ 32 - 1 }
         requires notices { All (λ item. item.number < clock.number) self.old.notices }
         requires messages { All (λ item. item.number < clock.number) self.old.messages }
         requires may { MayTurn topology.now self.old link.0 up }
@@ -148,7 +153,8 @@ impl Transport {
         ensures messages_below { IfOk result (λ next. All (λ item. item.number < next) self.new.messages) }
         ensures turns { IfOk result (λ next. TurnsLink topology.now clock.tick clock.number link.0 up self.old self.new next) }
     {
-        self.change(link, up)?;
+        topology.laws();
+        self.change(link, up);
         let number = tell_all(&mut self.notices, topology, link, clock)?;
         cut(&mut self.messages, link);
         if !self.ldp_on(link) {
@@ -170,6 +176,7 @@ impl Transport {
         clock: Clock,
     ) -> Result<u64, AllocError>
         requires tick { clock.tick ≤ 2 ^ 63 }
+        requires numbers { clock.number ≤ 2 ^ 62 }
         requires messages { All (λ item. item.number < clock.number) self.old.messages }
         requires may { MaySwitch topology.now self.old link.0 on }
         ensures number { IfOk result (λ next. (clock.number ≤ next) × All (λ item. item.number < next) self.new.messages) }
@@ -193,12 +200,14 @@ impl Transport {
     ) -> Result<u64, AllocError>
         requires node { node.0 < length topology.now.loopbacks }
         requires tick { clock.tick ≤ 2 ^ 63 }
+        requires numbers { clock.number ≤ 2 ^ 62 }
         requires messages { All (λ item. item.number < clock.number) self.old.messages }
         requires may { MayAct topology.now self.old node.0 (Learns link.0) }
         ensures number { IfOk result (λ next. (clock.number ≤ next) × All (λ item. item.number < next) self.new.messages) }
         ensures learns { IfOk result (λ next. LearnsNext topology.now clock.tick clock.number node.0 link.0 self.old self.new next) }
         ensures flight { OnOk result ((channels : ℕ) × IsFlight channels self.old.notices) }
     {
+        topology.laws();
         let _ = self.notices.take(channel_to(topology, link, node), 0);
         let out = match self.nodes[usize::from(node.0)].learn(&self.changes, link) {
             Ok(out) => out,
@@ -219,6 +228,7 @@ impl Transport {
     ) -> Result<u64, AllocError>
         requires link { link.0 < length topology.now.links }
         requires tick { clock.tick ≤ 2 ^ 63 }
+        requires numbers { clock.number ≤ 2 ^ 62 }
         requires messages { All (λ item. item.number < clock.number) self.old.messages }
         requires may { CanHear topology.now self.old link.0 dir }
         ensures flight { OnOk result ((channels : ℕ) × IsFlight channels self.old.messages) }
@@ -226,6 +236,7 @@ impl Transport {
         ensures hears { (event : Event) → MayHear topology.now self.old link.0 dir event →
             IfOk result (λ next. HearsNext topology.now clock.tick clock.number link.0 dir event self.old self.new next) }
     {
+        topology.laws();
         let node = topology.receiver(link, dir);
         let Some(pdu) = self.messages.take(channel_of(link, dir), 0) else {
             unreachable!();
@@ -250,6 +261,8 @@ impl Transport {
         clock: Clock,
     ) -> Result<u64, AllocError>
         requires tick { clock.tick ≤ 2 ^ 63 }
+        requires numbers { clock.number ≤ 2 ^ 62 }
+        requires changes { self.old.failed ≡ false → slice_index self.old.changes link.0 < 2 ^ 32 - 1 }
         requires notices { All (λ item. item.number < clock.number) self.old.notices }
         requires messages { All (λ item. item.number < clock.number) self.old.messages }
         requires may { self.old.failed ≡ false → MayDo topology.now (step.LinkUp link) self.old }
@@ -285,6 +298,8 @@ impl Transport {
         clock: Clock,
     ) -> Result<u64, AllocError>
         requires tick { clock.tick ≤ 2 ^ 63 }
+        requires numbers { clock.number ≤ 2 ^ 62 }
+        requires changes { self.old.failed ≡ false → slice_index self.old.changes link.0 < 2 ^ 32 - 1 }
         requires notices { All (λ item. item.number < clock.number) self.old.notices }
         requires messages { All (λ item. item.number < clock.number) self.old.messages }
         requires may { self.old.failed ≡ false → MayDo topology.now (step.LinkDown link) self.old }
@@ -320,6 +335,7 @@ impl Transport {
         clock: Clock,
     ) -> Result<u64, AllocError>
         requires tick { clock.tick ≤ 2 ^ 63 }
+        requires numbers { clock.number ≤ 2 ^ 62 }
         requires notices { All (λ item. item.number < clock.number) self.old.notices }
         requires messages { All (λ item. item.number < clock.number) self.old.messages }
         requires may { self.old.failed ≡ false → MayDo topology.now (step.LdpAdmin link on) self.old }
@@ -355,6 +371,7 @@ impl Transport {
         clock: Clock,
     ) -> Result<u64, AllocError>
         requires tick { clock.tick ≤ 2 ^ 63 }
+        requires numbers { clock.number ≤ 2 ^ 62 }
         requires notices { All (λ item. item.number < clock.number) self.old.notices }
         requires messages { All (λ item. item.number < clock.number) self.old.messages }
         requires may { self.old.failed ≡ false → MayDo topology.now (step.Learn node link) self.old }
@@ -390,6 +407,7 @@ impl Transport {
         clock: Clock,
     ) -> Result<u64, AllocError>
         requires tick { clock.tick ≤ 2 ^ 63 }
+        requires numbers { clock.number ≤ 2 ^ 62 }
         requires notices { All (λ item. item.number < clock.number) self.old.notices }
         requires messages { All (λ item. item.number < clock.number) self.old.messages }
         requires may { self.old.failed ≡ false → MayDo topology.now (step.HearLdp link dir) self.old }

@@ -17,14 +17,13 @@ loop-said-preserved c =
     let short = ap length steps in
     let was = at.invariant.count in
     let left = at.invariant.left in
-    let next = c.in_ok-number.ensures.next in
     record {
       sent = sent-next (wiring_of c.args.topology.now) c.args.node.0 c.args.clock.tick at.number _ at.messages.items _ _ (pdu_of x)
-          (map pdu_of (into_iter_items c.next.new.self)) c.in_ok-number.ensures.next c.in_ok-send_one.ensures.sent
+          (map pdu_of (into_iter_items c.next.new.self)) refl c.in_ok-send_one.ensures.sent
           (sym (ap (λ (xs : List Said). at.messages.items ++ put_pdus (wiring_of c.args.topology.now) c.args.node.0 c.args.clock.tick at.number
           (map pdu_of xs)) steps) ∙ at.invariant.sent);
-      count = omega (arith, was, next, short);
-      below = below-next at.number _ at.messages.items _ _ c.in_ok-number.ensures.next c.in_ok-send_one.ensures.sent refl at.invariant.below;
+      count = omega (arith, was, short);
+      below = below-next at.number _ at.messages.items _ _ refl c.in_ok-send_one.ensures.sent refl at.invariant.below;
       channels = c.send_one.ensures.channels ∙ at.invariant.channels;
       flight = c.send_one.ensures.flight;
       links = (subst (AllByRecursion (λ said. said.link.0 < length c.args.topology.now.links)) steps at.invariant.links).1;

@@ -1,8 +1,9 @@
-use Rattle.std.proofs.Common.{[], refl}
+use Rattle.std.proofs.Common.{[], ◌+◌, refl, arith}
 use Rattle.mn_topo.specs.declared.steps.Step.TheVariants as step
 use Rattle.mn_net_moves.proofs.Moves.{net_may, net_done, as_it_is}
 use Rattle.mn_net_moves.proofs.Turns.{link_may, link_turn, route_numbers}
 use Rattle.mn_net_moves.proofs.Sites.{next_is, may_give, attach_done}
+use Rattle.mn_net.proofs.Few.{later_fits}
 use Rattle.mn_net.proofs.Clocks.{clock_early}
 use Rattle.mn_net.proofs.net.Net.attach.Goals as goal
 
@@ -31,16 +32,28 @@ attach-requires-2-clause-may c = λ works.
     (next_is _ c.args.site c.in-Ok.label c.laws.ensures is may
     (c.in-Ok.ensures.next c.self.inside.journal.items is.stands.transport (link_turn _ (step.Attach c.args.site) c.laws.ensures is may refl)))
 
+pub overflow_add-self : goal.overflow_add-self
+overflow_add-self c =
+    let may = net_may _ _ (step.Attach c.args.site) [] c.self.view_is c.requires.may in
+    let is = c.self.invariant may.works in
+    let few = later_fits _ _ (step.Attach c.args.site) [] c.laws.ensures
+    (attach_done _ c.args.site c.in-Ok.label c.attach.new.self c.attach-2.new.self c.begin.new.self c.in_ok-more.more (c.self.inside.made + c.in_ok-more.more)
+    c.laws.ensures is may
+    (next_is _ c.args.site c.in-Ok.label c.laws.ensures is may
+    (c.in-Ok.ensures.next c.self.inside.journal.items is.stands.transport (link_turn _ (step.Attach c.args.site) c.laws.ensures is may refl)))
+    c.in-Ok.ensures.goes c.in-Ok.ensures.notices c.in-Ok.ensures.messages c.in_ok-more.ensures.did c.begin.ensures.begun refl) in
+    omega (arith, few)
+
 pub invariant_of-self-2 : goal.invariant_of-self-2
 invariant_of-self-2 c = λ works.
     let may = net_may _ _ (step.Attach c.args.site) [] c.self.view_is c.requires.may in
     let is = c.self.invariant may.works in
     (as_it_is _ _ (step.Attach c.args.site) [] c.reserve.new.self.items c.push_reserved.new.self.items _
-    (attach_done _ c.args.site c.in-Ok.label c.attach.new.self c.attach-2.new.self c.begin.new.self c.in_ok-more.more c.in_ok-self-inside.field-0
+    (attach_done _ c.args.site c.in-Ok.label c.attach.new.self c.attach-2.new.self c.begin.new.self c.in_ok-more.more (c.self.inside.made + c.in_ok-more.more)
     c.laws.ensures is may
     (next_is _ c.args.site c.in-Ok.label c.laws.ensures is may
     (c.in-Ok.ensures.next c.self.inside.journal.items is.stands.transport (link_turn _ (step.Attach c.args.site) c.laws.ensures is may refl)))
-    c.in-Ok.ensures.goes c.in-Ok.ensures.notices c.in-Ok.ensures.messages c.in_ok-more.ensures.did c.begin.ensures.begun c.in_ok-self-inside.ensures)
+    c.in-Ok.ensures.goes c.in-Ok.ensures.notices c.in-Ok.ensures.messages c.in_ok-more.ensures.did c.begin.ensures.begun refl)
     may.works c.reserve.ensures.items c.push_reserved.ensures.items).is
 
 pub returns-clause-done : goal.returns-clause-done
@@ -49,9 +62,9 @@ returns-clause-done c =
     let is = c.self.invariant may.works in
     net_done _ _ _ (step.Attach c.args.site) [] c.self.view_is
     (as_it_is _ _ (step.Attach c.args.site) [] c.reserve.new.self.items c.push_reserved.new.self.items _
-    (attach_done _ c.args.site c.in-Ok.label c.attach.new.self c.attach-2.new.self c.begin.new.self c.in_ok-more.more c.in_ok-self-inside.field-0
+    (attach_done _ c.args.site c.in-Ok.label c.attach.new.self c.attach-2.new.self c.begin.new.self c.in_ok-more.more (c.self.inside.made + c.in_ok-more.more)
     c.laws.ensures is may
     (next_is _ c.args.site c.in-Ok.label c.laws.ensures is may
     (c.in-Ok.ensures.next c.self.inside.journal.items is.stands.transport (link_turn _ (step.Attach c.args.site) c.laws.ensures is may refl)))
-    c.in-Ok.ensures.goes c.in-Ok.ensures.notices c.in-Ok.ensures.messages c.in_ok-more.ensures.did c.begin.ensures.begun c.in_ok-self-inside.ensures)
+    c.in-Ok.ensures.goes c.in-Ok.ensures.notices c.in-Ok.ensures.messages c.in_ok-more.ensures.did c.begin.ensures.begun refl)
     may.works c.reserve.ensures.items c.push_reserved.ensures.items)

@@ -1,9 +1,10 @@
-use Rattle.std.proofs.Common.{[], ap, ◌∙◌, ◌+◌, ◌<◌, subst, sym, length}
+use Rattle.std.proofs.Common.{[], ap, ◌∙◌, ◌+◌, ◌<◌, subst, sym, length, arith}
 use Rattle.std.specs.Prelude.{slice_index}
 use Rattle.mn_flight.specs.Flying.{IsFlight}
 use Rattle.mn_net_tally.specs.Tallies.{Tally, frame_of}
 use Rattle.mn_topo.specs.declared.steps.Step.TheVariants as step
 use Rattle.mn_net_moves.proofs.Moves.{net_may, net_done, as_it_is, numbers, frame_there, one_more, counted_so, few_frames, carry_done}
+use Rattle.mn_net.proofs.Few.{made_fits, at_most_one}
 use Rattle.mn_net.proofs.Clocks.{clock_early}
 use Rattle.mn_net.proofs.net.Net.carry.Goals as goal
 
@@ -40,6 +41,13 @@ count_frame-requires-clause-few c = λ n below.
     let is = c.self.invariant may.works in
     subst (λ (t : Tally). slice_index t.sent n < 4000000) (sym c.in_ok-reserve-2.ensures.kept)
     (few_frames _ (step.Carry c.args.link c.args.dir c.args.place) [] c.laws.ensures is may n below)
+
+pub overflow_add-self : goal.overflow_add-self
+overflow_add-self c =
+    let may = net_may _ _ (step.Carry c.args.link c.args.dir c.args.place) [] c.self.view_is c.requires.may in
+    let few = made_fits _ c.laws.ensures (c.self.invariant may.works) in
+    let one = c.from.ensures ∙ one_more c.carry-flies.result in
+    omega (arith, few, one, at_most_one c.carry-flies.result)
 
 pub invariant_of-self-2 : goal.invariant_of-self-2
 invariant_of-self-2 c = λ works.

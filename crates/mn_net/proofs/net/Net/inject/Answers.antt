@@ -1,4 +1,4 @@
-use Rattle.std.proofs.Common.{ap, sym, ◌∙◌, ◌+◌, ◌<◌, subst, length}
+use Rattle.std.proofs.Common.{ap, sym, ◌∙◌, ◌+◌, ◌<◌, subst, length, arith}
 use Rattle.std.specs.Prelude.{slice_index}
 use Rattle.mn_flight.specs.Flying.{IsFlight}
 use Rattle.mn_net_tally.specs.Tallies.{Tally, frame_of}
@@ -8,6 +8,7 @@ use Rattle.mn_frames.specs.Given.{given}
 use Rattle.mn_net_moves.proofs.Moves.{net_may, net_done, as_it_is, numbers, one_more, counted_so, few_frames, bound_below, room_at, size_small}
 use Rattle.mn_net_moves.proofs.Moves.{verdicts_few, copies_fit}
 use Rattle.mn_net_moves.proofs.Moves.{inject_done}
+use Rattle.mn_net.proofs.Few.{made_fits, at_most_one}
 use Rattle.mn_net.proofs.Clocks.{clock_early}
 use Rattle.mn_net.proofs.net.Net.inject.Goals as goal
 
@@ -77,6 +78,13 @@ count_frame-requires-clause-few c = λ n below.
     let is = c.self.invariant may.works in
     subst (λ (t : Tally). slice_index t.sent n < 4000000) (sym c.in_ok-reserve-2.ensures.kept)
     (few_frames _ (step.Inject c.args.site c.args.number) c.args.packet.now c.laws.ensures is may n below)
+
+pub overflow_add-self : goal.overflow_add-self
+overflow_add-self c =
+    let may = net_may _ _ (step.Inject c.args.site c.args.number) c.args.packet.now c.self.view_is c.requires.may in
+    let few = made_fits _ c.laws.ensures (c.self.invariant may.works) in
+    let one = c.from.ensures ∙ one_more c.in_ok-flies.flies in
+    omega (arith, few, one, at_most_one c.in_ok-flies.flies)
 
 pub invariant_of-self-2 : goal.invariant_of-self-2
 invariant_of-self-2 c = λ works.

@@ -1,6 +1,8 @@
+use Rattle.std.proofs.Common.{arith}
 use Rattle.mn_node.specs.Machine.{Closes}
 use Rattle.mn_transport_model.specs.Carried.{Carried}
 use Rattle.mn_transport_model.proofs.Acted.{becomes-by, out-on-links, acted}
+use Rattle.mn_transport.proofs.Few.{few_out}
 use Rattle.mn_transport.proofs.transport.Transport.close.Goals as goal
 
 pub send-requires-clause-links : goal.send-requires-clause-links
@@ -20,6 +22,27 @@ send-requires-clause-links c =
     out-on-links c.args.topology.now old c.args.self.now c.self.view_is c.args.end.0
     (Closes c.args.link.0) c.requires.may c.from.result c.from.ensures c.index_mut.result.now c.index_mut.ensures.value
     c.in_ok-out.out.items c.in_ok-out.ensures.said
+
+pub send-requires-clause-numbers : goal.send-requires-clause-numbers
+send-requires-clause-numbers c =
+    let i = c.self.inside in
+    let old : Carried =
+    record {
+      nodes = i.nodes.items;
+      changes = i.changes;
+      switches = i.switches.items;
+      labels = i.labels.items;
+      notices = i.notices.items;
+      messages =
+          i.messages.items;
+      failed = i.failed;
+    } in
+    let few =
+    few_out c.args.topology.now old c.args.self.now c.self.view_is c.args.end.0 (Closes c.args.link.0) c.requires.may c.from.result c.from.ensures
+    c.index_mut.result.now c.index_mut.ensures.value c.close.new.self c.in_ok-out.out.items c.laws.ensures
+    (becomes-by (Closes c.args.link.0) c.index_mut.result.now c.close.new.self c.in_ok-out.ensures.after c.in_ok-out.ensures.table c.in_ok-out.ensures.sites)
+    c.in_ok-out.ensures.said in
+    omega (arith, few, c.requires.numbers)
 
 pub returns-clause-acts : goal.returns-clause-acts
 returns-clause-acts c =

@@ -1,10 +1,14 @@
-use Rattle.std.proofs.Common.{◌≡◌, ◌<◌, ◌∙◌, sym, subst}
+use Rattle.std.proofs.Common.{ℕ, ◌≡◌, ◌<◌, ◌∙◌, ◌++◌, sym, subst, arith, refl, length, map}
+use Rattle.std.specs.Prelude.{Ok}
+use Rattle.mn_lsr.specs.Said.{pdu_of}
+use Rattle.mn_transport_model.specs.Sending.{put_pdus}
 use Rattle.std.specs.List.{All}
 use Rattle.mn_wiring.specs.Wiring.{receiver}
 use Rattle.mn_topo.specs.Network.{wiring_of}
 use Rattle.mn_transport_model.specs.Carried.{Carried}
 use Rattle.mn_transport_model.proofs.Acted.{hears-on-links, hears-acts}
 use Rattle.mn_transport_model.proofs.Turned.{below-taken}
+use Rattle.mn_transport.proofs.Few.{few_acted}
 use Rattle.mn_transport.proofs.transport.Transport.hear_next.Goals as goal
 
 pub send-requires-clause-links : goal.send-requires-clause-links
@@ -31,6 +35,35 @@ pub send-requires-clause-number : goal.send-requires-clause-number
 send-requires-clause-number c =
     below-taken c.take.result c.self.inside.messages.items c.take.new.self.items c.args.clock.number c.take.ensures.items
     (subst (λ (x : Carried). All (λ item. item.number < c.args.clock.number) x.messages) (sym c.self.view_is) c.requires.messages)
+
+pub send-requires-clause-numbers : goal.send-requires-clause-numbers
+send-requires-clause-numbers c =
+    let i = c.self.inside in
+    let old : Carried =
+    record {
+      nodes = i.nodes.items;
+      changes = i.changes;
+      switches = i.switches.items;
+      labels = i.labels.items;
+      notices = i.notices.items;
+      messages =
+          i.messages.items;
+      failed = i.failed;
+    } in
+    let at : c.from.result ≡ receiver (wiring_of c.args.topology.now) c.args.link.0 c.args.dir = c.from.ensures ∙ c.receiver-node.ensures.end in
+    let acts =
+    hears-acts c.args.topology.now old c.args.self.now c.self.view_is c.args.link.0 c.args.dir c.requires.may.event c.requires.may.may c.from.result at
+    c.index_mut.result.now c.index_mut.ensures.value
+    c.channel_of.result c.take.result c.take.new.self.items c.in-Some.pdu c.as_slice.result.now c.hear_ldp.new.self c.in-Ok.out.items
+    c.channel_of.ensures c.take.ensures.value c.take.ensures.items c.in-Some.is c.as_slice.ensures c.in-Ok.ensures.heard
+    {E = ℕ} 0 0 c.receiver-node.result.0
+    (c.take.new.self.items ++ put_pdus (wiring_of c.args.topology.now) c.receiver-node.result.0 0 0 (map pdu_of c.in-Ok.out.items))
+    (Ok (length c.in-Ok.out.items)) c.receiver-node.ensures.end
+    c.in-Ok.ensures.others c.in-Ok.ensures.table c.in-Ok.ensures.sites refl (omega arith) in
+    let few =
+    few_acted c.args.topology.now 0 0 (receiver (wiring_of c.args.topology.now) c.args.link.0 c.args.dir) c.requires.may.event _ _ (length c.in-Ok.out.items)
+    c.laws.ensures acts in
+    omega (arith, few, c.requires.numbers)
 
 pub returns-clause-hears : goal.returns-clause-hears
 returns-clause-hears c =
