@@ -13,6 +13,7 @@
 //! - `specs/Pairing`: networks, joints and legs; what has happened in both, and what the last step of a network delivered
 //! - `specs/Course`: what each line of a script does, as in `mn_course` but over both networks
 //! - `specs/Crossing`: a packet that crosses any number of networks, in the words that a customer is promised (`mn_laws`)
+//! - `specs/Legs`: what the legs of a packet are, after every script
 //! - `specs/TwoProviders`: two such networks, worked by hand
 #![tactic(auto)]
 
@@ -23,6 +24,8 @@ ghost use Rattle.mn_ledger.specs.Lawful.{IsLawfulJournal};
 ghost use Rattle.mn_ledger.specs.Verdicts.{injections};
 ghost use Rattle.mn_ipv4.specs.Header.{ttl_of};
 ghost use Rattle.mn_laws.specs.Accounts.{IsPassedOn};
+ghost use Rattle.mn_legs.specs.Pairing.{Pairing, at_first};
+ghost use Rattle.mn_legs.specs.Legs.{Line, after_lines, AllHaveLegs, ArriveByTheirLegs};
 ghost use Rattle.mn_legs.specs.TwoProviders.{TheyAreJoined};
 ghost use Rattle.mn_legs.specs.Crossing.{Passage, CrossesAll, all_nodes, ItCrosses};
 
@@ -43,6 +46,19 @@ pub fn a_leg_with_a_way_crosses()
     ensures { (passage : Passage) (from to : ℕ) (route : HeldRoute) →
         IsLawful passage.topology → IsLawfulJournal passage.topology passage.entries passage.inputs →
         length passage.inputs ≡ injections passage.entries → ItCrosses passage from to route }
+{}
+
+/// After any lines each packet that a line sent has its legs: each after the first was sent in the other network, at the site that
+/// is joined to the one where the leg before was delivered, with the bytes that were delivered there. What was refused, and where
+/// a full journal stopped a line, changes nothing of that.
+pub fn each_packet_has_its_legs()
+    ensures { (pairing : Pairing) (lines : List Line) → AllHaveLegs pairing (after_lines pairing lines at_first) }
+{}
+
+/// So a packet whose last leg was delivered has crossed the networks of all its legs, in the words of `what_crosses_is_passed_on`:
+/// it holds of every script that leaves both networks with lawful journals.
+pub fn what_the_last_leg_delivers_has_crossed()
+    ensures { (pairing : Pairing) (lines : List Line) → ArriveByTheirLegs pairing lines }
 {}
 
 /// A packet that is sent at a site of one provider reaches a site of the other, step by step and by lines; and with too small a TTL
