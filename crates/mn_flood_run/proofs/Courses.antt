@@ -1,18 +1,19 @@
 -- How a run of a flood goes on, line by line.
 use Rattle.std.proofs.Common.{ℕ, zero, suc, ◌≡◌, ◌≢◌, ◌+◌, ◌-◌, ◌<◌, ◌≤◌, ◌==◌, inl, Bool, true, false, cond, List, [], ◌∷◌, ◌++◌, length, take, drop, get_or}
 use Rattle.std.proofs.Common.{Option, Some, None, Result, Ok, Err, refl, arith, sym, ◌∙◌, ap, subst, append_assoc}
-use Rattle.std.specs.Prelude.{nat_le, option_map, if◌then◌else◌, slice_get, IfSome, IsSome, OnOk, IfOk, IfErr}
+use Rattle.std.specs.Prelude.{nat_le, is_none, ◌&&◌, option_map, if◌then◌else◌, slice_get, IfSome, IsSome, OnOk, IfOk, IfErr}
 use Rattle.std.proofs.lemmas.List.{append-nil, take_more, take-append-drop, map-append, drop_more}
-use Rattle.mn_base.proofs.Bools.{at_most_is, not_at_most, same_numbers, other_numbers}
+use Rattle.mn_base.proofs.Bools.{and_on, test_same, at_most_is, not_at_most, same_numbers, other_numbers}
 use Rattle.mn_base.proofs.Members.{In, contained_in}
 use Rattle.mn_base.specs.Limits.{most_steps}
 use Rattle.mn_base.specs.declared.numbers.LinkNo.{LinkNo}
 use Rattle.mn_wiring.specs.declared.links.Dir.{Dir}
+use Rattle.mn_wiring.specs.declared.links.Dir.TheVariants.{Forth, Back}
 use Rattle.mn_wiring.specs.Wiring.{Wiring}
 use Rattle.mn_topo.specs.Network.{Network, wiring_of}
 use Rattle.std.specs.declared.alloc.AllocError.{AllocError}
 use Rattle.mn_flooding.specs.Laws.{IsFlood}
-use Rattle.mn_flooding.specs.Flood.{FloodWorld, FloodEvent, Sent, Hear, flood_after}
+use Rattle.mn_flooding.specs.Flood.{FloodWorld, FloodEvent, Sent, Hear, flies_on, first_on, flood_after}
 use Rattle.mn_flooding.specs.Course.{FloodRefused, FloodRun, RefusedLine, flood_refusal, stepped, tried, unless_stopped, drained_by, drain_for, every_hearing, with_line, run_from}
 use Rattle.mn_flooding.specs.Course as course
 use Rattle.mn_flood.specs.declared.refusal.FloodBad.{FloodBad}
@@ -180,6 +181,29 @@ first_within wiring world way flood first =
 pub turn_more : (turn : ℕ) → turn < 4000001 → every_hearing - turn ≡ suc (every_hearing - (turn + 1))
 unfolding every_hearing
 turn_more turn h = omega (arith, h)
+
+-- it flies the way that it was sent
+on_its_way : (sent : Sent) → flies_on sent.link sent.dir sent ≡ true
+on_its_way sent = by sent.dir refl
+  where
+    by : (dir : Dir) → sent.dir ≡ dir → flies_on sent.link dir sent ≡ true
+    by Forth e = and_on (sent.link == sent.link) _ (test_same sent.link sent.link refl) (ap (λ (d : Dir). elim d [ Forth ↦ true | Back ↦ false ]) e)
+    by Back e = and_on (sent.link == sent.link) _ (test_same sent.link sent.link refl) (ap (λ (d : Dir). elim d [ Forth ↦ false | Back ↦ true ]) e)
+
+-- and nothing refuses that it is heard
+pub unrefused : (now : FloodNow) (sent : Sent) → now.failed ≡ false → slice_get now.world.flying 0 ≡ Some sent →
+    refusal_of now (Hear sent.link sent.dir) ≡ None
+unrefused now sent works first =
+    ap (λ b. cond b (Some bad.NoMemory) (option_map bad_of (flood_refusal now.world (Hear sent.link sent.dir)))) works
+    ∙ ap (option_map bad_of) (there now.world.flying first)
+  where
+    there : (flying : List Sent) → slice_get flying 0 ≡ Some sent →
+        cond (is_none (first_on sent.link sent.dir flying)) (Some course.Empty) None ≡ None
+    there [] e = cc
+    there (x ∷ more) e =
+        let same : x ≡ sent = cc in
+        subst (λ (s : Sent). cond (is_none (first_on s.link s.dir (x ∷ more))) (Some course.Empty) None ≡ None) same
+        (ap (λ b. cond (is_none (cond b (Some x) (first_on x.link x.dir more))) (Some course.Empty) None) (on_its_way x))
 
 -- after some turns the run has come to another, from which so many turns lead to the same end
 pub record ComesTo (wiring : Wiring) (run : FloodRun) (all left : ℕ) (now : FloodNow) : Type 0 where

@@ -1,9 +1,9 @@
 //! Lines played on a flood.
-ghost use Rattle.std.specs.Prelude.{◌≡◌, ◌<◌, ◌≤◌, true, false, length, All, IfOk, OnOk};
+ghost use Rattle.std.specs.Prelude.{◌≡◌, ◌<◌, ◌≤◌, true, false, None, length, All, IfOk, OnOk};
 ghost use Rattle.mn_base.specs.Limits.{most_steps, most_script_lines};
 ghost use Rattle.mn_flooding.specs.Flood.{Hear};
 ghost use Rattle.mn_flooding.specs.Course.{FloodRun, drain_for, every_hearing, with_line};
-ghost use Rattle.mn_flood.specs.Floods.{first_flood, happened};
+ghost use Rattle.mn_flood.specs.Floods.{first_flood, happened, refusal_of};
 ghost use Rattle.mn_tables.specs.Telling.{standing, Tells};
 ghost use Rattle.mn_topo.specs.Network.{wiring_of};
 ghost use Rattle.mn_flood_run.specs.Language.{order_of, command_fits};
@@ -51,11 +51,13 @@ fn answer_of(steps: u32, done: Result<(), FloodBad>) -> Result<Played, AllocErro
 fn hear_way(flood: &mut Flood, link: LinkNo, dir: Dir) -> Result<(), AllocError>
     requires link { link.0 < length flood.old.wiring.ends }
     requires few { flood.old.done ≤ most_steps }
+    requires flies { refusal_of flood.old (Hear link.0 dir) ≡ None }
     ensures { OnOk result (flood.new ≡ happened flood.old (Hear link.0 dir)) }
 {
     match flood.hear(link, dir) {
         Ok(()) => Ok(()),
-        Err(_) => Err(AllocError),
+        Err(FloodBad::NoMemory) => Err(AllocError),
+        Err(_) => unreachable!(),
     }
 }
 

@@ -1,9 +1,11 @@
-use Rattle.std.proofs.Common.{◌≡◌, ◌-◌, ◌+◌, refl, sym, ◌∙◌, ap, subst, arith}
+use Rattle.std.proofs.Common.{◌≡◌, ◌-◌, ◌+◌, None, refl, sym, ◌∙◌, ap, subst, arith}
 use Rattle.mn_base.specs.Limits.{most_steps}
+use Rattle.mn_base.specs.declared.numbers.LinkNo.{LinkNo}
+use Rattle.mn_wiring.specs.declared.links.Dir.{Dir}
 use Rattle.mn_flooding.specs.Flood.{Hear}
 use Rattle.mn_flooding.specs.Course.{every_hearing}
-use Rattle.mn_flood.specs.Floods.{FloodNow, happened}
-use Rattle.mn_flood_run.proofs.Courses.{ComesTo, IsFirst, begins, none_first, some_first, first_within, turn_more, ends_quiet, ends_full, hears, ends_by}
+use Rattle.mn_flood.specs.Floods.{FloodNow, happened, refusal_of}
+use Rattle.mn_flood_run.proofs.Courses.{ComesTo, IsFirst, begins, none_first, some_first, unrefused, first_within, turn_more, ends_quiet, ends_full, hears, ends_by}
 use Rattle.mn_flood_run.proofs.play.drain.Goals as goal
 
 pub loop-turn-init : goal.loop-turn-init
@@ -31,6 +33,13 @@ pub hear_way-requires-clause-link : goal.hear_way-requires-clause-link
 hear_way-requires-clause-link c =
     first_within c.loop-turn.flood.wiring c.loop-turn.flood.world (c.in-Some.link, c.in-Some.dir) (c.laws.ensures c.loop-turn.invariant.works)
     (some_first c.loop-turn.flood.world.flying (c.in-Some.link, c.in-Some.dir) (sym c.first.ensures ∙ c.in-Some.is))
+
+pub hear_way-requires-clause-flies : goal.hear_way-requires-clause-flies
+hear_way-requires-clause-flies c =
+    let first : IsFirst c.loop-turn.flood.world.flying (c.in-Some.link, c.in-Some.dir) =
+    some_first c.loop-turn.flood.world.flying (c.in-Some.link, c.in-Some.dir) (sym c.first.ensures ∙ c.in-Some.is) in
+    subst (λ (way : LinkNo × Dir). refusal_of c.loop-turn.flood (Hear way.0.0 way.1) ≡ None) first.same
+    (unrefused c.loop-turn.flood first.sent c.loop-turn.invariant.works first.first)
 
 pub loop-turn-preserved : goal.loop-turn-preserved
 loop-turn-preserved c =
