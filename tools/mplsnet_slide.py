@@ -77,7 +77,7 @@ class Drawing:
         self.ending(step, steps)
         self.words(step, at)
         size = f'viewBox="{self.left:.0f} {self.top:.0f} {self.wide:.0f} {self.high:.0f}" width="1280"'
-        head = f'<svg xmlns="http://www.w3.org/2000/svg" {size} font-family="system-ui, Helvetica, Arial, sans-serif">'
+        head = f'<svg xmlns="http://www.w3.org/2000/svg" {size} style="background: {PAPER}" font-family="system-ui, Helvetica, Arial, sans-serif">'
         return "\n".join([head, *self.parts, "</svg>", ""])
 
     def place(self, node):
