@@ -1,4 +1,4 @@
-"""The index names what is there; a wrong name, a row that is cut and a rule without a row are told with their place.
+"""The index names what is there; a wrong name, a rule that is cut and one that isn't there are told with their place, and words are looked up.
 
 And docs/FORMATS.md shows a whole run as it stands in examples/two-links, docs/ARCHITECTURE.md every crate in its order.
 """
@@ -37,19 +37,19 @@ class Index(unittest.TestCase):
         self.assertEqual((0, ""), (ran.returncode, ran.stderr))
 
     def test_a_definition_that_is_not_declared(self):
-        self.told("INDEX.md", "`IsPdu`", "`IsPdq`", "no such definition: mn_ldp_wire/specs/Grammar.antt IsPdq")
+        self.told("index.txt", "`IsPdu`", "`IsPdq`", "no such definition: mn_ldp_wire/specs/Grammar.antt IsPdq")
 
     def test_a_clause_that_the_call_has_not(self):
-        self.told("INDEX.md", "`first_fault`", "`last_fault`", "no such clause: mn_ipv4::check last_fault")
+        self.told("index.txt", "`first_fault`", "`last_fault`", "no such clause: mn_ipv4::check last_fault")
 
     def test_a_function_that_is_not_in_its_file(self):
-        self.told("INDEX.md", "mn_ipv4/src/header.rt `check`", "mn_ipv4/src/header.rt `chek`", "no such code: mn_ipv4/src/header.rt chek")
+        self.told("index.txt", "mn_ipv4/src/header.rt `check`", "mn_ipv4/src/header.rt `chek`", "no such code: mn_ipv4/src/header.rt chek")
 
-    def test_a_row_without_its_last_cell(self):
-        self.told("INDEX.md", " | mn_ipv4/src/header.rt `check` |", " |", "not five cells")
+    def test_a_rule_without_its_code(self):
+        self.told("index.txt", "    done     mn_ipv4/src/header.rt `check`\n", "", "a rule has its RFC, its text and below them 'defined, proved, done'")
 
     def test_a_rule_without_a_row(self):
-        self.told("FORMATS.md", "\n| T1 NotToml |", "\n| T17 NotNew |", "in no row of docs/INDEX.md: T17 NotNew")
+        self.told("FORMATS.md", "\n| T1 NotToml |", "\n| T17 NotNew |", "in no rule of docs/index.txt: T17 NotNew")
 
     def test_a_rule_is_looked_up(self):
         ran = self.run_index("NoLsp")
@@ -57,7 +57,39 @@ class Index(unittest.TestCase):
         self.assertIn("crates/mn_ledger/specs/Packets.antt:", ran.stdout)
         self.assertIn("penultimate hop", self.run_index("RFC 3031, section 3.16").stdout)
         self.assertIn(": `hop_on`: ", self.run_index("hop_on").stdout.splitlines()[0])
-        self.assertEqual(1, self.run_index("NoSuchRule").returncode)
+        self.assertEqual(1, self.run_index("NoWordOfIt").returncode)
+
+    def test_whole_words_come_first(self):
+        told = self.run_index("RFC 4364 section 10").stdout
+        self.assertIn("(option a)", told)
+        self.assertNotIn("RFC 3031, 3.10", told)
+
+    def test_the_words_of_the_field_are_known(self):
+        for words, said in [
+            ("PHP", "penultimate hop popping"), ("TTL propagate", "uniform model"), ("unknown label", "NoEntry"), ("metric", "T11 BadCost"),
+            ("ECMP", "One next hop."), ("loop detection", "No loop check."), ("9.1.2.2", "Which route is best."), ("ICMP", "docs/COMPARED.md"),
+            ("Hello", "Every edge to every edge."),
+        ]:
+            with self.subTest(words):
+                ran = self.run_index(*words.split())
+                self.assertEqual(0, ran.returncode)
+                self.assertIn(said, ran.stdout)
+
+    def test_a_synonym_stands_in_the_documents(self):
+        documents = "\n".join(path.read_text() for path in [ROOT / "docs/index.txt", *sorted((ROOT / "docs").glob("*.md"))]).lower()
+        for line in (ROOT / "docs/synonyms.txt").read_text().splitlines():
+            if line and not line.startswith("#"):
+                for words in line.split(" = ")[1].split("; "):
+                    self.assertTrue(words.lower() in documents, line)
+
+    def test_a_row_of_the_page_is_taken(self):
+        page = self.root / "docs/INDEX.md"
+        row = "| 791, 3.1 | a rule that was added | mn_ipv4/specs/Header.antt `good` | mn_ipv4::check `passes` | mn_ipv4/src/header.rt `check` |\n"
+        page.write_text(page.read_text().replace("\n\n## Prefixes", "\n" + row.rstrip("\n") + "\n\n## Prefixes", 1))
+        self.assertIn("docs/INDEX.md: not as docs/index.txt has it", self.run_index().stderr)
+        self.assertEqual(0, self.run_index("--take").returncode)
+        self.assertIn("[791, 3.1] a rule that was added\n    defined  mn_ipv4/specs/Header.antt `good`\n", (self.root / "docs/index.txt").read_text())
+        self.assertEqual((0, ""), (self.run_index("--write").returncode, self.run_index().stderr))
 
 
 class Formats(unittest.TestCase):
