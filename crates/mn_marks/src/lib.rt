@@ -1,8 +1,9 @@
 //! Marks on a journal's entries change nothing of a network: so a step that is done can be marked afterwards as made by a damaged
 //! message, and the network stands for the ledger as before.
 //!
-//! A network reads its journal through what the ledger says of it, and through the labels that were given in it; neither looks at
-//! marks.
+//! A damaged message ends its session (RFC 5036, section 3.5.1.2; RFC 4271, section 6). In the journal that is the step by which the session
+//! ends, with a mark beside it that tells the record and the direction (mn_damage). A network reads its journal through what the ledger says
+//! of it, and through the labels that were given in it; neither looks at marks. So one law serves every network that marks what it did.
 //!
 //! - `specs/Marks`: a network with another journal, and a journal with a mark on its last entry
 #![tactic(auto)]

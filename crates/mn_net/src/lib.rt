@@ -1,10 +1,20 @@
-//! All nodes, sessions, items in flight and packets: a network that goes on by steps as the ledger does.
+//! A provider's network: all nodes and edges, their LDP and BGP sessions, what is in flight, and what became of each packet.
+//!
+//! It goes on by steps, each one act of one actor (a link comes up, a node learns of it, a message is received, a packet enters, a frame
+//! arrives), in whatever order the caller names them. After each step it stands for the ledger of its journal (`StandsFor` of
+//! mn_net_now): what its readers answer, what it refuses and what is in flight are functions of the topology, the journal and the packets.
 //!
 //! ```text
 //!  step --refusal--> the transport: link up/down, learn, ldp, hear      \
 //!                    the routes: bgp, hear, routes, targets, attach      } --> one entry more in the journal
 //!                    the packets: inject, carry, lose, a link's frames  /
 //! ```
+//!
+//! A step is refused by the first of the ledger's causes (mn_net_look), and then nothing changes. Otherwise the part that it concerns does
+//! it, by a call whose contract says the ledger's step in that part's words: `mn_transport` (links, nodes, LDP), `mn_routing` (edges, VRFs,
+//! BGP) or `mn_transit` (packets and frames); the other two stay as they are, but that an attachment is a label of its node and a site of its
+//! edge, and a link that goes down cuts its frames. The items that a step makes are numbered in one row over the parts' four flights, so that
+//! whoever writes files asks for them by number.
 //!
 //! A step first does all that may want memory, and last what can't fail. While it is under way the network counts as failed,
 //! so that nothing has to be undone: after want of memory it stays so.
@@ -20,6 +30,8 @@
 //! - `flight`: what is told of items in flight
 //! - `made`: a law: the items of a step are told by their numbers
 //! - `tell`: what became of packets
+//!
+//! RFC 3031, section 3; RFC 3032, section 2; RFC 4271, section 8.2.2; RFC 4364, sections 4 and 5; RFC 5036, section 2.
 #![tactic(auto)]
 
 mod edges;

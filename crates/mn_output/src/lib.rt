@@ -1,5 +1,16 @@
 //! What a run leaves and puts, by definitions over the journal of its script: files and report.
 //!
+//! ```text
+//!  journal.txt      a line of each step                      | the report: refused lines and tables, as they came;
+//!  labels.txt       the labels given, once no step follows   | a line of each packet; the total
+//!  delivered.pcap   a record of each delivery                |
+//!  A+B.pcap         a record of each frame over the link     | each from the ledger of the journal,
+//!  A+B.ldp, A+B.bgp all that one sent the other              | and of no state of the program
+//! ```
+//!
+//! A file is what it begins with, what each step adds to it, and what is written at the end. Said so, a program can write it step by step and
+//! keep nothing; the laws say what whole files then are: a record of each delivery, a record of each frame, each message of all lives of a session.
+//!
 //! - `specs/Moments`: the steps of a journal, each with what came before it
 //! - `specs/Files`: the files, their order and names; `specs/Contents`: their bytes, and what each step adds to them
 //! - `specs/Tables`: the tables of `show`; `specs/Report`: the report, and the whole answer of a run
