@@ -2,8 +2,8 @@
 //!
 //! The transport stands for a journal (`IsTransport`) where its links are up and its nodes have learned as the ledger's world says, each node is
 //! that of mn_node's machine, each label is given as the ledger gives it, and the notices and PDUs in flight are the ledger's, in order, with their
-//! numbers, due ticks and bytes. A step has its turn (`IsTurn`) where the ledger refuses it not, and what it then does is `Did`: which item
-//! leaves its flight, and which are made.
+//! numbers, due ticks and bytes. A step has its turn (`IsTurn`) where it fits, changes something and takes what is there, as each does that
+//! isn't refused after a lawful journal; what it then does is `Did`: which item leaves its flight, and which are made.
 //!
 //! ```text
 //!  what the code does (Acts, TurnsLink, Switches, LearnsNext, HearsNext) --lemmas--> Did --> IsTransport of the journal with one entry more
