@@ -1,4 +1,4 @@
-ghost use Rattle.std.specs.Prelude.{◌≡◌, ◌<◌, ◌≤◌, ◌+◌, ℕ, List, [], ◌∷◌, ◌++◌, length, slice_get, find, ◌==◌, IsOk, OnOk, OnErr, IfErr, option_map};
+ghost use Rattle.std.specs.Prelude.{◌≡◌, ◌<◌, ◌≤◌, ◌+◌, ◌^◌, ℕ, List, [], ◌∷◌, ◌++◌, length, slice_get, find, ◌==◌, IsOk, OnOk, OnErr, IfErr, option_map};
 ghost use Rattle.std.specs.List.{All};
 ghost use Rattle.std.specs.Option.{option_copied};
 ghost use Rattle.mn_flight.specs.declared.Item.{Item as ItemOf};
@@ -36,6 +36,7 @@ pub trait Flight<T> {
         requires channel { channel < channels self.old }
         requires number { All (λ earlier. earlier.number < number) (items self.old) }
         ensures pushed { OnOk result (items self.new ≡ items self.old ++ record { channel = channel; due = due; number = number; item = item } ∷ []) }
+        ensures few { OnOk result (length (items self.new) < 2 ^ 63) }
         ensures back { IfErr result (λ back. back.0 ≡ item) }
         ensures back_unchanged { OnErr result (items self.new ≡ items self.old) }
         ensures room { 0 < spare self.old → IsOk result }

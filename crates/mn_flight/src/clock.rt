@@ -1,7 +1,4 @@
 //! The clock of a step.
-ghost use Rattle.std.specs.Prelude.{◌≡◌, ◌+◌, ◌^◌, IfOk, OnErr};
-
-use std::alloc::AllocError;
 
 /// When a step is done, and the number of the first item that it makes.
 #[derive(Clone, Copy, Debug, PartialEq, Eq)]
@@ -10,15 +7,4 @@ pub struct Clock {
     pub tick: u64,
     /// Greater than that of each item in flight.
     pub number: u64,
-}
-
-/// The number after this one. An `Err` says that this one is the last of 64 bits.
-pub fn next_number(number: u64) -> Result<u64, AllocError>
-    ensures next { IfOk result (λ next. next ≡ number + 1) }
-    ensures last { OnErr result (number + 1 ≡ 2 ^ 64) }
-{
-    match number.checked_add(1) {
-        Some(next) => Ok(next),
-        None => Err(AllocError),
-    }
 }

@@ -25,7 +25,7 @@ mod laws;
 mod list;
 
 pub use calls::Flight;
-pub use clock::{Clock, next_number};
+pub use clock::Clock;
 pub use laws::{calls_keep_a_flight, earliest_goes_first, four_items_fly, taking_leaves_one_less};
 pub use list::ListFlight;
 

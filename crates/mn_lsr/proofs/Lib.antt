@@ -2,6 +2,7 @@ pub mod Telling
 pub mod Tied
 pub mod Following
 pub mod Saying
+pub mod Numbers
 pub mod Changing
 pub mod Labels
 pub mod Joining

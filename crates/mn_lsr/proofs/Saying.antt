@@ -43,7 +43,7 @@ module _ (w : Wiring) (me : ℕ) (lib : Bindings) where
       same q = omega arith
   set-is (end ∷ ends) q (suc k) l x e = ap (λ ys. option_map (session_in w me lib q) end ∷ ys) (set-is ends (q + 1) k l x (omega (arith, e)))
 
-  count-is : (l : ℕ) (o : Option Open) → count_of (option_map (session_in w me lib l) o) ≡ said_in o
+  pub count-is : (l : ℕ) (o : Option Open) → count_of (option_map (session_in w me lib l) o) ≡ said_in o
   count-is l None = refl
   count-is l (Some end) = refl
 

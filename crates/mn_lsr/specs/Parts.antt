@@ -1,6 +1,6 @@
 -- The parts of a node, what contracts see of them, and how they hang together.
 use Rattle.std.specs.Prelude.{◌≡◌, ◌≢◌, ◌<◌, ◌≤◌, ◌^◌, ℕ, ◌+◌, ◌==◌, ◌||◌, Bool, true, false, if◌then◌else◌, List, [], ◌∷◌, length, map, slice_index_or}
-use Rattle.std.specs.Prelude.{slice_set, Option, Some, None, option_map, ⊤}
+use Rattle.std.specs.Prelude.{slice_set, Option, Some, None, option_map, nat_le, ⊤}
 use Rattle.std.specs.List.{flat_map, range_with_len}
 use Rattle.mn_base.specs.Limits.{most_labels}
 use Rattle.mn_base.specs.declared.numbers.NodeNo.{NodeNo}
@@ -65,6 +65,19 @@ pub record Stands (p : Parts) : Type 0 where
   pub links : AreLinks (wiring_in p) p.me.0 p.links.items
   pub table : (label : ℕ) → IsUseOf (lib.usable p.lib) (meaning_of p.labels.given label) (use_of p.lfib label)
 
+-- how much was said on a link, by its end
+abbrev pub said_in : Option Open → ℕ
+said_in None = 0
+said_in (Some end) = end.said
+
+-- with so many messages said in this call, the numbers of more have 64 bits in each session
+abbrev pub NumbersFit : List (Option Open) → ℕ → Type 0
+NumbersFit ends said = (l : ℕ) → said_in (slice_index_or ends l None) ≤ 2 ^ 62 + said
+
+-- it has said so few
+abbrev pub has_numbers : Option Open → Bool
+has_numbers end = nat_le (said_in end) (2 ^ 62)
+
 -- something may be said on each link
 pub record MaySpeak (p : Parts) : Type 0 where
   pub few : length p.loopbacks.items ≤ 256
@@ -101,11 +114,6 @@ hop_event same table fec = if same fec then [] else event.Next (record { 0 = fec
 
 abbrev pub hop_events : ℕ → List (Option NodeNo) → PathTable → ℕ → List LibEvent
 hop_events me hops table nodes = flat_map (hop_event (stays me hops table) table) (range_with_len 0 nodes)
-
--- how much was said on a link, by its end
-abbrev pub said_in : Option Open → ℕ
-said_in None = 0
-said_in (Some end) = end.said
 
 abbrev pub one_more : Open → Open
 one_more end = record { session = end.session; said = end.said + 1 }

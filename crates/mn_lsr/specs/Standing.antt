@@ -16,7 +16,7 @@ use Rattle.mn_lfib.specs.Uses.{use_of, fec_use}
 use Rattle.mn_lib.specs.Bindings.{Bindings, row_of}
 use Rattle.mn_node.specs.Ldp.{usable_by}
 use Rattle.mn_node.specs.Node.{Session, Node, session_at, knowledge_in, label_of}
-use Rattle.mn_ldp_session.specs.Spelling.{AreSpelled}
+use Rattle.mn_ldp_session.specs.Spelling.{AreSpelled, count_of}
 use Rattle.mn_spf_inc.specs.Mended.{Mended, IsOver}
 use Rattle.mn_lsr.specs.declared.parts.Open.{Open}
 
@@ -40,6 +40,10 @@ session_in wiring me lib l end =
 abbrev pub sessions_from : Wiring → ℕ → Bindings → ℕ → List (Option Open) → List (Option Session)
 sessions_from wiring me lib l [] = []
 sessions_from wiring me lib l (end ∷ ends) = option_map (session_in wiring me lib l) end ∷ sessions_from wiring me lib (l + 1) ends
+
+-- a node has said so few messages in each session that the numbers of those that it says next have 64 bits
+abbrev pub HasNumbers : Node → Type 0
+HasNumbers node = (l : ℕ) → count_of (session_at node l) ≤ 2 ^ 62
 
 -- the label that was heard last in a session
 abbrev pub session_label : Option Session → ℕ → Option ℕ

@@ -9,7 +9,8 @@ ghost use Rattle.mn_lsr.specs.Said.{pdu_of};
 ghost use Rattle.mn_lsr.specs.Message.{meaning, meant};
 ghost use Rattle.mn_lsr.specs.Replies.{heard_by};
 ghost use Rattle.mn_lsr.specs.Hearing.{after_message, after_messages, after_pdu, after_bytes, first_refusal, Accepts, AcceptsAll, machine_then};
-ghost use Rattle.mn_lsr.specs.Parts.{wiring_in, node_in, machines_of, Stands};
+ghost use Rattle.mn_lsr.specs.Standing.{HasNumbers};
+ghost use Rattle.mn_lsr.specs.Parts.{wiring_in, node_in, machines_of, NumbersFit, Stands};
 
 use crate::message::{Message, node_of};
 use crate::parts::{Open, Parts};
@@ -80,12 +81,14 @@ impl Parts {
         requires lawful { IsLawful message.now.body }
         requires accepted { Accepts (slice_index_or self.old.sessions.items link.0 None) from message.now.body }
         requires meant { message_in (wiring_in self.old) message.now.body ≡ Some (meant heard) }
+        requires numbers { NumbersFit self.old.sessions.items (length out.old.items) }
         ensures stands { OnOk result (Stands self.new) }
         ensures node { OnOk result (node_in self.new ≡ (after_message (wiring_in self.old) link.0 (node_in self.old) (Some (meant heard))).node) }
         ensures said { OnOk result (map pdu_of out.new.items ≡ map pdu_of out.old.items ++ (after_message (wiring_in self.old) link.0 (node_in self.old) (Some (meant heard))).said) }
         ensures machine { OnOk result (slice_index_or (machines_of self.new.sessions.items) link.0 None ≡ machine_then (slice_index_or self.old.sessions.items link.0 None) message.now.body) }
         ensures uses { OnOk result ((label : ℕ) → ((fec : ℕ) → fec < length self.old.loopbacks.items → fec ≢ self.old.me.0 → label ≢ label_of self.old.me.0 fec) →
             use_of self.new.lfib label ≡ use_of self.old.lfib label) }
+        ensures numbers { OnOk result (NumbersFit self.new.sessions.items (length out.new.items)) }
         ensures others { OnOk result (self.new ≡ record self.old { sessions = self.new.sessions; lib = self.new.lib; lfib = self.new.lfib }) }
     {
         let Some(was) = self.session(link) else {
@@ -120,12 +123,14 @@ impl Parts {
         requires there { link.0 < length self.old.view.ends }
         requires lawful { IsLawful message.now.body }
         requires accepted { Accepts (slice_index_or self.old.sessions.items link.0 None) from message.now.body }
+        requires numbers { NumbersFit self.old.sessions.items (length out.old.items) }
         ensures stands { OnOk result (Stands self.new) }
         ensures node { OnOk result (node_in self.new ≡ (after_message (wiring_in self.old) link.0 (node_in self.old) (message_in (wiring_in self.old) message.now.body)).node) }
         ensures said { OnOk result (map pdu_of out.new.items ≡ map pdu_of out.old.items ++ (after_message (wiring_in self.old) link.0 (node_in self.old) (message_in (wiring_in self.old) message.now.body)).said) }
         ensures machine { OnOk result (slice_index_or (machines_of self.new.sessions.items) link.0 None ≡ machine_then (slice_index_or self.old.sessions.items link.0 None) message.now.body) }
         ensures uses { OnOk result ((label : ℕ) → ((fec : ℕ) → fec < length self.old.loopbacks.items → fec ≢ self.old.me.0 → label ≢ label_of self.old.me.0 fec) →
             use_of self.new.lfib label ≡ use_of self.old.lfib label) }
+        ensures numbers { OnOk result (NumbersFit self.new.sessions.items (length out.new.items)) }
         ensures others { OnOk result (self.new ≡ record self.old { sessions = self.new.sessions; lib = self.new.lib; lfib = self.new.lfib }) }
     {
         match heard_in(&self.loopbacks, &message.body) {
@@ -161,6 +166,7 @@ impl Parts {
         requires there { link.0 < length self.old.view.ends }
         requires lawful { All (λ message. IsLawful message.body) messages.now }
         requires accepted { AcceptsAll (slice_index_or (machines_of self.old.sessions.items) link.0 None) from messages.now }
+        requires numbers { NumbersFit self.old.sessions.items 0 }
         ensures stands { OnOk result (Stands self.new) }
         ensures heard { IfOk result (λ out. record { node = node_in self.new; said = map pdu_of out.items } ≡ after_messages (wiring_in self.old) link.0 (node_in self.old) messages.now) }
         ensures uses { OnOk result ((label : ℕ) → ((fec : ℕ) → fec < length self.old.loopbacks.items → fec ≢ self.old.me.0 → label ≢ label_of self.old.me.0 fec) →
@@ -184,6 +190,7 @@ impl Parts {
         requires stands { Stands self.old }
         requires there { link.0 < length self.old.view.ends }
         requires open { slice_index_or (machines_of self.old.sessions.items) link.0 None ≢ None }
+        requires numbers { HasNumbers (node_in self.old) }
         ensures stands { OnOk result (Stands self.new) }
         ensures heard { MatchResult result
             (λ out. after_pdu (wiring_in self.old) link.0 (node_in self.old) (slice_index_or (machines_of self.old.sessions.items) link.0 None) bytes.now ≡ Ok (record { node = node_in self.new; said = map pdu_of out.items }))
@@ -220,6 +227,7 @@ impl Parts {
         requires stands { Stands self.old }
         requires there { link.0 < length self.old.view.ends }
         requires open { session_at (node_in self.old) link.0 ≢ None }
+        requires numbers { HasNumbers (node_in self.old) }
         ensures stands { OnOk result (Stands self.new) }
         ensures heard { (session : node.Session) → session_at (node_in self.old) link.0 ≡ Some session → MatchResult result
             (λ out. after_bytes (wiring_in self.old) link.0 (node_in self.old) session bytes.now ≡ Ok (record { node = node_in self.new; said = map pdu_of out.items }))

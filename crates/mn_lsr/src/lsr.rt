@@ -1,4 +1,4 @@
-ghost use Rattle.std.specs.Prelude.{◌≡◌, ◌≢◌, ◌≤◌, ◌<◌, ◌+◌, ◌++◌, ◌∷◌, [], ◌↔◌, ℕ, true, false, None, Some, Ok, Err, length, map, slice_index, IfOk, IfErr, OnOk, OnErr, IsErr, IsErrOf, MatchResult, option_map};
+ghost use Rattle.std.specs.Prelude.{◌≡◌, ◌≢◌, ◌≤◌, ◌<◌, ◌+◌, ◌++◌, ◌∷◌, [], ◌↔◌, ℕ, true, false, None, Some, Ok, Err, length, map, slice_index, IfOk, IfErr, OnOk, OnErr, IsErr, IsErrOf, IsTrue, MatchResult, option_map};
 ghost use Rattle.mn_base.specs.Limits.{most_labels};
 ghost use Rattle.mn_wiring.specs.Wiring.{Wiring, is_end};
 ghost use Rattle.mn_node.specs.Node.{Session, session_at, view_in};
@@ -10,7 +10,7 @@ ghost use Rattle.mn_node.specs.Machine.{fresh_node, Learns, Opens, Closes, chang
 ghost use Rattle.mn_linkdb.specs.Trees.{IsTree};
 ghost use Rattle.mn_lfib.specs.Forwarding.{forwarded};
 ghost use Rattle.mn_ldp_session.specs.Spelling.{pdus};
-ghost use Rattle.mn_lsr.specs.Standing.{IsWired, IsMendedFor, FitsOuter, TableStands, SitesKeep, AreGiven, IsAttachment, fecs_given, attachments, way_to, label_sent, sent_to, state_in};
+ghost use Rattle.mn_lsr.specs.Standing.{IsWired, IsMendedFor, FitsOuter, TableStands, SitesKeep, HasNumbers, AreGiven, IsAttachment, fecs_given, attachments, way_to, label_sent, sent_to, state_in};
 ghost use Rattle.mn_lsr.specs.Hearing.{after_bytes};
 ghost use Rattle.mn_lsr.specs.Said.{pdu_of};
 
@@ -97,6 +97,7 @@ impl Lsr {
         requires there { link.0 < length self.old.wiring.ends }
         requires same_links { length db.now ≡ length self.old.wiring.ends }
         requires not_before { slice_index self.old.node.learned link.0 ≤ slice_index db.now link.0 }
+        requires numbers { HasNumbers self.old.node }
         ensures after { OnOk result (self.new ≡ record self.old { node = after_event self.old.wiring self.old.node (Learns link.0); uses = self.new.uses }) }
         ensures said { IfOk result (λ out. map pdu_of out.items ≡ pdus self.old.wiring 0 (changed self.old.wiring self.old.node (Learns link.0)) (said self.old.wiring self.old.node (Learns link.0))) }
         ensures table { OnOk result (TableStands self.new) }
@@ -124,6 +125,7 @@ impl Lsr {
         requires there { link.0 < length self.old.wiring.ends }
         requires at_end { is_end self.old.wiring link.0 self.old.node.me ≡ true }
         requires closed { session_at self.old.node link.0 ≡ None }
+        requires numbers { HasNumbers self.old.node }
         ensures after { OnOk result (self.new ≡ record self.old { node = after_event self.old.wiring self.old.node (Opens link.0) }) }
         ensures said { IfOk result (λ out. map pdu_of out.items ≡ pdus self.old.wiring 0 (changed self.old.wiring self.old.node (Opens link.0)) (said self.old.wiring self.old.node (Opens link.0))) }
         ensures table { OnOk result (TableStands self.new) }
@@ -146,6 +148,7 @@ impl Lsr {
     pub fn close(&mut self, link: LinkNo) -> Result<Vec<Said>, AllocError>
         requires there { link.0 < length self.old.wiring.ends }
         requires open { session_at self.old.node link.0 ≢ None }
+        requires numbers { HasNumbers self.old.node }
         ensures after { OnOk result (self.new ≡ record self.old { node = after_event self.old.wiring self.old.node (Closes link.0); uses = self.new.uses }) }
         ensures said { IfOk result (λ out. map pdu_of out.items ≡ pdus self.old.wiring 0 (changed self.old.wiring self.old.node (Closes link.0)) (said self.old.wiring self.old.node (Closes link.0))) }
         ensures table { OnOk result (TableStands self.new) }
@@ -171,6 +174,7 @@ impl Lsr {
     pub fn hear_ldp(&mut self, link: LinkNo, bytes: &[u8]) -> Result<Vec<Said>, LsrBad>
         requires there { link.0 < length self.old.wiring.ends }
         requires open { session_at self.old.node link.0 ≢ None }
+        requires numbers { HasNumbers self.old.node }
         ensures heard { (session : Session) → session_at self.old.node link.0 ≡ Some session → MatchResult result
             (λ out. after_bytes self.old.wiring link.0 self.old.node session bytes.now ≡ Ok (record { node = self.new.node; said = map pdu_of out.items }))
             (λ bad. bad ≢ LsrBad.NoMemory → after_bytes self.old.wiring link.0 self.old.node session bytes.now ≡ Err bad) }
@@ -202,6 +206,13 @@ impl Lsr {
             None => None,
             Some(open) => Some(open.session.state),
         }
+    }
+
+    /// Whether it has said at most 2 ^ 62 messages in each session, so that the numbers of those that a call says have 64 bits.
+    pub fn has_numbers(&self) -> bool
+        ensures { IsTrue result → HasNumbers self.now.node }
+    {
+        self.parts.has_numbers()
     }
 
     /// Gives the next label to a new attachment of a site, whose number counts the site's attachments from 1.

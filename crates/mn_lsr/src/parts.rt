@@ -1,6 +1,6 @@
-ghost use Rattle.std.specs.Prelude.{◌≡◌, ◌≢◌, ◌≤◌, ◌<◌, ◌↔◌, ◌++◌, ◌∷◌, [], ℕ, List, None, Some, Err, length, map, slice_index, slice_index_or, slice_set, OnOk, IfOk, true, if◌then◌else◌};
+ghost use Rattle.std.specs.Prelude.{◌≡◌, ◌≢◌, ◌≤◌, ◌<◌, ◌↔◌, ◌++◌, ◌∷◌, [], ℕ, List, None, Some, Err, length, map, slice_index, slice_index_or, slice_set, OnOk, IfOk, IsTrue, true, if◌then◌else◌};
 ghost use Rattle.std.specs.Option.{option_to_list};
-ghost use Rattle.std.specs.List.{flat_map};
+ghost use Rattle.std.specs.List.{flat_map, list_all};
 ghost use Rattle.mn_wiring.specs.Wiring.{is_end, across};
 ghost use Rattle.mn_node.specs.Ldp.{said_on};
 ghost use Rattle.mn_node.specs.Node.{label_of, session_at};
@@ -15,7 +15,8 @@ ghost use Rattle.mn_lsr.specs.Telling.{said_by_tell};
 ghost use Rattle.mn_lsr.specs.Message.{meaning, NamesNode, HasLabel};
 ghost use Rattle.mn_lsr.specs.Replies.{replied, first_reply, closing_events};
 ghost use Rattle.mn_lsr.specs.Said.{pdu_of};
-ghost use Rattle.mn_lsr.specs.Parts.{wiring_in, node_in, Stands, MayFollow, MaySpeak, same_hop, stays, hop_events, pdus_by, ends_after};
+ghost use Rattle.mn_lsr.specs.Standing.{HasNumbers};
+ghost use Rattle.mn_lsr.specs.Parts.{wiring_in, node_in, Stands, MayFollow, MaySpeak, NumbersFit, has_numbers, same_hop, stays, hop_events, said_in, pdus_by, ends_after};
 
 use crate::message::Message;
 use crate::refusal::LsrBad;
@@ -56,6 +57,23 @@ pub struct Parts {
     pub attached: Vec<u32>,
     /// By neighbour, the link that joins the node with it.
     pub links: Vec<Option<LinkNo>>,
+}
+
+/// Whether little was said at an end.
+fn has_numbers(end: &Option<Open>) -> bool
+    ensures { result ≡ has_numbers end.now }
+{
+    match end {
+        None => true,
+        Some(open) => open.said <= 1 << 62,
+    }
+}
+
+/// Whether little was said at each of these ends.
+fn all_have_numbers(ends: &[Option<Open>]) -> bool
+    ensures { result ≡ list_all has_numbers ends.now }
+{
+    ends.iter().all(has_numbers)
 }
 
 /// Whether two next hops are the same.
@@ -111,7 +129,8 @@ impl Parts {
         withdrawn: u32,
         out: &mut Vec<Said>,
     ) -> Result<(), AllocError>
-        requires { MayFollow self.old withdrawn events.now }
+        requires follow { MayFollow self.old withdrawn events.now }
+        requires numbers { NumbersFit self.old.sessions.items (length out.old.items) }
         ensures said { OnOk result (map pdu_of out.new.items ≡ map pdu_of out.old.items ++ pdus_by (wiring_in self.old) self.old.me.0 withdrawn self.old.sessions.items
             (flat_map (said_by_tell (wiring_in self.old) self.old.me.0) (tells self.old.lib events.now))) }
         ensures counted { OnOk result (self.new.sessions.items ≡ ends_after self.old.sessions.items (flat_map (said_by_tell (wiring_in self.old) self.old.me.0) (tells self.old.lib events.now))) }
@@ -154,6 +173,7 @@ impl Parts {
         requires there { link.0 < length self.old.view.ends }
         requires same_links { length db.now ≡ length self.old.view.ends }
         requires not_before { slice_index self.old.view.counts link.0 ≤ slice_index db.now link.0 }
+        requires numbers { HasNumbers (node_in self.old) }
         ensures stands { OnOk result (Stands self.new) }
         ensures wiring { OnOk result (wiring_in self.new ≡ wiring_in self.old) }
         ensures node { OnOk result (node_in self.new ≡ after_event (wiring_in self.old) (node_in self.old) (Learns link.0)) }
@@ -190,7 +210,8 @@ impl Parts {
         withdrawn: u32,
         out: &mut Vec<Said>,
     ) -> Result<(), AllocError>
-        requires { MayFollow self.old withdrawn (option_to_list event) }
+        requires follow { MayFollow self.old withdrawn (option_to_list event) }
+        requires numbers { NumbersFit self.old.sessions.items (length out.old.items) }
         ensures said { OnOk result (map pdu_of out.new.items ≡ map pdu_of out.old.items ++ pdus_by (wiring_in self.old) self.old.me.0 withdrawn self.old.sessions.items
             (flat_map (said_by_tell (wiring_in self.old) self.old.me.0) (tells self.old.lib (option_to_list event)))) }
         ensures counted { OnOk result (self.new.sessions.items ≡ ends_after self.old.sessions.items (flat_map (said_by_tell (wiring_in self.old) self.old.me.0) (tells self.old.lib (option_to_list event)))) }
@@ -217,6 +238,13 @@ impl Parts {
         } else {
             None
         }
+    }
+
+    /// Whether little was said in each session.
+    pub(crate) fn has_numbers(&self) -> bool
+        ensures { IsTrue result → HasNumbers (node_in self.now) }
+    {
+        all_have_numbers(&self.sessions)
     }
 
     /// Sets the node's end of the session of a link.
@@ -257,6 +285,7 @@ impl Parts {
         requires there { link.0 < length self.old.view.ends }
         requires fec { NamesNode (length self.old.loopbacks.items) message }
         requires label { HasLabel 0 message }
+        requires numbers { NumbersFit self.old.sessions.items (length out.old.items) }
         ensures said { OnOk result (map pdu_of out.new.items ≡ map pdu_of out.old.items ++ pdus_by (wiring_in self.old) self.old.me.0 0 self.old.sessions.items
             (said_on link.0 self.old.me.0 (if holds then meaning message ∷ [] else []))) }
         ensures counted { OnOk result (self.new.sessions.items ≡ ends_after self.old.sessions.items (said_on link.0 self.old.me.0 (if holds then meaning message ∷ [] else []))) }
@@ -288,6 +317,7 @@ impl Parts {
     ) -> Result<(), AllocError>
         requires speak { MaySpeak self.old }
         requires there { link.0 < length self.old.view.ends }
+        requires numbers { NumbersFit self.old.sessions.items (length out.old.items) }
         ensures said { OnOk result (map pdu_of out.new.items ≡ map pdu_of out.old.items ++ pdus_by (wiring_in self.old) self.old.me.0 0 self.old.sessions.items
             (said_on link.0 self.old.me.0 (replied reply))) }
         ensures counted { OnOk result (self.new.sessions.items ≡ ends_after self.old.sessions.items (said_on link.0 self.old.me.0 (replied reply))) }
@@ -310,6 +340,7 @@ impl Parts {
         requires there { link.0 < length self.old.view.ends }
         requires at_end { is_end (wiring_in self.old) link.0 self.old.me.0 ≡ true }
         requires closed { session_at (node_in self.old) link.0 ≡ None }
+        requires numbers { HasNumbers (node_in self.old) }
         ensures stands { OnOk result (Stands self.new) }
         ensures node { OnOk result (node_in self.new ≡ after_event (wiring_in self.old) (node_in self.old) (Opens link.0)) }
         ensures said { IfOk result (λ out. map pdu_of out.items ≡ pdus (wiring_in self.old) 0 (changed (wiring_in self.old) (node_in self.old) (Opens link.0)) (said (wiring_in self.old) (node_in self.old) (Opens link.0))) }
@@ -330,6 +361,7 @@ impl Parts {
         requires stands { Stands self.old }
         requires there { link.0 < length self.old.view.ends }
         requires open { session_at (node_in self.old) link.0 ≢ None }
+        requires numbers { HasNumbers (node_in self.old) }
         ensures stands { OnOk result (Stands self.new) }
         ensures node { OnOk result (node_in self.new ≡ after_event (wiring_in self.old) (node_in self.old) (Closes link.0)) }
         ensures said { IfOk result (λ out. map pdu_of out.items ≡ pdus (wiring_in self.old) 0 (changed (wiring_in self.old) (node_in self.old) (Closes link.0)) (said (wiring_in self.old) (node_in self.old) (Closes link.0))) }

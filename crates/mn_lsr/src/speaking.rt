@@ -6,7 +6,7 @@ ghost use Rattle.mn_node.specs.Ldp.{said_on};
 ghost use Rattle.mn_lsr.specs.Message.{meaning, NamesNode, HasLabel};
 ghost use Rattle.mn_lsr.specs.Telling.{said_by_tell, message_of, MayBring, MayTell, other_end, AreLinks};
 ghost use Rattle.mn_lsr.specs.Said.{pdu_of};
-ghost use Rattle.mn_lsr.specs.Parts.{pdus_by, ends_after, said_in, bumped};
+ghost use Rattle.mn_lsr.specs.Parts.{pdus_by, ends_after, said_in, bumped, NumbersFit};
 
 use crate::links::link_to;
 use crate::message::{Message, pdu_bytes};
@@ -43,6 +43,7 @@ pub(crate) fn say(
     requires one_each { length sessions.old.items ≡ length ends.now }
     requires fec { NamesNode (length loopbacks.now) message }
     requires label { HasLabel withdrawn message }
+    requires numbers { NumbersFit sessions.old.items (length out.old.items) }
     ensures said { OnOk result (map pdu_of out.new.items ≡ map pdu_of out.old.items ++ pdu (record { loopbacks = loopbacks.now; ends = ends.now }) link.0 me.0 withdrawn
         (said_in (slice_index_or sessions.old.items link.0 None) + 1) (meaning message) ∷ []) }
     ensures counted { OnOk result (sessions.new.items ≡ bumped sessions.old.items link.0) }
@@ -53,10 +54,7 @@ pub(crate) fn say(
         None => 0,
         Some(open) => open.said,
     };
-    // No session lives for 2 ^ 64 messages.
-    let Some(number) = said.checked_add(1) else {
-        return Err(AllocError);
-    };
+    let number = said + 1;
     let bytes = pdu_bytes(alloc, me, far, loopbacks, withdrawn, number, message)?;
     out.push(Said { link, bytes })?;
     if let Some(open) = &mut sessions[at] {
@@ -85,6 +83,7 @@ pub(crate) fn say_to(
     requires one_each { length sessions.old.items ≡ length ends.now }
     requires fec { NamesNode (length loopbacks.now) message }
     requires label { HasLabel withdrawn message }
+    requires numbers { NumbersFit sessions.old.items (length out.old.items) }
     ensures said { OnOk result (map pdu_of out.new.items ≡ map pdu_of out.old.items ++ pdus_by (record { loopbacks = loopbacks.now; ends = ends.now }) me.0 withdrawn sessions.old.items
         (flat_map (λ l. said_on l me.0 (meaning message ∷ [])) (joining (record { loopbacks = loopbacks.now; ends = ends.now }) me.0 to.0))) }
     ensures counted { OnOk result (sessions.new.items ≡ ends_after sessions.old.items
@@ -129,6 +128,7 @@ pub(crate) fn say_all(
     requires links { AreLinks (record { loopbacks = loopbacks.now; ends = ends.now }) me.0 links.now }
     requires one_each { length sessions.old.items ≡ length ends.now }
     requires may { MayTell (length loopbacks.now) withdrawn tells.now }
+    requires numbers { NumbersFit sessions.old.items (length out.old.items) }
     ensures said { OnOk result (map pdu_of out.new.items ≡ map pdu_of out.old.items ++ pdus_by (record { loopbacks = loopbacks.now; ends = ends.now }) me.0 withdrawn sessions.old.items
         (flat_map (said_by_tell (record { loopbacks = loopbacks.now; ends = ends.now }) me.0) tells.now)) }
     ensures counted { OnOk result (sessions.new.items ≡ ends_after sessions.old.items (flat_map (said_by_tell (record { loopbacks = loopbacks.now; ends = ends.now }) me.0) tells.now)) }

@@ -22,6 +22,7 @@ fn act(
     clock: Clock,
 ) -> Result<u64, AllocError>
     requires tick { clock.tick ≤ 2 ^ 63 }
+    requires numbers { clock.number ≤ 2 ^ 62 }
     requires messages { All (λ item. item.number < clock.number) routes.old.messages }
     requires may { routes.old.failed ≡ false → MayDo topology.now (route_step turn.now) routes.old }
     ensures did { IfOk result (λ made. Did topology.now clock.tick clock.number (route_step turn.now) routes.old routes.new made) }

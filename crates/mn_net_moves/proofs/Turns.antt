@@ -47,6 +47,7 @@ use Rattle.mn_ledger.specs.OneMore.{with_packet}
 use Rattle.mn_net_tally.specs.Tallies.{Tally, Tallies, after_static, HasStatic}
 use Rattle.mn_net_tally.specs.Laws.{may_send, changes_statics}
 use Rattle.mn_net_tally.proofs.Counting.{counts_as_it_did, counts_statics}
+use Rattle.mn_ledger.proofs.Saying.{bounded}
 use Rattle.mn_net_now.specs.Now.{NetNow, packed_in, StandsFor, IsNet}
 use Rattle.mn_net_now.specs.Done.{MayBeDone}
 use Rattle.mn_net_moves.proofs.Moves.{Goes, goes, may_step, is_free, no_more, same_tick, StaysAsItWas}
@@ -135,6 +136,7 @@ link_turn net s lawful is may of =
       there = sym (no_packets_empty net.topology (world_of net.topology net.journal) (packets_of net.topology net.journal is.inputs) s of) ∙ found.there;
       turn = in_turn net.topology net.journal is.inputs lawful is.stands.stands.lawful;
       named = (names_what_exists net.topology net.journal is.inputs lawful is.stands.stands.lawful).ldp;
+      few = (bounded net.topology net.journal is.inputs lawful is.stands.stands.lawful).few_said;
     }
 
 pub route_turn : (net : NetNow) (s : Step) → (is : IsNet net) → MayBeDone net s [] → routing.IsTurn net.topology net.journal s

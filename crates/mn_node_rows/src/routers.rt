@@ -57,7 +57,7 @@ fn learn(lsr: &mut Lsr, db: &LinkDb, link: LinkNo) -> Result<(), AllocError>
     ensures wiring { OnOk result (lsr.new.wiring ≡ lsr.old.wiring) }
     ensures me { OnOk result (lsr.new.node.me ≡ lsr.old.node.me) }
 {
-    if lsr.view().learned(link) > db.changes(link) {
+    if !lsr.has_numbers() || lsr.view().learned(link) > db.changes(link) {
         return Err(AllocError);
     }
     match lsr.learn(db, link) {
@@ -109,9 +109,11 @@ fn open(
     ensures me { OnOk result (lsr.new.node.me ≡ me.0) }
 {
     match named {
-        Some(link) if link.0 < 2 && is_at(me, link) && lsr.session_state(link).is_none() => {
-            lsr.open(link)
-        }
+        Some(link)
+            if link.0 < 2
+                && is_at(me, link)
+                && lsr.has_numbers()
+                && lsr.session_state(link).is_none() => { lsr.open(link) }
         _ => Ok(Vec::new(alloc)),
     }
 }
@@ -166,7 +168,7 @@ impl Router {
     }
 
     fn hear(&mut self, alloc: Global, link: LinkNo, bytes: &[u8]) -> Answer {
-        if !self.has_session(link) {
+        if !self.has_session(link) || !self.lsr.has_numbers() {
             return Ok(None);
         }
         match self.lsr.hear_ldp(link, bytes) {
@@ -212,7 +214,7 @@ impl Router {
     }
 
     fn close(&mut self, alloc: Global, link: LinkNo) -> Answer {
-        if !self.has_session(link) {
+        if !self.has_session(link) || !self.lsr.has_numbers() {
             return Ok(None);
         }
         let said = self.lsr.close(link)?;
@@ -229,6 +231,7 @@ impl Router {
         let first = LinkNo(0);
         self.lsr.view().ends().len() == 2
             && self.lsr.view().learned(first) <= db.changes(first)
+            && self.lsr.has_numbers()
             && matches!(self.lsr.learn(db, first), Err(LsrBad::Empty))
     }
 

@@ -97,6 +97,7 @@ impl Routes {
         requires edge { edge.0 < length topology.now.loopbacks }
         requires exports { AreSayable exports.now }
         requires tick { clock.tick ≤ 2 ^ 63 }
+        requires numbers { clock.number ≤ 2 ^ 63 }
         requires number { All (λ item. item.number < clock.number) self.old.messages }
         ensures { IfOk result (λ next. Puts topology.now clock.tick clock.number (news_in topology.now self.old edge.0 comes exports.now) self.old self.new next) }
     {
@@ -168,6 +169,7 @@ impl Routes {
     ) -> Result<u64, AllocError>
         requires vrf { vrf.0 < length topology.now.vrfs }
         requires tick { clock.tick ≤ 2 ^ 63 }
+        requires numbers { clock.number ≤ 2 ^ 63 }
         requires number { All (λ item. item.number < clock.number) self.old.messages }
         requires may { MaySetExport topology.now self.old vrf target on }
         ensures { IfOk result (λ next. SetsExport topology.now clock.tick clock.number vrf target on self.old self.new next) }
@@ -207,6 +209,7 @@ impl Routes {
     ) -> Result<u64, AllocError>
         requires site { site.0 < length topology.now.sites }
         requires tick { clock.tick ≤ 2 ^ 63 }
+        requires numbers { clock.number ≤ 2 ^ 63 }
         requires number { All (λ item. item.number < clock.number) self.old.messages }
         requires may { MayAdd topology.now self.old site prefix }
         ensures { IfOk result (λ next. Adds topology.now clock.tick clock.number site prefix self.old self.new next) }
@@ -247,6 +250,7 @@ impl Routes {
     ) -> Result<u64, AllocError>
         requires site { site.0 < length topology.now.sites }
         requires tick { clock.tick ≤ 2 ^ 63 }
+        requires numbers { clock.number ≤ 2 ^ 63 }
         requires number { All (λ item. item.number < clock.number) self.old.messages }
         requires may { MayDel topology.now self.old site prefix }
         ensures { IfOk result (λ next. Dels topology.now clock.tick clock.number site prefix self.old self.new next) }
@@ -287,6 +291,7 @@ impl Routes {
     ) -> Result<u64, AllocError>
         requires site { site.0 < length topology.now.sites }
         requires tick { clock.tick ≤ 2 ^ 63 }
+        requires numbers { clock.number ≤ 2 ^ 63 }
         requires number { All (λ item. item.number < clock.number) self.old.messages }
         requires may { MayAttach topology.now self.old site label }
         ensures { IfOk result (λ next. Attaches topology.now clock.tick clock.number site label self.old self.new next) }
@@ -322,6 +327,7 @@ impl Routes {
     ) -> Result<u64, AllocError>
         requires site { site.0 < length topology.now.sites }
         requires tick { clock.tick ≤ 2 ^ 63 }
+        requires numbers { clock.number ≤ 2 ^ 63 }
         requires number { All (λ item. item.number < clock.number) self.old.messages }
         requires may { MayDetach topology.now self.old site }
         ensures { IfOk result (λ next. Detaches topology.now clock.tick clock.number site self.old self.new next) }

@@ -10,7 +10,7 @@ ghost use Rattle.mn_routing_model.specs.Doing.{IsSayable, AreSayable};
 use mn_base::{ListOf, NodeNo};
 use mn_bgp_session::BgpSession;
 use mn_bgp_wire::{write_reach, write_unreach};
-use mn_flight::{Clock, Flight, next_number};
+use mn_flight::{Clock, Flight};
 use mn_flight_pool::PoolFlight;
 use mn_pe::Export;
 use mn_states::BgpState;
@@ -52,16 +52,19 @@ pub(crate) fn send(
     requires peer { peer.0 < length topology.now.loopbacks }
     requires channels { messages.old.channels ≡ length topology.now.loopbacks * length topology.now.loopbacks }
     requires tick { clock.tick ≤ 2 ^ 63 }
+    requires numbers { clock.number ≤ 2 ^ 63 + length messages.old.items }
     requires number { All (λ item. item.number < clock.number) messages.old.items }
     ensures sent { OnOk result (messages.new.items ≡ messages.old.items ++ record { channel = edge.0 * length topology.now.loopbacks + peer.0; due = clock.tick + topology.now.bgp_delay; number = clock.number; item = bytes.items } ∷ []) }
     ensures next { IfOk result (λ next. next ≡ clock.number + 1) }
+    ensures numbers { IfOk result (λ next. next ≤ 2 ^ 63 + length messages.new.items) }
     ensures channels { messages.new.channels ≡ messages.old.channels }
     ensures flight { IsFlight messages.new.channels messages.new.items }
 {
     let channel = channel_to(topology, edge, peer);
     let due = clock.tick + u64::from(topology.bgp_delay());
     match messages.push(channel, due, clock.number, ListOf::from_vec(bytes)) {
-        Ok(()) => next_number(clock.number),
+        // Fewer than 2 ^ 63 items fly.
+        Ok(()) => Ok(clock.number + 1),
         Err(_) => Err(AllocError),
     }
 }
@@ -80,10 +83,12 @@ fn send_each(
     requires peers { AllByRecursion (λ (peer : NodeNumber). peer.0 < length topology.now.loopbacks) peers.now }
     requires channels { messages.old.channels ≡ length topology.now.loopbacks * length topology.now.loopbacks }
     requires tick { clock.tick ≤ 2 ^ 63 }
+    requires numbers { clock.number ≤ 2 ^ 63 + length messages.old.items }
     requires number { All (λ item. item.number < clock.number) messages.old.items }
     requires flight { IsFlight messages.old.channels messages.old.items }
     ensures sent { OnOk result (messages.new.items ≡ messages.old.items ++ put_all (clock.tick + topology.now.bgp_delay) clock.number (to_each (edge.0 * length topology.now.loopbacks) peers.now bytes.now)) }
     ensures next { IfOk result (λ next. next ≡ clock.number + length peers.now) }
+    ensures numbers { IfOk result (λ next. next ≤ 2 ^ 63 + length messages.new.items) }
     ensures number { IfOk result (λ next. All (λ item. item.number < next) messages.new.items) }
     ensures channels { messages.new.channels ≡ messages.old.channels }
     ensures flight { IsFlight messages.new.channels messages.new.items }
@@ -143,6 +148,7 @@ pub(crate) fn tell(
     requires exports { AreSayable exports.now }
     requires channels { messages.old.channels ≡ length topology.now.loopbacks * length topology.now.loopbacks }
     requires tick { clock.tick ≤ 2 ^ 63 }
+    requires numbers { clock.number ≤ 2 ^ 63 + length messages.old.items }
     requires number { All (λ item. item.number < clock.number) messages.old.items }
     requires flight { IsFlight messages.old.channels messages.old.items }
     ensures told { OnOk result (messages.new.items ≡ messages.old.items ++ put_all (clock.tick + topology.now.bgp_delay) clock.number (news_to topology.now edge.0 peers.now comes exports.now)) }

@@ -90,6 +90,7 @@ impl Routes {
         requires peer { peer.0 < length topology.now.loopbacks }
         requires nodes { length self.old.edges ≡ length topology.now.loopbacks }
         requires tick { clock.tick ≤ 2 ^ 63 }
+        requires numbers { clock.number ≤ 2 ^ 63 }
         requires number { All (λ item. item.number < clock.number) self.old.messages }
         ensures said { IfOk result (λ next. Puts topology.now clock.tick clock.number (open_to topology.now edge.0 peer.0 ∷ []) self.old self.new next) }
         ensures number { IfOk result (λ next. All (λ item. item.number < next) self.new.messages) }
@@ -109,6 +110,7 @@ impl Routes {
         requires a { a.0 < length topology.now.loopbacks }
         requires b { b.0 < length topology.now.loopbacks }
         requires tick { clock.tick ≤ 2 ^ 63 }
+        requires numbers { clock.number ≤ 2 ^ 62 }
         requires number { All (λ item. item.number < clock.number) self.old.messages }
         requires may { MayTurn topology.now self.old a.0 b.0 }
         ensures { IfOk result (λ next. Opens topology.now clock.tick clock.number a.0 b.0 self.old self.new next) }
@@ -216,6 +218,7 @@ impl Routes {
         requires edge { edge.0 < length topology.now.loopbacks }
         requires peer { peer.0 < length topology.now.loopbacks }
         requires tick { clock.tick ≤ 2 ^ 63 }
+        requires numbers { clock.number ≤ 2 ^ 63 }
         requires number { All (λ item. item.number < clock.number) self.old.messages }
         requires exports { answer.became_established ≡ true → AreSayable (exports_of (edge_at self.old edge.0)) }
         requires one { answer.say_keep ≡ true → answer.became_established ≡ false }
@@ -273,6 +276,7 @@ impl Routes {
         requires peer { peer.0 < length topology.now.loopbacks }
         requires edge { edge.0 < length topology.now.loopbacks }
         requires tick { clock.tick ≤ 2 ^ 63 }
+        requires numbers { clock.number ≤ 2 ^ 63 }
         requires number { All (λ item. item.number < clock.number) self.old.messages }
         requires may { CanHear topology.now self.old peer.0 edge.0 }
         ensures flight { (channels : ℕ) × IsFlight channels self.old.messages }

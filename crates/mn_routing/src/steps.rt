@@ -24,6 +24,7 @@ impl Routes {
         clock: Clock,
     ) -> Result<u64, AllocError>
         requires tick { clock.tick ≤ 2 ^ 63 }
+        requires numbers { clock.number ≤ 2 ^ 62 }
         requires messages { All (λ item. item.number < clock.number) self.old.messages }
         requires may { self.old.failed ≡ false → MayDo topology.now (step.BgpUp a b) self.old }
         ensures did { IfOk result (λ made. Did topology.now clock.tick clock.number (step.BgpUp a b) self.old self.new made) }
@@ -86,6 +87,7 @@ impl Routes {
         clock: Clock,
     ) -> Result<u64, AllocError>
         requires tick { clock.tick ≤ 2 ^ 63 }
+        requires numbers { clock.number ≤ 2 ^ 62 }
         requires messages { All (λ item. item.number < clock.number) self.old.messages }
         requires may { self.old.failed ≡ false → MayDo topology.now (step.HearBgp a b) self.old }
         ensures did { IfOk result (λ made. Did topology.now clock.tick clock.number (step.HearBgp a b) self.old self.new made) }
@@ -117,6 +119,7 @@ impl Routes {
         clock: Clock,
     ) -> Result<u64, AllocError>
         requires tick { clock.tick ≤ 2 ^ 63 }
+        requires numbers { clock.number ≤ 2 ^ 62 }
         requires messages { All (λ item. item.number < clock.number) self.old.messages }
         requires may { self.old.failed ≡ false → MayDo topology.now (step.AddRoute site prefix) self.old }
         ensures did { IfOk result (λ made. Did topology.now clock.tick clock.number (step.AddRoute site prefix) self.old self.new made) }
@@ -148,6 +151,7 @@ impl Routes {
         clock: Clock,
     ) -> Result<u64, AllocError>
         requires tick { clock.tick ≤ 2 ^ 63 }
+        requires numbers { clock.number ≤ 2 ^ 62 }
         requires messages { All (λ item. item.number < clock.number) self.old.messages }
         requires may { self.old.failed ≡ false → MayDo topology.now (step.DelRoute site prefix) self.old }
         ensures did { IfOk result (λ made. Did topology.now clock.tick clock.number (step.DelRoute site prefix) self.old self.new made) }
@@ -180,6 +184,7 @@ impl Routes {
         clock: Clock,
     ) -> Result<u64, AllocError>
         requires tick { clock.tick ≤ 2 ^ 63 }
+        requires numbers { clock.number ≤ 2 ^ 62 }
         requires messages { All (λ item. item.number < clock.number) self.old.messages }
         requires may { self.old.failed ≡ false → MayDo topology.now (step.Import vrf target on) self.old }
         ensures did { IfOk result (λ made. Did topology.now clock.tick clock.number (step.Import vrf target on) self.old self.new made) }
@@ -212,6 +217,7 @@ impl Routes {
         clock: Clock,
     ) -> Result<u64, AllocError>
         requires tick { clock.tick ≤ 2 ^ 63 }
+        requires numbers { clock.number ≤ 2 ^ 62 }
         requires messages { All (λ item. item.number < clock.number) self.old.messages }
         requires may { self.old.failed ≡ false → MayDo topology.now (step.Export vrf target on) self.old }
         ensures did { IfOk result (λ made. Did topology.now clock.tick clock.number (step.Export vrf target on) self.old self.new made) }
@@ -242,6 +248,7 @@ impl Routes {
         clock: Clock,
     ) -> Result<u64, AllocError>
         requires tick { clock.tick ≤ 2 ^ 63 }
+        requires numbers { clock.number ≤ 2 ^ 62 }
         requires messages { All (λ item. item.number < clock.number) self.old.messages }
         requires may { self.old.failed ≡ false → MayDo topology.now (step.Detach site) self.old }
         ensures did { IfOk result (λ made. Did topology.now clock.tick clock.number (step.Detach site) self.old self.new made) }
@@ -273,6 +280,7 @@ impl Routes {
         clock: Clock,
     ) -> Result<u64, AllocError>
         requires tick { clock.tick ≤ 2 ^ 63 }
+        requires numbers { clock.number ≤ 2 ^ 62 }
         requires messages { All (λ item. item.number < clock.number) self.old.messages }
         requires may { self.old.failed ≡ false → MayGive topology.now site label self.old }
         ensures did { IfOk result (λ made. DidAttach topology.now clock.tick clock.number site label self.old self.new made) }

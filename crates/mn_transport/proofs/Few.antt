@@ -1,7 +1,8 @@
 -- A node says little in a step, so that the numbers of items fit in 64 bits.
-use Rattle.std.proofs.Common.{ℕ, suc, ◌≡◌, ◌+◌, ◌≤◌, List, [], ◌∷◌, ◌++◌, length, refl, arith, ap, length-append, Bool, true, false, Option, Some, None, map, get_or}
+use Rattle.std.proofs.Common.{ℕ, suc, ◌≡◌, ◌+◌, ◌≤◌, List, [], ◌∷◌, ◌++◌, length, refl, arith, ap, subst, length-append, Bool, true, false, Option, Some, None, map, get_or}
 use Rattle.std.specs.Prelude.{if◌then◌else◌, Ok}
-use Rattle.mn_wiring.specs.Wiring.{Wiring}
+use Rattle.mn_wiring.specs.Wiring.{Wiring, receiver}
+use Rattle.mn_wiring.specs.declared.links.Dir.{Dir}
 use Rattle.mn_topo.specs.Network.{Network, wiring_of}
 use Rattle.mn_topo.specs.Lawful.{IsLawful}
 use Rattle.mn_node.specs.Ldp.{Message, Initialization, Said, said_on, answer, news}
@@ -10,12 +11,12 @@ use Rattle.mn_node.specs.Machine.{Event, Learns, Opens, Closes, Hears, answer_in
 use Rattle.mn_ldp_session.specs.Spelling.{pdus, one_said}
 use Rattle.mn_made.proofs.Steps.{few_answers, few_news}
 use Rattle.mn_lsr.specs.Said.{pdu_of}
-use Rattle.mn_lsr.specs.Standing.{Standing}
+use Rattle.mn_lsr.specs.Standing.{Standing, HasNumbers}
 use Rattle.mn_lsr.specs.declared.said.Said.{Said as Spoken}
-use Rattle.mn_transport_model.proofs.Acted.{acted}
+use Rattle.mn_transport_model.proofs.Acted.{acted, same, hearer}
 use Rattle.mn_transport_model.specs.Carried.{Carried}
 use Rattle.mn_transport_model.specs.Sending.{pdus_in, put_pdus, released_by}
-use Rattle.mn_transport_model.specs.Acting.{MayAct, Becomes, Acts}
+use Rattle.mn_transport_model.specs.Acting.{MayAct, MayHear, Becomes, Acts}
 
 as_many : (w : Wiring) (label : ℕ) (n : Node) (xs : List Said) → length (pdus w label n xs) ≡ length xs
 as_many w label n [] = refl
@@ -66,3 +67,14 @@ few_out t old seen view_is node event may index at was value now out lawful beco
     let acts = acted t old seen view_is node event may index at was value {E = ℕ} 0 0 now out
     (old.messages ++ put_pdus (wiring_of t) node 0 0 (map pdu_of out)) (Ok (length out)) becomes says refl (omega arith) in
     omega (arith, few_acted t 0 0 node event seen _ (length out) lawful acts)
+
+-- a node to which something may happen has numbers for what it says then
+pub has_numbers : (t : Network) (old seen : Carried) (view_is : old ≡ seen) (node : ℕ) (event : Event) (may : MayAct t seen node event)
+    (index : ℕ) (at : index ≡ node) (was : Standing) → was ≡ get_or old.nodes index was → HasNumbers was.node
+has_numbers t old seen view_is node event may index at was value =
+    subst (λ (x : Standing). HasNumbers x.node) (same t old seen view_is node event may index at was value) may.numbers
+
+pub hearer_has_numbers : (t : Network) (old seen : Carried) (view_is : old ≡ seen) (l : ℕ) (dir : Dir) (event : Event) (may : MayHear t seen l dir event)
+    (index : ℕ) (at : index ≡ receiver (wiring_of t) l dir) (was : Standing) → was ≡ get_or old.nodes index was → HasNumbers was.node
+hearer_has_numbers t old seen view_is l dir event may index at was value =
+    subst (λ (x : Standing). HasNumbers x.node) (hearer t old seen view_is l dir event may index at was value) may.may.numbers

@@ -72,7 +72,7 @@ module _ (t : Network) (old seen : Carried) (view_is : old ≡ seen) (node : ℕ
   found : slice_get old.nodes node ≡ Some may.was
   found = ap (λ (c : Carried). slice_get c.nodes node) view_is ∙ may.there
 
-  same : may.was ≡ was
+  pub same : may.was ≡ was
   same = sym (get_or_from_slice_get old.nodes node may.was was found) ∙ sym (value ∙ ap (λ k. get_or old.nodes k was) at)
 
   there : slice_get seen.nodes node ≡ Some was
@@ -134,6 +134,7 @@ may-turn t old new node l opens same links may = record {
   link = may.link;
   at_end = may.at_end;
   ready = ready opens may.was.node may.ready;
+  numbers = may.numbers;
 }
   where
     ready : (b : Bool) (n : Node) → IsReady old.changes n (turned_by b l) → IsReady new.changes n (turned_by b l)
@@ -156,6 +157,7 @@ may-second t tick number a b l opens old middle next apart acts may =
       link = may.link;
       at_end = may.at_end;
       ready = may.ready;
+      numbers = may.numbers;
     })
 
 -- what a node learns and hears is out of flight first
@@ -187,6 +189,7 @@ may-noticed t old node l k may =
       at_end =
           may.at_end;
       ready = may.ready;
+      numbers = may.numbers;
     }
 
 pub may-taken : (t : Network) (old : Carried) (node l : ℕ) (dir : Dir) (event : Event) → MayAct t old node event → MayAct t (taken l dir old) node event
@@ -202,12 +205,13 @@ may-taken t old node l dir event may =
       at_end =
           may.at_end;
       ready = may.ready;
+      numbers = may.numbers;
     }
 
 -- the node at this index hears the PDU as one change
 module _ (t : Network) (old seen : Carried) (view_is : old ≡ seen) (l : ℕ) (dir : Dir) (event : Event) (may : MayHear t seen l dir event)
     (index : ℕ) (at : index ≡ receiver (wiring_of t) l dir) (was : Standing) (value : was ≡ get_or old.nodes index was) where
-  hearer : may.may.was ≡ was
+  pub hearer : may.may.was ≡ was
   hearer =
       sym (get_or_from_slice_get old.nodes (receiver (wiring_of t) l dir) may.may.was was
       (ap (λ (c : Carried). slice_get c.nodes (receiver (wiring_of t) l dir)) view_is ∙ may.may.there))

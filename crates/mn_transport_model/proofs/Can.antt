@@ -131,7 +131,7 @@ module _ (t : Network) (lawful : IsLawful t) (g : Labelling) (w : World) (carrie
   may-hear =
       let found = first-item (on_channel (channel l.0 dir) carried.messages) bytes _ flying in
       let may : MayAct t carried (receiver (wiring_of t) l.0 dir) (hears_next t w l.0 (receiver (wiring_of t) l.0 dir)) =
-      may-act t lawful g w carried stands (receiver (wiring_of t) l.0 dir) (hears_next t w l.0 (receiver (wiring_of t) l.0 dir)) (receives dir) below at_end
+      may-act t lawful g w carried stands turn.few (receiver (wiring_of t) l.0 dir) (hears_next t w l.0 (receiver (wiring_of t) l.0 dir)) (receives dir) below at_end
       (open-at t lawful g w carried stands (receiver (wiring_of t) l.0 dir) l.0 below alive at_end) in
       let is : IsNode t g w (receiver (wiring_of t) l.0 dir) may.was = stands.nodes (receiver (wiring_of t) l.0 dir) may.was may.there in
       record {

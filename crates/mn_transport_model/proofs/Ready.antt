@@ -1,10 +1,11 @@
 -- Where the transport stands for a world in which a step has its turn, its nodes may act.
-use Rattle.std.proofs.Common.{ℕ, zero, suc, ◌≡◌, ◌≢◌, ◌<◌, Bool, true, false, List, [], ◌∷◌, length, refl, arith, sym, ◌∙◌, ap, subst, Option, None, Some}
+use Rattle.std.proofs.Common.{ℕ, zero, suc, ◌≡◌, ◌≢◌, ◌<◌, ◌≤◌, ◌^◌, Bool, true, false, List, [], ◌∷◌, length, refl, arith, sym, ◌∙◌, ap, subst, Option, None, Some}
 use Rattle.std.proofs.Common.{get_or}
 use Rattle.std.specs.Prelude.{◌&&◌, not, nat_lt, slice_get, slice_index, if◌then◌else◌}
 use Rattle.std.proofs.lemmas.List.FromFn.{length-map-range_with_len, get_or-map-range_with_len}
+use Rattle.std.proofs.lemmas.List.{get_or_past}
 use Rattle.std.proofs.lemmas.Option.{get_or_from_slice_get}
-use Rattle.mn_base.proofs.Bools.{and_left, and_right, and_false, less_tells, not_at_most_tells, clash, no}
+use Rattle.mn_base.proofs.Bools.{and_left, and_right, and_false, less_tells, not_less_tells, not_at_most_tells, clash, no}
 use Rattle.mn_wiring.specs.Wiring.{link, is_end}
 use Rattle.mn_linkdb.specs.Changes.{is_odd, is_link_up}
 use Rattle.mn_topo.specs.Network.{Network, wiring_of}
@@ -16,10 +17,11 @@ use Rattle.mn_ledger.specs.World.{World}
 use Rattle.mn_ledger.specs.Transport.{lives}
 use Rattle.mn_ledger.specs.Refusal.{agree}
 use Rattle.mn_ledger.proofs.Turning.{is_end-a, is_end-b}
-use Rattle.mn_slice.specs.Slice.{node_at}
+use Rattle.mn_slice.specs.Slice.{node_at, session_of}
 use Rattle.mn_slice.proofs.Changing.{session_at-is}
 use Rattle.mn_frames.specs.Given.{Labelling}
-use Rattle.mn_lsr.specs.Standing.{Standing}
+use Rattle.mn_ldp_session.specs.Spelling.{count_of}
+use Rattle.mn_lsr.specs.Standing.{Standing, HasNumbers}
 use Rattle.mn_transport_model.specs.Carried.{Carried}
 use Rattle.mn_transport_model.specs.Acting.{turned_by, link_in, IsReady, IsAtEnd, MayAct}
 use Rattle.mn_transport_model.specs.Doing.{MayBoth, MayTurn, MaySwitch}
@@ -73,10 +75,25 @@ module _ (t : Network) (lawful : IsLawful t) (g : Labelling) (w : World) (carrie
   pub learned-at : (node l : ℕ) → l < length t.links → slice_index (node_at t w node).learned l ≡ w.views.learned node l
   learned-at node l h = get_or-map-range_with_len (w.views.learned node) 0 (length t.links) l l 0 h (omega arith)
 
-  pub may-act : (node : ℕ) (event : Event) → node < length t.loopbacks → link_in event < length t.links → IsAtEnd t node event →
+  few-at : ((l end : ℕ) → length (w.sessions.said l end) < 4000000000) → (node : ℕ) → HasNumbers (node_at t w node)
+  few-at few node l = split (nat_lt l (length t.links)) refl
+    where
+      by : (b : Bool) (s : Session) → s.said < 4000000000 → count_of (if b then Some s else None) ≤ 2 ^ 62
+      by true s h = omega (arith, h)
+      by false s h = omega arith
+
+      split : (b : Bool) → nat_lt l (length t.links) ≡ b → count_of (session_at (node_at t w node) l) ≤ 2 ^ 62
+      split true e =
+          subst (λ o. count_of o ≤ 2 ^ 62) (sym (session_at-is t w.config w.views w.sessions node l (less_tells l (length t.links) e)))
+          (by (lives w.config l && is_end (wiring_of t) l node) _ (few l node))
+      split false e =
+          subst (λ o. count_of o ≤ 2 ^ 62) (sym (get_or_past (node_at t w node).sessions l None
+          (omega (arith, not_less_tells l (length t.links) e, length-map-range_with_len (session_of t w.config w.sessions node) 0 (length t.links))))) (omega arith)
+
+  pub may-act : ((l end : ℕ) → length (w.sessions.said l end) < 4000000000) → (node : ℕ) (event : Event) → node < length t.loopbacks → link_in event < length t.links → IsAtEnd t node event →
       IsReady carried.changes (node_at t w node) event
       → MayAct t carried node event
-  may-act node event below link_there at_end ready =
+  may-act few node event below link_there at_end ready =
       let found : (s : Standing) × (slice_get carried.nodes node ≡ Some s) = there carried.nodes node (subst (λ k. node < k) (sym stands.each) below) in
       let is : IsNode t g w node found.0 = stands.nodes node found.0 found.1 in
       record {
@@ -89,20 +106,21 @@ module _ (t : Network) (lawful : IsLawful t) (g : Labelling) (w : World) (carrie
         link = link_there;
         at_end = at_end;
         ready = subst (λ n. IsReady carried.changes n event) (sym is.node_is) ready;
+        numbers = subst HasNumbers (sym is.node_is) (few-at few node);
       }
 
   -- both ends of a link whose session doesn't live may open it, and of one whose session lives may close it
-  pub may-open : (l : ℕ) → l < length t.links → lives w.config l ≡ false → MayBoth t carried l (Opens l)
-  may-open l h dead = record {
-    a = may-act (link (wiring_of t) l).a.0 (Opens l) (lawful.joins_nodes l h).0 h (is_end-a (wiring_of t) l) (closed-at (link (wiring_of t) l).a.0 l h dead);
-    b = may-act (link (wiring_of t) l).b.0 (Opens l) (lawful.joins_nodes l h).1 h (is_end-b (wiring_of t) l) (closed-at (link (wiring_of t) l).b.0 l h dead);
+  pub may-open : ((l end : ℕ) → length (w.sessions.said l end) < 4000000000) → (l : ℕ) → l < length t.links → lives w.config l ≡ false → MayBoth t carried l (Opens l)
+  may-open few l h dead = record {
+    a = may-act few (link (wiring_of t) l).a.0 (Opens l) (lawful.joins_nodes l h).0 h (is_end-a (wiring_of t) l) (closed-at (link (wiring_of t) l).a.0 l h dead);
+    b = may-act few (link (wiring_of t) l).b.0 (Opens l) (lawful.joins_nodes l h).1 h (is_end-b (wiring_of t) l) (closed-at (link (wiring_of t) l).b.0 l h dead);
   }
 
-  pub may-close : (l : ℕ) → l < length t.links → lives w.config l ≡ true → MayBoth t carried l (Closes l)
-  may-close l h alive = record {
-    a = may-act (link (wiring_of t) l).a.0 (Closes l) (lawful.joins_nodes l h).0 h (is_end-a (wiring_of t) l)
+  pub may-close : ((l end : ℕ) → length (w.sessions.said l end) < 4000000000) → (l : ℕ) → l < length t.links → lives w.config l ≡ true → MayBoth t carried l (Closes l)
+  may-close few l h alive = record {
+    a = may-act few (link (wiring_of t) l).a.0 (Closes l) (lawful.joins_nodes l h).0 h (is_end-a (wiring_of t) l)
         (open-at (link (wiring_of t) l).a.0 l h alive (is_end-a (wiring_of t) l));
-    b = may-act (link (wiring_of t) l).b.0 (Closes l) (lawful.joins_nodes l h).1 h (is_end-b (wiring_of t) l)
+    b = may-act few (link (wiring_of t) l).b.0 (Closes l) (lawful.joins_nodes l h).1 h (is_end-b (wiring_of t) l)
         (open-at (link (wiring_of t) l).b.0 l h alive (is_end-b (wiring_of t) l));
   }
 
@@ -120,7 +138,7 @@ module _ (t : Network) (lawful : IsLawful t) (g : Labelling) (w : World) (carrie
         each = stands.each;
         switched = switches-are;
         turns = λ e. no (sym turn.changes ∙ sym (up-at l.0 h) ∙ e);
-        both = λ on. may-open l.0 h (ap (λ b. b && w.config.ldp_on l.0) turn.changes);
+        both = λ on. may-open turn.few l.0 h (ap (λ b. b && w.config.ldp_on l.0) turn.changes);
       }
 
   pub may-down : (l : _) → IsTurn t w (step.LinkDown l) → MayTurn t carried l.0 false
@@ -133,7 +151,7 @@ module _ (t : Network) (lawful : IsLawful t) (g : Labelling) (w : World) (carrie
         each = stands.each;
         switched = switches-are;
         turns = λ e. clash (sym up ∙ sym (up-at l.0 h) ∙ e);
-        both = λ on. may-close l.0 h (both_on (w.config.is_up l.0) (w.config.ldp_on l.0) up (sym (switch-at l.0 true h on)));
+        both = λ on. may-close turn.few l.0 h (both_on (w.config.is_up l.0) (w.config.ldp_on l.0) up (sym (switch-at l.0 true h on)));
       }
     where
       not_off : (b : Bool) → not b ≡ false → b ≡ true
@@ -151,8 +169,8 @@ module _ (t : Network) (lawful : IsLawful t) (g : Labelling) (w : World) (carrie
       }
     where
       by : (on : Bool) → l.0 < length t.links → w.config.is_up l.0 ≡ true → agree on (w.config.ldp_on l.0) ≡ false → MayBoth t carried l.0 (turned_by on l.0)
-      by true h up off = may-open l.0 h (ap (λ b. w.config.is_up l.0 && b) off ∙ and_false (w.config.is_up l.0))
-      by false h up off = may-close l.0 h (both_on (w.config.is_up l.0) (w.config.ldp_on l.0) up (was_on (w.config.ldp_on l.0) off))
+      by true h up off = may-open turn.few l.0 h (ap (λ b. w.config.is_up l.0 && b) off ∙ and_false (w.config.is_up l.0))
+      by false h up off = may-close turn.few l.0 h (both_on (w.config.is_up l.0) (w.config.ldp_on l.0) up (was_on (w.config.ldp_on l.0) off))
         where
           was_on : (b : Bool) → not b ≡ false → b ≡ true
           was_on true e = refl
@@ -167,4 +185,4 @@ module _ (t : Network) (lawful : IsLawful t) (g : Labelling) (w : World) (carrie
       let more : w.views.learned node.0 l.0 < w.views.changes l.0 = not_at_most_tells (w.views.changes l.0) (w.views.learned node.0 l.0) turn.there in
       let learned = learned-at node.0 l.0 h in
       let changed = changes-at l.0 h in
-      may-act node.0 (Learns l.0) below h tt (omega (arith, more, learned, changed))
+      may-act turn.few node.0 (Learns l.0) below h tt (omega (arith, more, learned, changed))

@@ -31,6 +31,7 @@ may-be-detached t s there = record {
   there = refl;
   turn = begins t;
   named = λ l end message c. nothing_said t message c;
+  few = λ l end. omega arith;
 }
 
 pub may-be-attached : (t : Network) → IsLawful t →
@@ -43,4 +44,5 @@ may-be-attached t lawful tick s there = record {
   turn = goes_step t (loopbacks_apart t lawful) lawful.joins_nodes lawful.ends_differ (start t) no_packets (step.Detach s)
       (less_is s.0 (length t.sites) there) refl (begins t);
   named = λ l end message c. nothing_said t message c;
+  few = λ l end. omega arith;
 }

@@ -7,7 +7,7 @@ use Rattle.mn_flight.specs.Flying.{on_channel}
 use Rattle.mn_node.specs.Node.{Session, Node, session_at}
 use Rattle.mn_node.specs.Machine.{Event, Learns, Opens, Closes, Hears, after_event}
 use Rattle.mn_lsr.specs.Hearing.{after_bytes}
-use Rattle.mn_lsr.specs.Standing.{Standing, TableStands, SitesKeep}
+use Rattle.mn_lsr.specs.Standing.{Standing, TableStands, SitesKeep, HasNumbers}
 use Rattle.mn_topo.specs.Network.{Network, wiring_of}
 use Rattle.mn_ledger.specs.Packets.{channel}
 use Rattle.mn_transport_model.specs.Carried.{Carried}
@@ -49,6 +49,7 @@ pub record MayAct (topology : Network) (carried : Carried) (node : ℕ) (event :
   pub link : link_in event < length topology.links
   pub at_end : IsAtEnd topology node event
   pub ready : IsReady carried.changes was.node event
+  pub numbers : HasNumbers was.node
 
 -- and the PDU that is next in this direction of the link is heard so
 pub record MayHear (topology : Network) (carried : Carried) (l : ℕ) (dir : Dir) (event : Event) : Type 0 where

@@ -1,5 +1,5 @@
 -- A step of the transport, in the ledger's words.
-use Rattle.std.specs.Prelude.{◌≡◌, ◌+◌, ℕ, Bool, true, false, List, ◌++◌, length}
+use Rattle.std.specs.Prelude.{◌≡◌, ◌<◌, ◌+◌, ℕ, Bool, true, false, List, ◌++◌, length}
 use Rattle.std.specs.List.{Contains}
 use Rattle.mn_topo.specs.Network.{Network}
 use Rattle.mn_topo.specs.Steps.{fits}
@@ -17,14 +17,15 @@ use Rattle.mn_timetable.specs.Steps.{pushed, messages_now}
 use Rattle.mn_timetable.specs.Keys.{keys_in, keys_on, of_notices, of_messages, notices_leave, messages_leave}
 use Rattle.mn_transport_model.specs.Stands.{IsTransport}
 
--- The step's turn has come: it fits, changes something, and takes what is there; each session is in turn, and each message names a
--- node. After a lawful journal a step has its turn that isn't refused.
+-- The step's turn has come: it fits, changes something, and takes what is there; each session is in turn, each message names a
+-- node, and few were said. After a lawful journal a step has its turn that isn't refused.
 pub record IsTurn (topology : Network) (world : World) (step : Step) : Type 0 where
   pub fitting : fits topology step ≡ true
   pub changes : is_unchanged world.config step ≡ false
   pub there : is_empty topology world no_packets step ≡ false
   pub turn : IsInTurn topology world
   pub named : (l end : ℕ) (message : Message) → Contains (world.sessions.said l end) message → NamesANode topology message
+  pub few : (l end : ℕ) → length (world.sessions.said l end) < 4000000000
 
 -- the transport stands for a journal after which the step has its turn
 pub record MayDo (topology : Network) (step : Step) (carried : Carried) : Type 0 where

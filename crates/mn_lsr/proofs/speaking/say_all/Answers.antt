@@ -10,6 +10,7 @@ use Rattle.mn_lsr.specs.Message.{meaning}
 use Rattle.mn_lsr.specs.Telling.{said_by_tell, message_of}
 use Rattle.mn_lsr.specs.Said.{pdu_of}
 use Rattle.mn_lsr.specs.Parts.{pdus_by, ends_after}
+use Rattle.mn_lsr.proofs.Numbers.{said-fits}
 use Rattle.mn_lsr.proofs.Saying.{said-one, ends-one, may-rest, length-ends_after}
 use Rattle.mn_lsr.proofs.speaking.say_all.Goals as goal
 
@@ -40,5 +41,7 @@ loop-tell-preserved c =
       one_each =
           ap (λ (es : List (Option Open)). length es) counted ∙ length-ends_after c.loop-tell.sessions.items (said_by_tell w me tell)
           ∙ c.loop-tell.invariant.one_each;
+      numbers = said-fits w me c.args.withdrawn c.loop-tell.sessions.items c.say_to.new.sessions.items (said_by_tell w me tell) c.loop-tell.out.items
+          c.say_to.new.out.items counted said c.loop-tell.invariant.numbers;
       may = may-rest (length c.args.loopbacks.now) c.args.withdrawn tells i none c.loop-tell-test.true c.loop-tell.invariant.may;
     }

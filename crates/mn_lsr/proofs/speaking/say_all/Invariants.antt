@@ -3,7 +3,7 @@ use Rattle.std.specs.List.{flat_map}
 use Rattle.mn_wiring.specs.Wiring.{Wiring}
 use Rattle.mn_lsr.specs.Telling.{said_by_tell, MayTell}
 use Rattle.mn_lsr.specs.Said.{pdu_of}
-use Rattle.mn_lsr.specs.Parts.{pdus_by, ends_after}
+use Rattle.mn_lsr.specs.Parts.{pdus_by, ends_after, NumbersFit}
 use Rattle.mn_lsr.proofs.speaking.say_all.Given as goal
 
 abbrev pub invariant-loop-tell : goal.invariant-loop-tell
@@ -13,5 +13,6 @@ invariant-loop-tell l = let w : Wiring = record { loopbacks = l.loopbacks; ends 
   counted : ends_after l.sessions.items (flat_map (said_by_tell w l.me.0) (drop l.tell-index l.tells)) ≡ ends_after l.fn.sessions.items
       (flat_map (said_by_tell w l.me.0) l.tells);
   one_each : length l.sessions.items ≡ length l.ends;
+  numbers : NumbersFit l.sessions.items (length l.out.items);
   may : MayTell (length l.loopbacks) l.withdrawn (drop l.tell-index l.tells);
 }

@@ -1,4 +1,4 @@
-use Rattle.std.proofs.Common.{◌≡◌, ◌<◌, ◌+◌, ◌*◌, ◌++◌, length, drop}
+use Rattle.std.proofs.Common.{◌≡◌, ◌<◌, ◌≤◌, ◌^◌, ◌+◌, ◌*◌, ◌++◌, length, drop}
 use Rattle.std.specs.List.{All}
 use Rattle.mn_flight.specs.Flying.{IsFlight}
 use Rattle.mn_routing_model.specs.Sending.{put_all, to_each}
@@ -10,6 +10,7 @@ invariant-loop-peer l = let first = l.edge.0 * length l.topology.loopbacks in le
   sent : l.messages.items ++ put_all due l.number (to_each first (drop l.peer-index l.peers) l.bytes) ≡ l.fn.messages.items ++ put_all due l.fn.clock.number
       (to_each first l.peers l.bytes);
   count : l.number + length (drop l.peer-index l.peers) ≡ l.fn.clock.number + length l.peers;
+  numbers : l.number ≤ 2 ^ 63 + length l.messages.items;
   below : All (λ item. item.number < l.number) l.messages.items;
   channels : l.messages.channels ≡ l.fn.messages.channels;
   flight : IsFlight l.messages.channels l.messages.items;

@@ -18,6 +18,7 @@ loop-export-preserved c =
       count = told_count at.number c.in_ok-number.number _ first at.export-index c.args.peers.now
           (spelled_in t c.args.edge.0 c.args.comes) c.args.exports.now c.export-item.result c.loop-export-test.true c.in_ok-number.ensures.next
           at.invariant.count;
+      numbers = c.in_ok-number.ensures.numbers;
       below = c.in_ok-number.ensures.number;
       channels = c.send_each.ensures.channels ∙ at.invariant.channels;
       flight = c.send_each.ensures.flight;

@@ -1,4 +1,4 @@
-use Rattle.std.proofs.Common.{◌≡◌, ◌<◌, ◌+◌, ◌*◌, ◌++◌, length, drop, map}
+use Rattle.std.proofs.Common.{◌≡◌, ◌<◌, ◌≤◌, ◌^◌, ◌+◌, ◌*◌, ◌++◌, length, drop, map}
 use Rattle.std.specs.List.{All}
 use Rattle.mn_flight.specs.Flying.{IsFlight}
 use Rattle.mn_routing_model.specs.Sending.{put_all, to_all, spelled_in}
@@ -11,6 +11,7 @@ invariant-loop-export l = let first = l.edge.0 * length l.topology.loopbacks in 
       ≡ l.fn.messages.items ++ put_all due l.fn.clock.number (to_all first l.peers (map (spelled_in l.topology l.edge.0 l.comes) l.exports));
   count : l.number + length (to_all first l.peers (map (spelled_in l.topology l.edge.0 l.comes) (drop l.export-index l.exports)))
       ≡ l.fn.clock.number + length (to_all first l.peers (map (spelled_in l.topology l.edge.0 l.comes) l.exports));
+  numbers : l.number ≤ 2 ^ 63 + length l.messages.items;
   below : All (λ item. item.number < l.number) l.messages.items;
   channels : l.messages.channels ≡ l.fn.messages.channels;
   flight : IsFlight l.messages.channels l.messages.items;

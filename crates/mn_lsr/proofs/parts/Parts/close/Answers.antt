@@ -1,15 +1,21 @@
-use Rattle.std.proofs.Common.{[], map, sym, ap, append-nil}
+use Rattle.std.proofs.Common.{[], map, length, sym, ap, append-nil, arith, None}
 use Rattle.std.specs.Option.{option_to_list}
 use Rattle.mn_node.specs.Machine.{Closes}
 use Rattle.mn_lsr.specs.declared.said.Said.{Said}
 use Rattle.mn_lsr.specs.Said.{pdu_of}
 use Rattle.std.proofs.Common.{List}
 use Rattle.mn_lsr.proofs.Closing.{closing-as}
+use Rattle.mn_lsr.proofs.Numbers.{set-fits, by-ends}
 use Rattle.mn_lsr.proofs.Tail.{may-follow-then, after-all, none-before}
 use Rattle.mn_lsr.proofs.parts.Parts.close.Goals as goal
 
-pub tell-requires : goal.tell-requires
-tell-requires c =
+pub tell-requires-clause-numbers : goal.tell-requires-clause-numbers
+tell-requires-clause-numbers c =
+    set-fits c.args.self.now.sessions.items c.set_session.new.self.sessions.items c.args.link.0 (length c.new-out.result.items) None c.set_session.ensures.set
+    (omega arith) (by-ends c.args.self.now (length c.new-out.result.items) c.requires.numbers)
+
+pub tell-requires-clause-follow : goal.tell-requires-clause-follow
+tell-requires-clause-follow c =
     let p = c.args.self.now in
     let st = c.requires.stands in
     let l = c.args.link.0 in

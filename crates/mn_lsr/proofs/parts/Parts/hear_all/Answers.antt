@@ -34,6 +34,7 @@ loop-message-preserved c =
       there = subst (λ (x : Parts). l < length x.view.ends) (sym c.in_ok-hear.ensures.others) c.loop-message.invariant.there;
       others = c.in_ok-hear.ensures.others ∙ ap (λ (x : Parts). let o : Parts =
           record x { sessions = c.hear.new.self.sessions; lib = c.hear.new.self.lib; lfib = c.hear.new.self.lfib } in o) c.loop-message.invariant.others;
+      numbers = c.in_ok-hear.ensures.numbers;
       accepted = accepts-rest ms i d below q.sessions.items c.hear.new.self.sessions.items l c.args.from c.loop-message.invariant.accepted
           (c.in_ok-hear.ensures.machine ∙ ap (λ (m : LdpMessage). machine_then (slice_index_or q.sessions.items l None) m.body) item);
       said = said-step ms i d below (wiring_in p) l (node_in q) (node_in c.hear.new.self) (map pdu_of c.loop-message.out.items)

@@ -1,5 +1,10 @@
-use Rattle.std.proofs.Common.{List, map, ◌∙◌, ap, sym, refl, Option, slice_index_or}
+use Rattle.std.proofs.Common.{List, map, length, ◌∙◌, ap, sym, refl, Option, Some, slice_index_or}
+use Rattle.mn_lsr.proofs.Numbers.{set-fits, as-much, said-fits}
 use Rattle.std.specs.Option.{option_to_list}
+use Rattle.std.specs.List.{flat_map}
+use Rattle.mn_node.specs.Ldp.{said_on}
+use Rattle.mn_lib.specs.Tells.{tells}
+use Rattle.mn_lsr.specs.Telling.{said_by_tell}
 use Rattle.std.specs.Prelude.{None}
 use Rattle.mn_node.specs.Machine.{Hears}
 use Rattle.mn_ldp_session.specs.declared.session.Session.{Session}
@@ -11,8 +16,36 @@ use Rattle.mn_lsr.proofs.HeardMessage.{meant-is, hearing-as, machine-heard}
 use Rattle.mn_lsr.proofs.Tail.{after-all, may-follow-then, replied-then, machines-then}
 use Rattle.mn_lsr.proofs.parts.Parts.hear_meant.Goals as goal
 
-pub tell-requires : goal.tell-requires
-tell-requires c =
+pub reply-requires-clause-numbers : goal.reply-requires-clause-numbers
+reply-requires-clause-numbers c =
+    set-fits c.args.self.now.sessions.items c.set_session.new.self.sessions.items c.args.link.0 (length c.args.out.now.items)
+    (Some (record { session = c.hear.new.self; said = c.in-Some.was.said })) c.set_session.ensures.set
+    (as-much c.args.self.now.sessions.items c.args.link.0 c.in-Some.was (sym c.session.ensures ∙ c.in-Some.is)) c.requires.numbers
+
+pub tell-requires-clause-numbers : goal.tell-requires-clause-numbers
+tell-requires-clause-numbers c =
+    let q = c.set_session.new.self in
+    said-fits (wiring_in q) q.me.0 0 q.sessions.items c.reply.new.self.sessions.items (said_on c.args.link.0 q.me.0 (replied c.in-Ok.reply)) c.args.out.now.items
+    c.reply.new.out.items c.in_ok-reply.ensures.counted c.in_ok-reply.ensures.said
+    (set-fits c.args.self.now.sessions.items c.set_session.new.self.sessions.items c.args.link.0 (length c.args.out.now.items)
+    (Some (record { session = c.hear.new.self; said = c.in-Some.was.said })) c.set_session.ensures.set
+    (as-much c.args.self.now.sessions.items c.args.link.0 c.in-Some.was (sym c.session.ensures ∙ c.in-Some.is)) c.requires.numbers)
+
+pub returns-clause-numbers : goal.returns-clause-numbers
+returns-clause-numbers c =
+    let q = c.set_session.new.self in
+    let r = c.reply.new.self in
+    said-fits (wiring_in r) r.me.0 c.args.heard.1 r.sessions.items c.tell.new.self.sessions.items
+    (flat_map (said_by_tell (wiring_in r) r.me.0) (tells r.lib (option_to_list c.event_of-event.result))) c.reply.new.out.items
+    c.tell.new.out.items c.in_ok-tell.ensures.counted c.in_ok-tell.ensures.said
+    (said-fits (wiring_in q) q.me.0 0 q.sessions.items r.sessions.items (said_on c.args.link.0 q.me.0 (replied c.in-Ok.reply)) c.args.out.now.items
+    c.reply.new.out.items c.in_ok-reply.ensures.counted c.in_ok-reply.ensures.said
+    (set-fits c.args.self.now.sessions.items c.set_session.new.self.sessions.items c.args.link.0 (length c.args.out.now.items)
+    (Some (record { session = c.hear.new.self; said = c.in-Some.was.said })) c.set_session.ensures.set
+    (as-much c.args.self.now.sessions.items c.args.link.0 c.in-Some.was (sym c.session.ensures ∙ c.in-Some.is)) c.requires.numbers))
+
+pub tell-requires-clause-follow : goal.tell-requires-clause-follow
+tell-requires-clause-follow c =
     let p = c.args.self.now in
     let st = c.requires.stands in
     let l = c.args.link.0 in

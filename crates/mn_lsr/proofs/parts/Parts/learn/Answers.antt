@@ -1,4 +1,4 @@
-use Rattle.std.proofs.Common.{◌≡◌, ◌+◌, ◌++◌, List, [], map, ◌∙◌, sym, ap, subst, slice_index}
+use Rattle.std.proofs.Common.{◌≡◌, ◌+◌, ◌++◌, List, [], map, length, ◌∙◌, sym, ap, subst, slice_index}
 use Rattle.std.specs.List.{flat_map}
 use Rattle.std.proofs.Math.ListN.{length-set}
 use Rattle.mn_linkdb.specs.Learned.{Learned, after_learn}
@@ -12,6 +12,7 @@ use Rattle.mn_lsr.specs.Telling.{said_by_tell}
 use Rattle.mn_lsr.specs.Parts.{Stands, node_in, pdus_by, ends_after}
 use Rattle.mn_lsr.proofs.Learning.{learning, events-of, releases-of}
 use Rattle.mn_lsr.proofs.Mended.{link_there, turns, mended-then, tree-then}
+use Rattle.mn_lsr.proofs.Numbers.{by-ends}
 use Rattle.mn_lsr.proofs.After.{Happens, may-follow, stands-then, node-of, said-then, length-machines}
 use Rattle.mn_lsr.proofs.parts.Parts.learn.Goals as goal
 
@@ -22,8 +23,11 @@ pub turn-requires-clause-turns : goal.turn-requires-clause-turns
 turn-requires-clause-turns c =
     turns c.args.self.now c.requires.stands c.args.link.0 c.requires.there c.learn.new.self c.in-Ok.ensures.learned c.up-up.result c.up-up.ensures
 
-pub follow-requires : goal.follow-requires
-follow-requires c =
+pub follow-requires-clause-numbers : goal.follow-requires-clause-numbers
+follow-requires-clause-numbers c = by-ends c.args.self.now (length c.new-out.result.items) c.requires.numbers
+
+pub follow-requires-clause-follow : goal.follow-requires-clause-follow
+follow-requires-clause-follow c =
     let p = c.args.self.now in
     let st = c.requires.stands in
     let l = c.args.link.0 in

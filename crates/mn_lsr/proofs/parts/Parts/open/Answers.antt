@@ -1,4 +1,5 @@
-use Rattle.std.proofs.Common.{List, map, ◌∙◌, ap}
+use Rattle.std.proofs.Common.{List, map, length, arith, ◌∙◌, ap, Some}
+use Rattle.mn_lsr.proofs.Numbers.{set-fits, by-ends}
 use Rattle.mn_node.specs.Machine.{Opens, loopback_of}
 use Rattle.mn_lsr.specs.declared.said.Said.{Said}
 use Rattle.mn_lsr.specs.Said.{pdu_of}
@@ -7,6 +8,12 @@ use Rattle.mn_lsr.specs.Parts.{wiring_in}
 use Rattle.mn_lsr.proofs.Opening.{opening}
 use Rattle.mn_lsr.proofs.Tail.{after-said, replied-then, none-before}
 use Rattle.mn_lsr.proofs.parts.Parts.open.Goals as goal
+
+pub reply-requires-clause-numbers : goal.reply-requires-clause-numbers
+reply-requires-clause-numbers c =
+    set-fits c.args.self.now.sessions.items c.set_session.new.self.sessions.items c.args.link.0 (length c.new-out.result.items)
+    (Some (record { session = c.open-session.result; said = 0 })) c.set_session.ensures.set (omega arith)
+    (by-ends c.args.self.now (length c.new-out.result.items) c.requires.numbers)
 
 pub returns-clause-stands : goal.returns-clause-stands
 returns-clause-stands c =

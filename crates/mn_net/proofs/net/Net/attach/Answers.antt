@@ -3,7 +3,7 @@ use Rattle.mn_topo.specs.declared.steps.Step.TheVariants as step
 use Rattle.mn_net_moves.proofs.Moves.{net_may, net_done, as_it_is}
 use Rattle.mn_net_moves.proofs.Turns.{link_may, link_turn, route_numbers}
 use Rattle.mn_net_moves.proofs.Sites.{next_is, may_give, attach_done}
-use Rattle.mn_net.proofs.Few.{later_fits}
+use Rattle.mn_net.proofs.Few.{made_fits, later_fits}
 use Rattle.mn_net.proofs.Clocks.{clock_early}
 use Rattle.mn_net.proofs.net.Net.attach.Goals as goal
 
@@ -18,6 +18,11 @@ attach-requires c = record {
       let may = net_may _ _ (step.Attach c.args.site) [] c.self.view_is c.requires.may in
       link_may _ (step.Attach c.args.site) c.laws.ensures (c.self.invariant may.works) may refl;
 }
+
+pub attach-requires-2-clause-numbers : goal.attach-requires-2-clause-numbers
+attach-requires-2-clause-numbers c =
+    let may = net_may _ _ (step.Attach c.args.site) [] c.self.view_is c.requires.may in
+    made_fits _ c.laws.ensures (c.self.invariant may.works)
 
 pub attach-requires-2-clause-messages : goal.attach-requires-2-clause-messages
 attach-requires-2-clause-messages c =

@@ -3,7 +3,7 @@ use Rattle.mn_topo.specs.declared.steps.Step.TheVariants as step
 use Rattle.mn_net_moves.proofs.Moves.{net_may, net_done, as_it_is}
 use Rattle.mn_net_moves.proofs.Turns.{link_may, route_may, route_numbers}
 use Rattle.mn_net_moves.proofs.Sites.{detach_done}
-use Rattle.mn_net.proofs.Few.{later_fits}
+use Rattle.mn_net.proofs.Few.{made_fits, later_fits}
 use Rattle.mn_net.proofs.Clocks.{clock_early}
 use Rattle.mn_net.proofs.net.Net.detach.Goals as goal
 
@@ -11,6 +11,11 @@ pub detach-requires-clause-tick : goal.detach-requires-clause-tick
 detach-requires-clause-tick c =
     let may = net_may _ _ (step.Detach c.args.site) [] c.self.view_is c.requires.may in
     clock_early _ (step.Detach c.args.site) [] (c.self.invariant may.works) may
+
+pub detach-requires-clause-numbers : goal.detach-requires-clause-numbers
+detach-requires-clause-numbers c =
+    let may = net_may _ _ (step.Detach c.args.site) [] c.self.view_is c.requires.may in
+    made_fits _ c.laws.ensures (c.self.invariant may.works)
 
 pub detach-requires-clause-messages : goal.detach-requires-clause-messages
 detach-requires-clause-messages c =

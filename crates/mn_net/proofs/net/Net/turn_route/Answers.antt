@@ -2,7 +2,7 @@ use Rattle.std.proofs.Common.{[], ◌+◌, ◌∙◌, refl, arith}
 use Rattle.mn_net_moves.proofs.Moves.{net_may, net_done, as_it_is}
 use Rattle.mn_net_moves.proofs.Turns.{route_may, route_numbers, told_done, may_count}
 use Rattle.mn_net.specs.Turns.{route_step}
-use Rattle.mn_net.proofs.Few.{later_fits}
+use Rattle.mn_net.proofs.Few.{made_fits, later_fits}
 use Rattle.mn_net.proofs.Clocks.{clock_early}
 use Rattle.mn_net.proofs.OfTurns.{of_routes, of_routes_alone, as_said, counted_as, counts_as}
 use Rattle.mn_net.proofs.net.Net.turn_route.Goals as goal
@@ -11,6 +11,11 @@ pub act-requires-clause-tick : goal.act-requires-clause-tick
 act-requires-clause-tick c =
     let may = net_may _ _ (route_step c.args.turn) [] c.self.view_is c.requires.may in
     clock_early _ (route_step c.args.turn) [] (c.self.invariant may.works) may
+
+pub act-requires-clause-numbers : goal.act-requires-clause-numbers
+act-requires-clause-numbers c =
+    let may = net_may _ _ (route_step c.args.turn) [] c.self.view_is c.requires.may in
+    made_fits _ c.laws.ensures (c.self.invariant may.works)
 
 pub act-requires-clause-messages : goal.act-requires-clause-messages
 act-requires-clause-messages c =

@@ -8,8 +8,26 @@ use Rattle.mn_topo.specs.Network.{wiring_of}
 use Rattle.mn_transport_model.specs.Carried.{Carried}
 use Rattle.mn_transport_model.proofs.Acted.{hears-on-links, hears-acts}
 use Rattle.mn_transport_model.proofs.Turned.{below-taken}
-use Rattle.mn_transport.proofs.Few.{few_acted}
+use Rattle.mn_transport.proofs.Few.{few_acted, hearer_has_numbers}
 use Rattle.mn_transport.proofs.transport.Transport.hear_next.Goals as goal
+
+pub hear_ldp-requires-clause-numbers : goal.hear_ldp-requires-clause-numbers
+hear_ldp-requires-clause-numbers c =
+    let i = c.self.inside in
+    let old : Carried =
+    record {
+      nodes = i.nodes.items;
+      changes = i.changes;
+      switches = i.switches.items;
+      labels = i.labels.items;
+      notices = i.notices.items;
+      messages =
+          i.messages.items;
+      failed = i.failed;
+    } in
+    let at : c.from.result ≡ receiver (wiring_of c.args.topology.now) c.args.link.0 c.args.dir = c.from.ensures ∙ c.receiver-node.ensures.end in
+    hearer_has_numbers c.args.topology.now old c.args.self.now c.self.view_is c.args.link.0 c.args.dir c.requires.may.event c.requires.may.may c.from.result at
+    c.index_mut.result.now c.index_mut.ensures.value
 
 pub send-requires-clause-links : goal.send-requires-clause-links
 send-requires-clause-links c =

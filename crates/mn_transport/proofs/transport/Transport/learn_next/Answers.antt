@@ -5,8 +5,30 @@ use Rattle.mn_transport_model.specs.Carried.{Carried}
 use Rattle.mn_transport_model.specs.Doing.{noticed}
 use Rattle.mn_transport_model.proofs.Acted.{becomes-by, out-on-links, acted, noticed-is, may-noticed}
 use Rattle.mn_transport_model.proofs.Turned.{always}
-use Rattle.mn_transport.proofs.Few.{few_out}
+use Rattle.mn_transport.proofs.Few.{few_out, has_numbers}
 use Rattle.mn_transport.proofs.transport.Transport.learn_next.Goals as goal
+
+pub learn-requires-clause-numbers : goal.learn-requires-clause-numbers
+learn-requires-clause-numbers c =
+    let i = c.self.inside in
+    let old : Carried =
+    record {
+      nodes = i.nodes.items;
+      changes = i.changes;
+      switches = i.switches.items;
+      labels = i.labels.items;
+      notices = i.notices.items;
+      messages =
+          i.messages.items;
+      failed = i.failed;
+    } in
+    let taken : Carried = record old { notices = c.take.new.self.items } in
+    let is : taken ≡ noticed c.args.topology.now c.args.node.0 c.args.link.0 c.args.self.now =
+    noticed-is c.args.topology.now old c.args.self.now c.args.node.0 c.args.link.0 c.channel_to.result c.take.new.self.items c.take.result c.self.view_is
+    c.channel_to.ensures c.take.ensures.value c.take.ensures.items in
+    has_numbers c.args.topology.now taken (noticed c.args.topology.now c.args.node.0 c.args.link.0 c.args.self.now) is c.args.node.0 (Learns c.args.link.0)
+    (may-noticed c.args.topology.now c.args.self.now c.args.node.0 c.args.link.0 c.args.link.0 c.requires.may) c.from.result c.from.ensures
+    c.index_mut.result.now c.index_mut.ensures.value
 
 pub send-requires-clause-links : goal.send-requires-clause-links
 send-requires-clause-links c =

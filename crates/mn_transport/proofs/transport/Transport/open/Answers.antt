@@ -2,8 +2,25 @@ use Rattle.std.proofs.Common.{arith}
 use Rattle.mn_node.specs.Machine.{Opens}
 use Rattle.mn_transport_model.specs.Carried.{Carried}
 use Rattle.mn_transport_model.proofs.Acted.{becomes-open, out-on-links, acted}
-use Rattle.mn_transport.proofs.Few.{few_out}
+use Rattle.mn_transport.proofs.Few.{few_out, has_numbers}
 use Rattle.mn_transport.proofs.transport.Transport.open.Goals as goal
+
+pub open-requires-clause-numbers : goal.open-requires-clause-numbers
+open-requires-clause-numbers c =
+    let i = c.self.inside in
+    let old : Carried =
+    record {
+      nodes = i.nodes.items;
+      changes = i.changes;
+      switches = i.switches.items;
+      labels = i.labels.items;
+      notices = i.notices.items;
+      messages =
+          i.messages.items;
+      failed = i.failed;
+    } in
+    has_numbers c.args.topology.now old c.args.self.now c.self.view_is c.args.end.0 (Opens c.args.link.0) c.requires.may c.from.result c.from.ensures
+    c.index_mut.result.now c.index_mut.ensures.value
 
 pub send-requires-clause-links : goal.send-requires-clause-links
 send-requires-clause-links c =
