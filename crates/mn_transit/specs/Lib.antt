@@ -3,3 +3,4 @@ pub mod Moving
 pub mod Stands
 pub mod Entering
 pub mod Aging
+pub mod Landed

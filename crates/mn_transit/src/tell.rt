@@ -9,12 +9,13 @@ ghost use Rattle.mn_ledger.specs.Refusal.{bytes_flying};
 ghost use Rattle.mn_ledger.specs.Verdicts.{verdict_on};
 ghost use Rattle.mn_frames.specs.Given.{Labelling};
 ghost use Rattle.mn_transit.specs.Moving.{bytes_in};
+ghost use Rattle.mn_transit.specs.Landed.{site_as, IsLast, HasLanded};
 ghost use Rattle.mn_transit.specs.Stands.{StandsFor};
 ghost use Rattle.mn_transit.specs.Visits.{path_of};
 
 use crate::flown::Flown;
 use crate::transit::Transit;
-use mn_base::{LinkNo, NodeNo};
+use mn_base::{LinkNo, NodeNo, SiteNo};
 use mn_flight::{Flight, Item};
 use mn_ledger::Verdict;
 use mn_wiring::{Dir, channel_of};
@@ -60,8 +61,46 @@ impl Transit {
         ensures told { (topology : Network) (given : Labelling) (packets : Packets) → StandsFor topology given self.now packets → option_map (λ bytes. bytes.now) result ≡ packets.delivered }
     {
         match &self.delivered {
-            Some(frame) => Some(frame.packet()),
+            Some(flown) => Some(flown.frame.packet()),
             None => None,
+        }
+    }
+
+    /// The site of a packet, if it is the one that was delivered last.
+    fn last_site(&self, packet: u32) -> Option<SiteNo>
+        ensures { result ≡ site_as self.now.copies (slice_get self.now.verdicts packet) }
+    {
+        match self.verdicts.get(packet as usize) {
+            Some(Verdict::Delivered { site, copy, .. }) if *copy == self.copies => Some(*site),
+            _ => None,
+        }
+    }
+
+    /// The packet that was delivered last, by its verdict, and its site.
+    fn find_last(&self) -> Option<(u32, SiteNo)>
+        requires { length self.now.verdicts < 2 ^ 32 }
+        ensures { IsLast self.now.copies self.now.verdicts result }
+    {
+        for packet in 0..self.verdicts.len() as u32 {
+            if let Some(site) = self.last_site(packet) {
+                return Some((packet, site));
+            }
+        }
+        None
+    }
+
+    /// Which packet the last step delivered, and at which site: the one whose verdict is the newest copy. It is remembered, and looked for
+    /// among all only where its verdict should be another.
+    pub fn landed(&self) -> Option<(u32, SiteNo)>
+        requires { length self.now.verdicts < 2 ^ 32 }
+        ensures { HasLanded self.now result }
+    {
+        let Some(flown) = &self.delivered else {
+            return None;
+        };
+        match self.last_site(flown.packet) {
+            Some(site) => Some((flown.packet, site)),
+            None => self.find_last(),
         }
     }
 

@@ -42,8 +42,9 @@ pub struct Transit {
     pub(crate) frames: Frames,
     pub(crate) verdicts: Vec<Verdict>,
     pub(crate) paths: Vec<Path>,
-    copies: u32,
-    pub(crate) delivered: Option<Frame>,
+    pub(crate) copies: u32,
+    // What the last step delivered.
+    pub(crate) delivered: Option<Flown>,
     // The bytes of the packets that fly.
     pub(crate) bytes: u64,
     pub(crate) failed: bool,
@@ -59,7 +60,7 @@ impl Model for Transit {
       verdicts = t.verdicts.items;
       paths = t.paths.items;
       copies = t.copies;
-      delivered = option_map (λ frame. frame.packet) t.delivered;
+      delivered = option_map (λ flown. flown.frame.packet) t.delivered;
       flying = t.frames.items;
       spare = t.frames.spare;
       channels = t.frames.channels;
@@ -70,7 +71,7 @@ impl Model for Transit {
       verdicts = t.verdicts.items;
       paths = t.paths.items;
       copies = t.copies;
-      delivered = option_map (λ frame. frame.packet) t.delivered;
+      delivered = option_map (λ flown. flown.frame.packet) t.delivered;
       flying = t.frames.items;
       spare = t.frames.spare;
       channels = t.frames.channels;
@@ -167,7 +168,7 @@ impl Transit {
         self.copies += 1;
         let copy = self.copies;
         self.judge(packet, Verdict::Delivered { site, ttl, copy });
-        self.delivered = Some(frame);
+        self.delivered = Some(Flown { packet, frame });
     }
 
     /// A packet of which no frame flies comes to fly on a direction of a link, behind those that fly there.
