@@ -10,3 +10,4 @@ pub mod Settled
 pub mod Clocks
 pub mod Elapsed
 pub mod Few
+pub mod Damages

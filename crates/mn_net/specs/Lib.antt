@@ -2,3 +2,4 @@ pub mod Turns
 pub mod Told
 pub mod Tables
 pub mod Settled
+pub mod Damaged

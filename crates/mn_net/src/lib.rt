@@ -23,6 +23,7 @@
 //! - `links`: the steps of links and of LDP
 //! - `sessions`: the steps of BGP, routes and targets
 //! - `sites`: the steps that attach and detach sites
+//! - `damage`: sessions that end by a damaged message
 //! - `moving`: the steps that move packets, and the one that lets time go by
 //! - `next`: what comes next
 //! - `nodes`: what is told of links and of the transport of nodes
@@ -34,6 +35,7 @@
 //! RFC 3031, section 3; RFC 3032, section 2; RFC 4271, section 8.2.2; RFC 4364, sections 4 and 5; RFC 5036, section 2.
 #![tactic(auto)]
 
+mod damage;
 mod edges;
 mod flight;
 mod links;

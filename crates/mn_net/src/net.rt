@@ -199,7 +199,7 @@ impl Net {
     }
 
     /// A step that nothing refuses.
-    fn perform(&mut self, step: Step, packet: &[u8]) -> Result<(), AllocError>
+    pub(crate) fn perform(&mut self, step: Step, packet: &[u8]) -> Result<(), AllocError>
         requires may { MayBeDone self.old step packet.now }
         ensures done { OnOk result (IsDone self.old self.new step packet.now) }
         ensures failed { OnErr result (HasFailed self.old self.new) }
@@ -228,7 +228,7 @@ impl Net {
     }
 
     /// Why a step is refused, by the first cause that holds.
-    fn refusal(&self, step: &Step, packet: &[u8]) -> Result<(), Refused>
+    pub(crate) fn refusal(&self, step: &Step, packet: &[u8]) -> Result<(), Refused>
         requires works { self.now.failed ≡ false }
         requires fits { fits self.now.topology step.now ≡ true }
         ensures exact { (inputs : List (List ℕ)) → StandsFor self.now inputs → Refuses (refusal self.now.topology self.now.journal inputs step.now packet.now) result }
