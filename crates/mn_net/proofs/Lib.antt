@@ -1,6 +1,7 @@
 pub mod OfTurns
 pub mod Held
 pub mod Asked
+pub mod Landed
 pub mod Found
 pub mod Bytes
 pub mod Pieces

@@ -1,5 +1,6 @@
 pub mod Turns
 pub mod Told
+pub mod Landing
 pub mod Tables
 pub mod Settled
 pub mod Damaged

@@ -6,9 +6,10 @@ ghost use Rattle.mn_ledger.specs.Items.{Frames, items_on, flight_of};
 ghost use Rattle.mn_ledger.specs.Verdicts.{verdict_on};
 ghost use Rattle.mn_transit.specs.Visits.{path_of};
 ghost use Rattle.mn_net_now.specs.Now.{StandsFor};
+ghost use Rattle.mn_net.specs.Landing.{IsLanding};
 
 use crate::net::Net;
-use mn_base::{LinkNo, NodeNo};
+use mn_base::{LinkNo, NodeNo, SiteNo};
 use mn_ledger::Verdict;
 use mn_wiring::Dir;
 
@@ -53,5 +54,14 @@ impl Net {
         ensures told { (inputs : List (List ℕ)) → StandsFor self.now inputs → option_map (λ bytes. bytes.now) result ≡ (packets_of self.now.topology self.now.journal inputs).delivered }
     {
         self.transit.delivered()
+    }
+
+    /// Which packet the last step delivered, by its number from 0, and at which site. After want of memory it may tell of a step that was not
+    /// done.
+    pub fn landed(&self) -> Option<(u32, SiteNo)>
+        requires { length self.now.moving.verdicts < 2 ^ 32 }
+        ensures told { (inputs : List (List ℕ)) → StandsFor self.now inputs → IsLanding (packets_of self.now.topology self.now.journal inputs) result }
+    {
+        self.transit.landed()
     }
 }

@@ -24,7 +24,8 @@ use Rattle.mn_course.specs.declared.coming.Ending.{Ending}
 use Rattle.mn_course.specs.declared.coming.Ending.TheVariants as ending
 use Rattle.mn_script.specs.declared.command.Command.TheVariants.{Do}
 use Rattle.mn_base.specs.declared.numbers.SiteNo.{SiteNo}
-use Rattle.mn_course.specs.Coming.{delivery, earlier, is_due_before}
+use Rattle.mn_course.specs.Coming.{delivery, earlier, is_due_before, next_arrival}
+use Rattle.mn_sched.specs.Arriving.{ArrivesNext}
 use Rattle.mn_course.specs.Course.{Past, Course, ends, as_due, arrived, with_step, one_by_one, is_journal_full, inputs_of, input_before, bytes_of, record_of}
 use Rattle.mn_course.specs.Course.{injected, tried, stepped, refusal_now, until, on_to}
 use Rattle.mn_net.specs.declared.net.Done.{Done}
@@ -281,6 +282,37 @@ opens_then old mid inputs step item_step stepped journal topology is opens answe
     subst P (ap (λ t. refusal t mid.journal inputs step []) topology ∙ ap (λ j. refusal old.topology j inputs step []) journal
     ∙ ap (λ s. refusal old.topology old.journal inputs s []) is ∙ opens.refused) answer
 
+-- one item arrives, with any packets
+pub arrives_by : (arrivals : Arrivals) (item : Coming) (old mid new : NetNow) (inputs : List (List ℕ)) (step : Step) (stepped : Result Done Refused) →
+    past_of mid ≡ as_due arrivals item.due (past_of old) → mid.topology ≡ old.topology → step ≡ delivery item → injects step ≡ false →
+    Answers (where_holds (is_journal_full (past_of old)) cause.TooManySteps) stepped → OnOk stepped (IsLonger mid new step) → Leaves mid new stepped →
+    OnOk stepped ((packets : List (List ℕ)) → StandsFor mid packets → StandsFor new (with_packet step [] packets)) → StandsFor mid inputs →
+    next_arrival old.topology old.journal inputs arrivals ≡ Some item → ArrivesNext old new inputs arrivals (Some stepped)
+arrives_by arrivals item old mid new inputs step (Ok made) past topology is plain answer long left moves stands comes = (
+  item,
+  record {
+    comes = comes;
+    room = not_full (is_journal_full (past_of old)) answer;
+    past = done_is arrivals item old mid new step past is long;
+    stands = subst (StandsFor new) (same_inputs step [] inputs plain) (moves inputs stands);
+    topology = long.topology ∙ topology;
+  },
+)
+arrives_by arrivals item old mid new inputs step (Err cause.TooManySteps) past topology is plain answer long left moves stands comes = (
+  item,
+  record {
+    comes = comes;
+    full = (full_is (is_journal_full (past_of old)) cause.TooManySteps answer).0;
+    journal = ap (λ n. n.journal) left ∙ same_journal arrivals item.due old mid past;
+    stands = subst (λ n. StandsFor n inputs) (sym left) stands;
+    topology = ap (λ n. n.topology) left ∙ topology;
+  },
+)
+arrives_by arrivals item old mid new inputs step (Err cause.NoMemory) past topology is plain answer long left moves stands comes =
+    (left.journal ∙ same_journal arrivals item.due old mid past, left.topology ∙ topology)
+arrives_by arrivals item old mid new inputs step (Err why) past topology is plain answer long left moves stands comes =
+    absurd (let e = (full_is (is_journal_full (past_of old)) why answer).1 in cc)
+
 -- 4. A step of a line
 
 tried_more : (past : Past) (step : Step) (why : Option Refused) → IsFirstPart past.entries (tried past step why).past.entries
@@ -481,6 +513,35 @@ one_longer stepped ended old mid new step journal long finished =
     let more = one_more_entry old mid new step journal l in
     let same = ap length journal in
     (more, omega (arith, more, same, l.room)))) finished
+
+-- the same of a step that no watch is told of
+pub longer_by : (stepped : Result Done Refused) (old mid new : NetNow) (step : Step) → mid.journal ≡ old.journal →
+    OnOk stepped (IsLonger mid new step) → OnOk stepped (IsOneLonger old new)
+longer_by stepped old mid new step journal long =
+    ok_then stepped (IsLonger mid new step) (IsOneLonger old new) long (λ l.
+    let more = one_more_entry old mid new step journal l in
+    let same = ap length journal in
+    (more, omega (arith, more, same, l.room)))
+
+pub paced_by : (stepped : Result Done Refused) (old mid new : NetNow) (step : Step) (due : ℕ) →
+    mid.tick ≤ max old.tick due → due ≤ old.tick + 1000 → mid.journal ≡ old.journal → ticks_in step ≡ 0 → OnOk stepped (IsLonger mid new step) →
+    OnOk stepped (IsPaced 0 old new)
+paced_by stepped old mid new step due le soon journal still long =
+    ok_then stepped (IsLonger mid new step) (IsPaced 0 old new) long (λ l.
+    let more = one_more_entry old mid new step journal l in
+    (omega (arith, more), omega (arith, more, l.tick, still, le, soon)))
+
+pub topology_by : (stepped : Result Done Refused) (mid new : NetNow) (step : Step) → OnOk stepped (IsLonger mid new step) → Leaves mid new stepped →
+    new.topology ≡ mid.topology
+topology_by (Ok made) mid new step long left = long.topology
+topology_by (Err cause.NoMemory) mid new step long left = left.topology
+topology_by (Err why) mid new step long left = ap (λ (n : NetNow). n.topology) left
+
+pub left_by : (stepped : Result Done Refused) (old mid new : NetNow) → mid.journal ≡ old.journal → Leaves mid new stepped →
+    OnErr stepped (new.journal ≡ old.journal)
+left_by (Ok made) old mid new journal left = tt
+left_by (Err cause.NoMemory) old mid new journal left = left.journal ∙ journal
+left_by (Err why) old mid new journal left = ap (λ (n : NetNow). n.journal) left ∙ journal
 
 -- a step in which no time passes leaves the clock, whatever it comes to
 pub one_early : (stepped : Result Done Refused) (mid new : NetNow) (step : Step) → ticks_in step ≡ 0 → OnOk stepped (IsLonger mid new step) →

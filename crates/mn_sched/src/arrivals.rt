@@ -8,10 +8,12 @@ ghost use Rattle.mn_course.specs.declared.coming.Ending.TheVariants as ending;
 ghost use Rattle.mn_laws.specs.Flight.{IsOpen};
 ghost use Rattle.mn_net_now.specs.Now.{StandsFor};
 ghost use Rattle.mn_sched.specs.Watching.{Together};
-ghost use Rattle.mn_sched.specs.Playing.{past_of, IsDelivery, Arrives, After, Caused, GoesTo, IsGone, limit_of};
+ghost use Rattle.mn_sched.specs.Playing.{past_of, IsDelivery, Arrives, After, Caused, GoesTo, IsGone, IsFirstPart, IsOneLonger, IsPaced, limit_of};
+ghost use Rattle.mn_sched.specs.Arriving.{ArrivesNext};
 
 use mn_course::{Arrivals, Coming, Kind};
-use mn_net::Net;
+use mn_ledger::Refused;
+use mn_net::{Done, Net};
 use mn_topo::Step;
 
 /// A tick that the clock doesn't reach.
@@ -85,4 +87,24 @@ pub(crate) fn set_clock(net: &mut Net, arrivals: Arrivals, due: u64)
         return;
     }
     net.advance(net.tick().max(due));
+}
+
+/// What comes next by a line arrives, if anything comes: its step is done with the clock set on. A full journal stops it, and
+/// want of memory; nothing else does.
+pub fn arrive(net: &mut Net, arrivals: Arrivals) -> Option<Result<Done, Refused>>
+    requires early { net.old.tick ≤ 2 ^ 62 }
+    requires within { limit_of arrivals ≤ 2 ^ 62 }
+    ensures arrives { (inputs : List (List ℕ)) → StandsFor net.old inputs → ArrivesNext net.old net.new inputs arrivals result }
+    ensures nothing { result ≡ None → net.new ≡ net.old }
+    ensures topology { net.new.topology ≡ net.old.topology }
+    ensures left { IfSome result (λ stepped. OnErr stepped (net.new.journal ≡ net.old.journal)) }
+    ensures grown { IsFirstPart net.old.journal net.new.journal }
+    ensures longer { IfSome result (λ stepped. OnOk stepped (IsOneLonger net.old net.new)) }
+    ensures clock { IfSome result (λ stepped. OnOk stepped (IsPaced 0 net.old net.new)) }
+{
+    let Some(item) = next_arrival(net, arrivals) else {
+        return None;
+    };
+    set_clock(net, arrivals, item.due);
+    Some(net.step(delivery(item), &[]))
 }
