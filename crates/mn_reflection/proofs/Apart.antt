@@ -25,7 +25,7 @@ use Rattle.mn_ledger.specs.declared.refused.Refused.TheVariants.{Unchanged, Empt
 use Rattle.mn_reflection.specs.Holding.{AreApart, AreDoneFrom, AreDone}
 use Rattle.mn_reflection.proofs.Mentions.{same_keys}
 
-first_none : (one : Option Refused) (more : List (Option Refused)) → first_cause (one ∷ more) ≡ None → (one ≡ None) × (first_cause more ≡ None)
+pub first_none : (one : Option Refused) (more : List (Option Refused)) → first_cause (one ∷ more) ≡ None → (one ≡ None) × (first_cause more ≡ None)
 first_none None more h = (refl, h)
 first_none (Some why) more h = absurd (no (sym (ap (λ o. elim o [ None ↦ false | Some z ↦ true ]) h)))
 
@@ -55,7 +55,7 @@ none_taken t v p (y ∷ ys) h x i e f = split ((vrf_of t y.site == v) && same_pr
       | inr j ↦ more g j
     ]
 
-statics_by : (t : Network) (c : Config) (s : Step) → static_refusal t c s ≡ None → HasStatics t c.statics → HasStatics t (config_after c s).statics
+pub statics_by : (t : Network) (c : Config) (s : Step) → static_refusal t c s ≡ None → HasStatics t c.statics → HasStatics t (config_after c s).statics
 statics_by t c (step.AddRoute s p) none h = record {
   apart = apart_push (SameStatic t) c.statics (record { site = s.0; prefix = p }) h.apart
       (λ x j a. none_taken t (vrf_of t s.0) p c.statics (not_taken (taken_by t (vrf_of t s.0) p c.statics) (length c.statics) none) x j a.0 a.1);
@@ -66,13 +66,13 @@ statics_by t c _ none h = h
 third_none : (one two three : Option Refused) (more : List (Option Refused)) → first_cause (one ∷ two ∷ three ∷ more) ≡ None → three ≡ None
 third_none one two three more h = (first_none three more (first_none two (three ∷ more) (first_none one (two ∷ three ∷ more) h).1).1).0
 
-static_free : (t : Network) (world : ReflectWorld) (done : Step) → refusal t world done ≡ None → static_refusal t world.config done ≡ None
+pub static_free : (t : Network) (world : ReflectWorld) (done : Step) → refusal t world done ≡ None → static_refusal t world.config done ≡ None
 static_free t world done h = third_none (where_holds (is_unchanged world.config done) Unchanged) (where_holds (is_empty world done) Empty)
     (static_refusal t world.config done)
     (where_holds (is_targets_full world.config done) TargetsFull ∷ where_holds (is_spent t world.config done) LabelsSpent ∷ where_holds
     (is_full world done) NetFull ∷ []) h
 
-statics_from : (t : Network) (reflectors : List ℕ) (world : ReflectWorld) (steps : List Step) → AreDoneFrom t reflectors world steps →
+pub statics_from : (t : Network) (reflectors : List ℕ) (world : ReflectWorld) (steps : List Step) → AreDoneFrom t reflectors world steps →
     HasStatics t world.config.statics →
     HasStatics t (world_from t reflectors world steps).config.statics
 statics_from t reflectors world [] d h = h

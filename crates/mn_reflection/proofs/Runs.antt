@@ -36,20 +36,20 @@ live_by one other n p e = ap (λ (f : ℕ → ℕ → Bool). if nat_lt n p then 
 module _ (topology : Network) (reflectors : List ℕ) (world : ReflectWorld) (run : IsRun topology reflectors world) (done : Step)
     (same : counted world done ≡ world) (sessions : (config_after world.config done).bgp_on ≡ world.config.bgp_on)
     (silent : (new : ReflectWorld) → replies topology reflectors world new done ≡ []) where
-  within_plain : IsWithin topology (unsaid world done)
+  pub within_plain : IsWithin topology (unsaid world done)
   within_plain node peer h = ap (λ (w : ReflectWorld). w.heard node peer) same ∙ run.within node peer h
 
   module _ (n p : ℕ) (apart : n ≢ p) (there : n < length topology.loopbacks) (peer_there : p < length topology.loopbacks) where
-    told_plain : told (unsaid world done) n p ≡ told world n p
+    pub told_plain : told (unsaid world done) n p ≡ told world n p
     told_plain = ap (λ (w : ReflectWorld). w.heard p n ++ words_to n p w.flying) same
 
-    live_plain : peers_live (unsaid world done).config n p ≡ peers_live world.config n p
+    pub live_plain : peers_live (unsaid world done).config n p ≡ peers_live world.config n p
     live_plain = live_by (config_after world.config done) world.config n p sessions
 
-    heard_plain : length ((unsaid world done).heard n p) ≡ length (world.heard n p)
+    pub heard_plain : length ((unsaid world done).heard n p) ≡ length (world.heard n p)
     heard_plain = ap (λ (w : ReflectWorld). length (w.heard n p)) same
 
-    est_plain : is_established world n p ≡ is_established (unsaid world done) n p
+    pub est_plain : is_established world n p ≡ is_established (unsaid world done) n p
     est_plain = ap (λ b. b && nat_le 2 (length (world.heard n p))) (sym live_plain) ∙ ap (λ k. peers_live (unsaid world done).config n p && nat_le 2 k)
         (sym heard_plain)
 
@@ -78,10 +78,10 @@ module _ (topology : Network) (reflectors : List ℕ) (world : ReflectWorld) (ru
   differ : a ≢ b
   differ e = omega (arith, less, e)
 
-  heard_new : (node peer : ℕ) → restarted_new.heard node peer ≡ put_pair (put_pair world.heard a b []) b a [] node peer
+  pub heard_new : (node peer : ℕ) → restarted_new.heard node peer ≡ put_pair (put_pair world.heard a b []) b a [] node peer
   heard_new node peer = ap (λ (w : ReflectWorld). w.heard node peer) same
 
-  within_restarted : IsWithin topology (unsaid world done)
+  pub within_restarted : IsWithin topology (unsaid world done)
   within_restarted node peer h =
       heard_new node peer
       ∙ pair_off (put_pair world.heard a b []) b a [] node peer (inr (λ e. far_a (e)))
@@ -98,7 +98,7 @@ module _ (topology : Network) (reflectors : List ℕ) (world : ReflectWorld) (ru
     -- 2.1 The session itself
 
     module _ (who : ((n ≡ a) × (p ≡ b)) ⊎ ((n ≡ b) × (p ≡ a))) where
-      empty_at : (node peer : ℕ) → ((node ≡ a) × (peer ≡ b)) ⊎ ((node ≡ b) × (peer ≡ a)) → restarted_new.heard node peer ≡ []
+      pub empty_at : (node peer : ℕ) → ((node ≡ a) × (peer ≡ b)) ⊎ ((node ≡ b) × (peer ≡ a)) → restarted_new.heard node peer ≡ []
       empty_at node peer (inl e) =
           heard_new node peer ∙ pair_off (put_pair world.heard a b []) b a [] node peer (inl (λ q. differ (sym e.0 ∙ q)))
           ∙ ap (λ x. put_pair world.heard a b [] x peer) e.0 ∙ ap (put_pair world.heard a b [] a) e.1 ∙ pair_here world.heard a b []
@@ -109,14 +109,14 @@ module _ (topology : Network) (reflectors : List ℕ) (world : ReflectWorld) (ru
       turned : ((p ≡ a) × (n ≡ b)) ⊎ ((p ≡ b) × (n ≡ a))
       turned = elim who [ inl e ↦ inr (e.1, e.0) | inr e ↦ inl (e.1, e.0) ]
 
-      told_empty : told restarted_new n p ≡ []
+      pub told_empty : told restarted_new n p ≡ []
       told_empty = ap (λ ws. ws ++ words_to n p restarted_new.flying) (empty_at p n turned)
           ∙ ap (λ (w : ReflectWorld). words_to n p w.flying) same ∙ between_gone a b n p who world.flying
 
       not_yet : is_established restarted_new n p ≡ false
       not_yet = ap (λ ws. peers_live restarted_new.config n p && nat_le 2 (length ws)) (empty_at n p who) ∙ and_false (peers_live restarted_new.config n p)
 
-      answer : words_to n p (replies topology reflectors world restarted_new done) ≡ opening
+      pub answer : words_to n p (replies topology reflectors world restarted_new done) ≡ opening
       answer = ap (words_to n p) (silent restarted_new) ∙ words_append n p (says a b opening) (says b a opening) ∙ by who
         where
           by : ((n ≡ a) × (p ≡ b)) ⊎ ((n ≡ b) × (p ≡ a)) → words_to n p (says a b opening) ++ words_to n p (says b a opening) ≡ opening
@@ -132,7 +132,7 @@ module _ (topology : Network) (reflectors : List ℕ) (world : ReflectWorld) (ru
       says_anew = begins_anew topology reflectors world done n p there peer_there run.within within_restarted told_empty not_yet (λ key. ap
           (last_mention key None) answer ∙ opens key)
 
-      live_anew : peers_live restarted_new.config n p ≡ on
+      pub live_anew : peers_live restarted_new.config n p ≡ on
       live_anew = by who
         where
           here : (put_pair world.config.bgp_on a b on) a b ≡ on
@@ -166,27 +166,27 @@ module _ (topology : Network) (reflectors : List ℕ) (world : ReflectWorld) (ru
       swap_second : (p ≢ a) ⊎ (n ≢ b)
       swap_second = elim other.1 [ inl e ↦ inr e | inr e ↦ inl e ]
 
-      heard_other : restarted_new.heard n p ≡ world.heard n p
+      pub heard_other : restarted_new.heard n p ≡ world.heard n p
       heard_other = heard_new n p ∙ pair_off (put_pair world.heard a b []) b a [] n p other.1 ∙ pair_off world.heard a b [] n p other.0
 
       heard_back : restarted_new.heard p n ≡ world.heard p n
       heard_back = heard_new p n ∙ pair_off (put_pair world.heard a b []) b a [] p n swap_first ∙ pair_off world.heard a b [] p n swap_second
 
-      told_other : told restarted_new n p ≡ told world n p
+      pub told_other : told restarted_new n p ≡ told world n p
       told_other = ap (λ ws. ws ++ words_to n p restarted_new.flying) heard_back
           ∙ ap (λ ws. world.heard p n ++ ws) (ap (λ (w : ReflectWorld). words_to n p w.flying) same ∙ others_between a b n p other world.flying)
 
-      live_other : peers_live restarted_new.config n p ≡ peers_live world.config n p
+      pub live_other : peers_live restarted_new.config n p ≡ peers_live world.config n p
       live_other =
           ap (λ (f : ℕ → ℕ → Bool). if nat_lt n p then f n p else f p n) sessions
           ∙ ap (λ x. if nat_lt n p then x else put_pair world.config.bgp_on a b on p n) (pair_off world.config.bgp_on a b on n p other.0)
           ∙ ap (λ x. if nat_lt n p then world.config.bgp_on n p else x) (pair_off world.config.bgp_on a b on p n swap_second)
 
-      est_other : is_established world n p ≡ is_established restarted_new n p
+      pub est_other : is_established world n p ≡ is_established restarted_new n p
       est_other = ap (λ c. c && nat_le 2 (length (world.heard n p))) (sym live_other) ∙ ap (λ ws. peers_live restarted_new.config n p && nat_le 2
           (length ws)) (sym heard_other)
 
-      answer_other : words_to n p (replies topology reflectors world restarted_new done) ≡ []
+      pub answer_other : words_to n p (replies topology reflectors world restarted_new done) ≡ []
       answer_other = ap (words_to n p) (silent restarted_new) ∙ words_append n p (says a b opening) (says b a opening)
           ∙ ap (λ ws. ws ++ words_to n p (says b a opening)) (says_other n p a b opening (elim other.0 [
             | inl e ↦ inl (λ q. e (sym q))
@@ -222,19 +222,19 @@ module _ (topology : Network) (reflectors : List ℕ) (world : ReflectWorld) (ru
   abbrev pub hears : ReflectWorld
   hears = unsaid world done
 
-  heard_now : (node peer : ℕ) → hears.heard node peer ≡ put_pair world.heard b a (world.heard b a ++ word ∷ []) node peer
+  pub heard_now : (node peer : ℕ) → hears.heard node peer ≡ put_pair world.heard b a (world.heard b a ++ word ∷ []) node peer
   heard_now node peer = ap (λ (w : ReflectWorld). w.heard node peer) same
 
-  flies_now : hears.flying ≡ without_first a b world.flying
+  pub flies_now : hears.flying ≡ without_first a b world.flying
   flies_now = ap (λ (w : ReflectWorld). w.flying) same
 
-  longer : hears.heard b a ≡ world.heard b a ++ word ∷ []
+  pub longer : hears.heard b a ≡ world.heard b a ++ word ∷ []
   longer = heard_now b a ∙ pair_here world.heard b a (world.heard b a ++ word ∷ [])
 
-  heard_else : (node peer : ℕ) → (node ≢ b) ⊎ (peer ≢ a) → hears.heard node peer ≡ world.heard node peer
+  pub heard_else : (node peer : ℕ) → (node ≢ b) ⊎ (peer ≢ a) → hears.heard node peer ≡ world.heard node peer
   heard_else node peer d = heard_now node peer ∙ pair_off world.heard b a (world.heard b a ++ word ∷ []) node peer d
 
-  within_heard : IsWithin topology (unsaid world done)
+  pub within_heard : IsWithin topology (unsaid world done)
   within_heard node peer h = heard_else node peer (inr (λ e. far e)) ∙ run.within node peer h
     where
       far : peer ≡ a → ⊥
@@ -252,7 +252,7 @@ module _ (topology : Network) (reflectors : List ℕ) (world : ReflectWorld) (ru
       ap (λ ws. ws ++ words_to n p hears.flying) (heard_else p n (elim d [ inl e ↦ inr e | inr e ↦ inl e ]))
       ∙ ap (λ fs. world.heard p n ++ words_to n p fs) flies_now ∙ ap (λ ws. world.heard p n ++ ws) (others_stay a b n p d world.flying)
 
-  told_same : (n p : ℕ) → told hears n p ≡ told world n p
+  pub told_same : (n p : ℕ) → told hears n p ≡ told world n p
   told_same n p = elim (eqb_tells n a) [
     | inl e ↦ elim (eqb_tells p b) [
       | inl f ↦ subst (λ x. told hears x p ≡ told world x p) (sym e.1) (subst (λ y. told hears a y ≡ told world a y) (sym f.1) told_itself)
@@ -261,7 +261,7 @@ module _ (topology : Network) (reflectors : List ℕ) (world : ReflectWorld) (ru
     | inr e ↦ told_else n p (inl e.1)
   ]
 
-  live_same : (n p : ℕ) → peers_live hears.config n p ≡ peers_live world.config n p
+  pub live_same : (n p : ℕ) → peers_live hears.config n p ≡ peers_live world.config n p
   live_same n p = live_by (config_after world.config done) world.config n p sessions
 
   -- 3.1 The end that hears
@@ -274,14 +274,14 @@ module _ (topology : Network) (reflectors : List ℕ) (world : ReflectWorld) (ru
   not_empty [] rest e = no (ap (λ ws. elim ws [ [] ↦ true | w ∷ more ↦ false ]) e)
   not_empty (w ∷ front) rest e = no (ap (λ ws. elim ws [ [] ↦ true | v ∷ more ↦ false ]) e)
 
-  lives_ab : peers_live world.config a b ≡ true
+  pub lives_ab : peers_live world.config a b ≡ true
   lives_ab = elim (two_ways (peers_live world.config a b)) [
     | inl e ↦ e
     | inr e ↦ absurd (not_empty (world.heard b a) (words_to a b (without_first a b world.flying)) (sym peer_said
         ∙ (run.turns a b differ a_there b_there).dead e))
   ]
 
-  lives_ba : peers_live world.config b a ≡ true
+  pub lives_ba : peers_live world.config b a ≡ true
   lives_ba = live_sym world.config b a (λ e. differ (sym e)) ∙ lives_ab
 
   peer_begins : BeginsBy (length (world.heard a b)) (world.heard b a ++ (word ∷ words_to a b (without_first a b world.flying)))
@@ -290,10 +290,10 @@ module _ (topology : Network) (reflectors : List ℕ) (world : ReflectWorld) (ru
   abbrev pub reply_words : List Word
   reply_words = words_to b a (replies topology reflectors world hears done)
 
-  replies_are : reply_words ≡ reply topology reflectors hears b a (length (world.heard b a)) (Some word)
+  pub replies_are : reply_words ≡ reply topology reflectors hears b a (length (world.heard b a)) (Some word)
   replies_are = ap (words_to b a) (replied hears) ∙ says_own b a (reply topology reflectors hears b a (length (world.heard b a)) (Some word))
 
-  count_now : length (hears.heard b a) ≡ length (world.heard b a) + 1
+  pub count_now : length (hears.heard b a) ≡ length (world.heard b a) + 1
   count_now = ap length longer ∙ length-append (world.heard b a) (word ∷ [])
 
   est_was : (c : ℕ) → length (world.heard b a) ≡ c → is_established world b a ≡ nat_le 2 c
@@ -316,24 +316,24 @@ module _ (topology : Network) (reflectors : List ℕ) (world : ReflectWorld) (ru
       none n z e = omega (arith, z, e)
   one_word (w ∷ words) e = (w, ap (λ ws. w ∷ ws) (empty_list words (omega (arith, e))))
 
-  word_is_open : length (world.heard b a) ≡ 0 → word ≡ Open
+  pub word_is_open : length (world.heard b a) ≡ 0 → word ≡ Open
   word_is_open e = first_is_open (length (world.heard a b)) word (words_to a b (without_first a b world.flying))
       (subst (λ ws. BeginsBy (length (world.heard a b)) (ws ++ (word ∷ words_to a b (without_first a b world.flying)))) (empty_list
       (world.heard b a) e) peer_begins)
 
-  word_is_keep : length (world.heard b a) ≡ 1 → word ≡ KeepAlive
+  pub word_is_keep : length (world.heard b a) ≡ 1 → word ≡ KeepAlive
   word_is_keep e = let w = one_word (world.heard b a) e in second_is_keep (length (world.heard a b)) w.0 word (words_to a b (without_first a b world.flying))
       (subst (λ ws. BeginsBy (length (world.heard a b)) (ws ++ (word ∷ words_to a b (without_first a b world.flying)))) w.1 peer_begins)
 
-  reply_open : length (world.heard b a) ≡ 0 → reply_words ≡ KeepAlive ∷ []
+  pub reply_open : length (world.heard b a) ≡ 0 → reply_words ≡ KeepAlive ∷ []
   reply_open e = replies_are ∙ ap (λ c. reply topology reflectors hears b a c (Some word)) e ∙ ap (λ w. reply topology reflectors hears b a 0 (Some w))
       (word_is_open e)
 
-  reply_keep : length (world.heard b a) ≡ 1 → reply_words ≡ all_offers topology reflectors hears b a
+  pub reply_keep : length (world.heard b a) ≡ 1 → reply_words ≡ all_offers topology reflectors hears b a
   reply_keep e = replies_are ∙ ap (λ c. reply topology reflectors hears b a c (Some word)) e ∙ ap (λ w. reply topology reflectors hears b a 1 (Some w))
       (word_is_keep e)
 
-  reply_later : (c : ℕ) → length (world.heard b a) ≡ suc (suc c) → reply_words ≡ []
+  pub reply_later : (c : ℕ) → length (world.heard b a) ≡ suc (suc c) → reply_words ≡ []
   reply_later c e = replies_are ∙ ap (λ k. reply topology reflectors hears b a k (Some word)) e
 
   says_hearer : (c : ℕ) → length (world.heard b a) ≡ c → SaysItsOffers topology reflectors (after topology reflectors world done) b a
@@ -419,7 +419,7 @@ module _ (topology : Network) (reflectors : List ℕ) where
   reply_none new n p (suc zero) = refl
   reply_none new n p (suc (suc c)) = refl
 
-  step_runs : (world : ReflectWorld) → IsRun topology reflectors world → (done : Step) → NamesNodes topology done →
+  pub step_runs : (world : ReflectWorld) → IsRun topology reflectors world → (done : Step) → NamesNodes topology done →
       IsRun topology reflectors (after topology reflectors world done)
   step_runs world run (step.LinkUp l) h = plain_runs topology reflectors world run (step.LinkUp l) refl refl (λ new. refl)
   step_runs world run (step.LinkDown l) h = plain_runs topology reflectors world run (step.LinkDown l) refl refl (λ new. refl)
@@ -456,7 +456,7 @@ module _ (topology : Network) (reflectors : List ℕ) where
   from_any world run [] h = run
   from_any world run (done ∷ steps) h = from_any (after topology reflectors world done) (step_runs world run done h.0) steps h.1
 
-  start_runs : IsRun topology reflectors (start topology)
+  pub start_runs : IsRun topology reflectors (start topology)
   start_runs = record {
     within = λ node peer h. refl;
     says = λ n p apart there peer_there. record {

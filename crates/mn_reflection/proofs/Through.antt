@@ -27,10 +27,10 @@ use Rattle.mn_reflection.proofs.Holding.{none_some, at_its_edge, is_an_edge, fin
 
 -- 1. What is said of a route was offered
 
-abbrev heard_or : {A : Type 0} → (ℕ → ℕ → List A) → ℕ → ℕ → List A → ℕ → ℕ → A → Type 0
+abbrev pub heard_or : {A : Type 0} → (ℕ → ℕ → List A) → ℕ → ℕ → List A → ℕ → ℕ → A → Type 0
 heard_or table a b value n p w = ((n ≡ a) × (p ≡ b) × In value w) ⊎ In (table n p) w
 
-put_in : {A : Type 0} (table : ℕ → ℕ → List A) (a b : ℕ) (value : List A) (n p : ℕ) (w : A) → In (put_pair table a b value n p) w → heard_or table a b value n p w
+pub put_in : {A : Type 0} (table : ℕ → ℕ → List A) (a b : ℕ) (value : List A) (n p : ℕ) (w : A) → In (put_pair table a b value n p) w → heard_or table a b value n p w
 put_in table a b value n p w i = by (n == a) refl i
   where
     at : (d : Bool) → (n == a) ≡ true → (p == b) ≡ d → In (cond d value (table a p)) w → heard_or table a b value n p w
@@ -44,12 +44,12 @@ put_in table a b value n p w i = by (n == a) refl i
 announced_is : (x y : Offer) → Announce x ≡ Announce y → x ≡ y
 announced_is x y e = cc
 
-in_says : (from to : ℕ) (words : List Word) (s : Spoken) → In (says from to words) s → (from ≡ s.from) × (to ≡ s.to) × In words s.word
+pub in_says : (from to : ℕ) (words : List Word) (s : Spoken) → In (says from to words) s → (from ≡ s.from) × (to ≡ s.to) × In words s.word
 in_says from to words s i =
     let m = in_map (λ word. record { from = from; to = to; word = word }) words s i in
     (ap (λ (x : Spoken). x.from) m.2, ap (λ (x : Spoken). x.to) m.2, subst (In words) (ap (λ (x : Spoken). x.word) m.2) m.1)
 
-in_change : (key : Key) (old new : Option Offer) (x : Offer) → In (change key old new) (Announce x) → new ≡ Some x
+pub in_change : (key : Key) (old new : Option Offer) (x : Offer) → In (change key old new) (Announce x) → new ≡ Some x
 in_change key None None x i = absurd i
 in_change key (Some old) None x i = elim i [ inl e ↦ absurd (other e) | inr j ↦ absurd j ]
   where
@@ -75,7 +75,7 @@ no_keep x i = elim i [ inl e ↦ other e | inr j ↦ j ]
     other e = cc
 
 -- a mention is among the words
-mention_in : (key : Key) (was : Option Offer) (words : List Word) (x : Offer) → last_mention key was words ≡ Some x → (was ≡ Some x) ⊎ In words (Announce x)
+pub mention_in : (key : Key) (was : Option Offer) (words : List Word) (x : Offer) → last_mention key was words ≡ Some x → (was ≡ Some x) ⊎ In words (Announce x)
 mention_in key was [] x h = inl h
 mention_in key was (Open ∷ words) x h = elim (mention_in key was words x h) [ inl e ↦ inl e | inr i ↦ inr (inr i) ]
 mention_in key was (KeepAlive ∷ words) x h = elim (mention_in key was words x h) [ inl e ↦ inl e | inr i ↦ inr (inr i) ]
@@ -92,7 +92,7 @@ mention_in key was (Withdraw other ∷ words) x h = by (same_key key other) (men
     by false (inl e) = inl e
     by b (inr i) = inr (inr i)
 
-heard_of : (world : ReflectWorld) (node peer : ℕ) (key : Key) (x : Offer) → announced_by world node peer key ≡ Some x →
+pub heard_of : (world : ReflectWorld) (node peer : ℕ) (key : Key) (x : Offer) → announced_by world node peer key ≡ Some x →
     In (world.heard node peer) (Announce x) × (key_of x ≡ key)
 heard_of world node peer key x h = by (peers_live world.config node peer) h
   where
@@ -104,7 +104,7 @@ heard_of world node peer key x h = by (peers_live world.config node peer) h
     )
     by false e = absurd (none_some e)
 
-first_of : (world : ReflectWorld) (node : ℕ) (key : Key) (peers : List ℕ) (x : Offer) → first_announced world node key peers ≡ Some x →
+pub first_of : (world : ReflectWorld) (node : ℕ) (key : Key) (peers : List ℕ) (x : Offer) → first_announced world node key peers ≡ Some x →
     (peer : ℕ) × In peers peer × (announced_by world node peer key ≡ Some x)
 first_of world node key [] x h = absurd (none_some h)
 first_of world node key (peer ∷ peers) x h = by (announced_by world node peer key) refl h (first_of world node key peers x)
@@ -261,7 +261,7 @@ module _ (topology : Network) (reflectors : List ℕ) (are : AreReflectors topol
     heard : Heard world
     flying : Flying world
 
-  first_in : (from to : ℕ) (spokens : List Spoken) (word : Word) → first_word from to spokens ≡ Some word →
+  pub first_in : (from to : ℕ) (spokens : List Spoken) (word : Word) → first_word from to spokens ≡ Some word →
       (s : Spoken) × In spokens s × (s.from ≡ from) × (s.to ≡ to) × (s.word ≡ word)
   first_in from to [] word h = absurd (none_some h)
   first_in from to (s ∷ spokens) word h = by (is_from_to from to s) refl h (first_in from to spokens word)
@@ -278,7 +278,7 @@ module _ (topology : Network) (reflectors : List ℕ) (are : AreReflectors topol
       )
       by false e f more = let m = more f in (m.0, inr m.1, m.2, m.3, m.4)
 
-  in_without : (from to : ℕ) (spokens : List Spoken) (s : Spoken) → In (without_first from to spokens) s → In spokens s
+  pub in_without : (from to : ℕ) (spokens : List Spoken) (s : Spoken) → In (without_first from to spokens) s → In spokens s
   in_without from to [] s i = i
   in_without from to (x ∷ spokens) s i = by (is_from_to from to x) i (in_without from to spokens s)
     where
@@ -401,7 +401,7 @@ module _ (topology : Network) (reflectors : List ℕ) (are : AreReflectors topol
   every_run : (steps : List Step) → AllSaid (world_of topology reflectors steps)
   every_run steps = from_any (start topology) steps (record { heard = λ n p x i. absurd i; flying = λ s x i e. absurd i })
 
-  in_words : (node peer : ℕ) (spokens : List Spoken) (x : Offer) → In (words_to node peer spokens) (Announce x) →
+  pub in_words : (node peer : ℕ) (spokens : List Spoken) (x : Offer) → In (words_to node peer spokens) (Announce x) →
       (s : Spoken) × In spokens s × (s.from ≡ node) × (s.to ≡ peer) × (s.word ≡ Announce x)
   in_words node peer spokens x i =
       let m = in_map (λ (s : Spoken). s.word) (filter (is_from_to node peer) spokens) (Announce x) i in
