@@ -4,79 +4,11 @@ use mn_files::{
     EdgePlaces, deliveries_file, file_names, frames_file, journal_file, labels_file, names_differ,
     one_number, said_file, told_file,
 };
+use mn_test_nets::{row, star};
 use mn_topo::Topology;
-use mn_topo_toml::{TopoBad, read_topology};
 use mn_wiring::Dir;
-use std::alloc::Global;
+use std::alloc::{AllocError, Global};
 use std::test::Fail;
-
-/// Three nodes in a row, with a VRF at either end.
-const ROW: &str = r#"
-[[node]]
-name = "pe1"
-loopback = "192.0.2.1"
-[[node]]
-name = "p"
-loopback = "192.0.2.2"
-[[node]]
-name = "pe2"
-loopback = "192.0.2.3"
-[[link]]
-a = "pe1"
-b = "p"
-[[link]]
-a = "p"
-b = "pe2"
-[[vrf]]
-name = "red1"
-node = "pe1"
-rd = "65000:1"
-[[vrf]]
-name = "red2"
-node = "pe2"
-rd = "65000:2"
-"#;
-
-/// Three edges around one node, whose names look like endings; the edge `c` has two VRFs.
-const STAR: &str = r#"
-[[node]]
-name = "a.bgp"
-loopback = "192.0.2.1"
-[[node]]
-name = "p.pcap"
-loopback = "192.0.2.2"
-[[node]]
-name = "b"
-loopback = "192.0.2.3"
-[[node]]
-name = "c"
-loopback = "192.0.2.4"
-[[link]]
-a = "p.pcap"
-b = "a.bgp"
-[[link]]
-a = "b"
-b = "p.pcap"
-[[link]]
-a = "c"
-b = "p.pcap"
-[[vrf]]
-name = "v1"
-node = "c"
-rd = "65000:1"
-[[vrf]]
-name = "v2"
-node = "a.bgp"
-rd = "65000:2"
-[[vrf]]
-name = "v3"
-node = "b"
-rd = "65000:3"
-[[vrf]]
-name = "v4"
-node = "c"
-rd = "65000:4"
-"#;
 
 fn are(names: &[String], expected: &[&str]) -> bool {
     if names.len() != expected.len() {
@@ -99,9 +31,9 @@ fn is_named(names: &[String], number: u32, text: &str) -> bool {
 }
 
 /// The number of what the edge told, where both are edges.
-fn told(alloc: Global, topology: &Topology, edge: u16, peer: u16) -> Result<u32, TopoBad> {
+fn told(alloc: Global, topology: &Topology, edge: u16, peer: u16) -> Result<u32, AllocError> {
     let Ok(places) = EdgePlaces::new(alloc, topology) else {
-        return Err(TopoBad::NoMemory);
+        return Err(AllocError);
     };
     let edge = NodeNo(edge);
     let peer = NodeNo(peer);
@@ -115,7 +47,7 @@ fn told(alloc: Global, topology: &Topology, edge: u16, peer: u16) -> Result<u32,
 #[test]
 fn three_routers_in_a_row_have_eleven_files(rt: HostRuntime) -> Result<(), Fail> {
     names_differ();
-    let topology = read_topology(rt.alloc(), ROW.as_bytes())?;
+    let topology = row(rt.alloc())?;
     let names = file_names(rt.alloc(), &topology, "out/run")?;
     let expected = [
         "out/run/journal.txt",
@@ -138,7 +70,7 @@ fn three_routers_in_a_row_have_eleven_files(rt: HostRuntime) -> Result<(), Fail>
 fn each_file_has_the_name_of_its_number(rt: HostRuntime) -> Result<(), Fail> {
     one_number();
     let alloc = rt.alloc();
-    let topology = read_topology(alloc, STAR.as_bytes())?;
+    let topology = star(alloc)?;
     let names = file_names(alloc, &topology, "f")?;
     assert!(rt; names.len() == 18);
     assert!(rt; is_named(&names, journal_file(), "f/journal.txt"));

@@ -4,42 +4,10 @@ use mn_drops::Rule;
 use mn_edge::{DeviceBad, MemSink};
 use mn_ledger::{Refused, Verdict};
 use mn_lines::{Page, Sent, Totals, write_packet, write_refusal, write_refused, write_total};
-use mn_topo::Topology;
-use mn_topo_toml::read_topology;
+use mn_test_nets::pair;
 use mn_wiring::Dir;
 use std::alloc::{AllocError, Global};
 use std::test::Fail;
-
-/// Two nodes and a link, with a VRF and a site at either end.
-const PAIR: &str = r#"
-[[node]]
-name = "pe1"
-loopback = "192.0.2.1"
-[[node]]
-name = "pe2"
-loopback = "192.0.2.2"
-[[link]]
-a = "pe1"
-b = "pe2"
-[[vrf]]
-name = "red1"
-node = "pe1"
-rd = "65000:1"
-[[vrf]]
-name = "red2"
-node = "pe2"
-rd = "65000:2"
-[[site]]
-name = "a"
-vrf = "red1"
-[[site]]
-name = "b"
-vrf = "red2"
-"#;
-
-fn pair(alloc: Global) -> Result<Topology, Fail> {
-    Ok(read_topology(alloc, PAIR.as_bytes())?)
-}
 
 const SENT: Sent = Sent {
     line: 2,

@@ -9,45 +9,10 @@ use mn_tables::{
     put_bgp, put_counts, put_far_route, put_frames, put_ldp, put_link, put_near_route,
     put_own_route, put_walk,
 };
+use mn_test_nets::row;
 use mn_topo::Topology;
-use mn_topo_toml::read_topology;
 use mn_wiring::Dir;
-use std::alloc::Global;
 use std::test::Fail;
-
-/// Three nodes in a row, with a VRF and a site at either end.
-const ROW: &str = r#"
-[[node]]
-name = "pe1"
-loopback = "192.0.2.1"
-[[node]]
-name = "p"
-loopback = "192.0.2.2"
-[[node]]
-name = "pe2"
-loopback = "192.0.2.3"
-[[link]]
-a = "pe1"
-b = "p"
-[[link]]
-a = "p"
-b = "pe2"
-cost = 20
-[[vrf]]
-name = "red1"
-node = "pe1"
-rd = "65000:1"
-[[vrf]]
-name = "red2"
-node = "pe2"
-rd = "65000:2"
-[[site]]
-name = "a"
-vrf = "red1"
-[[site]]
-name = "b"
-vrf = "red2"
-"#;
 
 /// What these lines are to be.
 const LINES: &[u8] = b"link p pe2 down cost 20 changes 2\n\
@@ -70,7 +35,7 @@ fn link_count(topology: &Topology) -> usize
 
 #[test]
 fn lines_say_what_they_are_given(rt: HostRuntime) -> Result<(), Fail> {
-    let topology: Topology = read_topology(rt.alloc(), ROW.as_bytes())?;
+    let topology: Topology = row(rt.alloc())?;
     let mut page = Page::new(rt.alloc())?;
     let mut sink = MemSink::new(rt.alloc(), Vec::new(rt.alloc()));
     let out = &mut sink;

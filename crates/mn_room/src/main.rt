@@ -14,8 +14,8 @@ use mn_base::{LinkNo, NodeNo, SiteNo};
 use mn_course::Kind;
 use mn_ledger::Refused;
 use mn_net::Net;
+use mn_test_nets::row;
 use mn_topo::Step;
-use mn_topo_toml::read_topology;
 use mn_wiring::Dir;
 use std::alloc::Global;
 use std::process::ExitCode;
@@ -25,24 +25,6 @@ const FRAMES: u32 = 100;
 
 /// More than the network of two links takes to settle.
 const MOST_TURNS: u32 = 1000;
-
-/// Two links in a row, a site at each end.
-const TOPOLOGY: &str = r#"
-node = [
-    { name = "pe1", loopback = "192.0.2.1" },
-    { name = "p", loopback = "192.0.2.2" },
-    { name = "pe2", loopback = "192.0.2.3" },
-]
-link = [{ a = "pe1", b = "p" }, { a = "p", b = "pe2" }]
-vrf = [
-    { name = "red1", node = "pe1", rd = "65000:1", import = ["65000:100"], export = ["65000:100"] },
-    { name = "red2", node = "pe2", rd = "65000:2", import = ["65000:100"], export = ["65000:100"] },
-]
-site = [
-    { name = "a", vrf = "red1", prefixes = ["10.1.0.0/16"] },
-    { name = "b", vrf = "red2", prefixes = ["10.2.0.0/16"] },
-]
-"#;
 
 /// From 10.1.0.1 to 10.2.0.1.
 const PACKET: [u8; 28] = [
@@ -119,7 +101,7 @@ fn carry_all(net: &mut Net, steps: u32) -> Result<(), Refused>
 }
 
 fn status(alloc: Global) -> u8 {
-    let Ok(topology) = read_topology(alloc, TOPOLOGY.as_bytes()) else {
+    let Ok(topology) = row(alloc) else {
         return 1;
     };
     let Ok(mut net) = Net::new(alloc, topology) else {
