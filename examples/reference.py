@@ -5,8 +5,9 @@ reports for any topology and script, without the program.
 It is a second telling of the rules of docs/FORMATS.md and docs/WIRE.md (texts, bytes) and docs/LEDGER.md (who says
 what, and when), written from these and not from the program's source. It goes by the definitions and not by speed:
 the best route is chosen from the whole list, what a neighbour mentioned last is looked up in all that it said, what
-comes next in all that is in flight. The inputs are read by reference_inputs.py; here are IPv4, the network and its
-steps, a script's course, the bytes of frames, LDP and BGP, the report, the files. Flooding is in reference_flood.py.
+comes next in all that is in flight. The inputs are read by reference_inputs.py, messages and frames that come in their
+place by reference_readers.py; here are IPv4, the network and its steps, a script's course, the bytes of frames, LDP and
+BGP, the report, the files. Flooding is in reference_flood.py.
 """
 
 import argparse
@@ -18,6 +19,7 @@ from pathlib import Path
 import reference_flood
 from reference_inputs import FLOOD_FORMS, ROUTES, TARGETS, Refused, address_text, contains, is_unicast, prefix_text
 from reference_inputs import read_capture, read_script, read_topology, target_text
+from reference_readers import reads_bgp, reads_pdu, stack_of
 from reference_walks import costs_to, first_hop, tree_lines
 
 USAGE = """\
@@ -406,6 +408,8 @@ class Network:
             return "Unchanged"
         if self.is_empty(verb, given):
             return "Empty"
+        if verb in READERS and READERS[verb](bytes_):
+            return "StillReads"
         if verb in ("route add", "route del"):
             site, of = given
             there = self.statics.get((self.topology.sites[site].vrf, of))
@@ -446,11 +450,11 @@ class Network:
         if verb == "learn":
             node, link = given
             return self.learned[node][link] == self.changes[link]
-        if verb == "hear ldp":
-            link, speaker = given
+        if verb in ("hear ldp", "damage ldp"):
+            link, speaker = given[:2]
             return self.heard[link, self.links[link].other(speaker)] == len(self.said[link, speaker])
-        if verb == "hear bgp":
-            teller, hearer = given
+        if verb in ("hear bgp", "damage bgp"):
+            teller, hearer = given[:2]
             return self.listened[hearer, teller] == len(self.told[teller, hearer])
         return verb in ("carry", "lose") and given[2] >= len(self.on("frame", (given[0], given[1])))
 
@@ -539,6 +543,14 @@ class Network:
             for about, export in self.exports_of(hearer).items():
                 self.tell(hearer, teller, "announce", about, export)
 
+    def damage_ldp(self, link, speaker, record):
+        """What came in place of the message can't be read: the session ends at both ends, and LDP is off on the link."""
+        self.change_ldp(link)
+
+    def damage_bgp(self, teller, hearer, record):
+        """The session ends at both ends, and is down."""
+        self.change_bgp(*self.pair(teller, hearer))
+
     def route_add(self, site, of):
         def change():
             self.statics[self.topology.sites[site].vrf, of] = site
@@ -601,6 +613,7 @@ class Network:
         self.packets[token.packet].verdict = f"dropped {rule} at {self.topology.nodes[sender].name}"
 
 
+READERS = {"damage ldp": reads_pdu, "damage bgp": reads_bgp}
 METHODS = {
     "link up": "change_link",
     "link down": "change_link",
@@ -668,13 +681,16 @@ def play(network, commands, packets, notes):
     for line, (verb, *given) in commands:
         if verb in ("run", "drain", "flush"):
             {"run": run, "drain": drain, "flush": flush}[verb](network, *given)
+        elif verb == "show frame":
+            notes.append(frame_line(network, packets, *given))
         elif verb.startswith("show "):
             notes += TABLES_OF[verb](network, *given)
         else:
-            if verb == "inject" and given[1] > len(packets):
+            record = given[-1] if verb == "inject" or verb in READERS else None
+            if record and record > len(packets):
                 refusal = "NoRecord"
             else:
-                refusal = network.do((verb, *given), line, packets[given[1] - 1] if verb == "inject" else b"")
+                refusal = network.do((verb, *given), line, packets[record - 1] if record else b"")
             if refusal:
                 notes.append(f"line {line} refused {refusal}")
                 refused += 1
@@ -819,6 +835,50 @@ def flight_table(network):
     return lines
 
 
+def frame_line(network, packets, node, record):
+    name = network.topology.nodes[node].name
+    said = frame_said(network, node, packets[record - 1]) if record <= len(packets) else "unread NoRecord"
+    return f"frame {name} {record} {said}"
+
+
+def frame_said(network, node, bytes_):
+    """What the node would do with the bytes, taken as a frame."""
+    stack = stack_of(bytes_)
+    if stack is None:
+        return "unread Short" if len(bytes_) % 4 else "unread NoBottom"
+    packet = bytes_[4 * len(stack) :]
+    if fault_of(packet) or total_length(packet) != len(packet):
+        return "unread BadPayload"
+    if stack[0] & 0xFF <= 1:
+        return "drop TtlExpired"
+    label, ttl = stack[0] >> 12, (stack[0] & 0xFF) - 1
+    kind, thing, *attachment = [*network.given[node][label - 16 :], ("none", None)][0] if label >= 16 else ("none", None)
+    if kind == "site":
+        return site_said(network, thing, attachment, len(stack), ttl, packet)
+    hop = network.usable_hop(node, thing) if kind == "fec" else None
+    return next_said(network, hop, thing, stack, ttl, packet)
+
+
+def site_said(network, site, attachment, depth, ttl, packet):
+    if [network.attachment[site]] != attachment:
+        return "drop SiteGone"
+    if depth > 1:
+        return "drop NoEntry"
+    left = aged(packet[:8] + bytes([ttl]) + packet[9:], 0)
+    return f"site {network.topology.sites[site].name} bytes {left.hex().upper()}"
+
+
+def next_said(network, hop, to, stack, ttl, packet):
+    """To the neighbour with the label that it gave; one that is where the label leads gets the entry below."""
+    label = hop and network.fec_label(hop[0], to)
+    if hop is None or label == 3 and len(stack) == 1:
+        return "drop NoEntry"
+    left = stack[1:] if label == 3 else [label << 12 | stack[0] & 0xFFF, *stack[1:]]
+    left[0] = left[0] & ~0xFF | ttl
+    bytes_ = struct.pack(f">{len(left)}I", *left) + packet
+    return f"next {network.topology.nodes[hop[0]].name} bytes {bytes_.hex().upper()}"
+
+
 TABLES_OF = {
     "show links": links_table,
     "show tree": tree_table,
@@ -851,11 +911,11 @@ def step_words(topology, step):
     if verb in ("link up", "link down", "ldp on", "ldp off", "learn"):
         link = topology.links[given.pop()]
         return [verb, *(nodes[node] for node in given), nodes[link.a], nodes[link.b]]
-    if verb in ("hear ldp", "carry", "lose"):
+    if verb in ("hear ldp", "damage ldp", "carry", "lose"):
         link, sender, *place = given
         return [verb, nodes[sender], nodes[topology.links[link].other(sender)], *map(str, place)]
-    if verb in ("bgp up", "bgp down", "hear bgp"):
-        return [verb, nodes[given[0]], nodes[given[1]]]
+    if verb in ("bgp up", "bgp down", "hear bgp", "damage bgp"):
+        return [verb, nodes[given[0]], nodes[given[1]], *map(str, given[2:])]
     if verb in ("route add", "route del"):
         return [verb, sites[given[0]], prefix_text(given[1])]
     if verb in ("import add", "import del", "export add", "export del"):

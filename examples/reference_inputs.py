@@ -318,6 +318,8 @@ FORMS = {
     "site up": ["site"],
     "site down": ["site"],
     "inject": ["site", RECORD],
+    "damage ldp": ["node", "node", RECORD],
+    "damage bgp": ["node", "node", RECORD],
     "carry": ["node", "node", PLACE],
     "lose": ["node", "node", PLACE],
     "tick": [PASSING],
@@ -330,7 +332,10 @@ FORMS = {
     "show bgp": [],
     "show vrf": ["vrf"],
     "show flight": [],
+    "show frame": ["node", RECORD],
 }
+ON_LINKS = {"link up", "link down", "learn", "ldp on", "ldp off"}
+FROM_AN_END = {"hear ldp", "hear flood", "damage ldp", "carry", "lose"}
 FLOOD_FORMS = {
     "link up": ["node", "node"],
     "link down": ["node", "node"],
@@ -400,19 +405,19 @@ def read_word(topology, word, kind):
 
 def command_of(topology, verb, values, refused):
     """The command, with a link in place of its ends, and before it or after it the node that is meant."""
-    if verb in ("bgp up", "bgp down", "hear bgp"):
-        if values[0] == values[1] or not {*values} <= {*topology.edges()}:
+    if verb in ("bgp up", "bgp down", "hear bgp", "damage bgp"):
+        if values[0] == values[1] or not {*values[:2]} <= {*topology.edges()}:
             refused("S6 NotEdge")
-        return verb, *(values if verb == "hear bgp" else sorted(values))
+        return verb, *(sorted(values) if verb in ("bgp up", "bgp down") else values)
     if verb == "drain":
         return verb, *(values or [None])
-    if verb not in ("link up", "link down", "learn", "ldp on", "ldp off", "hear ldp", "hear flood", "carry", "lose"):
+    if verb not in ON_LINKS and verb not in FROM_AN_END:
         return verb, *values
     learner = [values.pop(0)] if verb == "learn" else []
     link = topology.link_between(*values[:2])
     if link is None:
         refused("S5 NotLinked")
-    sender = values[:1] if verb in ("hear ldp", "hear flood", "carry", "lose") else []
+    sender = values[:1] if verb in FROM_AN_END else []
     return verb, *learner, link, *sender, *values[2:]
 
 

@@ -33,6 +33,7 @@ VERBS = {  # how often each is drawn
     "bgp up": 24, "bgp down": 1, "route add": 6, "route del": 2, "import add": 6, "import del": 1, "export add": 6,
     "export del": 1, "site up": 12, "site down": 2, "inject": 40, "carry": 40, "lose": 4, "tick": 4, "run": 8,
     "drain": 14, "flush": 6, "show links": 2, "show tree": 3, "show ldp": 3, "show bgp": 2, "show vrf": 5, "show flight": 4,
+    "show frame": 20, "damage ldp": 24, "damage bgp": 24,
 }  # fmt: skip
 
 
@@ -151,7 +152,8 @@ def damaged(rng, text):
 
 def words_in_flight(rng, verb, network):
     """The words that take something that is in flight, None where nothing of the kind is."""
-    kind = {"learn": "notice", "hear ldp": "ldp", "hear bgp": "bgp"}.get(verb, "frame")
+    kinds = {"learn": "notice", "hear ldp": "ldp", "hear bgp": "bgp", "damage ldp": "ldp", "damage bgp": "bgp"}
+    kind = kinds.get(verb, "frame")
     items = [item for item in network.in_flight if item.kind == kind]
     if not items:
         return None
@@ -165,6 +167,25 @@ def words_in_flight(rng, verb, network):
     return reference.step_words(network.topology, step)[1:]
 
 
+def words_of_damage(rng, verb, network, packets):
+    """A message in flight, and a record that mostly begins as such a message does; None where none is in flight."""
+    words = words_in_flight(rng, verb, network)
+    if words is None or not packets:
+        return None
+    begins = b"\0\1\0" if verb == "damage ldp" else b"\xff\xff"
+    alike = [k for k, packet in enumerate(packets, 1) if packet.startswith(begins)]
+    refused = [k for k in alike if not reference.READERS[verb](packets[k - 1])]
+    records = rng.choice([refused, refused, alike]) or range(1, len(packets) + 1)
+    return [*words, str(rng.choice(records))]
+
+
+def words_of_frame(rng, network, packets):
+    """A node, and a record that mostly is a frame."""
+    frames = [k for k, packet in enumerate(packets, 1) if packet and packet[0] >> 4 == 0]
+    records = frames if frames and rng.random() < 0.8 else range(1, len(packets) + 2)
+    return [rng.choice(network.topology.nodes).name, str(rng.choice(records))]
+
+
 def ticks_for(rng, network):
     """Ticks that pass: often so many that a frame in flight is then just as old as it may be, or older."""
     frames = [item for item in network.in_flight if item.kind == "frame"]
@@ -175,8 +196,13 @@ def ticks_for(rng, network):
     return min(max(left + rng.choice([-1, 0, 0, 1]), 1), 1000000)
 
 
-def words_for(rng, verb, top, records, network):
+def words_for(rng, verb, top, packets, network):
     """The words behind the verb, which name what there is but for a few."""
+    if verb == "show frame":
+        return words_of_frame(rng, network, packets)
+    if verb.startswith("damage") and rng.random() < 0.9:
+        if words := words_of_damage(rng, verb, network, packets):
+            return words
     if verb in ("learn", "hear ldp", "hear bgp", "carry", "lose") and rng.random() < 0.9:
         if words := words_in_flight(rng, verb, network):
             return words
@@ -186,10 +212,12 @@ def words_for(rng, verb, top, records, network):
     ends = [[link["a"], link["b"]] for link in top["link"]] or [nodes[:1] * 2]
     link = rng.choice(ends)[:: rng.choice([1, -1])]
     first = verb.split()[0]
-    if verb in ("hear bgp", "bgp up", "bgp down"):
-        return [rng.choice(edges), rng.choice([edge for edge in edges if edge != edges[0]] or edges)]
-    if first in ("link", "ldp") or verb == "hear ldp":
-        return link
+    record = [str(rng.randint(1, len(packets) + 1 if rng.random() < 0.1 else max(len(packets), 1)))]
+    if "bgp" in verb and first != "show":
+        pair = [rng.choice(edges), rng.choice([edge for edge in edges if edge != edges[0]] or edges)]
+        return pair + record * (first == "damage")
+    if first in ("link", "ldp") or verb in ("hear ldp", "damage ldp"):
+        return link + record * (first == "damage")
     if verb == "learn":
         return [rng.choice(nodes), *link]
     if first in ("carry", "lose"):
@@ -202,7 +230,7 @@ def words_for(rng, verb, top, records, network):
     if first == "site":
         return [rng.choice(sites)]
     if verb == "inject":
-        return [rng.choice(sites), str(rng.randint(1, records + 1 if rng.random() < 0.1 else max(records, 1)))]
+        return [rng.choice(sites), *record]
     if verb == "run":
         return [str(rng.choice([0, 1, 1, 2, 3, 5, 10, 100, 1000, 1000000]))]
     if verb == "tick":
@@ -215,7 +243,7 @@ def words_for(rng, verb, top, records, network):
 def makes_sense(verb, top):
     """The line isn't refused as it is read."""
     edges = {vrf["node"] for vrf in top["vrf"]}
-    if verb in ("link up", "link down", "learn", "ldp on", "ldp off", "hear ldp", "carry", "lose"):
+    if verb in ("link up", "link down", "learn", "ldp on", "ldp off", "hear ldp", "damage ldp", "carry", "lose"):
         return bool(top["link"])
     if "bgp" in verb and "show" not in verb:
         return len(edges) > 1
@@ -244,7 +272,7 @@ def leaves_its_edge(network, site, packet):
 
 
 def random_line(rng, verb, top, packets, network):
-    words = words_for(rng, verb, top, len(packets), network)
+    words = words_for(rng, verb, top, packets, network)
     if verb == "inject" and rng.random() < 0.85:
         pairs = [(site, k) for site in range(len(top["site"])) for k in range(len(packets))]
         pairs = [(site, k) for site, k in pairs if leaves_its_edge(network, site, packets[k])]
@@ -252,16 +280,16 @@ def random_line(rng, verb, top, packets, network):
             return ["drain"]
         site, k = rng.choice(pairs or [(0, 0)])
         words = [top["site"][site]["name"], str(k + 1)]
-    if "bgp" in verb and "show" not in verb and len({*words}) < 2:
-        words = rng.sample(sorted({vrf["node"] for vrf in top["vrf"]}), 2)
+    if "bgp" in verb and "show" not in verb and words[0] == words[1]:
+        words[:2] = rng.sample(sorted({vrf["node"] for vrf in top["vrf"]}), 2)
     return [*verb.split(), *words]
 
 
 def is_refused(network, words, packets):
     """Does the line's command; whether it was refused, in which case nothing was done."""
     verb, *given = inputs.read_line(network.topology, words, 1)
-    if verb == "inject":
-        return given[1] > len(packets) or bool(network.do((verb, *given), 1, packets[given[1] - 1]))
+    if verb == "inject" or verb in reference.READERS:
+        return given[-1] > len(packets) or bool(network.do((verb, *given), 1, packets[given[-1] - 1]))
     if verb in ("run", "drain", "flush"):
         getattr(reference, verb)(network, *given)
     return verb.split()[0] not in ("run", "drain", "flush", "show") and bool(network.do((verb, *given)))
@@ -287,10 +315,21 @@ def disturbance(rng, network):
     return rng.choice(deeds)
 
 
+def recovery(rng, words, network):
+    """Where a message was damaged lines by which its session begins anew, and some of what is then said is heard."""
+    is_done = words[0] == "damage" and network.journal and network.journal[-1][1][0] == " ".join(words[:2])
+    if not is_done or rng.random() < 0.2:
+        return []
+    begins = ["ldp", "on", *words[2:4]] if words[1] == "ldp" else ["bgp", "up", *words[2:4]]
+    return [begins, ["drain", str(rng.choice([0, 1, 2, 3, 5, 8, 13]))]]
+
+
 def random_lines(rng, top, packets, network):
     """Lines one after another; of those that would be refused most are left out."""
     verbs = [verb for verb in VERBS if makes_sense(verb, top)]
     weights = [VERBS[verb] for verb in verbs]
+    if rng.random() < 0.4:  # here many messages are damaged
+        weights = [weight * 6 if verb.startswith("damage") else weight for verb, weight in zip(verbs, weights)]
     if rng.random() < 0.5:  # here little arrives by itself
         weights = [weight // 4 if verb in ("run", "drain", "flush") else weight for verb, weight in zip(verbs, weights)]
     for words in bring_up(rng, top) if rng.random() < 0.85 else []:
@@ -299,10 +338,10 @@ def random_lines(rng, top, packets, network):
     for _ in range(rng.choice([0, 3, 10, 20, 40, 80])):
         for _ in range(6):
             words = random_line(rng, rng.choices(verbs, weights)[0], top, packets, network)
-            if not is_refused(network, words, packets) or rng.random() < 0.08:
+            if not is_refused(network, words, packets) or rng.random() < (0.3 if words[0] == "damage" else 0.08):
                 yield words
                 break
-        for words in disturbance(rng, network) if rng.random() < 0.08 else []:
+        for words in [*recovery(rng, words, network), *(disturbance(rng, network) if rng.random() < 0.08 else [])]:
             is_refused(network, words, packets)
             yield words
 
@@ -361,6 +400,69 @@ def spoiled(rng, packet):
     return bytes(packet)
 
 
+def parts_of(bytes_, size_at, more):
+    """Messages one after another, each with its length, to which this is added, at this place."""
+    while bytes_:
+        size = int.from_bytes(bytes_[size_at : size_at + 2], "big") + more
+        yield bytes_[:size]
+        bytes_ = bytes_[size:]
+
+
+def said_and_told(rng, top):
+    """PDUs and messages of BGP that a network of the topology says."""
+    network = reference.Network(inputs.read_topology(toml_text(top).encode()))
+    for words in bring_up(rng, top):
+        is_refused(network, words, [])
+    reference.drain(network, 100)
+    pdus = [pdu for bytes_ in network.pdus.values() for pdu in parts_of(bytes_, 2, 4)]
+    return pdus, [message for bytes_ in network.messages.values() for message in parts_of(bytes_, 16, 0)]
+
+
+def spoiled_message(rng, message):
+    """The message with something wrong, but for a few."""
+    bytes_, at = bytearray(message), rng.randrange(len(message))
+    deed = rng.randrange(8)
+    if deed == 0:
+        return message[:at]
+    if deed == 1:
+        return message + rng.randbytes(rng.choice([1, 2, 4]))
+    if deed == 2:
+        del bytes_[at]
+    elif deed in (3, 4):
+        bytes_[at] ^= 1 << rng.randrange(8)
+    elif deed in (5, 6):
+        bytes_[at] = rng.choice([0, 1, 2, 4, 8, 16, 33, 127, 128, 255])
+    elif rng.random() < 0.7:  # a part of it stands twice, or is gone
+        end = rng.randint(at, len(message))
+        bytes_[at:end] = bytes_[at:end] * rng.choice([0, 2])
+    return bytes(bytes_)
+
+
+def random_frame(rng, top):
+    """Label entries, mostly of a table's labels, and a packet."""
+    stack, depth = b"", rng.choice([1, 1, 2, 2, 3])
+    for left in range(depth - 1, -1, -1):
+        label = rng.randrange(16, 16 + len(top["node"]) + len(top["site"]))
+        label = label if rng.random() < 0.9 else rng.choice([0, 3, 1048575])
+        bottom = left == 0 if rng.random() < 0.95 else rng.random() < 0.5
+        ttl = rng.choice([0, 1, 2, 2, 3, 63, 64, 255])
+        stack += struct.pack(">I", label << 12 | rng.choice([0, 0, 5]) << 9 | bottom << 8 | ttl)
+    packet = random_packet(rng, top)
+    is_cut = rng.random() < 0.8 and not reference.fault_of(packet)
+    return stack + (packet[: reference.total_length(packet)] if is_cut else packet)
+
+
+def odd_records(rng, top):
+    """Damaged messages and frames, which come in place of messages and are shown at nodes."""
+    pdus, messages = said_and_told(rng, top)
+    for _ in range(rng.choice([2, 5, 8])):
+        kinds = [kind for kind in (pdus, messages) if kind]
+        if not kinds or rng.random() < 0.4:
+            yield random_frame(rng, top)
+        else:
+            yield spoiled_message(rng, rng.choice(rng.choice(kinds)))
+
+
 def random_record(rng, packet, link_type):
     """The packet, behind a header of Ethernet where that is due: now and then of another type, or cut short."""
     if link_type != 1:
@@ -375,8 +477,10 @@ def random_capture(rng, top):
     link_type = rng.choice([228, 228, 101, 1])
     bytes_ = struct.pack(order + "IHHiII", magic, 2, 4, rng.randrange(9), 0, rng.choice([0, 0x40000]))
     bytes_ += struct.pack(order + "I", link_type | rng.choice([0, 0, 0x10000]))
-    for _ in range(rng.choice([0, 1, 3, 6, 10, 10])):
-        record = random_record(rng, random_packet(rng, top), link_type)
+    packets = [random_packet(rng, top) for _ in range(rng.choice([0, 1, 3, 6, 10, 10]))]
+    packets += odd_records(rng, top) if rng.random() < 0.7 else []
+    for packet in packets:
+        record = random_record(rng, packet, link_type)
         bytes_ += struct.pack(order + "3I", rng.randrange(2**32), rng.randrange(2**32), len(record))
         bytes_ += struct.pack(order + "I", rng.choice([len(record), 0, 2**32 - 1])) + record
     return damaged_capture(rng, bytes_) if rng.random() < 0.05 else bytes_

@@ -215,8 +215,9 @@ class Run:
 JOURNAL = re.compile(
     r"link (?:up|down) \S+ \S+|learn \S+ \S+ \S+|ldp (?:on|off) \S+ \S+|hear (?:ldp|bgp) \S+ \S+|bgp (?:up|down) \S+ \S+"
     r"|route (?:add|del) \S+ \S+|import (?:add|del) \S+ \S+|export (?:add|del) \S+ \S+|site (?:up|down) \S+|inject \S+ \d+|(?:carry|lose) \S+ \S+ \d+|tick \d+"
+    r"|damage (?:ldp|bgp) \S+ \S+ \d+"
 )
-KINDS = {"link", "learn", "ldp", "hear", "bgp", "route", "import", "export", "site", "inject", "carry", "lose", "tick"}
+KINDS = {"link", "learn", "ldp", "hear", "bgp", "route", "import", "export", "site", "inject", "carry", "lose", "tick", "damage"}
 NUMBER = re.compile(r"0|[1-9]\d*")
 OLDER = "an older run's? It isn't removed when another run writes into the folder"
 
@@ -267,13 +268,13 @@ def misnamed(run, joined, words):
     if kind in ("site", "inject", "route"):
         name = rest[0] if kind == "inject" else rest[1]
         return None if name in run.node_of else f"labels.txt has no site '{name}'"
-    if kind == "bgp" or words[:2] == ("hear", "bgp"):
-        return next((f"labels.txt has no node '{name}'" for name in rest[1:] if name not in run.loopbacks), None)
+    if kind == "bgp" or words[:2] in (("hear", "bgp"), ("damage", "bgp")):
+        return next((f"labels.txt has no node '{name}'" for name in rest[1:3] if name not in run.loopbacks), None)
     if kind not in KINDS or kind in ("import", "export", "tick"):
         return None
     if kind == "learn" and rest[0] not in run.nodes:
         return f"labels.txt has no node '{rest[0]}'"
-    ends = rest[:2] if kind in ("carry", "lose") else rest[-2:]
+    ends = {"carry": rest[:2], "lose": rest[:2], "damage": rest[1:3]}.get(kind, rest[-2:])
     return None if frozenset(ends) in joined else f"there is no {'+'.join(ends)}.pcap"
 
 
@@ -284,6 +285,13 @@ def lives_of(net):
     """Of each link of a topology's tables, by its ends, its life."""
     lives = {(link["a"], link["b"]): link.get("life", LIFE) for link in net["link"]}
     return {link: life if type(life) is int else LIFE for link, life in lives.items()}
+
+
+def done_by(words):
+    """The step that the words say; of a damaged message the one that ends its session."""
+    if words[0] != "damage":
+        return words
+    return ("ldp", "off", *words[2:4]) if words[1] == "ldp" else ("bgp", "down", *words[2:4])
 
 
 def passed(words):

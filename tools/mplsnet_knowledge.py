@@ -8,7 +8,7 @@ docs/FORMATS.md has the rules of a packet, docs/LEDGER.md what nodes say and whe
 from dataclasses import dataclass, field
 from heapq import heappop, heappush
 
-from mplsnet_files import Fault, lives_of
+from mplsnet_files import Fault, done_by, lives_of
 from mplsnet_words import attributes
 
 INITIALIZATION, KEEPALIVE, ADDRESS, MAPPING, WITHDRAW, RELEASE = 0x0200, 0x0201, 0x0300, 0x0400, 0x0402, 0x0403
@@ -222,6 +222,7 @@ class Knowledge:
     def do(self, words):
         """Does the step that the words of the journal say."""
         self.did += 1
+        words = done_by(words)
         kind = words[0]
         if kind in ("carry", "lose", "inject", "tick"):
             return

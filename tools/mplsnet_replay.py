@@ -13,7 +13,7 @@ from bisect import bisect_left, bisect_right, insort
 from dataclasses import dataclass, field
 from itertools import product
 
-from mplsnet_files import LIFE, Fault, passed
+from mplsnet_files import LIFE, Fault, done_by, passed
 
 MOST_TRIES = 200_000
 AHEAD = 60  # how many of the frames that a node has still to send are looked at
@@ -62,7 +62,7 @@ def sessions_of(run):
             talk.setdefault(at, []).append(("ends", session))
 
     for at, (_, words) in enumerate(run.steps):
-        kind, *rest = words
+        kind, *rest = done_by(words)
         pair = frozenset(rest[-2:])
         if kind == "link":
             if rest[0] == "down":

@@ -43,12 +43,12 @@ FORMS = {
     "link up": LINK, "link down": LINK, "learn": ["NODE", *LINK], "ldp on": LINK, "ldp off": LINK, "hear ldp": LINK,
     "hear bgp": EDGES, "bgp up": EDGES, "bgp down": EDGES, "route add": ["SITE", "PREFIX"], "route del": ["SITE", "PREFIX"],
     "import add": ["VRF", "TARGET"], "import del": ["VRF", "TARGET"], "export add": ["VRF", "TARGET"], "export del": ["VRF", "TARGET"],
-    "site up": ["SITE"], "site down": ["SITE"], "inject": ["SITE", "K"], "carry": [*LINK, "PLACE"], "lose": [*LINK, "PLACE"],
+    "site up": ["SITE"], "site down": ["SITE"], "inject": ["SITE", "K"], "damage ldp": [*LINK, "K"], "damage bgp": [*EDGES, "K"], "carry": [*LINK, "PLACE"], "lose": [*LINK, "PLACE"],
     "tick": ["TICKS"], "run": ["T"], "drain": ["[N]"], "flush": [], "show links": [], "show tree": ["NODE"], "show ldp": [], "show bgp": [],
-    "show vrf": ["VRF"], "show flight": [],
+    "show vrf": ["VRF"], "show flight": [], "show frame": ["NODE", "K"],
 }  # fmt: skip
-OF_LINKS = {"link up": 0, "link down": 0, "learn": 1, "ldp on": 0, "ldp off": 0, "hear ldp": 0, "carry": 0, "lose": 0}
-OF_EDGES = ["hear bgp", "bgp up", "bgp down"]
+OF_LINKS = {"link up": 0, "link down": 0, "learn": 1, "ldp on": 0, "ldp off": 0, "hear ldp": 0, "damage ldp": 0, "carry": 0, "lose": 0}
+OF_EDGES = ["hear bgp", "bgp up", "bgp down", "damage bgp"]
 
 
 @dataclass(frozen=True)
@@ -480,7 +480,7 @@ class ScriptRules:
         if verb in OF_LINKS:
             self.look_at_link(*given[OF_LINKS[verb] :][:2], known[OF_LINKS[verb] :][:2])
         if verb in OF_EDGES:
-            self.look_at_edges(given, known)
+            self.look_at_edges(given[:2], known[:2])
 
     def look_at_word(self, part, word, at):
         """Whether the word is of its form, and names what is there."""

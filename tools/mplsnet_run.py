@@ -40,6 +40,7 @@ FIELDS = {
     "carry": ("a", "b", "place"),
     "lose": ("a", "b", "place"),
     "tick": ("ticks",),
+    "damage": ("what", "a", "b", "record"),
 }
 STEP = ("step", "tick", "kind", "what", "a", "b", "node", "site", "vrf", "prefix", "target", "record", "place", "ticks", "words")
 PACKET = ("packet", "line", "site", "record", "verdict", "rule", "node", "to", "ttl", "copy", "hops", "path", "sent", "ended", "tick", "ended_tick")
@@ -55,8 +56,11 @@ TABLES = (
     ("vrf", r"route (?P<vrf>\S+) (?P<prefix>\S+) edge (?P<edge>\S+) label (?P<label>\d+)"),
     ("flight", r"(?P<what>notices|messages) (?P<count>\d+)"),
     ("flight", r"(?P<what>frames) (?P<a>\S+) (?P<b>\S+) (?P<count>\d+)"),
+    ("frame", r"frame (?P<node>\S+) (?P<record>\d+) next (?P<next>\S+) bytes (?P<bytes>[0-9A-F]*)"),
+    ("frame", r"frame (?P<node>\S+) (?P<record>\d+) site (?P<site>\S+) bytes (?P<bytes>[0-9A-F]*)"),
+    ("frame", r"frame (?P<node>\S+) (?P<record>\d+) (?:drop|unread) (?P<rule>\S+)"),
 )
-TABLE = ("table", "kind", "a", "b", "node", "to", "state", "other_state", "cost", "changes", "next", "vrf", "prefix", "site", "of_vrf", "edge", "label", "what", "count")
+TABLE = ("table", "kind", "a", "b", "node", "to", "state", "other_state", "cost", "changes", "next", "vrf", "prefix", "site", "of_vrf", "edge", "label", "what", "count", "record", "rule", "bytes")
 KEYS = {
     "packets": PACKET,
     "steps": STEP,

@@ -124,7 +124,8 @@ class Steps:
         elif kind == "tick":
             told = self.ticks(tick, words)
         else:
-            told = {"learn": self.learn, "hear": self.hear, "bgp": self.bgp, "site": self.site}.get(kind, self.configured)(at, words)
+            teller = {"learn": self.learn, "hear": self.hear, "bgp": self.bgp, "site": self.site, "damage": self.damage}
+            told = teller.get(kind, self.configured)(at, words)
         for what, session, *_ in self.talk.get(at, ()):
             if what != "hears":
                 step[what] = self.session_at[session]
@@ -174,6 +175,15 @@ class Steps:
         _, what, a, b = words
         said = f"The BGP session of {a} and {b} begins: each tells the other an OPEN." if what == "up" else f"The BGP session of {a} and {b} is ended."
         return {"k": "bgp", "on": what == "up", "x": said}
+
+    def damage(self, _, words):
+        """The session of the message is switched off."""
+        _, protocol, speaker, hearer, record = words
+        what = "a PDU" if protocol == "ldp" else "a message of BGP"
+        said = f"Record {record} comes to {hearer} in place of {what} from {speaker}, and can't be read."
+        if protocol == "bgp":
+            return {"k": "bgp", "on": False, "x": said}
+        return {"k": "ldp", "l": self.links[speaker, hearer], "on": False, "x": said}
 
     def site(self, _, words):
         _, what, site = words

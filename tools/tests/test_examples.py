@@ -8,7 +8,7 @@ import unittest
 from pathlib import Path
 
 EXAMPLES = Path(__file__).resolve().parents[2] / "examples"
-RUNS = "first two-links overlap hub-and-spoke extranet micro-loop ordered-control site-moves loss late ring".split()
+RUNS = "first two-links overlap hub-and-spoke extranet micro-loop ordered-control site-moves loss late damaged ring".split()
 FLOODS = "flood older-database".split()
 OF_ALL = ["README.md", "topology.toml", "script.txt", "expected/report.txt"]
 OF_RUNS = [*OF_ALL, "capture.py", "capture.pcap", "drawing.svg"]

@@ -17,6 +17,7 @@ ROOT = Path(__file__).resolve().parents[2]
 TOOL = ROOT / "tools/mplsnet-play"
 LINKS = ROOT / "examples/two-links"
 LATE = ROOT / "examples/late"
+DAMAGED = ROOT / "examples/damaged"
 RUNS = sorted(file.parents[1] for file in ROOT.glob("examples/*/expected/journal.txt"))
 
 # What a reader of the page sees of each packet at the end, as the report says it.
@@ -100,6 +101,13 @@ class Play(unittest.TestCase):
         self.assertTrue(steps[1]["x"].endswith(" Overdue, each sent on its link longer ago than the link's life: packet 2."), steps[1]["x"])
         start = self.data(self.made(LATE / "expected", LATE / "topology.toml", "--from", 45))["start"]
         self.assertEqual((11, {"1 2": [0]}, 1), (start["tick"], start["queues"], start["dropped"]))
+
+    def test_damaged_messages(self):
+        steps = self.data(self.made(DAMAGED / "expected", DAMAGED / "topology.toml"))["steps"]
+        ldp, bgp = (step for step in steps if step["w"].startswith("damage"))
+        self.assertEqual(("ldp", False, "bgp", False), (ldp["k"], ldp["on"], bgp["k"], bgp["on"]))
+        self.assertEqual("Record 4 comes to pe1 in place of a PDU from p, and can't be read. The LDP session ends, and 1 of its messages with it.", ldp["x"])
+        self.assertTrue(bgp["x"].startswith("Record 6 comes to pe1 in place of a message of BGP from pe2, and can't be read. The BGP session ends"), bgp["x"])
 
     def test_names_that_look_like_marks_of_html(self):
         topology = self.folder / "net.toml"

@@ -16,6 +16,7 @@ from mplsnet_run import KEYS, KINDS, Run
 
 LINKS = ROOT / "examples/two-links/expected"
 LATE = ROOT / "examples/late/expected"
+DAMAGED = ROOT / "examples/damaged/expected"
 LOSS = ROOT / "examples/loss/expected"
 LOOP = ROOT / "examples/micro-loop"
 RUNS = sorted(file.parent for file in ROOT.glob("examples/*/expected/journal.txt"))
@@ -64,6 +65,14 @@ class Data(unittest.TestCase):
         self.assertEqual([(42, 0, 10), (44, 10, 1), (51, 112, 4)], passed)
         dropped = [(one["packet"], one["rule"], one["node"], one["ended"], one["ended_tick"]) for one in run.packets if one["verdict"] == "dropped"]
         self.assertEqual([(2, "Overdue", "pe1", 44, 10), (4, "Overdue", "p", 51, 112)], dropped)
+
+    def test_damaged_messages_and_frames(self):
+        run = Run(DAMAGED)
+        damages = [{key: step[key] for key in ("tick", "what", "a", "b", "record")} for step in run.steps if step["kind"] == "damage"]
+        ldp = {"tick": 2, "what": "ldp", "a": "p", "b": "pe1", "record": 4}
+        self.assertEqual([ldp, {"tick": 5, "what": "bgp", "a": "pe2", "b": "pe1", "record": 6}], damages)
+        frames = [(row.get("rule"), row.get("next")) for row in run.tables if row["kind"] == "frame"]
+        self.assertEqual([("NoEntry", None), (None, "pe1")], frames)
 
     def test_csv_and_json_say_the_same(self):
         for kind in KINDS:

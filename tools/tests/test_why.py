@@ -277,7 +277,8 @@ class Why(unittest.TestCase):
         return set(kinds)
 
 
-CONTROL, LATE, LOSS, RING, HUB, LINKS = (ROOT / "examples" / name for name in ("ordered-control", "late", "loss", "ring", "hub-and-spoke", "two-links"))
+NAMES = ("ordered-control", "late", "loss", "ring", "hub-and-spoke", "two-links", "damaged")
+CONTROL, LATE, LOSS, RING, HUB, LINKS, DAMAGED = (ROOT / "examples" / name for name in NAMES)
 SIXTH = """\
 packet 6 (line 52, site a, to 10.2.0.1) dropped NoLsp at pe1, path pe1; step 50, tick 4
   route: 10.2.0.0/16 of site b at pe2, since step 15 (line 15: hear bgp pe2 pe1)
@@ -323,6 +324,10 @@ class Tool(unittest.TestCase):
     def test_one_that_is_overdue(self):
         self.assertEqual(FOURTH, self.of(LATE, 4))
         self.assertIn("1 Overdue at pe1: at tick 11 a frame that was sent at tick 0 is past pe1-p's life of 10, since step 44 (line 9: tick 1)\n", self.of(LATE))
+
+    def test_ones_after_a_damaged_message(self):
+        self.assertTrue(self.of(DAMAGED, 4).endswith("\n  and LDP is off on pe1-p, since step 72 (line 12: damage ldp p pe1 4)\n"), self.of(DAMAGED, 4))
+        self.assertTrue(self.of(DAMAGED, 8).endswith("\n  because there is no BGP session between pe1 and pe2, since step 111 (line 31: damage bgp pe2 pe1 6)\n"), self.of(DAMAGED, 8))
 
     def test_one_that_arrived(self):
         self.assertRegex(self.of(CONTROL, 4), r"^packet 4 line 44 .* delivered b .*\n  it isn't dropped: it arrived\n$")

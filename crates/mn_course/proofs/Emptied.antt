@@ -1,6 +1,6 @@
 -- Where nothing comes next, all that a line lets arrive has arrived.
 use Rattle.std.proofs.Common.{ℕ, ◌≡◌, ◌+◌, ◌^◌, ◌≤◌, Bool, true, false, not, List, refl, arith, sym, ◌∙◌, subst, Option, Some, None}
-use Rattle.std.specs.Prelude.{nat_le, if◌then◌else◌, ◌&&◌}
+use Rattle.std.specs.Prelude.{nat_le, ◌&&◌}
 use Rattle.std.specs.List.{Contains}
 use Rattle.mn_base.proofs.Bools.{clash, at_most_is}
 use Rattle.mn_topo.specs.Lawful.{IsLawful}
@@ -16,7 +16,7 @@ use Rattle.mn_course.specs.declared.coming.Coming.{Coming}
 use Rattle.mn_course.specs.declared.coming.Arrivals.{Arrivals}
 use Rattle.mn_course.specs.declared.coming.Arrivals.TheVariants.{DueBy, News, AllFrames}
 use Rattle.mn_course.specs.declared.coming.Ending.TheVariants as ending
-use Rattle.mn_course.specs.Coming.{kind_of, is_kind, is_due_before, is_due, coming, earlier, or_else, ever}
+use Rattle.mn_course.specs.Coming.{kind_of, is_kind, is_due, coming, or_else, ever}
 use Rattle.mn_course.specs.Course.{Past, inputs_of, next_now, deliver, all}
 use Rattle.mn_course.specs.Lawful.{IsLawfulPast}
 use Rattle.mn_course.specs.Next.{IsNext}

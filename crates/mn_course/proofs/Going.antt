@@ -3,7 +3,6 @@ use Rattle.std.proofs.Common.{ℕ, zero, suc, ◌≡◌, ◌+◌, ◌≤◌, inl
 use Rattle.std.proofs.Common.{Option, Some, None, ◌<◌}
 use Rattle.std.specs.Prelude.{if◌then◌else◌, ⊤, max, nat_le}
 use Rattle.std.specs.List.{Contains}
-use Rattle.std.proofs.Math.Nat.{le-max_left}
 use Rattle.mn_base.proofs.Members.{In, in_contained, contained_in, in_append}
 use Rattle.mn_topo.specs.Lawful.{IsLawful}
 use Rattle.mn_topo.specs.Network.{Network}
@@ -13,7 +12,12 @@ use Rattle.mn_topo.specs.declared.steps.Step.TheVariants.{Inject}
 use Rattle.mn_topo.specs.declared.steps.JournalEntry.{JournalEntry}
 use Rattle.mn_topo.specs.declared.steps.Damaged.TheVariants.{Undamaged}
 use Rattle.mn_script.specs.declared.command.Command.{Command}
-use Rattle.mn_script.specs.declared.command.Command.TheVariants.{Do, Run, Drain, Flush, Show}
+use Rattle.mn_script.specs.declared.command.Command.TheVariants.{Do, Damage, Run, Drain, Flush, Show}
+use Rattle.mn_topo.specs.declared.steps.Damage as damage
+use Rattle.mn_topo.specs.declared.steps.Damage.TheVariants.{Ldp, Bgp}
+use Rattle.mn_topo.specs.declared.steps.Damaged.{Damaged}
+use Rattle.mn_entry.specs.Damages.{ending as end_of, number_of, damage_fits, mark_of, entry_for}
+use Rattle.mn_damage.proofs.Lives.{ends as ends_what_lives}
 use Rattle.mn_script.specs.declared.command.Show as show
 use Rattle.mn_script.specs.declared.command.Line.{Line}
 use Rattle.mn_script.specs.Lines.{command_fits}
@@ -35,13 +39,14 @@ use Rattle.mn_course.specs.declared.coming.Arrivals.{Arrivals}
 use Rattle.mn_course.specs.declared.coming.Arrivals.TheVariants.{DueBy, News, AllFrames}
 use Rattle.mn_course.specs.declared.coming.Ending.{Ending}
 use Rattle.mn_course.specs.declared.coming.Ending.TheVariants as ending
-use Rattle.mn_course.specs.Coming.{is_due_before, lost, delivery, coming, earlier, or_else, ever, kind_of, is_kind, is_due}
-use Rattle.mn_course.specs.Course.{Past, Course, with_step, on_to, record_of, bytes_of, input_before, inputs_of, tried, refusal_now, injected, stepped}
+use Rattle.mn_course.specs.Coming.{is_due_before, lost, delivery, coming, earlier, or_else, ever, kind_of, is_kind}
+use Rattle.mn_course.specs.Course.{Past, Course, with_step, on_to, record_of, bytes_of, input_before, inputs_of, unless_refused, tried, refusal_now, injected, stepped}
+use Rattle.mn_course.specs.Course.{with_damage, damage_refused_by, damaged}
 use Rattle.mn_course.specs.Course.{arrived, is_journal_full, one_by_one, next_now, deliver, all, until, most_of, played}
 use Rattle.mn_course.specs.Expansion.{Note, Refusal, Missing, Table, Expansion, table_by, after_line, with_line, unless_stopped, expanded_from, start_of}
 use Rattle.mn_course.specs.Expansion.{expanded}
 use Rattle.mn_course.specs.Next.{IsNext, first_due}
-use Rattle.mn_course.specs.Lawful.{IsLawfulPast, IsLawfulRun}
+use Rattle.mn_course.specs.Lawful.{IsLawfulPast}
 use Rattle.mn_course.proofs.Nexts.{what_is_next, neither_comes, frames_first}
 use Rattle.mn_ledger.specs.Time.{clock_after, ticks_in}
 use Rattle.mn_ledger.specs.Packets.{Packets}
@@ -49,7 +54,7 @@ use Rattle.mn_laws.proofs.Due.{none_due}
 use Rattle.mn_ledger.proofs.Refusals.{few_entries}
 use Rattle.mn_course.proofs.Leasts.{not_before}
 use Rattle.mn_course.proofs.Left.{none_left_of_all}
-use Rattle.mn_base.proofs.Bools.{no, clash, two_ways, and_on, and_parts, or_left, or_right, at_most_is, at_most_tells, not_at_most_tells}
+use Rattle.mn_base.proofs.Bools.{and_parts, or_left, or_right, at_most_is, at_most_tells}
 use Rattle.std.proofs.lemmas.Bool.Decides.{leb_tells}
 
 -- 1. The packets of a journal with one entry more
@@ -270,11 +275,12 @@ module _ (t : Network) (lawful : IsLawful t) (capture : List (List ℕ)) where
   at_once : (clock : ℕ) {tick : ℕ} {k : Packets} → tick ≡ clock → GoesForward t tick k clock
   at_once clock e = record { later = omega (arith, e); due = or_left _ _ (at_most_is clock _ (omega (arith, e))) }
 
-  pub step_more : (past : Past) (s : Step) → IsGood past → fits t s ≡ true → refusal_now t capture past s (packet_at capture s) ≡ None
-      → IsGood (with_step past s)
-  step_more past s h fit r =
+  -- whatever mark it has
+  marked_more : (past : Past) (s : Step) (m : Damaged) → IsGood past → fits t s ≡ true → refusal_now t capture past s (packet_at capture s) ≡ None
+      → IsGood (record { clock = past.clock + ticks_in s; entries = past.entries ++ record { tick = past.clock; step = s; damaged = m } ∷ [] })
+  marked_more past s m h fit r =
       let es : List JournalEntry = past.entries in
-      let e : JournalEntry = record { tick = past.clock; step = s; damaged = Undamaged } in
+      let e : JournalEntry = record { tick = past.clock; step = s; damaged = m } in
       record {
         journal = subst (IsLawfulJournal t (es ++ e ∷ [])) (sym (inputs_more capture es e))
             (lawful_from-push t es e (packet_at capture s) 0 (start t) no_packets 0 (inputs_of capture es) h.each h.journal fit h.forward
@@ -282,6 +288,26 @@ module _ (t : Network) (lawful : IsLawful t) (capture : List (List ℕ)) where
         forward = at_once (past.clock + ticks_in s) (last_tick 0 es e);
         each = a_packet_each capture (es ++ e ∷ []);
       }
+
+  pub step_more : (past : Past) (s : Step) → IsGood past → fits t s ≡ true → refusal_now t capture past s (packet_at capture s) ≡ None
+      → IsGood (with_step past s)
+  step_more past s h fit r = marked_more past s Undamaged h fit r
+
+  -- a damage ends a session that lives: it is a step that fits, and that nothing refuses
+  no_time : (clock : ℕ) (d : damage.Damage) → clock + ticks_in (end_of d) ≡ clock
+  no_time clock (Ldp l dir number) = omega arith
+  no_time clock (Bgp a b number) = omega arith
+
+  no_packet : (d : damage.Damage) → packet_at capture (end_of d) ≡ []
+  no_packet (Ldp l dir number) = refl
+  no_packet (Bgp a b number) = refl
+
+  damage_more : (past : Past) (d : damage.Damage) (bytes : List ℕ) → IsGood past → damage_fits t d ≡ true
+      → damage_refused_by t capture past d bytes ≡ None → IsGood (with_damage past d)
+  damage_more past d bytes h fit r =
+      let e = ends_what_lives t (world_of t past.entries) (packets_of t past.entries (inputs_of capture past.entries)) (length past.entries) d bytes fit r in
+      subst (λ clock. IsGood (record { clock = clock; entries = past.entries ++ entry_for past.clock d ∷ [] })) (no_time past.clock d)
+      (marked_more past (end_of d) (mark_of d) h e.fitting (e.unrefused (packet_at capture (end_of d))))
 
   pub time_passes : (tick : ℕ) (past : Past) → IsGood past → NoneDue tick past → IsGood (on_to tick past)
   time_passes tick past h none = record {
@@ -322,9 +348,20 @@ module _ (t : Network) (lawful : IsLawful t) (capture : List (List ℕ)) where
   stepped_goes past (Inject s number) h fit = injected_goes past (Inject s number) number (record_of capture number) h fit refl
   stepped_goes past s h fit = tried_goes past s (refusal_now t capture past s []) h fit refl
 
+  -- and a line that damages a message
+  unless_goes : (done past : Past) (o : Option Refused) → (o ≡ None → IsGood done) → IsGood past → IsGood (unless_refused done past o).past
+  unless_goes done past None g h = g refl
+  unless_goes done past (Some cause.TooManySteps) g h = h
+  unless_goes done past (Some _) g h = h
+
+  damaged_goes : (past : Past) (d : damage.Damage) (o : Option (List ℕ)) → IsGood past → damage_fits t d ≡ true → IsGood (damaged t capture past d o).past
+  damaged_goes past d None h fit = h
+  damaged_goes past d (Some bytes) h fit =
+      unless_goes (with_damage past d) past (damage_refused_by t capture past d bytes) (damage_more past d bytes h fit) h
+
   -- 5. What arrives
 
-  unrefused : (b : Bool) (why : Refused) → b ≡ false → where_holds b why ≡ None
+  pub unrefused : (b : Bool) (why : Refused) → b ≡ false → where_holds b why ≡ None
   unrefused true why h = absurd (clash h)
     where
       clash : true ≡ false → ⊥
@@ -336,7 +373,7 @@ module _ (t : Network) (lawful : IsLawful t) (capture : List (List ℕ)) where
       step_more past (delivery item) h c.delivered.fitting
       (ap (refusal_now t capture past (delivery item)) c.quiet ∙ c.delivered.refused ∙ unrefused (is_journal_full past) cause.TooManySteps room)
 
-  on_its_tick : (tick : ℕ) (past : Past) (item : Coming) → CanCome past item → CanCome (on_to tick past) item
+  pub on_its_tick : (tick : ℕ) (past : Past) (item : Coming) → CanCome past item → CanCome (on_to tick past) item
   on_its_tick tick past item c = record { delivered = c.delivered; quiet = c.quiet; still = c.still; soon = c.soon }
 
   pub arrived_goes : (arrivals : Arrivals) (past : Past) (item : Coming) → IsGood past → Comes arrivals past item → is_journal_full past ≡ false
@@ -379,6 +416,7 @@ module _ (t : Network) (lawful : IsLawful t) (capture : List (List ℕ)) where
 
   pub played_goes : (past : Past) (command : Command) → IsGood past → command_fits t command ≡ true → IsGood (played t capture past command).past
   played_goes past (Do s) h fit = stepped_goes past s h fit
+  played_goes past (Damage d) h fit = damaged_goes past d (record_of capture (number_of d)) h fit
   played_goes past (Run ticks) h fit =
       let course : Course = deliver t capture (DueBy (past.clock + ticks)) all past in
       let last : IsGood course.past = deliver_goes (DueBy (past.clock + ticks)) all past h in
@@ -389,8 +427,9 @@ module _ (t : Network) (lawful : IsLawful t) (capture : List (List ℕ)) where
 
   -- 7. A script
 
-  abbrev IsGoodRun : Expansion → Type 0
-  IsGoodRun run = IsLawfulRun t capture run
+  pub record IsGoodRun (run : Expansion) : Type 0 where
+    pub past : IsGood run.past
+    pub tables : (table : show.Show) (then_ : Past) → Contains run.notes (Table table then_) → IsGood then_
 
   one_note : (note : Note) (table : show.Show) (then_ : Past) → In (note ∷ []) (Table table then_) → note ≡ Table table then_
   one_note note table then_ i = elim i [ inl e ↦ e | inr j ↦ absurd j ]
@@ -407,6 +446,7 @@ module _ (t : Network) (lawful : IsLawful t) (capture : List (List ℕ)) where
   table_is : (past : Past) (command : Command) (table : show.Show) (then_ : Past) → In (table_by past command) (Table table then_) → past ≡ then_
   table_is past (Show shown) table then_ i = same_past shown table past then_ (one_note (Table shown past) table then_ i)
   table_is past (Do s) table then_ i = absurd i
+  table_is past (Damage d) table then_ i = absurd i
   table_is past (Run ticks) table then_ i = absurd i
   table_is past (Drain most) table then_ i = absurd i
   table_is past Flush table then_ i = absurd i

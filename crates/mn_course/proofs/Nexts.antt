@@ -1,7 +1,7 @@
 -- What comes next is first on its channel, is due soon, and can be delivered.
 use Rattle.std.proofs.Common.{ℕ, ◌≡◌, ◌<◌, ◌≤◌, ◌⊎◌, inl, inr, Bool, true, false, cond, List, [], ◌∷◌, filter, length, refl, arith, sym, ap, ◌∙◌, subst}
 use Rattle.std.proofs.Common.{Option, Some, None}
-use Rattle.std.specs.Prelude.{◌&&◌, nat_lt, nat_le, if◌then◌else◌, ◌+◌}
+use Rattle.std.specs.Prelude.{◌&&◌, nat_lt, nat_le, if◌then◌else◌}
 use Rattle.std.specs.List.{Contains}
 use Rattle.mn_base.proofs.Bools.{two_ways, and_parts, and_on, at_most_is, at_most_tells, less_tells, no, clash, not_at_most_tells}
 use Rattle.mn_base.proofs.Members.{In, in_contained, contained_in, in_filter, filter_in}
@@ -9,7 +9,7 @@ use Rattle.mn_topo.specs.Lawful.{IsLawful}
 use Rattle.mn_topo.specs.Network.{Network}
 use Rattle.mn_topo.specs.declared.steps.JournalEntry.{JournalEntry}
 use Rattle.mn_ledger.specs.Lawful.{IsLawfulJournal}
-use Rattle.mn_ledger.specs.Items.{Channel, Notices, Messages, Routes, Frames, Item, same_channel, items_on, delay_on, flight_of, in_time}
+use Rattle.mn_ledger.specs.Items.{Channel, Notices, Messages, Routes, Frames, Item, same_channel, items_on, delay_on, flight_of}
 use Rattle.mn_laws.specs.Flight.{delivering, IsOpen, FliesAsCounted, is_frame}
 use Rattle.mn_laws.proofs.Counted.{flies_as_counted}
 use Rattle.mn_course.specs.declared.coming.Kind.{Kind}

@@ -9,7 +9,9 @@ use Rattle.mn_topo.specs.Network.{Network}
 use Rattle.mn_topo.specs.declared.steps.Step.{Step}
 use Rattle.mn_topo.specs.declared.steps.Step.TheVariants.{Inject, Tick}
 use Rattle.mn_script.specs.declared.command.Command.{Command}
-use Rattle.mn_script.specs.declared.command.Command.TheVariants.{Do, Run, Drain, Flush, Show}
+use Rattle.mn_script.specs.declared.command.Command.TheVariants.{Do, Damage, Run, Drain, Flush, Show}
+use Rattle.mn_topo.specs.declared.steps.Damage as damage
+use Rattle.mn_entry.specs.Damages.{number_of, entry_for}
 use Rattle.mn_script.specs.declared.command.Line.{Line}
 use Rattle.mn_script.specs.Lines.{command_fits}
 use Rattle.mn_script.specs.Script.{AllFit}
@@ -22,7 +24,7 @@ use Rattle.mn_course.specs.declared.coming.Ending.{Ending}
 use Rattle.mn_course.specs.declared.coming.Ending.TheVariants as ending
 use Rattle.mn_course.specs.Coming.{delivery}
 use Rattle.mn_course.specs.Course.{Past, Course, with_step, on_to, record_of, tried, refusal_now, injected, stepped, arrived, is_journal_full, one_by_one}
-use Rattle.mn_course.specs.Course.{next_now}
+use Rattle.mn_course.specs.Course.{next_now, unless_refused, with_damage, damage_refused_by, damaged}
 use Rattle.mn_course.specs.Course.{deliver, all, until, most_of, played}
 use Rattle.mn_course.specs.Expansion.{Expansion, after_line, with_line, unless_stopped, expanded_from, start_of, expanded}
 use Rattle.mn_course.specs.Lawful.{IsLawfulPast}
@@ -47,6 +49,11 @@ then_pace ticks a b c h g = record {
 one_step : (past : Past) (s : Step) → IsPaced (ticks_in s) past (with_step past s)
 one_step past s =
     let long = length-append past.entries (record { tick = past.clock; step = s; damaged = Undamaged } ∷ []) in
+    record { onward = omega arith; longer = omega (arith, long); within = omega (arith, long) }
+
+one_damage : (past : Past) (d : damage.Damage) → IsPaced 0 past (with_damage past d)
+one_damage past d =
+    let long = length-append past.entries (entry_for past.clock d ∷ []) in
     record { onward = omega arith; longer = omega (arith, long); within = omega (arith, long) }
 
 -- at most 1,000 ticks, and a step
@@ -108,6 +115,15 @@ module _ (t : Network) (lawful : IsLawful t) (capture : List (List ℕ)) where
   stepped_paced past (Inject s number) = injected_paced past (Inject s number) (record_of capture number)
   stepped_paced past s = tried_paced past s (refusal_now t capture past s [])
 
+  unless_paced : (done past : Past) (o : Option Refused) → IsPaced 0 past done → IsPaced 0 past (unless_refused done past o).past
+  unless_paced done past None h = h
+  unless_paced done past (Some cause.TooManySteps) h = same_pace past
+  unless_paced done past (Some _) h = same_pace past
+
+  damaged_paced : (past : Past) (d : damage.Damage) (o : Option (List ℕ)) → IsPaced 0 past (damaged t capture past d o).past
+  damaged_paced past d None = same_pace past
+  damaged_paced past d (Some bytes) = unless_paced (with_damage past d) past (damage_refused_by t capture past d bytes) (one_damage past d)
+
   until_paced : (past later : Past) (ticks : ℕ) (how : Ending) → IsPaced 0 past later → IsPaced ticks past (until (past.clock + ticks) later how).past
   until_paced past later ticks ending.All h = to_end past later ticks h
   until_paced past later ticks (ending.Refused why) h = some_ticks ticks past later h
@@ -116,6 +132,7 @@ module _ (t : Network) (lawful : IsLawful t) (capture : List (List ℕ)) where
 
   pub played_paced : (past : Past) (command : Command) → IsLawfulPast t capture past → IsPaced (ticks_of command) past (played t capture past command).past
   played_paced past (Do s) h = stepped_paced past s
+  played_paced past (Damage d) h = damaged_paced past d (record_of capture (number_of d))
   played_paced past (Run ticks) h =
       let course : Course = deliver t capture (DueBy (past.clock + ticks)) all past in
       until_paced past course.past ticks course.ending (deliver_paced (DueBy (past.clock + ticks)) all past h)
@@ -132,6 +149,7 @@ module _ (t : Network) (lawful : IsLawful t) (capture : List (List ℕ)) where
   few_ticks : (command : Command) → command_fits t command ≡ true → ticks_of command ≤ 1000000
   few_ticks (Run ticks) fit = at_most_tells ticks 1000000 fit
   few_ticks (Do s) fit = few_in s fit
+  few_ticks (Damage d) fit = omega arith
   few_ticks (Drain most) fit = omega arith
   few_ticks Flush fit = omega arith
   few_ticks (Show table) fit = omega arith

@@ -33,7 +33,7 @@ use Rattle.mn_course.specs.declared.coming.Kind.TheVariants.{Notice}
 use Rattle.mn_course.specs.Coming.{coming}
 use Rattle.mn_course.specs.Course.{Past, inputs_of, deliver, all, played}
 use Rattle.mn_course.specs.Lawful.{IsLawfulRun}
-use Rattle.mn_course.proofs.Going.{expanded_goes}
+use Rattle.mn_course.proofs.Entered.{lawful_run}
 use Rattle.mn_course.specs.Expansion.{Refusal, Missing, Table, SentLine, Expansion, expanded}
 
 -- UDP from 10.2.0.1 to 10.1.0.1
@@ -277,7 +277,7 @@ the_lines_fit (suc (suc (suc (suc (suc (suc more)))))) d below = absurd (none mo
     none more h = omega (arith, h)
 
 pub the_run_is_lawful : IsLawfulRun two_links capture (expanded two_links capture settling_lines)
-the_run_is_lawful = expanded_goes two_links the_topology_is_lawful capture settling_lines the_lines_fit
+the_run_is_lawful = lawful_run two_links the_topology_is_lawful capture settling_lines the_lines_fit
 
 pub the_drain_takes_its_course : (deliver two_links capture News all opening).ending ≡ ending.All
 unfolding next knowledge_of news sessions_after peerings_after held packets_after is_not_ipv4 is_malformed is_truncated has_bad_checksum good

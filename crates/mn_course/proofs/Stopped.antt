@@ -8,7 +8,11 @@ use Rattle.mn_topo.specs.Network.{Network}
 use Rattle.mn_topo.specs.declared.steps.Step.{Step}
 use Rattle.mn_topo.specs.declared.steps.Step.TheVariants.{LinkUp, AddRoute, DelRoute, Inject}
 use Rattle.mn_script.specs.declared.command.Command.{Command}
-use Rattle.mn_script.specs.declared.command.Command.TheVariants.{Do, Run, Drain, Flush, Show}
+use Rattle.mn_script.specs.declared.command.Command.TheVariants.{Do, Damage, Run, Drain, Flush, Show}
+use Rattle.mn_topo.specs.declared.steps.Damage as damage
+use Rattle.mn_entry.specs.Damages.{ending as end_of, hearing, number_of}
+use Rattle.mn_damage.specs.Refusals.{still_reads, damage_refusal_at}
+use Rattle.mn_topo.specs.declared.steps.Damage.TheVariants.{Ldp, Bgp}
 use Rattle.mn_ledger.specs.declared.refused.Refused.{Refused}
 use Rattle.mn_ledger.specs.declared.refused.Refused.TheVariants as why
 use Rattle.mn_ledger.specs.Places.{vrf_of}
@@ -25,6 +29,7 @@ use Rattle.mn_course.specs.declared.coming.Ending.{Ending}
 use Rattle.mn_course.specs.declared.coming.Ending.TheVariants as ending
 use Rattle.mn_course.specs.Course as course
 use Rattle.mn_course.specs.Course.{Past, Course, ends, with_step, record_of, inputs_of, tried, refusal_now, injected, stepped, arrived, one_by_one}
+use Rattle.mn_course.specs.Course.{unless_refused, with_damage, damage_refused_by, damaged}
 use Rattle.mn_course.specs.Course.{next_now, deliver, all, until, most_of, played}
 use Rattle.mn_course.specs.Endings.{EndsWell}
 use Rattle.mn_course.specs.Lawful.{IsLawfulPast}
@@ -75,6 +80,47 @@ full_only t w k n s b =
 just_full : (n : ℕ) → nat_le 4000000 n ≡ true → n ≤ 4000000 → n ≡ 4000000
 just_full n h g = let over = at_most_tells 4000000 n h in omega (arith, over, g)
 
+-- and so does a damage
+no_static : (t : Network) (w : World) (d : damage.Damage) → static_refusal t w.config (end_of d) ≡ None
+no_static t w (Ldp l dir m) = refl
+no_static t w (Bgp a b m) = refl
+
+none_stops : (r : Option Refused) → r ≡ None → Stops r → ⊥
+none_stops None e f = cc
+none_stops (Some c) e f = cc
+
+damage_full_only : (t : Network) (w : World) (k : Packets) (n : ℕ) (d : damage.Damage) (b : List ℕ) → Stops (damage_refusal_at t w k n d b) → nat_le 4000000 n ≡ true
+damage_full_only t w k n d b =
+    passes (is_empty t w k (hearing d)) why.Empty _ (nat_le 4000000 n ≡ true) (λ f. cc)
+    (passes (still_reads d b) why.StillReads _ (nat_le 4000000 n ≡ true) (λ f. cc)
+    (passes_static (static_refusal t w.config (end_of d)) _ (nat_le 4000000 n ≡ true) (none_stops (static_refusal t w.config (end_of d)) (no_static t w d))
+    (passes (is_targets_full w.config (end_of d)) why.TargetsFull _ (nat_le 4000000 n ≡ true) (λ f. cc)
+    (passes (is_spent t w.config (end_of d)) why.LabelsSpent _ (nat_le 4000000 n ≡ true) (λ f. cc)
+    (passes (is_full t w k (end_of d) []) why.NetFull _ (nat_le 4000000 n ≡ true) (λ f. cc) (last_one (nat_le 4000000 n)))))))
+
+-- which is never refused for memory
+abbrev Wants : Option Refused → Type 0
+Wants o = o ≡ Some why.NoMemory
+
+goes_by : (b : Bool) (c : Refused) (rest : List (Option Refused)) → (Wants (Some c) → ⊥) → (Wants (first_cause rest) → ⊥)
+    → Wants (first_cause (where_holds b c ∷ rest)) → ⊥
+goes_by true c rest h g e = h e
+goes_by false c rest h g e = g e
+
+goes_by_none : (r : Option Refused) (rest : List (Option Refused)) → r ≡ None → (Wants (first_cause rest) → ⊥) → Wants (first_cause (r ∷ rest)) → ⊥
+goes_by_none None rest n g e = g e
+goes_by_none (Some c) rest n g e = cc
+
+damage_wants_none : (t : Network) (w : World) (k : Packets) (n : ℕ) (d : damage.Damage) (b : List ℕ) → Wants (damage_refusal_at t w k n d b) → ⊥
+damage_wants_none t w k n d b =
+    goes_by (is_empty t w k (hearing d)) why.Empty _ (λ f. cc)
+    (goes_by (still_reads d b) why.StillReads _ (λ f. cc)
+    (goes_by_none (static_refusal t w.config (end_of d)) _ (no_static t w d)
+    (goes_by (is_targets_full w.config (end_of d)) why.TargetsFull _ (λ f. cc)
+    (goes_by (is_spent t w.config (end_of d)) why.LabelsSpent _ (λ f. cc)
+    (goes_by (is_full t w k (end_of d) []) why.NetFull _ (λ f. cc)
+    (goes_by (nat_le 4000000 n) why.TooManySteps [] (λ f. cc) (λ f. cc)))))))
+
 module _ (t : Network) (lawful : IsLawful t) (capture : List (List ℕ)) where
   -- 2. A step line
 
@@ -113,33 +159,45 @@ module _ (t : Network) (lawful : IsLawful t) (capture : List (List ℕ)) where
       same : (cause : Refused) → ending.Refused c ≡ ending.Refused cause → c ≡ cause
       same cause e = cc
 
-  tried_ends : (past : Past) (s : Step) (bytes : List ℕ) (o : Option Refused) → IsLawfulPast t capture past → refusal_now t capture past s bytes ≡ o
-      → EndsWell past (tried past s o)
-  tried_ends past s bytes None h r = plainly past (ends ending.All (with_step past s)) refl
-  tried_ends past s bytes (Some why.TooManySteps) h r =
-      fully past (ends ending.TooManySteps past) refl
-      (just_full (length past.entries)
-      (full_only t (world_of t past.entries) (packets_of t past.entries (inputs_of capture past.entries)) (length past.entries) s bytes r)
-      (few_entries t past.entries (inputs_of capture past.entries) h.journal))
-  tried_ends past s bytes (Some why.NoMemory) h r =
-      absurd (never_for_memory t (world_of t past.entries) (packets_of t past.entries (inputs_of capture past.entries)) (length past.entries) s bytes r)
-  tried_ends past s bytes (Some why.Unchanged) h r = other past why.Unchanged (λ e. cc) (λ e. cc)
-  tried_ends past s bytes (Some why.Empty) h r = other past why.Empty (λ e. cc) (λ e. cc)
-  tried_ends past s bytes (Some why.StillReads) h r = other past why.StillReads (λ e. cc) (λ e. cc)
-  tried_ends past s bytes (Some (why.PrefixTaken site)) h r = other past (why.PrefixTaken site) (λ e. cc) (λ e. cc)
-  tried_ends past s bytes (Some why.NoRouteThere) h r = other past why.NoRouteThere (λ e. cc) (λ e. cc)
-  tried_ends past s bytes (Some why.RoutesFull) h r = other past why.RoutesFull (λ e. cc) (λ e. cc)
-  tried_ends past s bytes (Some why.TargetsFull) h r = other past why.TargetsFull (λ e. cc) (λ e. cc)
-  tried_ends past s bytes (Some why.LabelsSpent) h r = other past why.LabelsSpent (λ e. cc) (λ e. cc)
-  tried_ends past s bytes (Some why.NetFull) h r = other past why.NetFull (λ e. cc) (λ e. cc)
+  answered_ends : (done past : Past) (o : Option Refused) → (Stops o → length past.entries ≡ 4000000) → (Wants o → ⊥) → EndsWell past (unless_refused done past o)
+  answered_ends done past None full none = plainly past (ends ending.All done) refl
+  answered_ends done past (Some why.TooManySteps) full none = fully past (ends ending.TooManySteps past) refl (full refl)
+  answered_ends done past (Some why.NoMemory) full none = absurd (none refl)
+  answered_ends done past (Some why.Unchanged) full none = other past why.Unchanged (λ e. cc) (λ e. cc)
+  answered_ends done past (Some why.Empty) full none = other past why.Empty (λ e. cc) (λ e. cc)
+  answered_ends done past (Some why.StillReads) full none = other past why.StillReads (λ e. cc) (λ e. cc)
+  answered_ends done past (Some (why.PrefixTaken site)) full none = other past (why.PrefixTaken site) (λ e. cc) (λ e. cc)
+  answered_ends done past (Some why.NoRouteThere) full none = other past why.NoRouteThere (λ e. cc) (λ e. cc)
+  answered_ends done past (Some why.RoutesFull) full none = other past why.RoutesFull (λ e. cc) (λ e. cc)
+  answered_ends done past (Some why.TargetsFull) full none = other past why.TargetsFull (λ e. cc) (λ e. cc)
+  answered_ends done past (Some why.LabelsSpent) full none = other past why.LabelsSpent (λ e. cc) (λ e. cc)
+  answered_ends done past (Some why.NetFull) full none = other past why.NetFull (λ e. cc) (λ e. cc)
+
+  full_past : (past : Past) → IsLawfulPast t capture past → nat_le 4000000 (length past.entries) ≡ true → length past.entries ≡ 4000000
+  full_past past h over = just_full (length past.entries) over (few_entries t past.entries (inputs_of capture past.entries) h.journal)
+
+  tried_ends : (past : Past) (s : Step) (bytes : List ℕ) → IsLawfulPast t capture past → EndsWell past (tried past s (refusal_now t capture past s bytes))
+  tried_ends past s bytes h =
+      let w : World = world_of t past.entries in
+      let k : Packets = packets_of t past.entries (inputs_of capture past.entries) in
+      answered_ends (with_step past s) past (refusal_now t capture past s bytes)
+      (λ e. full_past past h (full_only t w k (length past.entries) s bytes e)) (never_for_memory t w k (length past.entries) s bytes)
 
   injected_ends : (past : Past) (s : Step) (o : Option (List ℕ)) → IsLawfulPast t capture past → EndsWell past (injected t capture past s o)
   injected_ends past s None h = record { stopped = λ e. cc; refused = λ cause e. cc; missing = λ e. refl }
-  injected_ends past s (Some bytes) h = tried_ends past s bytes (refusal_now t capture past s bytes) h refl
+  injected_ends past s (Some bytes) h = tried_ends past s bytes h
 
   stepped_ends : (past : Past) (s : Step) → IsLawfulPast t capture past → EndsWell past (stepped t capture past s)
   stepped_ends past (Inject s number) h = injected_ends past (Inject s number) (record_of capture number) h
-  stepped_ends past s h = tried_ends past s [] (refusal_now t capture past s []) h refl
+  stepped_ends past s h = tried_ends past s [] h
+
+  damaged_ends : (past : Past) (d : damage.Damage) (o : Option (List ℕ)) → IsLawfulPast t capture past → EndsWell past (damaged t capture past d o)
+  damaged_ends past d None h = record { stopped = λ e. cc; refused = λ cause e. cc; missing = λ e. refl }
+  damaged_ends past d (Some bytes) h =
+      let w : World = world_of t past.entries in
+      let k : Packets = packets_of t past.entries (inputs_of capture past.entries) in
+      answered_ends (with_damage past d) past (damage_refused_by t capture past d bytes)
+      (λ e. full_past past h (damage_full_only t w k (length past.entries) d bytes e)) (damage_wants_none t w k (length past.entries) d bytes)
 
   -- 3. A line of arrivals ends with All or is stopped
 
@@ -173,6 +231,7 @@ module _ (t : Network) (lawful : IsLawful t) (capture : List (List ℕ)) where
 
   pub played_ends : (past : Past) (command : Command) → IsLawfulPast t capture past → EndsWell past (played t capture past command)
   played_ends past (Do s) h = stepped_ends past s h
+  played_ends past (Damage d) h = damaged_ends past d (record_of capture (number_of d)) h
   played_ends past (Run ticks) h =
       let c : Course = deliver t capture (DueBy (past.clock + ticks)) all past in
       ends_well past (until (past.clock + ticks) c.past c.ending)

@@ -1,16 +1,21 @@
 -- The course of one line of a script.
-use Rattle.std.specs.Prelude.{ℕ, zero, suc, ◌+◌, max, Bool, true, false, nat_le, List, [], ◌∷◌, ◌++◌, length, slice_get, Option, Some, None}
+use Rattle.std.specs.Prelude.{ℕ, zero, suc, ◌+◌, max, Bool, true, false, cond, nat_le, List, [], ◌∷◌, ◌++◌, length, slice_get, Option, Some, None}
 use Rattle.mn_base.specs.Limits.{most_steps}
 use Rattle.mn_topo.specs.Network.{Network}
 use Rattle.mn_topo.specs.declared.steps.Step.{Step}
 use Rattle.mn_topo.specs.declared.steps.Step.TheVariants.{Inject}
 use Rattle.mn_topo.specs.declared.steps.JournalEntry.{JournalEntry}
-use Rattle.mn_topo.specs.declared.steps.Damaged.TheVariants.{Undamaged}
+use Rattle.mn_topo.specs.declared.steps.Damage as damage
+use Rattle.mn_topo.specs.declared.steps.Damaged.{Damaged}
+use Rattle.mn_topo.specs.declared.steps.Damaged.TheVariants.{Undamaged, Forth, Back}
+use Rattle.mn_entry.specs.Damages.{number_of, entry_for}
 use Rattle.mn_script.specs.declared.command.Command.{Command}
-use Rattle.mn_script.specs.declared.command.Command.TheVariants.{Do, Run, Drain, Flush, Show}
+use Rattle.mn_script.specs.declared.command.Command.TheVariants.{Do, Damage, Run, Drain, Flush, Show}
 use Rattle.mn_ledger.specs.declared.refused.Refused.{Refused}
 use Rattle.mn_ledger.specs.declared.refused.Refused.TheVariants as cause
 use Rattle.mn_ledger.specs.Refusal.{refusal}
+use Rattle.mn_damage.specs.Allowed.{looks}
+use Rattle.mn_damage.specs.Refusals.{damage_refusal}
 use Rattle.mn_course.specs.declared.coming.Coming.{Coming}
 use Rattle.mn_course.specs.declared.coming.Arrivals.{Arrivals}
 use Rattle.mn_course.specs.declared.coming.Arrivals.TheVariants.{DueBy, News, AllFrames}
@@ -41,6 +46,10 @@ with_step past step = record {
   entries = past.entries ++ record { tick = past.clock; step = step; damaged = Undamaged } ∷ [];
 }
 
+-- one damage more, at the present tick
+abbrev pub with_damage : Past → damage.Damage → Past
+with_damage past hurt = record { clock = past.clock; entries = past.entries ++ entry_for past.clock hurt ∷ [] }
+
 -- the clock goes on to a tick, and never back
 abbrev pub on_to : ℕ → Past → Past
 on_to tick past = record { clock = max past.clock tick; entries = past.entries }
@@ -66,13 +75,32 @@ abbrev pub inputs_of : List (List ℕ) → List JournalEntry → List (List ℕ)
 inputs_of capture [] = []
 inputs_of capture (entry ∷ entries) = input_before capture entry.step (inputs_of capture entries)
 
+-- the record at which an entry looks: one whose packet it injects, or whose packet came in place of a message; 0 where it looks at none
+abbrev pub record_in : Step → Damaged → ℕ
+record_in (Inject s number) mark = number
+record_in step Undamaged = 0
+record_in step (Forth number) = number
+record_in step (Back number) = number
+
+abbrev pub packet_for : List (List ℕ) → JournalEntry → List ℕ
+packet_for capture entry = bytes_of (record_of capture (record_in entry.step entry.damaged))
+
+-- the packets at which a journal's entries look, in order
+abbrev pub packets_for : List (List ℕ) → List JournalEntry → List (List ℕ)
+packets_for capture [] = []
+packets_for capture (entry ∷ entries) =
+    cond (looks entry) (packet_for capture entry ∷ packets_for capture entries) (packets_for capture entries)
+
 -- 3. A step
 
--- a step is done, or refused; one that nothing else refuses is stopped by a full journal
+-- what is done, or refused; what nothing else refuses is stopped by a full journal
+abbrev pub unless_refused : Past → Past → Option Refused → Course
+unless_refused done past None = ends ending.All done
+unless_refused done past (Some cause.TooManySteps) = ends ending.TooManySteps past
+unless_refused done past (Some why) = ends (ending.Refused why) past
+
 abbrev pub tried : Past → Step → Option Refused → Course
-tried past step None = ends ending.All (with_step past step)
-tried past step (Some cause.TooManySteps) = ends ending.TooManySteps past
-tried past step (Some why) = ends (ending.Refused why) past
+tried past step why = unless_refused (with_step past step) past why
 
 abbrev pub refusal_now : Network → List (List ℕ) → Past → Step → List ℕ → Option Refused
 refusal_now topology capture past step bytes = refusal topology past.entries (inputs_of capture past.entries) step bytes
@@ -85,6 +113,14 @@ injected topology capture past step (Some bytes) = tried past step (refusal_now 
 abbrev pub stepped : Network → List (List ℕ) → Past → Step → Course
 stepped topology capture past (Inject s number) = injected topology capture past (Inject s number) (record_of capture number)
 stepped topology capture past step = tried past step (refusal_now topology capture past step [])
+
+-- a damaged message: that the capture hasn't the record comes before every refusal
+abbrev pub damage_refused_by : Network → List (List ℕ) → Past → damage.Damage → List ℕ → Option Refused
+damage_refused_by topology capture past hurt bytes = damage_refusal topology past.entries (inputs_of capture past.entries) hurt bytes
+
+abbrev pub damaged : Network → List (List ℕ) → Past → damage.Damage → Option (List ℕ) → Course
+damaged topology capture past hurt None = ends ending.NoRecord past
+damaged topology capture past hurt (Some bytes) = unless_refused (with_damage past hurt) past (damage_refused_by topology capture past hurt bytes)
 
 -- 4. What arrives, one after another
 
@@ -133,6 +169,7 @@ most_of None = all
 
 abbrev pub played : Network → List (List ℕ) → Past → Command → Course
 played topology capture past (Do step) = stepped topology capture past step
+played topology capture past (Damage hurt) = damaged topology capture past hurt (record_of capture (number_of hurt))
 played topology capture past (Run ticks) =
     let course : Course = deliver topology capture (DueBy (past.clock + ticks)) all past in
     until (past.clock + ticks) course.past course.ending

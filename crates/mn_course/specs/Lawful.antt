@@ -7,7 +7,8 @@ use Rattle.mn_ledger.specs.Ledger.{packets_of}
 use Rattle.mn_ledger.specs.Lawful.{GoesForward, IsLawfulJournal}
 use Rattle.mn_ledger.specs.OneMore.{tick_from}
 use Rattle.mn_ledger.specs.Verdicts.{injections}
-use Rattle.mn_course.specs.Course.{Past, inputs_of}
+use Rattle.mn_damage.specs.Allowed.{AreAllowed}
+use Rattle.mn_course.specs.Course.{Past, inputs_of, packets_for}
 use Rattle.mn_course.specs.Expansion.{Table, Expansion}
 
 -- a lawful journal, with a packet for each injection; the clock went on from its last step, past no frame that was due
@@ -16,7 +17,9 @@ pub record IsLawfulPast (topology : Network) (capture : List (List ℕ)) (past :
   pub forward : GoesForward topology (tick_from 0 past.entries) (packets_of topology past.entries (inputs_of capture past.entries)) past.clock
   pub each : length (inputs_of capture past.entries) ≡ injections past.entries
 
--- a script's journal is lawful, and so is the journal at each of its tables
+-- A script's journal is lawful, and so is the journal at each of its tables. Nothing refused any of its entries, a step by its own rules
+-- and a damage by its own, with the packets at which they look.
 pub record IsLawfulRun (topology : Network) (capture : List (List ℕ)) (run : Expansion) : Type 0 where
   pub past : IsLawfulPast topology capture run.past
+  pub allowed : AreAllowed topology run.past.entries (packets_for capture run.past.entries)
   pub tables : (table : show.Show) (so_far : Past) → Contains run.notes (Table table so_far) → IsLawfulPast topology capture so_far

@@ -3,7 +3,7 @@ use Rattle.std.specs.Prelude.{◌≡◌, ◌≤◌, ℕ, ◌+◌, true, false, L
 use Rattle.std.specs.List.{Contains}
 use Rattle.mn_topo.specs.Network.{Network}
 use Rattle.mn_topo.specs.declared.steps.JournalEntry.{JournalEntry}
-use Rattle.mn_ledger.specs.Items.{Item, flight_of, in_time}
+use Rattle.mn_ledger.specs.Items.{Item, flight_of}
 use Rattle.mn_ledger.specs.OneMore.{tick_from}
 use Rattle.mn_laws.specs.Flight.{delivering, IsOpen}
 use Rattle.mn_course.specs.declared.coming.Kind.{Kind}

@@ -34,7 +34,7 @@ pub enum Ending {
     All,
     /// Its step was refused.
     Refused(Refused),
-    /// It injects a record that the capture hasn't.
+    /// It names a record that the capture hasn't: it injects it, or has it come in place of a message.
     NoRecord,
     /// A step that nothing else refuses met a full journal.
     TooManySteps,

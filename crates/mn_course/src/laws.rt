@@ -15,7 +15,8 @@ ghost use Rattle.mn_course.specs.declared.coming.Arrivals.{Arrivals};
 ghost use Rattle.mn_course.specs.declared.coming.Ending.TheVariants as ending;
 ghost use Rattle.mn_course.specs.declared.coming.Kind.{Kind};
 ghost use Rattle.mn_course.specs.Coming.{coming};
-ghost use Rattle.mn_course.specs.Course.{Past, Course, inputs_of, next_now, deliver, all, played};
+ghost use Rattle.mn_damage.specs.Allowed.{injected};
+ghost use Rattle.mn_course.specs.Course.{Past, Course, inputs_of, packets_for, next_now, deliver, all, played};
 ghost use Rattle.mn_course.specs.Drains.{DrainsOn, DrainsAll};
 ghost use Rattle.mn_course.specs.Endings.{EndsWell};
 ghost use Rattle.mn_course.specs.Expansion.{expanded};
@@ -45,10 +46,16 @@ pub fn a_line_ends_well()
         IsLawful topology → IsLawfulPast topology capture past → EndsWell past (played topology capture past command) }
 {}
 
-/// The journal of every script whose lines fit the topology is lawful, and so is the journal at each of its tables.
+/// The journal of every script whose lines fit the topology is lawful, and so is the journal at each of its tables; and nothing
+/// refused any of its entries, with the packets of the capture at which they look.
 pub fn a_script_makes_a_lawful_journal()
     ensures { (topology : Network) (capture : List (List ℕ)) (lines : List Line) →
         IsLawful topology → AllFit topology lines → IsLawfulRun topology capture (expanded topology capture lines) }
+{}
+
+/// Of the packets at which a journal's entries look, those that are injected are what the ledger is given.
+pub fn what_is_injected_is_looked_at()
+    ensures { (capture : List (List ℕ)) (entries : List JournalEntry) → injected entries (packets_for capture entries) ≡ inputs_of capture entries }
 {}
 
 /// Where all that a line lets arrive has arrived, nothing of it is left to come: a line ends for want of arrivals, and never

@@ -2,6 +2,7 @@
 //!
 //! ```text
 //!   a step         that step, unless it is refused; the clock stands still
+//!   a damage       the session whose message is damaged ends, unless that is refused; the clock stands still
 //!   run T          what is due in the next T ticks arrives, the earliest first; then T ticks have passed
 //!   drain N        notices are learned, and then messages are heard, at most N in all; the clock stands still
 //!   drain          the same, until none is in flight
@@ -28,5 +29,6 @@ pub use coming::{Arrivals, Coming, Ending, Kind};
 pub use laws::{
     a_drain_line_drains, a_line_ends_well, a_line_goes_on_lawfully, a_line_is_paced,
     a_script_is_paced, a_script_makes_a_lawful_journal, a_whole_drain_settles, nothing_is_left,
-    what_comes_next_can_be_delivered, what_was_to_arrive_has_arrived,
+    what_comes_next_can_be_delivered, what_is_injected_is_looked_at,
+    what_was_to_arrive_has_arrived,
 };

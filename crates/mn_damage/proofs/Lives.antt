@@ -20,22 +20,11 @@ use Rattle.mn_ledger.specs.Transport.{lives}
 use Rattle.mn_ledger.specs.World.{Config, World}
 use Rattle.mn_ledger.specs.Packets.{Packets}
 use Rattle.mn_ledger.specs.Refusal.{first_cause, where_holds, is_empty, limits}
-use Rattle.mn_damage.specs.Damages.{lesser, greater, entry_for, damage_fits, damage_in, damage_by}
+use Rattle.mn_damage.specs.Damages.{lesser, greater, damage_fits}
+use Rattle.mn_entry.proofs.Told.{ordered}
 use Rattle.mn_damage.specs.Refusals.{still_reads, damage_refusal_at, Ends, IsInOrder}
 
--- 1. An entry is of one damage
-
-pair_told : (a b : NodeNo) (n : ℕ) (x : Bool) →
-    damage_by (BgpDown (if x then a else b) (if x then b else a)) (if x then mark.Forth n else mark.Back n) ≡ Some (Bgp a b n)
-pair_told a b n true = refl
-pair_told a b n false = refl
-
-pub one_damage : (tick : ℕ) (d : Damage) → damage_in (entry_for tick d) ≡ Some d
-one_damage tick (Ldp l dir.Forth n) = refl
-one_damage tick (Ldp l dir.Back n) = refl
-one_damage tick (Bgp a b n) = pair_told a b n (nat_lt a.0 b.0)
-
--- 2. What nothing refuses
+-- 1. What nothing refuses
 
 -- the first two causes don't hold, and no later one
 split : (e s : Bool) (rest : List (Option Refused)) → first_cause (where_holds e Empty ∷ where_holds s StillReads ∷ rest) ≡ None →
@@ -68,24 +57,6 @@ peered : (config : Config) (a b : NodeNo) (x : Bool) → nat_lt a.0 b.0 ≡ x �
 peered config a b true h e = turned (config.bgp_on a.0 b.0) e
 peered config a b false h e = turned (config.bgp_on b.0 a.0) e
 
-after_it : (a b : NodeNo) → nat_lt a.0 b.0 ≡ false → a.0 ≢ b.0 → nat_lt b.0 a.0 ≡ true
-after_it a b h g = less_is b.0 a.0 (below (not_less_tells a.0 b.0 h))
-  where
-    below : b.0 ≤ a.0 → b.0 < a.0
-    below k = omega (arith, k, g)
-
-ordered : (t : Network) (a b : NodeNo) (x : Bool) → nat_lt a.0 b.0 ≡ x → are_edges t a b ≡ true →
-    are_edges_in_order t (if x then a else b) (if x then b else a) ≡ true
-ordered t a b true h e =
-    let both = and_left (is_edge t.vrfs a.0 && is_edge t.vrfs b.0) (not (a.0 == b.0)) e in
-    and_on (is_edge t.vrfs a.0 && is_edge t.vrfs b.0) (nat_lt a.0 b.0) both h
-ordered t a b false h e =
-    let both = and_left (is_edge t.vrfs a.0 && is_edge t.vrfs b.0) (not (a.0 == b.0)) e in
-    let other = unlike_numbers a.0 b.0 (and_right (is_edge t.vrfs a.0 && is_edge t.vrfs b.0) (not (a.0 == b.0)) e) in
-    and_on (is_edge t.vrfs b.0 && is_edge t.vrfs a.0) (nat_lt b.0 a.0)
-    (and_on (is_edge t.vrfs b.0) (is_edge t.vrfs a.0) (and_right (is_edge t.vrfs a.0) (is_edge t.vrfs b.0) both)
-    (and_left (is_edge t.vrfs a.0) (is_edge t.vrfs b.0) both)) (after_it a b h other)
-
 pub ends : (t : Network) (w : World) (k : Packets) (n : ℕ) (d : Damage) (bytes : List ℕ) → damage_fits t d ≡ true →
     damage_refusal_at t w k n d bytes ≡ None → Ends t w k n d
 ends t w k n (Ldp l dir m) bytes fit h =
@@ -104,7 +75,7 @@ ends t w k n (Bgp a b m) bytes fit h =
           (peered w.config a b (nat_lt a.0 b.0) refl (lived (peers_live w.config a.0 b.0) _ parts.0)) refl parts.1;
     }
 
--- 3. In which order it is refused
+-- 2. In which order it is refused
 
 other_than : (b : Bool) → first_cause (where_holds b TooManySteps ∷ []) ≡ Some Empty → ⊥
 other_than true h = cc

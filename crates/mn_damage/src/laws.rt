@@ -1,13 +1,7 @@
 //! Laws of the definitions, each the contract of a function that does nothing.
 ghost use Rattle.mn_damage.specs.Allowed.{IsLawfulToo};
-ghost use Rattle.mn_damage.specs.Damages.{IsOneDamage};
 ghost use Rattle.mn_damage.specs.Refusals.{ComesInOrder, EndsWhatLives};
 ghost use Rattle.mn_damage.specs.Same.{ChangesNothing};
-
-/// The entry for a damage tells that damage: which message it was, and which record came in its place.
-pub fn an_entry_is_one_damage()
-    ensures { IsOneDamage }
-{}
 
 /// Where a damage fits and nothing refuses it, its session lives: so the step that ends the session fits, and nothing refuses it.
 pub fn a_damage_ends_what_lives()

@@ -5,25 +5,22 @@
 //! after a damaged BGP message (RFC 4271, section 6) the session of the two edges is down. So to the ledger a damage is a step that
 //! it knows, and beside the step the journal's entry has a mark, at which the ledger doesn't look.
 //!
-//! ```text
-//!   damage                  would have been heard by   is also            and its mark
-//!   Ldp(link, dir, number)  HearLdp(link, dir)         LdpAdmin off       dir, number
-//!   Bgp(a, b, number)       HearBgp(a, b)              BgpDown, in order  whether a is the lesser, number
-//! ```
+//! What a damage is in words that need no ledger, `mn_entry` tells: the step by which its message would have been heard, the step that
+//! it also is, and its mark.
 //!
-//! - `specs/Damages`: these as values, and the damage that an entry tells
 //! - `specs/Refusals`: why a damage is refused
 //! - `specs/Allowed`: journals of which nothing refuses an entry, with a packet for each injection and each damage
 //! - `specs/Same`: journals that are one to the ledger
-//! - `damage`: the steps and the mark of a damage, and whether a message's reader reads a packet
+//! - `damage`: whether a message's reader reads a packet
 //! - `laws`: a damage ends what lives; such journals are lawful; marks change nothing
 #![tactic(auto)]
 
 mod damage;
 mod laws;
 
-pub use damage::{ending, hearing, mark, still_reads};
+pub use damage::still_reads;
 pub use laws::{
     a_damage_ends_what_lives, a_damaged_journal_is_lawful, a_refusal_comes_in_order,
-    an_entry_is_one_damage, marks_change_nothing,
+    marks_change_nothing,
 };
+pub use mn_entry::{an_entry_is_one_damage, ending, hearing, mark};

@@ -8,7 +8,7 @@ use Rattle.std.proofs.lemmas.List.Elements.{All-nil, All-push}
 use Rattle.mn_text.specs.Words.{words}
 use Rattle.mn_topo.specs.Lawful.{IsLawful}
 use Rattle.mn_topo.specs.Network.{Network}
-use Rattle.mn_topo.specs.Steps.{fits}
+use Rattle.mn_entry.specs.Entries.{entry_fits}
 use Rattle.mn_topo.specs.declared.steps.JournalEntry.{JournalEntry}
 use Rattle.mn_journal.specs.Lines.{text_of, IsEntry}
 use Rattle.mn_journal.specs.Reading.{asked_by, IsText, AllFit, IsFirstBad}
@@ -16,7 +16,7 @@ use Rattle.mn_journal.proofs.Words.{asked_again}
 
 -- an entry whose text asks for it
 pub record IsRead (network : Network) (entry : JournalEntry) : Type 0 where
-  pub fit : fits network entry.step ≡ true
+  pub fit : entry_fits network entry ≡ true
   pub asked : asked_by network (words (text_of network entry)) ≡ Some entry
 
 pub text_read : (network : Network) (line : List ℕ) (entry : JournalEntry) → IsText network line entry → IsRead network entry

@@ -1,4 +1,5 @@
 pub mod Spaces
 pub mod Plain
+pub mod Asked
 pub mod Words
 pub mod Journals

@@ -28,7 +28,10 @@ use Rattle.mn_topo.specs.VrfTable.{is_edge}
 use Rattle.mn_topo.specs.declared.steps.Step.{Step}
 use Rattle.mn_topo.specs.declared.steps.Step.TheVariants.{LinkUp, LinkDown, Learn, LdpAdmin, HearLdp, BgpUp, BgpDown, HearBgp, AddRoute, DelRoute, Import}
 use Rattle.mn_topo.specs.declared.steps.Step.TheVariants.{Export, Attach, Detach, Inject, Carry, Lose, Tick}
-use Rattle.mn_script.specs.Spelled.{node_text, vrf_text, site_text, from_text, to_text, step_words, IsStep}
+use Rattle.mn_topo.specs.declared.steps.Damage.{Damage}
+use Rattle.mn_topo.specs.declared.steps.Damage.TheVariants.{Ldp, Bgp}
+use Rattle.mn_entry.specs.Damages.{damage_fits}
+use Rattle.mn_script.specs.Spelled.{node_text, vrf_text, site_text, from_text, to_text, step_words, damage_words, IsStep, IsDamage}
 use Rattle.mn_script.proofs.Again.{edge_is_node}
 use Rattle.mn_text.proofs.Again.{own}
 
@@ -224,3 +227,22 @@ step_plain network (Lose link direction place) lawful fit is = (
 step_plain network (Tick ticks) lawful fit is =
     let few : ticks ≤ 1000000 = leb-true ticks 1000000 (and_parts (nat_le 1 ticks) (nat_le ticks 1000000) fit).1 in
     (refl, (number_plain ticks (omega arith), tt))
+
+pub damage_plain : (network : Network) (damage : Damage) → IsLawful network → damage_fits network damage ≡ true → IsDamage damage →
+    AllPlain (damage_words network damage)
+damage_plain network (Ldp link direction number) lawful fit is =
+    let below = ltb-true _ _ (and_parts _ _ fit).0 in (
+      refl,
+      (
+        refl,
+        (
+          from_plain network link direction lawful below,
+          (to_plain network link direction lawful below, (number_plain number (omega (arith, is)), tt)),
+        ),
+      ),
+    )
+damage_plain network (Bgp a b number) lawful fit is =
+    let below = edges_are_nodes network a b lawful (and_parts _ _ fit).0 in (
+      refl,
+      (refl, (node_plain network a.0 lawful below.0, (node_plain network b.0 lawful below.1, (number_plain number (omega (arith, is)), tt)))),
+    )

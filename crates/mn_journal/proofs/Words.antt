@@ -1,6 +1,6 @@
 -- The words of an entry's text, and the entry for which they ask.
 use Rattle.std.proofs.Common.{◌≡◌, ◌<◌, ◌+◌, ◌^◌, ℕ, zero, suc, Bool, true, false, List, [], ◌∷◌, ◌++◌, length, take, Some, None, Result, Ok, Err, refl, ap}
-use Rattle.std.proofs.Common.{sym, ◌∙◌, arith, append-nil, append_assoc}
+use Rattle.std.proofs.Common.{sym, ◌∙◌, subst, arith, append-nil, append_assoc}
 use Rattle.std.specs.Prelude.{nat_lt, nat_le, ◌-◌, map, slice_index, not, cond, ◌&&◌, ◌==◌, All, filter, take_while, if◌then◌else◌, Option}
 use Rattle.std.specs.List.{flat_map, list_all, slice_split}
 use Rattle.std.specs.Str.Lines.{lines, lines_of_parts}
@@ -18,14 +18,12 @@ use Rattle.mn_text.proofs.Again.{number_again}
 use Rattle.mn_topo.specs.Lawful.{IsLawful}
 use Rattle.mn_topo.specs.Network.{Network}
 use Rattle.mn_topo.specs.declared.steps.JournalEntry.{JournalEntry}
-use Rattle.mn_script.specs.declared.command.Command.TheVariants.{Do}
 use Rattle.mn_script.specs.Lines.{line_says}
-use Rattle.mn_script.specs.Spelled.{step_words}
 use Rattle.mn_script.specs.Words.{is_comment}
-use Rattle.mn_script.proofs.Again.{command_again}
-use Rattle.mn_journal.specs.Lines.{spaced, text_of, line_of, IsEntry}
-use Rattle.mn_journal.specs.Reading.{step_of, entry_with, asked_by}
-use Rattle.mn_journal.proofs.Plain.{all_of, is_plain_byte, is_plain, AllPlain, number_plain, step_plain}
+use Rattle.mn_journal.specs.Lines.{spaced, entry_words, text_of, line_of, IsEntry}
+use Rattle.mn_journal.specs.Reading.{entry_with, asked_by}
+use Rattle.mn_journal.proofs.Plain.{all_of, is_plain_byte, is_plain, AllPlain, number_plain}
+use Rattle.mn_journal.proofs.Asked.{asked_for}
 use Rattle.mn_text.proofs.Parts.{feed_step}
 
 -- 1. The words of words after spaces
@@ -86,13 +84,15 @@ tick_again n h =
 pub asked_again : (network : Network) (entry : JournalEntry) → IsLawful network → IsEntry network entry →
     asked_by network (words (text_of network entry)) ≡ Some entry
 asked_again network entry lawful is =
-    let plain = step_plain network entry.step lawful is.fit is.step in
-    ap (asked_by network) (words_of (number_text entry.tick) (step_words network entry.step) (number_plain entry.tick is.tick) plain)
-    ∙ ap (λ found. entry_with found (step_of (line_says network (take_while (λ word. not (is_comment word)) (step_words network entry.step)))))
+    let a = asked_for network entry lawful is in
+    let plain = subst AllPlain (sym a.words) a.plain in
+    ap (asked_by network) (words_of (number_text entry.tick) (entry_words network entry) (number_plain entry.tick is.tick) plain)
+    ∙ ap (λ found. entry_with found (line_says network (take_while (λ word. not (is_comment word)) (entry_words network entry))))
     (tick_again entry.tick is.tick)
-    ∙ ap (λ ws. entry_with (Some entry.tick) (step_of (line_says network ws))) (no_comments (step_words network entry.step) plain)
-    ∙ ap (λ said. entry_with (Some entry.tick) (step_of said)) (command_again network (Do entry.step) lawful is.fit is.step)
-    ∙ ap (λ mark. let found : JournalEntry = record { tick = entry.tick; step = entry.step; damaged = mark } in Some found) (sym is.undamaged)
+    ∙ ap (λ ws. entry_with (Some entry.tick) (line_says network ws)) (no_comments (entry_words network entry) plain)
+    ∙ ap (λ ws. entry_with (Some entry.tick) (line_says network ws)) a.words
+    ∙ ap (λ said. entry_with (Some entry.tick) said) a.said
+    ∙ a.back
 
 -- the text is that of one entry alone
 pub same_entry : (network : Network) (one other : JournalEntry) → IsLawful network → IsEntry network one → IsEntry network other →
@@ -140,11 +140,12 @@ pub lines_written : (network : Network) (entries : List JournalEntry) → IsLawf
 lines_written network [] lawful all = refl
 lines_written network (entry ∷ entries) lawful all =
     let is = all 0 entry (omega arith) in
-    let plain = step_plain network entry.step lawful is.fit is.step in
+    let asked = asked_for network entry lawful is in
+    let plain = subst AllPlain (sym asked.words) asked.plain in
     let inner =
-    list_all-append is_inner (number_text entry.tick) (spaced (step_words network entry.step))
-    ∙ and_from (list_all is_inner (number_text entry.tick)) (list_all is_inner (spaced (step_words network entry.step)))
-    (word_inner (number_text entry.tick) (number_plain entry.tick is.tick)) (spaced_inner (step_words network entry.step) plain) in
+    list_all-append is_inner (number_text entry.tick) (spaced (entry_words network entry))
+    ∙ and_from (list_all is_inner (number_text entry.tick)) (list_all is_inner (spaced (entry_words network entry)))
+    (word_inner (number_text entry.tick) (number_plain entry.tick is.tick)) (spaced_inner (entry_words network entry) plain) in
     ap lines (append_assoc (text_of network entry) (10 ∷ []) (flat_map (line_of network) entries))
     ∙ line_first (text_of network entry) (flat_map (line_of network) entries) inner
     ∙ ap (λ found. text_of network entry ∷ found) (lines_written network entries lawful (λ k d below. all (suc k) d (omega arith)))

@@ -4,45 +4,45 @@ use Rattle.std.specs.Prelude.{Vec, ⊤}
 use Rattle.std.specs.Str.Lines.{lines}
 use Rattle.std.specs.declared.alloc.Global.{Global}
 use Rattle.mn_topo.specs.Network.{Network}
-use Rattle.mn_topo.specs.Steps.{fits}
 use Rattle.mn_topo.specs.declared.steps.JournalEntry.{JournalEntry}
 use Rattle.mn_topo.specs.declared.steps.Damaged.TheVariants.{Undamaged}
+use Rattle.mn_entry.specs.Damages.{entry_for}
+use Rattle.mn_entry.specs.Entries.{entry_fits}
 use Rattle.mn_text.specs.Numbers.{number_up_to}
 use Rattle.mn_text.specs.Words.{words}
-use Rattle.mn_topo.specs.declared.steps.Step.{Step}
 use Rattle.mn_script.specs.Lines.{line_says}
 use Rattle.mn_script.specs.Words.{is_comment}
 use Rattle.mn_script.specs.declared.command.Command.{Command}
-use Rattle.mn_script.specs.declared.command.Command.TheVariants.{Do, Run, Drain, Flush, Show}
+use Rattle.mn_script.specs.declared.command.Command.TheVariants.{Do, Damage, Run, Drain, Flush, Show}
 use Rattle.mn_script.specs.declared.refusal.ScriptRule.{ScriptRule}
 use Rattle.mn_journal.specs.Lines.{text_of, IsEntry}
 use Rattle.mn_journal.specs.declared.refusal.JournalBad.{JournalBad}
 use Rattle.mn_journal.specs.declared.refusal.JournalBad.TheVariants.{BadLine, NoMemory}
 
--- the step that a script's line says, if it says one
-abbrev pub step_of : Result (Option Command) ScriptRule → Option Step
-step_of (Ok (Some (Do step))) = Some step
-step_of (Ok (Some (Run ticks))) = None
-step_of (Ok (Some (Drain most))) = None
-step_of (Ok (Some Flush)) = None
-step_of (Ok (Some (Show table))) = None
-step_of (Ok None) = None
-step_of (Err rule) = None
+-- the entry at a tick of the step or the damage that a script's line says, if it says one
+abbrev pub entry_at : ℕ → Result (Option Command) ScriptRule → Option JournalEntry
+entry_at tick (Ok (Some (Do step))) = Some (record { tick = tick; step = step; damaged = Undamaged })
+entry_at tick (Ok (Some (Damage damage))) = Some (entry_for tick damage)
+entry_at tick (Ok (Some (Run ticks))) = None
+entry_at tick (Ok (Some (Drain most))) = None
+entry_at tick (Ok (Some Flush)) = None
+entry_at tick (Ok (Some (Show table))) = None
+entry_at tick (Ok None) = None
+entry_at tick (Err rule) = None
 
-abbrev pub entry_with : Option ℕ → Option Step → Option JournalEntry
-entry_with (Some tick) (Some step) = Some (record { tick = tick; step = step; damaged = Undamaged })
-entry_with (Some tick) None = None
-entry_with None step = None
+abbrev pub entry_with : Option ℕ → Result (Option Command) ScriptRule → Option JournalEntry
+entry_with (Some tick) said = entry_at tick said
+entry_with None said = None
 
--- the entry for which a line's words ask: a tick, and a step as in a script
+-- the entry for which a line's words ask: a tick, and a step or a damage as in a script
 abbrev pub asked_by : Network → List (List ℕ) → Option JournalEntry
 asked_by network [] = None
-asked_by network (tick ∷ ws) = entry_with (number_up_to tick 18446744073709551615) (step_of (line_says network (take_while (λ word. not (is_comment word)) ws)))
+asked_by network (tick ∷ ws) = entry_with (number_up_to tick 18446744073709551615) (line_says network (take_while (λ word. not (is_comment word)) ws))
 
--- the line is the text of the entry, for which it asks and whose step the topology has room for
+-- the line is the text of the entry, for which it asks and which the topology has room for
 pub record IsText (network : Network) (line : List ℕ) (entry : JournalEntry) : Type 0 where
   pub text : line ≡ text_of network entry
-  pub fit : fits network entry.step ≡ true
+  pub fit : entry_fits network entry ≡ true
   pub asked : asked_by network (words line) ≡ Some entry
 
 -- the line is the text of the entry, or it is the text of none
@@ -55,9 +55,9 @@ abbrev pub Takes : Network → List ℕ → List JournalEntry → List JournalEn
 Takes network line old new true = (entry : JournalEntry) × IsText network line entry × (new ≡ old ++ entry ∷ [])
 Takes network line old new false = Says network line None × (new ≡ old)
 
--- each step is one that the topology has room for
+-- each is one that the topology has room for
 abbrev pub AllFit : Network → List JournalEntry → Type 0
-AllFit network entries = All (λ entry. fits network entry.step ≡ true) entries
+AllFit network entries = All (λ entry. entry_fits network entry ≡ true) entries
 
 -- the line of this number, from 1, is the text of no entry, and each line before it is the text of one
 pub record IsFirstBad (network : Network) (bytes : List ℕ) (number : ℕ) : Type 0 where

@@ -1,5 +1,5 @@
-//! The journal of a run, as text: a line for each step that was done, with the tick and the step in the words of a
-//! script.
+//! The journal of a run, as text: a line for each step or damage that was done, with the tick and the step or damage in
+//! the words of a script.
 //!
 //! ```text
 //! 0 link up pe1 p
@@ -7,9 +7,10 @@
 //! 39 route add a 10.1.0.0/16
 //! 39 inject a 1
 //! 41 carry pe1 p 0
+//! 41 damage ldp p pe1 2
 //! ```
 //!
-//! A line on a link or on LDP names the link's ends as the topology does, `hear`, `carry` and `lose` name sender and
+//! A line on a link or on LDP names the link's ends as the topology does, `hear`, `damage`, `carry` and `lose` name sender and
 //! then receiver, and `bgp` the node of lesser number first. So each entry has one line, and a line is read as an entry
 //! only where it is the entry's line, byte by byte.
 //!
@@ -26,4 +27,4 @@ mod write;
 
 pub use read::read_journal;
 pub use refusal::JournalBad;
-pub use write::put_step;
+pub use write::put_entry;

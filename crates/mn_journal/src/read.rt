@@ -4,36 +4,55 @@ ghost use Rattle.std.specs.List.{flat_map};
 ghost use Rattle.mn_text.specs.Words.{words};
 ghost use Rattle.mn_script.specs.Lines.{line_says};
 ghost use Rattle.mn_script.specs.Words.{line_words, texts};
-ghost use Rattle.mn_topo.specs.Steps.{fits};
+ghost use Rattle.mn_entry.specs.Entries.{entry_fits};
 ghost use Rattle.mn_topo.specs.declared.steps.JournalEntry.{JournalEntry};
 ghost use Rattle.mn_journal.specs.Lines.{line_of, IsEntry};
-ghost use Rattle.mn_journal.specs.Reading.{asked_by, step_of, Again, Says, Reads, Takes};
+ghost use Rattle.mn_journal.specs.Reading.{asked_by, entry_at, Again, Says, Reads, Takes};
 
 use crate::JournalBad;
 use crate::write::put_text;
+use mn_entry::{ending, mark};
 use mn_script::{Command, line_says, line_words};
 use mn_text::{first_line, first_word, number_up_to};
-use mn_topo::{Damaged, JournalEntry, Step, Topology};
+use mn_topo::{Damaged, JournalEntry, Topology};
 use std::alloc::{AllocError, Global};
 
-/// The step that words say, if they say one.
-fn step_of(topology: &Topology, words: &[&[u8]]) -> Option<Step>
-    ensures value { result ≡ step_of (line_says topology.now (texts words.now)) }
-    ensures fits { IfSome result (λ step. fits topology.now step ≡ true) }
+/// The entry at a tick of the step or the damage that words say, if they say one.
+#[tactic(auto, using(mn_entry::proofs::Told::damages_fit))]
+fn entry_at(topology: &Topology, tick: u64, words: &[&[u8]]) -> Option<JournalEntry>
+    ensures value { result ≡ entry_at tick (line_says topology.now (texts words.now)) }
+    ensures fits { IfSome result (λ entry. entry_fits topology.now entry ≡ true) }
 {
     match line_says(topology, words) {
-        Ok(Some(Command::Do(step))) => Some(step),
+        Ok(Some(Command::Do(step))) => {
+            let damaged = Damaged::Undamaged;
+            Some(JournalEntry {
+                tick,
+                step,
+                damaged,
+            })
+        }
+        Ok(Some(Command::Damage(damage))) => Some(JournalEntry {
+            tick,
+            step: ending(&damage),
+            damaged: mark(&damage),
+        }),
         _ => None,
     }
 }
 
-/// The step that a script's line says, if it says one.
-fn step_in(alloc: Global, topology: &Topology, line: &[u8]) -> Result<Option<Step>, AllocError>
-    ensures value { IfOk result (λ step. step ≡ step_of (line_says topology.now (line_words line.now))) }
-    ensures fits { IfOk result (λ step. IfSome step (λ step. fits topology.now step ≡ true)) }
+/// The entry at a tick of what a script's line says, if it says one.
+fn entry_in(
+    alloc: Global,
+    topology: &Topology,
+    tick: u64,
+    line: &[u8],
+) -> Result<Option<JournalEntry>, AllocError>
+    ensures value { IfOk result (λ found. found ≡ entry_at tick (line_says topology.now (line_words line.now))) }
+    ensures fits { IfOk result (λ found. IfSome found (λ entry. entry_fits topology.now entry ≡ true)) }
 {
     let words = line_words(alloc, line)?;
-    Ok(step_of(topology, &words))
+    Ok(entry_at(topology, tick, &words))
 }
 
 /// The entry for which a line's words ask.
@@ -43,7 +62,7 @@ fn asked(
     line: &[u8],
 ) -> Result<Option<JournalEntry>, AllocError>
     ensures value { IfOk result (λ found. found ≡ asked_by topology.now (words line.now)) }
-    ensures fits { IfOk result (λ found. IfSome found (λ entry. fits topology.now entry.step ≡ true)) }
+    ensures fits { IfOk result (λ found. IfSome found (λ entry. entry_fits topology.now entry ≡ true)) }
 {
     let Some((word, rest)) = first_word(line) else {
         return Ok(None);
@@ -51,17 +70,7 @@ fn asked(
     let Some(tick) = number_up_to(word, u64::MAX) else {
         return Ok(None);
     };
-    match step_in(alloc, topology, rest)? {
-        Some(step) => {
-            let damaged = Damaged::Undamaged;
-            Ok(Some(JournalEntry {
-                tick,
-                step,
-                damaged,
-            }))
-        }
-        None => Ok(None),
-    }
+    entry_in(alloc, topology, tick, rest)
 }
 
 /// The entry whose text the line is. The text is written into `scratch`.
@@ -77,7 +86,7 @@ fn read_line(
         return Ok(None);
     };
     scratch.clear();
-    put_text(scratch, topology, entry.tick, &entry.step)?;
+    put_text(scratch, topology, &entry)?;
     if scratch.as_slice() == line {
         Ok(Some(entry))
     } else {
@@ -128,7 +137,7 @@ impl Reading {
 
 /// The entries of a journal, in order.
 ///
-/// Each line is to be the text of a tick and of a step that fits, just as `put_step` writes it; a CR right before
+/// Each line is to be the text of a tick and of a step or a damage that fits, just as `put_entry` writes it; a CR right before
 /// the LF is passed over, and the last line may lack its LF. `BadLine` names the first line that isn't.
 pub fn read_journal(
     alloc: Global,

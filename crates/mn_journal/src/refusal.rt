@@ -8,7 +8,7 @@ use thiserror::Error;
 /// Why there are no entries.
 #[derive(Clone, Copy, Debug, PartialEq, Eq, Error)]
 pub enum JournalBad {
-    /// The line, numbered from 1, is the first that isn't the text of a tick and a step that fits.
+    /// The line, numbered from 1, is the first that isn't the text of a tick and of a step or a damage that fits.
     #[error("line {line} is no entry of the journal")]
     BadLine { line: u64 },
     #[error("no memory")]

@@ -2,21 +2,23 @@
 ghost use Rattle.std.specs.Prelude.{◌≡◌, ◌<◌, ◌++◌, ◌∷◌, [], OnOk, OnErr, length, true, slice_index_or, codes, if◌then◌else◌};
 ghost use Rattle.mn_wiring.specs.declared.links.Dir.TheVariants.{Forth};
 ghost use Rattle.mn_wiring.specs.Wiring.{sender, receiver};
-ghost use Rattle.mn_script.specs.Spelled.{node_text, vrf_text, site_text, from_text, to_text, step_words};
+ghost use Rattle.mn_script.specs.Spelled.{node_text, vrf_text, site_text, from_text, to_text, step_words, damage_words};
 ghost use Rattle.mn_text.specs.Addresses.{prefix_text};
 ghost use Rattle.mn_text.specs.Numbers.{number_text};
 ghost use Rattle.mn_text.specs.Pairs.{rt_text};
 ghost use Rattle.mn_topo.specs.Network.{wiring_of};
-ghost use Rattle.mn_topo.specs.declared.steps.Damaged.TheVariants.{Undamaged};
+ghost use Rattle.mn_topo.specs.declared.steps.Damage.TheVariants.{Ldp, Bgp};
+ghost use Rattle.mn_entry.specs.Damages.{damage_fits};
+ghost use Rattle.mn_entry.specs.Entries.{entry_fits};
 ghost use Rattle.mn_topo.specs.Steps.{fits};
-ghost use Rattle.mn_topo.specs.declared.steps.JournalEntry.{JournalEntry};
-ghost use Rattle.mn_journal.specs.Lines.{line_of, spaced, text_of, texts, Grew};
+ghost use Rattle.mn_journal.specs.Lines.{entry_words, line_of, spaced, text_of, texts, Grew};
 
 use crate::text::{prefix_text, target_text};
 use itoa::Buffer;
 use mn_base::{LinkNo, NodeNo, Rt, SiteNo, VrfNo};
+use mn_entry::damage_of;
 use mn_prefix::Prefix;
-use mn_topo::{Step, Topology};
+use mn_topo::{Damage, JournalEntry, Step, Topology};
 use mn_wiring::Dir;
 use std::alloc::AllocError;
 
@@ -243,52 +245,128 @@ fn put_step_words(out: &mut Vec<u8>, topology: &Topology, step: &Step) -> Result
     }
 }
 
+/// `damage ldp`, the sender and the receiver of a message, and the number of a record.
+fn put_damaged_ldp(
+    out: &mut Vec<u8>,
+    topology: &Topology,
+    link: LinkNo,
+    direction: Dir,
+    number: u32,
+) -> Result<(), AllocError>
+    requires { link.0 < length topology.now.links }
+    ensures ok { OnOk result (out.new.items ≡ out.old.items ++ spaced (damage_words topology.now (Ldp link direction number))) }
+    ensures grew { Grew out.old.items out.new.items }
+{
+    let (from, to) = ends(topology, link, direction);
+    let mut digits = Buffer::new();
+    put_words(
+        out,
+        &[
+            b"damage",
+            b"ldp",
+            from,
+            to,
+            digits.format(number).as_bytes(),
+        ],
+    )
+}
+
+/// `damage bgp`, the teller and the hearer of a message, and the number of a record.
+fn put_damaged_bgp(
+    out: &mut Vec<u8>,
+    topology: &Topology,
+    from: NodeNo,
+    to: NodeNo,
+    number: u32,
+) -> Result<(), AllocError>
+    requires { (from.0 < length topology.now.loopbacks) × (to.0 < length topology.now.loopbacks) }
+    ensures ok { OnOk result (out.new.items ≡ out.old.items ++ spaced (damage_words topology.now (Bgp from to number))) }
+    ensures grew { Grew out.old.items out.new.items }
+{
+    let mut digits = Buffer::new();
+    put_words(
+        out,
+        &[
+            b"damage",
+            b"bgp",
+            node_name(topology, from),
+            node_name(topology, to),
+            digits.format(number).as_bytes(),
+        ],
+    )
+}
+
+/// The words of a damage, each after a space.
+fn put_damage_words(
+    out: &mut Vec<u8>,
+    topology: &Topology,
+    damage: &Damage,
+) -> Result<(), AllocError>
+    requires { damage_fits topology.now damage.now ≡ true }
+    ensures ok { OnOk result (out.new.items ≡ out.old.items ++ spaced (damage_words topology.now damage.now)) }
+    ensures grew { Grew out.old.items out.new.items }
+{
+    topology.laws();
+    match *damage {
+        Damage::Ldp(link, direction, number) => {
+            put_damaged_ldp(out, topology, link, direction, number)
+        }
+        Damage::Bgp(from, to, number) => put_damaged_bgp(out, topology, from, to, number),
+    }
+}
+
+/// The words of an entry, each after a space.
+fn put_entry_words(
+    out: &mut Vec<u8>,
+    topology: &Topology,
+    entry: &JournalEntry,
+) -> Result<(), AllocError>
+    requires { entry_fits topology.now entry.now ≡ true }
+    ensures ok { OnOk result (out.new.items ≡ out.old.items ++ spaced (entry_words topology.now entry.now)) }
+    ensures grew { Grew out.old.items out.new.items }
+{
+    match damage_of(entry) {
+        Some(damage) => put_damage_words(out, topology, &damage),
+        None => put_step_words(out, topology, &entry.step),
+    }
+}
+
 /// What the line of an entry says, without its line feed.
 pub(crate) fn put_text(
     out: &mut Vec<u8>,
     topology: &Topology,
-    tick: u64,
-    step: &Step,
+    entry: &JournalEntry,
 ) -> Result<(), AllocError>
-    requires { fits topology.now step.now ≡ true }
-    ensures ok { OnOk result (out.new.items ≡
-        out.old.items ++ text_of topology.now (record { tick = tick; step = step.now; damaged = Undamaged })) }
+    requires { entry_fits topology.now entry.now ≡ true }
+    ensures ok { OnOk result (out.new.items ≡ out.old.items ++ text_of topology.now entry.now) }
     ensures grew { Grew out.old.items out.new.items }
 {
     let mut digits = Buffer::new();
-    out.extend_from_slice(digits.format(tick).as_bytes())?;
-    put_step_words(out, topology, step)
+    out.extend_from_slice(digits.format(entry.tick).as_bytes())?;
+    put_entry_words(out, topology, entry)
 }
 
-fn put_line(
-    out: &mut Vec<u8>,
-    topology: &Topology,
-    tick: u64,
-    step: &Step,
-) -> Result<(), AllocError>
-    requires { fits topology.now step.now ≡ true }
-    ensures ok { OnOk result (out.new.items ≡
-        out.old.items ++ line_of topology.now (record { tick = tick; step = step.now; damaged = Undamaged })) }
+fn put_line(out: &mut Vec<u8>, topology: &Topology, entry: &JournalEntry) -> Result<(), AllocError>
+    requires { entry_fits topology.now entry.now ≡ true }
+    ensures ok { OnOk result (out.new.items ≡ out.old.items ++ line_of topology.now entry.now) }
     ensures grew { Grew out.old.items out.new.items }
 {
-    put_text(out, topology, tick, step)?;
+    put_text(out, topology, entry)?;
     out.extend_from_slice(b"\n")
 }
 
-/// Appends the line of a step that was done at the tick. An `Err` appends nothing.
-pub fn put_step(
+/// Appends the line of an entry: of its step, or of the damage that made it. An `Err` appends nothing.
+pub fn put_entry(
     out: &mut Vec<u8>,
     topology: &Topology,
-    tick: u64,
-    step: &Step,
+    entry: &JournalEntry,
 ) -> Result<(), AllocError>
-    requires { fits topology.now step.now ≡ true }
-    ensures ok { OnOk result (out.new.items ≡
-        out.old.items ++ line_of topology.now (record { tick = tick; step = step.now; damaged = Undamaged })) }
+    requires { entry_fits topology.now entry.now ≡ true }
+    ensures ok { OnOk result (out.new.items ≡ out.old.items ++ line_of topology.now entry.now) }
     ensures err { OnErr result (out.new.items ≡ out.old.items) }
 {
     let before = out.len();
-    let put = put_line(out, topology, tick, step);
+    let put = put_line(out, topology, entry);
     if put.is_err() {
         out.truncate(before);
     }

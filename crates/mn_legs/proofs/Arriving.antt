@@ -6,7 +6,8 @@ use Rattle.mn_ledger.specs.Verdicts.{injections, verdict_on}
 use Rattle.mn_laws.specs.Accounts.{HasArrived, IsFate}
 use Rattle.mn_laws.specs.Deliveries.{Delivery}
 use Rattle.mn_laws.proofs.Accounted.{accounts}
-use Rattle.mn_legs.specs.Pairing.{Which, Pairing, network, Both, side, packets_in, at_first}
+use Rattle.mn_legs.specs.declared.leg.Which.{Which}
+use Rattle.mn_legs.specs.Pairing.{Pairing, network, Both, side, packets_in, at_first}
 use Rattle.mn_legs.specs.Crossing.{Crosses, CrossesAll}
 use Rattle.mn_legs.specs.Legs.{SentLeg, WasSent, LeadsTo, GoOn, last_of, passage_of, Line, after_lines, AllHaveLegs, IsLawfulIn, ArriveByTheirLegs}
 use Rattle.mn_legs.proofs.Handing.{script_holds}

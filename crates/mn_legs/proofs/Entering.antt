@@ -12,7 +12,10 @@ use Rattle.mn_ledger.specs.declared.verdict.Verdict.TheVariants.{Delivered}
 use Rattle.mn_ledger.specs.Verdicts.{injections, verdict_on}
 use Rattle.mn_laws.specs.Accounts.{Sending, IsSent}
 use Rattle.mn_laws.proofs.Elsewhere.{push_other, push_here}
-use Rattle.mn_legs.specs.Pairing.{Which, First, Second, Pairing, network, Side, Both, side, packets_in, Leg, Travel, travel}
+use Rattle.mn_legs.specs.declared.leg.Leg.{Leg}
+use Rattle.mn_legs.specs.declared.leg.Which.{Which}
+use Rattle.mn_legs.specs.declared.leg.Which.TheVariants.{First, Second}
+use Rattle.mn_legs.specs.Pairing.{Pairing, network, Side, Both, side, packets_in, Travel, travel}
 use Rattle.mn_legs.specs.Pairing.{no_travel, with_travel, with_injection, with_refusal}
 use Rattle.mn_legs.specs.Legs.{SentLeg, leg_of, WasSent, LeadsTo, GoOn, HasLegs, last_of}
 use Rattle.mn_legs.proofs.Growing.{as_it_was, Moves, moves, get_end}

@@ -8,7 +8,12 @@ use Rattle.mn_topo.specs.declared.steps.Step.{Step}
 use Rattle.mn_topo.specs.declared.steps.Step.TheVariants.{Inject, Carry}
 use Rattle.mn_topo.specs.declared.steps.JournalEntry.{JournalEntry}
 use Rattle.mn_script.specs.declared.command.Command.{Command}
-use Rattle.mn_script.specs.declared.command.Command.TheVariants.{Do, Run, Drain, Flush, Show}
+use Rattle.mn_script.specs.declared.command.Command.TheVariants.{Do, Damage, Run, Drain, Flush, Show}
+use Rattle.mn_topo.specs.declared.steps.Damage as damage
+use Rattle.mn_topo.specs.declared.steps.Damage.TheVariants.{Ldp, Bgp}
+use Rattle.mn_topo.specs.declared.steps.Damaged.TheVariants.{Undamaged}
+use Rattle.mn_entry.specs.Damages.{ending as end_of, mark_of}
+use Rattle.mn_damage.specs.Refusals.{damage_refusal}
 use Rattle.mn_ledger.specs.declared.refused.Refused.{Refused}
 use Rattle.mn_ledger.specs.declared.refused.Refused.TheVariants as cause
 use Rattle.mn_ledger.specs.Ledger.{injects, packets_of}
@@ -26,8 +31,10 @@ use Rattle.mn_course.specs.declared.coming.Ending.{Ending}
 use Rattle.mn_course.specs.declared.coming.Ending.TheVariants as ending
 use Rattle.mn_course.specs.Coming.{next_arrival, delivery, coming, coming_by, lost, is_lost, place_of, earlier, or_else, is_due_before, ever, least, due_by}
 use Rattle.mn_course.specs.Course.{as_due, is_journal_full, all, most_of}
-use Rattle.mn_legs.specs.Pairing.{Which, First, Second, opposite, Pairing, network, partner, Side, Both, side, with_side, at_first, packets_in, Travel, travel}
-use Rattle.mn_legs.specs.Pairing.{no_travel, with_travel, with_plain_step, with_injection, Landing, landed}
+use Rattle.mn_legs.specs.declared.leg.Which.{Which}
+use Rattle.mn_legs.specs.declared.leg.Which.TheVariants.{First, Second}
+use Rattle.mn_legs.specs.Pairing.{opposite, Pairing, network, partner, Side, Both, side, with_side, at_first, packets_in, Travel, travel}
+use Rattle.mn_legs.specs.Pairing.{no_travel, with_travel, with_plain_step, with_damage, with_injection, Landing, landed}
 use Rattle.mn_legs.specs.Course.{PairCourse, refusal_on, taken_in, enters, lands, crossed, handed_on, tried, stepped, unless_stopped, arrived, one_by_one, deliver, until, played}
 use Rattle.mn_legs.specs.Legs.{SentLeg, LeadsTo, HasLegs, last_of, Line, after_lines}
 use Rattle.mn_legs.proofs.Landing.{HasLanded, has_landed, as_many_verdicts}
@@ -114,7 +121,7 @@ module _ (pairing : Pairing) where
 
   enters_holds : (on : Both → PairCourse) (w : Which) → GoesOn on (opposite w) → (a : Both) → Holds pairing a → IsFresh pairing a w
       → (landing : Landing) → landed (packets_in pairing a w) ≡ Some landing → (o : Option ℕ) → partner pairing w landing.site ≡ o
-      → Holds pairing (enters pairing a w (slice_index_or (side a w).owners landing.packet 0) landing.bytes on o).both
+      → Holds pairing (enters pairing a w landing on o).both
   enters_holds on w goes a h fresh landing e None j = h
   enters_holds on w goes a h fresh landing e (Some s) j =
       taken_holds on w goes a h fresh landing e s j
@@ -130,11 +137,15 @@ module _ (pairing : Pairing) where
   crossed_holds (suc n) w a h fresh =
       lands_holds (λ later. crossed n pairing (opposite w) later) w (crossed_holds n (opposite w)) a h fresh (landed (packets_in pairing a w)) refl
 
+  pub handed_holds : (w : Which) (a : Both) → Holds pairing a → IsFresh pairing a w → Holds pairing (handed_on pairing w a).both
+  unfolding handed_on
+  handed_holds w a h fresh = crossed_holds 256 w a h fresh
+
   -- 2. A step
 
   tried_holds : (w : Which) (a done : Both) (why : Option Refused) → Holds pairing a → Holds pairing done → IsFresh pairing done w
       → Holds pairing (tried pairing w a done why).both
-  tried_holds w a done None h after fresh = crossed_holds 256 w done after fresh
+  tried_holds w a done None h after fresh = handed_holds w done after fresh
   tried_holds w a done (Some cause.TooManySteps) h after fresh = h
   tried_holds w a done (Some why) h after fresh = h
 
@@ -147,7 +158,7 @@ module _ (pairing : Pairing) where
       (entered_holds pairing (with_travel a number) s.0 number bytes (length a.travels) w way
       (first_leg pairing (with_travel a number) s.0 number bytes (length a.travels) w way none))
       (entered_fresh pairing (with_travel a number) s.0 number bytes (length a.travels) w way)
-  stepped_holds w a s bytes h = tried_holds w a (with_plain_step a w s) (refusal_on pairing a w s []) h (plain_holds pairing w a s refl h) (plain_fresh pairing w a s refl h)
+  stepped_holds w a s bytes h = tried_holds w a (with_plain_step a w s) (refusal_on pairing a w s []) h (plain_holds pairing w a s Undamaged refl h) (plain_fresh pairing w a s Undamaged refl h)
 
 -- 3. What arrives
 
@@ -207,8 +218,8 @@ module _ (pairing : Pairing) (w : Which) (arrivals : Arrivals) where
   arrived_holds a item plain h =
       let due : Both = with_side a w (record (side a w) { past = as_due arrivals item.due (side a w).past }) in
       let now = due_holds pairing w a arrivals item.due h in
-      crossed_holds pairing 256 w (with_plain_step due w (delivery item)) (plain_holds pairing w due (delivery item) plain now)
-      (plain_fresh pairing w due (delivery item) plain now)
+      handed_holds pairing w (with_plain_step due w (delivery item)) (plain_holds pairing w due (delivery item) Undamaged plain now)
+      (plain_fresh pairing w due (delivery item) Undamaged plain now)
 
   unless_holds : (on : Both → PairCourse) → ((later : Both) → Holds pairing later → Holds pairing (on later).both) → (a : Both) (how : Ending) → Holds pairing a
       → Holds pairing (unless_stopped on a how).both
@@ -232,6 +243,18 @@ module _ (pairing : Pairing) (w : Which) (arrivals : Arrivals) where
 
 -- 4. Lines
 
+-- a damaged message injects nothing
+no_injection : (d : damage.Damage) → injects (end_of d) ≡ false
+no_injection (Ldp l dir _) = refl
+no_injection (Bgp a b _) = refl
+
+damage_holds : (pairing : Pairing) (w : Which) (a : Both) (d : damage.Damage) (why : Option Refused) → Holds pairing a
+    → Holds pairing (tried pairing w a (with_damage a w d) why).both
+damage_holds pairing w a d why h =
+    let none = no_injection d in
+    tried_holds pairing w a (with_damage a w d) why h (plain_holds pairing w a (end_of d) (mark_of d) none h)
+    (plain_fresh pairing w a (end_of d) (mark_of d) none h)
+
 until_holds : (pairing : Pairing) (end : ℕ) (w : Which) (a : Both) (how : Ending) → Holds pairing a → Holds pairing (until end w a how).both
 until_holds pairing end w a ending.All h = clock_holds pairing w a (max (side a w).past.clock end) h
 until_holds pairing end w a how h = h
@@ -239,6 +262,8 @@ until_holds pairing end w a how h = h
 pub played_holds : (pairing : Pairing) (w : Which) (a : Both) (command : Command) (bytes : List ℕ) → Holds pairing a
     → Holds pairing (played pairing w a command bytes).both
 played_holds pairing w a (Do step) bytes h = stepped_holds pairing w a step bytes h
+played_holds pairing w a (Damage d) bytes h =
+    damage_holds pairing w a d (damage_refusal (network pairing w) (side a w).past.entries (side a w).inputs d bytes) h
 played_holds pairing w a (Run ticks) bytes h =
     let end : ℕ = (side a w).past.clock + ticks in
     until_holds pairing end w (deliver pairing w (DueBy end) all a).both (deliver pairing w (DueBy end) all a).ending (deliver_holds pairing w (DueBy end) all a h)

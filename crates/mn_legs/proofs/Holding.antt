@@ -4,7 +4,7 @@ use Rattle.std.proofs.Common.{Some, refl, arith, sym, ◌∙◌, ap, subst}
 use Rattle.mn_base.proofs.Bools.{same_test}
 use Rattle.mn_base.specs.declared.numbers.SiteNo.{SiteNo}
 use Rattle.mn_topo.specs.declared.steps.Step.{Step}
-use Rattle.mn_topo.specs.declared.steps.Damaged.TheVariants.{Undamaged}
+use Rattle.mn_topo.specs.declared.steps.Damaged.{Damaged}
 use Rattle.mn_topo.specs.declared.steps.JournalEntry.{JournalEntry}
 use Rattle.mn_ledger.specs.declared.verdict.Verdict.TheVariants.{Delivered}
 use Rattle.mn_ledger.specs.Ledger.{injects}
@@ -16,8 +16,11 @@ use Rattle.mn_laws.specs.Deliveries.{Delivery, deliveries_of}
 use Rattle.mn_laws.proofs.At.{packets_whole}
 use Rattle.mn_laws.proofs.Copies.{numbered}
 use Rattle.mn_laws.proofs.Fates.{in_verdicts}
-use Rattle.mn_legs.specs.Pairing.{Which, First, Second, Pairing, network, Side, Both, side, with_side, packets_in, Leg, Travel, travel}
-use Rattle.mn_legs.specs.Pairing.{no_travel, with_plain_step}
+use Rattle.mn_legs.specs.declared.leg.Leg.{Leg}
+use Rattle.mn_legs.specs.declared.leg.Which.{Which}
+use Rattle.mn_legs.specs.declared.leg.Which.TheVariants.{First, Second}
+use Rattle.mn_legs.specs.Pairing.{Pairing, network, Side, Both, side, with_side, packets_in, Travel, travel}
+use Rattle.mn_legs.specs.Pairing.{no_travel, with_marked}
 use Rattle.mn_legs.specs.Legs.{SentLeg, leg_of, WasSent, LeadsTo, GoOn, HasLegs, last_of}
 use Rattle.mn_legs.proofs.Growing.{Grows, as_it_was, Moves, moves, within}
 use Rattle.mn_legs.proofs.Landing.{copy_of}
@@ -179,11 +182,11 @@ listed_now pairing w a b step bytes d = let lands = step.moved.lands bytes d in 
 
 -- 4. A step that injects nothing
 
-plain_moves : (pairing : Pairing) (a : Both) (w : Which) (s : Step) → injects s ≡ false → length (side a w).inputs ≡ injections (side a w).past.entries
+plain_moves : (pairing : Pairing) (a : Both) (w : Which) (s : Step) (mark : Damaged) → injects s ≡ false → length (side a w).inputs ≡ injections (side a w).past.entries
     → Moves (network pairing w) (side a w).past.entries (side a w).inputs
-    ((side a w).past.entries ++ record { tick = (side a w).past.clock; step = s; damaged = Undamaged } ∷ []) (side a w).inputs
-plain_moves pairing a w s plain each =
-    let e : JournalEntry = record { tick = (side a w).past.clock; step = s; damaged = Undamaged } in
+    ((side a w).past.entries ++ record { tick = (side a w).past.clock; step = s; damaged = mark } ∷ []) (side a w).inputs
+plain_moves pairing a w s mark plain each =
+    let e : JournalEntry = record { tick = (side a w).past.clock; step = s; damaged = mark } in
     subst (Moves (network pairing w) (side a w).past.entries (side a w).inputs ((side a w).past.entries ++ e ∷ []))
     (ap (λ f. added f [] (side a w).inputs) plain) (moves (network pairing w) (side a w).past.entries (side a w).inputs e [] each)
 
@@ -207,59 +210,59 @@ alike_holds pairing a b grow alike each h = record {
       (sym alike.travels) old);
 }
 
-plain_grows : (pairing : Pairing) (w : Which) (a : Both) (s : Step)
-    → SideGrows pairing w (side a w) (side (with_plain_step a w s) w) → BothGrow pairing a (with_plain_step a w s)
-plain_grows pairing First a s g First = g
-plain_grows pairing First a s g Second = as_it_was (network pairing Second) (side a Second).past.entries (side a Second).inputs
-plain_grows pairing Second a s g First = as_it_was (network pairing First) (side a First).past.entries (side a First).inputs
-plain_grows pairing Second a s g Second = g
+plain_grows : (pairing : Pairing) (w : Which) (a : Both) (s : Step) (mark : Damaged)
+    → SideGrows pairing w (side a w) (side (with_marked a w s mark) w) → BothGrow pairing a (with_marked a w s mark)
+plain_grows pairing First a s mark g First = g
+plain_grows pairing First a s mark g Second = as_it_was (network pairing Second) (side a Second).past.entries (side a Second).inputs
+plain_grows pairing Second a s mark g First = as_it_was (network pairing First) (side a First).past.entries (side a First).inputs
+plain_grows pairing Second a s mark g Second = g
 
-plain_moved : (pairing : Pairing) (w : Which) (a : Both) (s : Step) → injects s ≡ false → Holds pairing a
-    → Moves (network pairing w) (side a w).past.entries (side a w).inputs (side (with_plain_step a w s) w).past.entries (side (with_plain_step a w s) w).inputs
-plain_moved pairing First a s plain h = plain_moves pairing a First s plain (h.each First)
-plain_moved pairing Second a s plain h = plain_moves pairing a Second s plain (h.each Second)
+plain_moved : (pairing : Pairing) (w : Which) (a : Both) (s : Step) (mark : Damaged) → injects s ≡ false → Holds pairing a
+    → Moves (network pairing w) (side a w).past.entries (side a w).inputs (side (with_marked a w s mark) w).past.entries (side (with_marked a w s mark) w).inputs
+plain_moved pairing First a s mark plain h = plain_moves pairing a First s mark plain (h.each First)
+plain_moved pairing Second a s mark plain h = plain_moves pairing a Second s mark plain (h.each Second)
 
-plain_step : (pairing : Pairing) (w : Which) (a : Both) (s : Step) → injects s ≡ false → Holds pairing a → IsStep pairing w a (with_plain_step a w s)
-plain_step pairing w a s plain h =
-    let m = plain_moved pairing w a s plain h in record { grow = plain_grows pairing w a s m.grows; moved = m }
+plain_step : (pairing : Pairing) (w : Which) (a : Both) (s : Step) (mark : Damaged) → injects s ≡ false → Holds pairing a → IsStep pairing w a (with_marked a w s mark)
+plain_step pairing w a s mark plain h =
+    let m = plain_moved pairing w a s mark plain h in record { grow = plain_grows pairing w a s mark m.grows; moved = m }
 
-plain_alike : (w : Which) (a : Both) (s : Step) → AreAlike a (with_plain_step a w s)
-plain_alike First a s = record { travels = refl; owners = both; inputs = inputs }
+plain_alike : (w : Which) (a : Both) (s : Step) (mark : Damaged) → AreAlike a (with_marked a w s mark)
+plain_alike First a s mark = record { travels = refl; owners = both; inputs = inputs }
   where
-    both : (v : Which) → (side (with_plain_step a First s) v).owners ≡ (side a v).owners
+    both : (v : Which) → (side (with_marked a First s mark) v).owners ≡ (side a v).owners
     both First = refl
     both Second = refl
 
-    inputs : (v : Which) → (side (with_plain_step a First s) v).inputs ≡ (side a v).inputs
+    inputs : (v : Which) → (side (with_marked a First s mark) v).inputs ≡ (side a v).inputs
     inputs First = refl
     inputs Second = refl
-plain_alike Second a s = record { travels = refl; owners = both; inputs = inputs }
+plain_alike Second a s mark = record { travels = refl; owners = both; inputs = inputs }
   where
-    both : (v : Which) → (side (with_plain_step a Second s) v).owners ≡ (side a v).owners
+    both : (v : Which) → (side (with_marked a Second s mark) v).owners ≡ (side a v).owners
     both First = refl
     both Second = refl
 
-    inputs : (v : Which) → (side (with_plain_step a Second s) v).inputs ≡ (side a v).inputs
+    inputs : (v : Which) → (side (with_marked a Second s mark) v).inputs ≡ (side a v).inputs
     inputs First = refl
     inputs Second = refl
 
-plain_each : (pairing : Pairing) (w : Which) (a : Both) (s : Step) → IsStep pairing w a (with_plain_step a w s) → Holds pairing a → (v : Which)
-    → length (side (with_plain_step a w s) v).inputs ≡ injections (side (with_plain_step a w s) v).past.entries
-plain_each pairing First a s step h First = step.moved.each
-plain_each pairing First a s step h Second = h.each Second
-plain_each pairing Second a s step h First = h.each First
-plain_each pairing Second a s step h Second = step.moved.each
+plain_each : (pairing : Pairing) (w : Which) (a : Both) (s : Step) (mark : Damaged) → IsStep pairing w a (with_marked a w s mark) → Holds pairing a → (v : Which)
+    → length (side (with_marked a w s mark) v).inputs ≡ injections (side (with_marked a w s mark) v).past.entries
+plain_each pairing First a s mark step h First = step.moved.each
+plain_each pairing First a s mark step h Second = h.each Second
+plain_each pairing Second a s mark step h First = h.each First
+plain_each pairing Second a s mark step h Second = step.moved.each
 
-pub plain_holds : (pairing : Pairing) (w : Which) (a : Both) (s : Step) → injects s ≡ false → Holds pairing a → Holds pairing (with_plain_step a w s)
-plain_holds pairing w a s plain h =
-    let step = plain_step pairing w a s plain h in
-    alike_holds pairing a (with_plain_step a w s) step.grow (plain_alike w a s) (plain_each pairing w a s step h) h
+pub plain_holds : (pairing : Pairing) (w : Which) (a : Both) (s : Step) (mark : Damaged) → injects s ≡ false → Holds pairing a → Holds pairing (with_marked a w s mark)
+plain_holds pairing w a s mark plain h =
+    let step = plain_step pairing w a s mark plain h in
+    alike_holds pairing a (with_marked a w s mark) step.grow (plain_alike w a s mark) (plain_each pairing w a s mark step h) h
 
-pub plain_fresh : (pairing : Pairing) (w : Which) (a : Both) (s : Step) → injects s ≡ false → Holds pairing a → IsFresh pairing (with_plain_step a w s) w
-plain_fresh pairing w a s plain h =
-    let b : Both = with_plain_step a w s in
-    let step = plain_step pairing w a s plain h in
-    let same : b.travels ≡ a.travels = (plain_alike w a s).travels in record {
+pub plain_fresh : (pairing : Pairing) (w : Which) (a : Both) (s : Step) (mark : Damaged) → injects s ≡ false → Holds pairing a → IsFresh pairing (with_marked a w s mark) w
+plain_fresh pairing w a s mark plain h =
+    let b : Both = with_marked a w s mark in
+    let step = plain_step pairing w a s mark plain h in
+    let same : b.travels ≡ a.travels = (plain_alike w a s mark).travels in record {
       last = λ bytes d j site ttl v i below has.
           let old = h.legs i (subst (λ (ts : List Travel). i < length ts) same below) in
           subst (λ ts. IsLast w j (slice_index_or ts i no_travel).legs) (sym same)

@@ -10,7 +10,9 @@ use Rattle.mn_ledger.specs.Verdicts.{verdict_on}
 use Rattle.mn_laws.specs.Accounts.{Sending, IsSent}
 use Rattle.mn_laws.specs.Deliveries.{Delivery, deliveries_of}
 use Rattle.mn_laws.specs.Named.{AreBytes}
-use Rattle.mn_legs.specs.Pairing.{Which, opposite, Pairing, network, partner, Both, side, packets_in, Leg, Travel, travel, at_first}
+use Rattle.mn_legs.specs.declared.leg.Leg.{Leg}
+use Rattle.mn_legs.specs.declared.leg.Which.{Which}
+use Rattle.mn_legs.specs.Pairing.{opposite, Pairing, network, partner, Both, side, packets_in, Travel, travel, at_first}
 use Rattle.mn_legs.specs.Course.{played}
 use Rattle.mn_legs.specs.Crossing.{Passage, CrossesAll}
 

@@ -4,16 +4,20 @@ use Rattle.std.specs.Prelude.{ℕ, ◌+◌, ◌==◌, cond, List, [], ◌∷◌,
 use Rattle.mn_topo.specs.Network.{Network}
 use Rattle.mn_topo.specs.declared.steps.Step.{Step}
 use Rattle.mn_topo.specs.declared.steps.Step.TheVariants.{Inject}
+use Rattle.mn_topo.specs.declared.steps.Damage.{Damage}
+use Rattle.mn_topo.specs.declared.steps.Damaged.{Damaged}
+use Rattle.mn_topo.specs.declared.steps.Damaged.TheVariants.{Undamaged}
+use Rattle.mn_entry.specs.Damages.{ending, mark_of}
 use Rattle.mn_ledger.specs.declared.verdict.Verdict.{Verdict}
 use Rattle.mn_ledger.specs.declared.verdict.Verdict.TheVariants.{Delivered}
 use Rattle.mn_ledger.specs.declared.refused.Refused.{Refused}
 use Rattle.mn_ledger.specs.Packets.{Packets}
+use Rattle.mn_ledger.specs.Time.{ticks_in}
 use Rattle.mn_ledger.specs.Ledger.{packets_of}
 use Rattle.mn_course.specs.Course.{Past, with_step}
-
-pub data Which : Type 0 where
-  First : Which
-  Second : Which
+use Rattle.mn_legs.specs.declared.leg.Which.{Which}
+use Rattle.mn_legs.specs.declared.leg.Which.TheVariants.{First, Second}
+use Rattle.mn_legs.specs.declared.leg.Leg.{Leg}
 
 abbrev pub opposite : Which → Which
 opposite First = Second
@@ -52,11 +56,6 @@ pub record Side : Type 0 where
   pub past : Past
   pub inputs : List (List ℕ)
   pub owners : List ℕ
-
--- an injection, by its network and its number there
-pub record Leg : Type 0 where
-  pub which : Which
-  pub packet : ℕ
 
 -- a packet that a line of the script sent: the number of its record, its legs, and why the other network refused the last
 -- injection, where it did
@@ -106,9 +105,23 @@ with_leg both which packet =
 abbrev pub with_refusal : Both → ℕ → Refused → Both
 with_refusal both packet why = record both { travels = slice_set both.travels packet (record (travel both packet) { refused = Some why }) }
 
+-- a step with a mark, which has one where a damaged message made it
+abbrev pub marked_step : Past → Step → Damaged → Past
+marked_step past step mark = record {
+  clock = past.clock + ticks_in step;
+  entries = past.entries ++ record { tick = past.clock; step = step; damaged = mark } ∷ [];
+}
+
+abbrev pub with_marked : Both → Which → Step → Damaged → Both
+with_marked both which step mark = with_side both which (record (side both which) { past = marked_step (side both which).past step mark })
+
 -- a step other than an injection
 abbrev pub with_plain_step : Both → Which → Step → Both
-with_plain_step both which step = with_side both which (record (side both which) { past = with_step (side both which).past step })
+with_plain_step both which step = with_marked both which step Undamaged
+
+-- a damaged message ends its session
+abbrev pub with_damage : Both → Which → Damage → Both
+with_damage both which damage = with_marked both which (ending damage) (mark_of damage)
 
 -- an injection of a packet, with its bytes
 abbrev pub with_injection : Both → Which → ℕ → ℕ → List ℕ → ℕ → Both

@@ -8,7 +8,8 @@ use Rattle.mn_topo.specs.declared.steps.Step.TheVariants.{AddRoute, HearBgp, Inj
 use Rattle.mn_script.specs.declared.command.Command.TheVariants.{Do, Flush}
 use Rattle.mn_ledger.specs.declared.verdict.Verdict.TheVariants.{Delivered, Dropped}
 use Rattle.mn_ledger.proofs.TwoLinks.{two_links, settling, at_start, link_no, site_no, node_no}
-use Rattle.mn_legs.specs.Pairing.{First, Second, Pairing, Side, Both, Travel, packets_in}
+use Rattle.mn_legs.specs.declared.leg.Which.TheVariants.{First, Second}
+use Rattle.mn_legs.specs.Pairing.{Pairing, Side, Both, Travel, packets_in}
 use Rattle.mn_legs.specs.Course.{stepped, played}
 
 abbrev pub pairing : Pairing

@@ -10,6 +10,7 @@
 //!                            +------ delivered: its next leg -------+
 //! ```
 //!
+//! - `leg`: which of the two networks, and a leg there
 //! - `specs/Pairing`: networks, joints and legs; what has happened in both, and what the last step of a network delivered
 //! - `specs/Course`: what each line of a script does, as in `mn_course` but over both networks
 //! - `specs/Crossing`: a packet that crosses any number of networks, in the words that a customer is promised (`mn_laws`)
@@ -28,6 +29,10 @@ ghost use Rattle.mn_legs.specs.Pairing.{Pairing, at_first};
 ghost use Rattle.mn_legs.specs.Legs.{Line, after_lines, AllHaveLegs, ArriveByTheirLegs};
 ghost use Rattle.mn_legs.specs.TwoProviders.{TheyAreJoined};
 ghost use Rattle.mn_legs.specs.Crossing.{Passage, CrossesAll, all_nodes, ItCrosses};
+
+mod leg;
+
+pub use leg::{Leg, Which};
 
 /// A packet that crosses networks one after another arrives as it was sent but for TTL and checksum, and each node of each
 /// network has lowered its TTL by one. With a TTL for all nodes it has enough left for each leg to come.

@@ -3,7 +3,8 @@ ghost use Rattle.std.specs.Prelude.{◌≡◌, None, ⊤, is_some};
 ghost use Rattle.std.proofs.lemmas.Option.{none-some};
 ghost use Rattle.mn_sched.specs.Watching.{is_record};
 
-use mn_journal::put_step;
+use mn_entry::entry_fits;
+use mn_journal::put_entry;
 use mn_net::{Done, Net};
 use mn_sched::{Watch, WatchBad};
 use std::alloc::{AllocError, Global};
@@ -49,10 +50,10 @@ fn note(journal: &mut Vec<u8>, net: &Net) -> Result<(), AllocError> {
     let Some(entry) = net.journal().last() else {
         return Err(AllocError);
     };
-    if !net.topology().fits(&entry.step) {
+    if !entry_fits(net.topology(), entry) {
         return Err(AllocError);
     }
-    put_step(journal, net.topology(), entry.tick, &entry.step)
+    put_entry(journal, net.topology(), entry)
 }
 
 /// It tells neither its packet nor what it keeps.

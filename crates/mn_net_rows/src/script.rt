@@ -7,6 +7,7 @@ ghost use Rattle.mn_script.specs.Lines.{command_fits};
 ghost use Rattle.mn_sched.specs.Playing.{is_show};
 
 use crate::recorder::Recorder;
+use mn_entry::damage_fits;
 use mn_net::Net;
 use mn_rows::{Answer, Call, shown};
 use mn_sched::{Played, Stopped, play};
@@ -45,6 +46,7 @@ fn is_playable(topology: &Topology, command: &Command) -> bool
 {
     match *command {
         Command::Do(step) => topology.fits(&step),
+        Command::Damage(damage) => damage_fits(topology, &damage),
         Command::Run(ticks) => ticks <= 1_000_000,
         Command::Drain(Some(most)) => most <= 4_000_000,
         Command::Drain(None) | Command::Flush => true,

@@ -1,13 +1,14 @@
 -- Files, tables and a report over the network of two links, computed from the definitions:
 --
 --     site a --- pe1 --- p --- pe2 --- site b
-use Rattle.std.specs.Prelude.{◌≡◌, refl, ℕ, ◌+◌, List, [], ◌∷◌, ◌++◌, drop, take, codes, None}
+use Rattle.std.specs.Prelude.{◌≡◌, refl, ℕ, ◌+◌, List, [], ◌∷◌, ◌++◌, drop, take, codes, Some, None}
 use Rattle.std.specs.Fmt.{digits}
 use Rattle.mn_wiring.specs.declared.links.Dir.TheVariants.{Forth, Back}
 use Rattle.mn_wiring.specs.Paths.{next}
 use Rattle.mn_ipv4.specs.Header.{is_not_ipv4, is_malformed, is_truncated, has_bad_checksum, good, checksum_for, with_ttl, aged}
 use Rattle.mn_text.specs.Addresses.{address_text, prefix_text}
 use Rattle.mn_stack.specs.Entry.{entry_bytes}
+use Rattle.mn_stack.specs.Reading.{entries_of}
 use Rattle.mn_ldp_wire.specs.Grammar.{framed, prefix_element, address_list, status_value, session_parameters, written_message, written}
 use Rattle.mn_vpn_nlri.specs.Grammar.{nlri_of}
 use Rattle.mn_topo.specs.declared.steps.Step.{Step}
@@ -16,7 +17,7 @@ use Rattle.mn_topo.specs.declared.steps.JournalEntry.{JournalEntry}
 use Rattle.mn_topo.specs.declared.steps.Damaged.TheVariants.{Undamaged}
 use Rattle.mn_script.specs.declared.command.Command.{Command}
 use Rattle.mn_script.specs.declared.command.Command.TheVariants.{Do, Drain, Flush, Show}
-use Rattle.mn_script.specs.declared.command.Show.TheVariants.{Links, Tree, Ldp, Bgp, Vrf, Flight}
+use Rattle.mn_script.specs.declared.command.Show.TheVariants.{Links, Tree, Ldp, Bgp, Vrf, Flight, Frame}
 use Rattle.mn_script.specs.declared.command.Line.{Line}
 use Rattle.mn_ledger.specs.Transport.{knowledge_of, news, sessions_after}
 use Rattle.mn_ledger.specs.Bgp.{peerings_after}
@@ -132,7 +133,7 @@ unfolding next knowledge_of news sessions_after peerings_after held packets_afte
 an_edge_tells_138_bytes = refl
 
 -- before a node learns, another is out of its reach
-pub links_that_are_learned : table_text two_links (at 0 (LinkUp (link_no 0)) ∷ at 0 (LinkUp (link_no 1)) ∷ at 0 (Learn (node_no 0) (link_no 0)) ∷ []) []
+pub links_that_are_learned : table_text two_links (at 0 (LinkUp (link_no 0)) ∷ at 0 (LinkUp (link_no 1)) ∷ at 0 (Learn (node_no 0) (link_no 0)) ∷ []) [] None
     (Tree (node_no 0))
     ≡ codes "tree pe1 to p cost 10 next p\ntree pe1 to pe2 unreachable\n"
 unfolding next knowledge_of news sessions_after peerings_after held packets_after is_not_ipv4 is_malformed is_truncated has_bad_checksum good
@@ -140,42 +141,42 @@ unfolding next knowledge_of news sessions_after peerings_after held packets_afte
 links_that_are_learned = refl
 
 -- settled, each node reaches each other
-pub all_are_reached : table_text two_links settling [] (Tree (node_no 0))
+pub all_are_reached : table_text two_links settling [] None (Tree (node_no 0))
     ≡ codes "tree pe1 to p cost 10 next p\ntree pe1 to pe2 cost 20 next p\n"
 unfolding next knowledge_of news sessions_after peerings_after held packets_after is_not_ipv4 is_malformed is_truncated has_bad_checksum good
     checksum_for with_ttl aged in_flight bytes_flying digits given prefix_text address_text
 all_are_reached = refl
 
 -- a link that is up, and one that never was
-pub two_links_are_told : table_text two_links (at 0 (LinkUp (link_no 0)) ∷ at 0 (LinkDown (link_no 0)) ∷ at 0 (LinkUp (link_no 0)) ∷ []) [] Links
+pub two_links_are_told : table_text two_links (at 0 (LinkUp (link_no 0)) ∷ at 0 (LinkDown (link_no 0)) ∷ at 0 (LinkUp (link_no 0)) ∷ []) [] None Links
     ≡ codes "link pe1 p up cost 10 changes 3\nlink p pe2 down cost 10 changes 0\n"
 unfolding next knowledge_of news sessions_after peerings_after held packets_after is_not_ipv4 is_malformed is_truncated has_bad_checksum good
     checksum_for with_ttl aged in_flight bytes_flying digits given prefix_text address_text
 two_links_are_told = refl
 
 -- of two sessions, one that begins
-pub sessions_are_told : table_text two_links (at 0 (LinkUp (link_no 0)) ∷ []) [] Ldp
+pub sessions_are_told : table_text two_links (at 0 (LinkUp (link_no 0)) ∷ []) [] None Ldp
     ≡ codes "ldp pe1 initialized p opensent\nldp p none pe2 none\n"
 unfolding next knowledge_of news sessions_after peerings_after held packets_after is_not_ipv4 is_malformed is_truncated has_bad_checksum good
     checksum_for with_ttl aged in_flight bytes_flying digits given prefix_text address_text
 sessions_are_told = refl
 
 -- and all that is settled
-pub a_settled_session_is_operational : table_text two_links settling [] Ldp
+pub a_settled_session_is_operational : table_text two_links settling [] None Ldp
     ≡ codes "ldp pe1 operational p operational\nldp p operational pe2 operational\n"
 unfolding next knowledge_of news sessions_after peerings_after held packets_after is_not_ipv4 is_malformed is_truncated has_bad_checksum good
     checksum_for with_ttl aged in_flight bytes_flying digits given prefix_text address_text
 a_settled_session_is_operational = refl
 
 -- the edges' session
-pub edges_are_told : table_text two_links (at 0 (BgpUp (node_no 0) (node_no 2)) ∷ at 3 (HearBgp (node_no 0) (node_no 2)) ∷ []) [] Bgp
+pub edges_are_told : table_text two_links (at 0 (BgpUp (node_no 0) (node_no 2)) ∷ at 3 (HearBgp (node_no 0) (node_no 2)) ∷ []) [] None Bgp
     ≡ codes "bgp pe1 opensent pe2 openconfirm\n"
 unfolding next knowledge_of news sessions_after peerings_after held packets_after is_not_ipv4 is_malformed is_truncated has_bad_checksum good
     checksum_for with_ttl aged in_flight bytes_flying digits given prefix_text address_text
 edges_are_told = refl
 
 -- a VRF holds its own route, and the far edge's by the label that it gave
-pub two_routes_are_held : table_text two_links settling [] (Vrf (vrf_no 0))
+pub two_routes_are_held : table_text two_links settling [] None (Vrf (vrf_no 0))
     ≡ codes "route r1 10.1.0.0/16 site a\nroute r1 10.2.0.0/16 edge pe2 label 18\n"
 unfolding next knowledge_of news sessions_after peerings_after held packets_after is_not_ipv4 is_malformed is_truncated has_bad_checksum good
     checksum_for with_ttl aged in_flight bytes_flying digits given prefix_text address_text
@@ -183,11 +184,40 @@ two_routes_are_held = refl
 
 -- a packet flies; the far link goes down, so that p withdraws its label for pe2
 pub what_flies_is_counted : table_text two_links
-    (settling ++ at 0 (Inject (site_no 0) 1) ∷ at 0 (LinkDown (link_no 1)) ∷ at 0 (BgpDown (node_no 0) (node_no 2)) ∷ []) (packet ∷ []) Flight
+    (settling ++ at 0 (Inject (site_no 0) 1) ∷ at 0 (LinkDown (link_no 1)) ∷ at 0 (BgpDown (node_no 0) (node_no 2)) ∷ []) (packet ∷ []) None Flight
     ≡ codes "notices 3\nmessages 1\nframes pe1 p 1\n"
 unfolding next knowledge_of news sessions_after peerings_after held packets_after is_not_ipv4 is_malformed is_truncated has_bad_checksum good
     checksum_for with_ttl aged in_flight bytes_flying digits given prefix_text address_text
 what_flies_is_counted = refl
+
+-- at pe2 label 17 is p's: that entry is popped, and the one below, which is of site b's label 18, takes its TTL less one
+pub a_frame_goes_on : table_text two_links settling [] (Some (0 ∷ 1 ∷ 16 ∷ 63 ∷ 0 ∷ 1 ∷ 33 ∷ 7 ∷ packet)) (Frame (node_no 2) 4)
+    ≡ codes "frame pe2 4 next p bytes 0001213E4500001C00000000401166CD0A0100010A0200010035003500080000\n"
+unfolding next knowledge_of news sessions_after peerings_after held packets_after is_not_ipv4 is_malformed is_truncated has_bad_checksum good
+    checksum_for with_ttl aged in_flight bytes_flying digits given entries_of entry_bytes
+a_frame_goes_on = refl
+
+-- label 18 alone leads to the site, and its packet takes the TTL
+pub a_frame_comes_to_its_site : table_text two_links settling [] (Some (0 ∷ 1 ∷ 33 ∷ 62 ∷ packet)) (Frame (node_no 2) 1)
+    ≡ codes "frame pe2 1 site b bytes 4500001C000000003D1169CD0A0100010A0200010035003500080000\n"
+unfolding next knowledge_of news sessions_after peerings_after held packets_after is_not_ipv4 is_malformed is_truncated has_bad_checksum good
+    checksum_for with_ttl aged in_flight bytes_flying digits given entries_of entry_bytes
+a_frame_comes_to_its_site = refl
+
+-- label 19 is nobody's
+pub a_frame_is_dropped : table_text two_links settling [] (Some (0 ∷ 1 ∷ 49 ∷ 62 ∷ packet)) (Frame (node_no 2) 1) ≡ codes "frame pe2 1 drop NoEntry\n"
+unfolding next knowledge_of news sessions_after peerings_after held packets_after is_not_ipv4 is_malformed is_truncated has_bad_checksum good
+    checksum_for with_ttl aged in_flight bytes_flying digits given entries_of entry_bytes
+a_frame_is_dropped = refl
+
+-- no entry is the bottom one, and a byte is left over; and no record is there
+pub a_frame_is_unread : table_text two_links [] [] (Some (0 ∷ 1 ∷ 32 ∷ 62 ∷ 0 ∷ [])) (Frame (node_no 0) 2) ≡ codes "frame pe1 2 unread Short\n"
+unfolding digits entries_of
+a_frame_is_unread = refl
+
+pub no_frame_is_there : table_text two_links [] [] None (Frame (node_no 0) 3) ≡ codes "frame pe1 3 unread NoRecord\n"
+unfolding digits
+no_frame_is_there = refl
 
 -- a table as it stood at its line, two refused lines, a packet that arrives, and the total
 pub a_whole_report : report two_links capture (expanded two_links capture (lines_from 1 script))

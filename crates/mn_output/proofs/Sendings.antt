@@ -13,7 +13,10 @@ use Rattle.mn_topo.specs.declared.steps.Step.TheVariants.{Inject}
 use Rattle.mn_topo.specs.declared.steps.JournalEntry.{JournalEntry}
 use Rattle.mn_topo.specs.declared.steps.Damaged.TheVariants.{Undamaged}
 use Rattle.mn_script.specs.declared.command.Command.{Command}
-use Rattle.mn_script.specs.declared.command.Command.TheVariants.{Do, Run, Drain, Flush, Show}
+use Rattle.mn_script.specs.declared.command.Command.TheVariants.{Do, Damage, Run, Drain, Flush, Show}
+use Rattle.mn_topo.specs.declared.steps.Damage as damage
+use Rattle.mn_topo.specs.declared.steps.Damage.TheVariants.{Ldp, Bgp}
+use Rattle.mn_entry.specs.Damages.{ending as end_of, number_of, entry_for}
 use Rattle.mn_script.specs.declared.command.Line.{Line}
 use Rattle.mn_ledger.specs.declared.refused.Refused.{Refused}
 use Rattle.mn_ledger.specs.declared.refused.Refused.TheVariants as cause
@@ -32,6 +35,7 @@ use Rattle.mn_course.specs.declared.coming.Ending.{Ending}
 use Rattle.mn_course.specs.declared.coming.Ending.TheVariants as ending
 use Rattle.mn_course.specs.Coming.{least, due_by, is_due_before, place_of, is_lost, coming_by, coming, lost, delivery, earlier, or_else, ever}
 use Rattle.mn_course.specs.Course.{Past, Course, with_step, record_of, inputs_of, tried, refusal_now, injected, stepped, arrived, is_journal_full}
+use Rattle.mn_course.specs.Course.{unless_refused, with_damage, damage_refused_by, damaged}
 use Rattle.mn_course.specs.Course.{one_by_one, next_now, deliver, all, until, most_of, played}
 use Rattle.mn_course.specs.Expansion.{SentLine, Expansion, sending_by, after_line, with_line, unless_stopped, expanded_from, start_of, expanded}
 use Rattle.mn_course.proofs.Going.{Has}
@@ -202,6 +206,22 @@ module _ (t : Network) (capture : List (List ℕ)) where
       by ending.NoRecord = refl
       by ending.TooManySteps = refl
 
+  -- nor does a damaged message
+  quiet_end : (d : damage.Damage) → asked_by (end_of d) ≡ []
+  quiet_end (Ldp l dir number) = refl
+  quiet_end (Bgp a b number) = refl
+
+  hurts : (past : Past) (d : damage.Damage) (o : Option Refused)
+      → injected_by (unless_refused (with_damage past d) past o).past.entries ≡ injected_by past.entries
+  hurts past d None =
+      one_more past.entries (entry_for past.clock d) ∙ ap (λ r. injected_by past.entries ++ r) (quiet_end d) ∙ append-nil (injected_by past.entries)
+  hurts past d (Some cause.TooManySteps) = refl
+  hurts past d (Some _) = refl
+
+  damages : (past : Past) (d : damage.Damage) (o : Option (List ℕ)) → injected_by (damaged t capture past d o).past.entries ≡ injected_by past.entries
+  damages past d None = refl
+  damages past d (Some bytes) = hurts past d (damage_refused_by t capture past d bytes)
+
   as_before : (end : ℕ) (past : Past) (how : Ending) → injected_by (until end past how).past.entries ≡ injected_by past.entries
   as_before end past ending.All = refl
   as_before end past (ending.Refused why) = refl
@@ -210,6 +230,9 @@ module _ (t : Network) (capture : List (List ℕ)) where
 
   plays : (past : Past) (n : ℕ) (command : Command) → Sends past (played t capture past command) n command
   plays past n (Do s) = steps past s n
+  plays past n (Damage d) =
+      let found : Option (List ℕ) = record_of capture (number_of d) in
+      sends_none past (damaged t capture past d found) n (Damage d) refl (damages past d found)
   plays past n (Run ticks) =
       let course : Course = deliver t capture (DueBy (past.clock + ticks)) all past in
       sends_none past (until (past.clock + ticks) course.past course.ending) n (Run ticks) refl
@@ -267,6 +290,7 @@ command_asks : (n : ℕ) (command : Command) (more : List SentLine) (lines : Lis
     → AreSomeOf (map asking (sending_by n command ++ more)) (record { number = n; command = command } ∷ lines)
 command_asks n (Do (Inject site number)) more lines h = inl (refl, h)
 command_asks n (Do s) more lines h = skipped (map asking more) lines (record { number = n; command = Do s }) h
+command_asks n (Damage d) more lines h = skipped (map asking more) lines (record { number = n; command = Damage d }) h
 command_asks n (Run ticks) more lines h = skipped (map asking more) lines (record { number = n; command = Run ticks }) h
 command_asks n (Drain most) more lines h = skipped (map asking more) lines (record { number = n; command = Drain most }) h
 command_asks n Flush more lines h = skipped (map asking more) lines (record { number = n; command = Flush }) h

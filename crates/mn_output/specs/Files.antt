@@ -30,6 +30,12 @@ files_of topology =
 abbrev pub node_name : Network → ℕ → List ℕ
 node_name topology node = slice_index_or topology.node_names node []
 
+abbrev pub vrf_name : Network → ℕ → List ℕ
+vrf_name topology v = slice_index_or topology.vrf_names v []
+
+abbrev pub site_name : Network → ℕ → List ℕ
+site_name topology s = slice_index_or topology.site_names s []
+
 -- A+B and an ending
 abbrev pub pair_name : Network → ℕ → ℕ → List ℕ → List ℕ
 pair_name topology a b ending = node_name topology a ++ (codes "+" ++ (node_name topology b ++ ending))

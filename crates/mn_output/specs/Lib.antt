@@ -1,6 +1,7 @@
 pub mod Moments
 pub mod Files
 pub mod Contents
+pub mod Shown
 pub mod Tables
 pub mod Report
 pub mod Sendings

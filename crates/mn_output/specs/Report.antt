@@ -1,5 +1,5 @@
 -- What a run puts, and what it leaves: the report beside the files.
-use Rattle.std.specs.Prelude.{ℕ, ◌+◌, Bool, true, false, cond, List, [], ◌∷◌, ◌++◌, map, filter, length, codes}
+use Rattle.std.specs.Prelude.{ℕ, ◌+◌, Bool, true, false, cond, List, [], ◌∷◌, ◌++◌, map, filter, length, Option, None, codes}
 use Rattle.std.specs.List.{flat_map}
 use Rattle.mn_topo.specs.Network.{Network}
 use Rattle.mn_script.specs.declared.command.Line.{Line}
@@ -7,7 +7,9 @@ use Rattle.mn_ledger.specs.declared.verdict.Verdict.{Verdict}
 use Rattle.mn_ledger.specs.declared.verdict.Verdict.TheVariants.{Delivered, Dropped, Flying}
 use Rattle.mn_ledger.specs.Packets.{Packets}
 use Rattle.mn_ledger.specs.Ledger.{packets_of}
-use Rattle.mn_course.specs.Course.{inputs_of}
+use Rattle.mn_script.specs.declared.command.Show as show
+use Rattle.mn_script.specs.declared.command.Show.TheVariants.{Frame}
+use Rattle.mn_course.specs.Course.{inputs_of, record_of}
 use Rattle.mn_course.specs.Expansion.{Note, Refusal, Missing, Table, SentLine, Expansion, expanded}
 use Rattle.mn_lines.specs.declared.lines.Sent.{Sent}
 use Rattle.mn_lines.specs.declared.lines.Totals.{Totals}
@@ -18,11 +20,16 @@ use Rattle.mn_output.specs.Tables.{table_text}
 
 -- 1. Refused lines and tables
 
+-- the packet of the record that a table names, if it names one that the capture has
+abbrev pub packet_for : List (List ℕ) → show.Show → Option (List ℕ)
+packet_for capture (Frame node number) = record_of capture number
+packet_for capture table = None
+
 -- a table is told as it stood after what had happened then
 abbrev pub note_text : Network → List (List ℕ) → Note → List ℕ
 note_text topology capture (Refusal line cause) = refused_line line (cause_text topology.site_names cause)
 note_text topology capture (Missing line) = refused_line line (codes "NoRecord")
-note_text topology capture (Table table past) = table_text topology past.entries (inputs_of capture past.entries) table
+note_text topology capture (Table table past) = table_text topology past.entries (inputs_of capture past.entries) (packet_for capture table) table
 
 -- 2. Packets
 

@@ -1,6 +1,6 @@
 -- The tables that a script asks for, over what the ledger tells of the journal so far.
 use Rattle.std.specs.Prelude.{ℕ, ◌==◌, Bool, true, false, not, nat_lt, if◌then◌else◌, List, [], ◌∷◌, ◌++◌}
-use Rattle.std.specs.Prelude.{filter, fold, length, slice_index_or, Option, Some, None, codes}
+use Rattle.std.specs.Prelude.{filter, fold, length, Option, Some, None, codes}
 use Rattle.std.specs.List.{flat_map}
 use Rattle.std.specs.Fmt.{decimal}
 use Rattle.mn_base.specs.Ordered.{with_one}
@@ -17,7 +17,7 @@ use Rattle.mn_text.specs.Addresses.{prefix_text}
 use Rattle.mn_topo.specs.Network.{Network, wiring_of}
 use Rattle.mn_topo.specs.declared.steps.JournalEntry.{JournalEntry}
 use Rattle.mn_script.specs.declared.command.Show.{Show}
-use Rattle.mn_script.specs.declared.command.Show.TheVariants.{Links, Tree, Ldp, Bgp, Vrf, Flight}
+use Rattle.mn_script.specs.declared.command.Show.TheVariants.{Links, Tree, Ldp, Bgp, Vrf, Flight, Frame}
 use Rattle.mn_ledger.specs.Places.{edge_of, edges}
 use Rattle.mn_ledger.specs.World.{World}
 use Rattle.mn_ledger.specs.Transport.{view_of, lives}
@@ -33,12 +33,8 @@ use Rattle.mn_course.specs.declared.coming.Kind.TheVariants.{Notice, Message}
 use Rattle.mn_course.specs.Coming.{is_kind, kind_of}
 use Rattle.mn_lines.specs.Lines.{text}
 use Rattle.mn_output.specs.Files.{node_name}
-
-abbrev pub vrf_name : Network → ℕ → List ℕ
-vrf_name topology v = slice_index_or topology.vrf_names v []
-
-abbrev pub site_name : Network → ℕ → List ℕ
-site_name topology s = slice_index_or topology.site_names s []
+pub use Rattle.mn_output.specs.Files.{vrf_name, site_name}
+use Rattle.mn_output.specs.Shown.{frame_line}
 
 -- the names of two nodes
 abbrev pub two_names : Network → ℕ → ℕ → List ℕ
@@ -162,12 +158,13 @@ flight_lines topology items =
     text (codes "notices " ∷ decimal (count_of Notice items) ∷ codes "\nmessages " ∷ decimal (count_of Message items) ∷ codes "\n" ∷ [])
     ++ flat_map (frames_lines topology items) (links_of (wiring_of topology))
 
--- 7. A table, as it stands after a journal
+-- 7. A table, as it stands after a journal; the packet is that of the record that it names
 
-abbrev pub table_text : Network → List JournalEntry → List (List ℕ) → Show → List ℕ
-table_text topology entries inputs Links = flat_map (link_line topology (world_of topology entries)) (links_of (wiring_of topology))
-table_text topology entries inputs (Tree node) = tree_lines topology (world_of topology entries) node.0
-table_text topology entries inputs Ldp = flat_map (ldp_line topology (world_of topology entries)) (links_of (wiring_of topology))
-table_text topology entries inputs Bgp = flat_map (bgp_lines topology (world_of topology entries)) (edges topology)
-table_text topology entries inputs (Vrf v) = route_lines topology (given topology entries) v.0 (held_in topology (world_of topology entries) v.0)
-table_text topology entries inputs Flight = flight_lines topology (flight_of topology entries inputs).items
+abbrev pub table_text : Network → List JournalEntry → List (List ℕ) → Option (List ℕ) → Show → List ℕ
+table_text topology entries inputs packet Links = flat_map (link_line topology (world_of topology entries)) (links_of (wiring_of topology))
+table_text topology entries inputs packet (Tree node) = tree_lines topology (world_of topology entries) node.0
+table_text topology entries inputs packet Ldp = flat_map (ldp_line topology (world_of topology entries)) (links_of (wiring_of topology))
+table_text topology entries inputs packet Bgp = flat_map (bgp_lines topology (world_of topology entries)) (edges topology)
+table_text topology entries inputs packet (Vrf v) = route_lines topology (given topology entries) v.0 (held_in topology (world_of topology entries) v.0)
+table_text topology entries inputs packet Flight = flight_lines topology (flight_of topology entries inputs).items
+table_text topology entries inputs packet (Frame node number) = frame_line topology entries node.0 number packet

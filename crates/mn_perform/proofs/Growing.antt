@@ -5,21 +5,20 @@ use Rattle.std.proofs.lemmas.List.{append-nil}
 use Rattle.std.proofs.lemmas.List.Concat.{flat_map-append}
 use Rattle.mn_edge.specs.Written.{IsPrefix}
 use Rattle.mn_topo.specs.Network.{Network}
-use Rattle.mn_topo.specs.declared.steps.Step.{Step}
-use Rattle.mn_topo.specs.declared.steps.Step.TheVariants.{Inject}
 use Rattle.mn_topo.specs.declared.steps.JournalEntry.{JournalEntry}
 use Rattle.mn_script.specs.declared.command.Command.{Command}
-use Rattle.mn_script.specs.declared.command.Command.TheVariants.{Do, Run, Drain, Flush, Show}
+use Rattle.mn_entry.specs.Damages.{number_of}
+use Rattle.mn_script.specs.declared.command.Command.TheVariants.{Do, Damage, Run, Drain, Flush, Show}
 use Rattle.mn_script.specs.declared.command.Line.{Line}
 use Rattle.mn_ledger.specs.declared.refused.Refused.{Refused}
-use Rattle.mn_ledger.specs.declared.refused.Refused.TheVariants as cause
 use Rattle.mn_course.specs.declared.coming.Arrivals.TheVariants.{DueBy, News, AllFrames}
 use Rattle.mn_course.specs.declared.coming.Ending.{Ending}
 use Rattle.mn_course.specs.declared.coming.Ending.TheVariants as ending
-use Rattle.mn_course.specs.Course.{Past, Course, record_of, tried, refusal_now, injected, stepped, deliver, all, until, most_of, played}
+use Rattle.mn_course.specs.Course.{Past, Course, record_of, deliver, all, until, most_of, played}
 use Rattle.mn_course.specs.Expansion.{Note, Expansion, after_line, with_line, unless_stopped, expanded_from}
 use Rattle.mn_sched.specs.Playing.{IsFirstPart}
 use Rattle.mn_sched.proofs.Delivering.{first_part_refl, first_part_trans, deliver_more}
+use Rattle.mn_sched.proofs.Telling.{stepped_more, damaged_more}
 use Rattle.mn_output.specs.Files.{OutputFile}
 use Rattle.mn_output.specs.Moments.{Moment, moments_from, moments_of}
 use Rattle.mn_output.specs.Contents.{contents, adds, head_of}
@@ -27,19 +26,6 @@ use Rattle.mn_output.specs.Contents.{contents, adds, head_of}
 -- 1. A line
 
 module _ (t : Network) (capture : List (List ℕ)) where
-  tried_more : (past : Past) (s : Step) (o : Option Refused) → IsFirstPart past.entries (tried past s o).past.entries
-  tried_more past s None = (_, refl)
-  tried_more past s (Some cause.TooManySteps) = first_part_refl past.entries
-  tried_more past s (Some _) = first_part_refl past.entries
-
-  injected_more : (past : Past) (s : Step) (o : Option (List ℕ)) → IsFirstPart past.entries (injected t capture past s o).past.entries
-  injected_more past s None = first_part_refl past.entries
-  injected_more past s (Some bytes) = tried_more past s (refusal_now t capture past s bytes)
-
-  stepped_more : (past : Past) (s : Step) → IsFirstPart past.entries (stepped t capture past s).past.entries
-  stepped_more past (Inject s number) = injected_more past (Inject s number) (record_of capture number)
-  stepped_more past s = tried_more past s (refusal_now t capture past s [])
-
   until_more : (past later : Past) (end : ℕ) (how : Ending) → IsFirstPart past.entries later.entries →
       IsFirstPart past.entries (until end later how).past.entries
   until_more past later end ending.All h = h
@@ -48,7 +34,8 @@ module _ (t : Network) (capture : List (List ℕ)) where
   until_more past later end ending.TooManySteps h = h
 
   pub played_more : (past : Past) (command : Command) → IsFirstPart past.entries (played t capture past command).past.entries
-  played_more past (Do s) = stepped_more past s
+  played_more past (Do s) = stepped_more t capture past s
+  played_more past (Damage d) = damaged_more t capture past d (record_of capture (number_of d))
   played_more past (Run ticks) =
       let course : Course = deliver t capture (DueBy (past.clock + ticks)) all past in
       until_more past course.past (past.clock + ticks) course.ending (deliver_more t capture (DueBy (past.clock + ticks)) all past)

@@ -6,4 +6,5 @@ pub mod Laying
 pub mod Ending
 pub mod Whole
 pub mod Records
+pub mod Showing
 pub mod Totals

@@ -9,7 +9,7 @@ use Rattle.mn_edge.specs.Kept.{HoldsOn, BeginsOn}
 use Rattle.mn_edge.specs.KeptLaws.{begins_on, begins_on_more}
 use Rattle.mn_topo.specs.Network.{Network}
 use Rattle.mn_script.specs.declared.command.Command.{Command}
-use Rattle.mn_script.specs.declared.command.Command.TheVariants.{Do, Run, Drain, Flush, Show}
+use Rattle.mn_script.specs.declared.command.Command.TheVariants.{Do, Damage, Run, Drain, Flush, Show}
 use Rattle.mn_script.specs.declared.command.Line.{Line}
 use Rattle.mn_script.specs.declared.command.Show as show
 use Rattle.mn_course.specs.declared.coming.Ending.{Ending}
@@ -17,7 +17,7 @@ use Rattle.mn_course.specs.declared.coming.Ending.TheVariants as ending
 use Rattle.mn_course.specs.Course.{Past, Course, inputs_of, played}
 use Rattle.mn_course.specs.Expansion.{Note, Refusal, Missing, Table, SentLine, Expansion, sending_by, table_by, after_line, with_line}
 use Rattle.mn_lines.specs.Putting.{PutOn, PartPut, Puts, PutsPart}
-use Rattle.mn_output.specs.Report.{note_text, count, is_refusal}
+use Rattle.mn_output.specs.Report.{packet_for, note_text, count, is_refusal}
 use Rattle.mn_output.specs.Tables.{table_text}
 use Rattle.mn_files.specs.Numbers.{file_at}
 use Rattle.mn_net_now.specs.Now.{NetNow}
@@ -62,6 +62,7 @@ then_run run past notes sendings = record run { past = past; notes = run.notes +
 no_table : (past : Past) (command : Command) → is_show command ≡ false → table_by past command ≡ []
 no_table past (Show table) h = absurd (let e : true ≡ false = h in cc)
 no_table past (Do s) h = refl
+no_table past (Damage d) h = refl
 no_table past (Run ticks) h = refl
 no_table past (Drain most) h = refl
 no_table past Flush h = refl
@@ -230,15 +231,15 @@ module _ (t : Network) (all : List (List ℕ)) (begun : Option (List ℕ)) (run 
   abbrev showing : Line
   showing = record { number = number; command = Show table }
 
-  says : notes_text t all (with_line t all run showing) ≡ notes_text t all run ++ table_text net.topology net.journal (inputs_of all net.journal) table
+  says : notes_text t all (with_line t all run showing) ≡ notes_text t all run ++ table_text net.topology net.journal (inputs_of all net.journal) (packet_for all table) table
   says =
       flat_map-append (note_text t all) run.notes (Table table run.past ∷ [])
       ∙ ap (λ l. notes_text t all run ++ l)
-      (append-nil (table_text t run.past.entries (inputs_of all run.past.entries) table)
-      ∙ ap (λ e. table_text t e (inputs_of all e) table) (sym keeps.journal)
-      ∙ ap (λ n. table_text n net.journal (inputs_of all net.journal) table) (sym keeps.topology_is))
+      (append-nil (table_text t run.past.entries (inputs_of all run.past.entries) (packet_for all table) table)
+      ∙ ap (λ e. table_text t e (inputs_of all e) (packet_for all table) table) (sym keeps.journal)
+      ∙ ap (λ n. table_text n net.journal (inputs_of all net.journal) (packet_for all table) table) (sym keeps.topology_is))
 
-  pub table_put : Puts (table_text net.topology net.journal (inputs_of all net.journal) table) desk.page desk_new.page written written_new
+  pub table_put : Puts (table_text net.topology net.journal (inputs_of all net.journal) (packet_for all table) table) desk.page desk_new.page written written_new
       → desk_new.sendings ≡ desk.sendings → desk_new.refused ≡ desk.refused
       → Went t all begun (with_line t all run showing) net books desk_new files written_new (Ok ended.All)
   table_put puts sendings refused = (
@@ -257,7 +258,7 @@ module _ (t : Network) (all : List (List ℕ)) (begun : Option (List ℕ)) (run 
     running,
   )
 
-  pub table_cut : (fault : Fault) → PutsPart (table_text net.topology net.journal (inputs_of all net.journal) table) desk.page written written_new
+  pub table_cut : (fault : Fault) → PutsPart (table_text net.topology net.journal (inputs_of all net.journal) (packet_for all table) table) desk.page written written_new
       → Went t all begun (with_line t all run showing) net books desk_new files written_new (Err fault)
   table_cut fault part = record {
     begins = begins_on _ _ _ _ (subst (λ e. HoldsOn books.names (contents_at t all e) books.held files) keeps.journal keeps.holds);

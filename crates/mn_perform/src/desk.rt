@@ -7,6 +7,7 @@ ghost use Rattle.mn_lines.specs.Putting.{PutOn, PartPut, Puts, PutsPart};
 ghost use Rattle.mn_output.specs.Tables.{table_text};
 ghost use Rattle.mn_net_now.specs.Now.{StandsFor};
 ghost use Rattle.mn_report.specs.Shown.{sending_of, shown_text};
+ghost use Rattle.mn_report.specs.Frames.{packet_of};
 ghost use Rattle.mn_perform.specs.Faults.{SinkBlamed};
 ghost use Rattle.mn_perform.specs.Running.{line_text, Notes};
 ghost use Rattle.mn_perform.specs.Whole.{last_text};
@@ -106,18 +107,24 @@ impl Desk {
         }
     }
 
-    /// Puts a table.
-    pub fn show<O: Sink>(&mut self, out: &mut O, net: &Net, table: Show) -> Result<(), Fault>
+    /// Puts a table, with the packet of the record that it names.
+    pub fn show<O: Sink>(
+        &mut self,
+        out: &mut O,
+        net: &Net,
+        table: Show,
+        packet: Option<&[u8]>,
+    ) -> Result<(), Fault>
         requires fits { command_fits net.now.topology (Command.Show table) ≡ true }
         ensures put { OnOk result ((inputs : List (List ℕ)) → StandsFor net.now inputs →
-            Puts (table_text net.now.topology net.now.journal inputs table) self.old.page self.new.page (O.written out.old) (O.written out.new)) }
+            Puts (table_text net.now.topology net.now.journal inputs (packet_of packet.entry) table) self.old.page self.new.page (O.written out.old) (O.written out.new)) }
         ensures part { OnErr result ((inputs : List (List ℕ)) → StandsFor net.now inputs →
-            PutsPart (table_text net.now.topology net.now.journal inputs table) self.old.page (O.written out.old) (O.written out.new)) }
+            PutsPart (table_text net.now.topology net.now.journal inputs (packet_of packet.entry) table) self.old.page (O.written out.old) (O.written out.new)) }
         ensures sendings { self.new.sendings ≡ self.old.sendings }
         ensures refused { self.new.refused ≡ self.old.refused }
         ensures cause { SinkBlamed (O.faults out.old) (O.faults out.new) result }
     {
-        put_table(out, &mut self.page, &mut self.line, net, table)?;
+        put_table(out, &mut self.page, &mut self.line, net, table, packet)?;
         Ok(())
     }
 

@@ -5,6 +5,7 @@
 //!
 //! - `run`: the whole of it
 //! - `lines`: the lines of a script, one after another
+//! - `show`: a table, with the packet of the record that it names
 //! - `desk`: what is kept for the report
 //! - `ended`: how a run ends
 //! - `total`, `memory`: a run over a capture in memory, of which only the total is told
@@ -15,6 +16,7 @@ mod ended;
 mod lines;
 mod memory;
 mod run;
+mod show;
 mod total;
 
 pub use ended::{Ended, Fault};

@@ -13,6 +13,7 @@ ghost use Rattle.mn_perform.specs.Running.{Stands, Keeps, Went};
 
 use crate::desk::Desk;
 use crate::ended::{Ended, Fault};
+use crate::show::put_shown;
 use mn_capture::Capture;
 use mn_edge::{Shelf, Sink};
 use mn_net::Net;
@@ -91,7 +92,7 @@ fn perform_line<S: Shelf, O: Sink>(
 {
     match line.command {
         Command::Show(table) => {
-            desk.show(out, net, table)?;
+            put_shown(net, table, shelf, out, capture, desk)?;
             Ok(Ended::All)
         }
         _ => perform_steps(net, line, shelf, out, books, capture, desk),

@@ -1,13 +1,14 @@
 //! Journals over the last topology, read and written.
 use crate::escapes::{escaped, unescaped};
 use crate::topologies::Topologies;
-use mn_journal::{JournalBad, put_step, read_journal};
+use mn_entry::entry_fits;
+use mn_journal::{JournalBad, put_entry, read_journal};
 use mn_rows::{Answer, Call};
 use mn_topo::{Damaged, JournalEntry, Topology};
 use std::alloc::{AllocError, Global};
 use std::fmt::Write;
 
-fn put_entry(text: &mut String, entry: &JournalEntry) -> Result<(), AllocError> {
+fn show_entry(text: &mut String, entry: &JournalEntry) -> Result<(), AllocError> {
     let tick = entry.tick;
     let step = entry.step;
     let damaged = entry.damaged;
@@ -25,7 +26,7 @@ fn listed(alloc: Global, entries: &[JournalEntry]) -> Result<String, AllocError>
         if !text.is_empty() {
             text.push_str(", ")?;
         }
-        put_entry(&mut text, entry)?;
+        show_entry(&mut text, entry)?;
     }
     if entries.is_empty() {
         text.push_str("nothing")?;
@@ -47,7 +48,7 @@ fn reading(alloc: Global, topology: &Topology, bytes: &[u8]) -> Answer {
     }
 }
 
-/// The steps of a journal, written behind a bar.
+/// The entries of a journal, written behind a bar.
 fn written(alloc: Global, topology: &Topology, bytes: &[u8]) -> Answer {
     let entries = match read_journal(alloc, topology, bytes) {
         Ok(entries) => entries,
@@ -55,10 +56,10 @@ fn written(alloc: Global, topology: &Topology, bytes: &[u8]) -> Answer {
     };
     let mut out = Vec::from_slice(alloc, b"|")?;
     for entry in &entries {
-        if !topology.fits(&entry.step) {
+        if !entry_fits(topology, entry) {
             return Ok(None);
         }
-        put_step(&mut out, topology, entry.tick, &entry.step)?;
+        put_entry(&mut out, topology, entry)?;
     }
     Ok(Some(escaped(alloc, &out)?))
 }

@@ -16,7 +16,7 @@ fn low(number: u64) -> u32
 }
 
 /// The header of the record of a packet of so many bytes that was seen at this tick, in milliseconds from the start.
-pub(crate) fn record_header(tick: u64, length: usize) -> [u8; RECORD_HEADER]
+pub fn record_header(tick: u64, length: usize) -> [u8; RECORD_HEADER]
     ensures { result ≡ record_header tick length }
 {
     let seconds = low(tick / 1000);

@@ -26,4 +26,5 @@ mod recorder;
 mod step;
 
 pub use books::Books;
+pub use capture_record::record_header;
 pub use recorder::{is_record, record_line};

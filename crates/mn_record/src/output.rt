@@ -5,7 +5,7 @@ ghost use Rattle.mn_edge.specs.Files.{Files};
 ghost use Rattle.mn_edge.specs.Kept.{Framed, HoldsOn, BeginsOn, none_held};
 ghost use Rattle.mn_edge.specs.Memory.{all_differ};
 ghost use Rattle.mn_edge.specs.Written.{texts};
-ghost use Rattle.mn_topo.specs.Steps.{fits};
+ghost use Rattle.mn_entry.specs.Entries.{entry_fits};
 ghost use Rattle.mn_journal.specs.Lines.{line_of};
 ghost use Rattle.mn_pcap.specs.Format.{header, record_of};
 ghost use Rattle.mn_files.specs.Numbers.{edge_places};
@@ -18,7 +18,7 @@ use crate::labels::put_label;
 use mn_base::NodeNo;
 use mn_edge::{DeviceBad, Gather, Shelf};
 use mn_files::{EdgePlaces, find_frames, find_said, find_told, journal_file, labels_file};
-use mn_journal::put_step;
+use mn_journal::put_entry;
 use mn_labels::Bind;
 use mn_net::Channel;
 use mn_pcap::put_header;
@@ -130,14 +130,14 @@ impl Output {
         put_piece(&mut self.gather, shelf, &self.names, file, piece)
     }
 
-    /// The journal grows by the line of a step.
+    /// The journal grows by the line of an entry.
     pub(crate) fn put_entry<S: Shelf>(
         &mut self,
         shelf: &mut S,
         topology: &Topology,
         entry: &JournalEntry,
     ) -> Result<(), DeviceBad>
-        requires { fits topology.now entry.now.step ≡ true }
+        requires { entry_fits topology.now entry.now ≡ true }
         ensures adds { OnOk result (Adds (only_in 0 (line_of topology.now entry.now)) self.old self.new (S.files shelf.old) (S.files shelf.new)) }
         ensures may { OnErr result (MayAdd (only_in 0 (line_of topology.now entry.now)) self.old self.new (S.files shelf.old) (S.files shelf.new)) }
         ensures names { self.new.names ≡ self.old.names }
@@ -146,9 +146,8 @@ impl Output {
         ensures writes { Counted (S.write_faults shelf.old) (S.write_faults shelf.new) result }
         ensures reads { S.read_faults shelf.new ≡ S.read_faults shelf.old }
     {
-        let tick = entry.tick;
         self.line.clear();
-        put_step(&mut self.line, topology, tick, &entry.step)?;
+        put_entry(&mut self.line, topology, entry)?;
         put_piece(
             &mut self.gather,
             shelf,

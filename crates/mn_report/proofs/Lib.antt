@@ -4,3 +4,4 @@ pub mod Walks
 pub mod Routed
 pub mod PacketLines
 pub mod Holding
+pub mod Frames

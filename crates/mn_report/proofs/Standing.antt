@@ -1,5 +1,5 @@
 -- What a call tells, in other words.
-use Rattle.std.proofs.Common.{◌≡◌, ℕ, List, Ok, Err, OnOk, OnErr, sym, subst}
+use Rattle.std.proofs.Common.{◌≡◌, ℕ, List, Option, Ok, Err, OnOk, OnErr, sym, subst}
 use Rattle.mn_topo.specs.Network.{Network}
 use Rattle.mn_topo.specs.declared.steps.JournalEntry.{JournalEntry}
 use Rattle.mn_script.specs.declared.command.Show.{Show}
@@ -25,6 +25,6 @@ part_where S f s t (Ok x) told = tt
 part_where S f s t (Err e) told = λ i h. (told i h).part
 
 -- the table that is asked for
-pub as_shown : (topology : Network) (journal : List JournalEntry) (inputs : List (List ℕ)) (table asked : Show) (s t : Stand) (r : Answer)
-    → table ≡ asked → Tells (table_text topology journal inputs asked) s t r → Tells (table_text topology journal inputs table) s t r
-as_shown topology journal inputs table asked s t r is x = subst (λ a. Tells (table_text topology journal inputs a) s t r) (sym is) x
+pub as_shown : (topology : Network) (journal : List JournalEntry) (inputs : List (List ℕ)) (packet : Option (List ℕ)) (table asked : Show) (s t : Stand) (r : Answer)
+    → table ≡ asked → Tells (table_text topology journal inputs packet asked) s t r → Tells (table_text topology journal inputs packet table) s t r
+as_shown topology journal inputs packet table asked s t r is x = subst (λ a. Tells (table_text topology journal inputs packet a) s t r) (sym is) x

@@ -1,3 +1,4 @@
 pub mod Rows
 pub mod Shown
 pub mod Packets
+pub mod Frames

@@ -8,7 +8,7 @@
 //! ```
 //!
 //! - `refused`: lines of a script that were refused
-//! - `table`: the tables that a script asks for, each as the network stands; `links`, `tree`, `ldp`, `bgp`, `flight`, `routes`
+//! - `table`: the tables that a script asks for, each as the network stands; `links`, `tree`, `ldp`, `bgp`, `flight`, `routes`, `frame`
 //! - `packets`: what became of each packet; `total`: what all comes to
 //! - `counts`: how many nodes and links there are; `written`: a written line, put on a page
 #![tactic(auto)]
@@ -16,6 +16,7 @@
 mod bgp;
 mod counts;
 mod flight;
+mod frame;
 mod ldp;
 mod links;
 mod packets;

@@ -7,9 +7,11 @@ ghost use Rattle.mn_lines.specs.Putting.{Puts, PutsPart};
 ghost use Rattle.mn_net_now.specs.Now.{StandsFor};
 ghost use Rattle.mn_output.specs.Tables.{table_text};
 ghost use Rattle.mn_tables.specs.Telling.{standing, Tells};
+ghost use Rattle.mn_report.specs.Frames.{packet_of};
 
 use crate::bgp::put_bgp_sessions;
 use crate::flight::put_flight;
+use crate::frame::put_frame;
 use crate::ldp::put_ldp_sessions;
 use crate::links::put_links;
 use crate::routes::put_routes;
@@ -26,11 +28,12 @@ fn put_rows<O: Sink>(
     line: &mut Vec<u8>,
     net: &Net,
     table: Show,
+    packet: Option<&[u8]>,
 ) -> Result<(), DeviceBad>
     requires works { net.now.failed ≡ false }
     requires fits { show_fits net.now.topology table ≡ true }
     ensures told { (inputs : List (List ℕ)) → StandsFor net.now inputs →
-        Tells (table_text net.now.topology net.now.journal inputs table)
+        Tells (table_text net.now.topology net.now.journal inputs (packet_of packet.entry) table)
         (standing page.old (O.written out.old) (O.faults out.old)) (standing page.new (O.written out.new) (O.faults out.new)) result }
     ensures cause { Counted (O.faults out.old) (O.faults out.new) result }
 {
@@ -41,26 +44,31 @@ fn put_rows<O: Sink>(
         Show::Bgp => put_bgp_sessions(out, page, net),
         Show::Vrf(vrf) => put_routes(out, page, line, net, vrf),
         Show::Flight => put_flight(out, page, net),
+        Show::Frame(node, number) => {
+            put_frame(out, page, *line.allocator(), net, node, number, packet)
+        }
     }
 }
 
-/// Puts a table as the network stands. `line` is written anew. A network that has failed is want of memory.
+/// Puts a table as the network stands. The packet is that of the record that a `Show::Frame` names, where the capture has it; the
+/// other tables don't look at it. `line` is written anew. A network that has failed is want of memory.
 pub fn put_table<O: Sink>(
     out: &mut O,
     page: &mut Page,
     line: &mut Vec<u8>,
     net: &Net,
     table: Show,
+    packet: Option<&[u8]>,
 ) -> Result<(), DeviceBad>
     requires fits { command_fits net.now.topology (command.Show table) ≡ true }
     ensures put { OnOk result ((inputs : List (List ℕ)) → StandsFor net.now inputs →
-        Puts (table_text net.now.topology net.now.journal inputs table) page.old page.new (O.written out.old) (O.written out.new)) }
+        Puts (table_text net.now.topology net.now.journal inputs (packet_of packet.entry) table) page.old page.new (O.written out.old) (O.written out.new)) }
     ensures part { OnErr result ((inputs : List (List ℕ)) → StandsFor net.now inputs →
-        PutsPart (table_text net.now.topology net.now.journal inputs table) page.old (O.written out.old) (O.written out.new)) }
+        PutsPart (table_text net.now.topology net.now.journal inputs (packet_of packet.entry) table) page.old (O.written out.old) (O.written out.new)) }
     ensures cause { Counted (O.faults out.old) (O.faults out.new) result }
 {
     if !net.works() {
         return Err(DeviceBad::NoMemory);
     }
-    put_rows(out, page, line, net, table)
+    put_rows(out, page, line, net, table, packet)
 }

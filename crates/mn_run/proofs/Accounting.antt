@@ -26,7 +26,7 @@ use Rattle.mn_run.specs.Words.{word}
 use Rattle.mn_run.specs.Answer.{run_done, checked}
 use Rattle.mn_answer.specs.Endings.{OutcomeIs, FilesAre, TextIs}
 use Rattle.mn_laws.proofs.Accounted.{accounts}
-use Rattle.mn_course.proofs.Going.{expanded_goes}
+use Rattle.mn_course.proofs.Entered.{lawful_run}
 use Rattle.mn_arrival.proofs.Arriving.{it_arrives}
 use Rattle.mn_capture.specs.Packets.{packets_in}
 use Rattle.mn_run.specs.declared.load.Inputs.{Inputs}
@@ -47,7 +47,7 @@ unfolding run_done
 promise topology script capture folder files before after written inputs read is_lawful fits bytes there capture_read files_are text_is =
     let packets : List (List ℕ) = packets_in inputs.capture bytes in
     let run : Expansion = expanded inputs.topology packets inputs.lines.items in
-    let goes : IsLawfulRun inputs.topology packets run = expanded_goes inputs.topology is_lawful packets inputs.lines.items fits in
+    let goes : IsLawfulRun inputs.topology packets run = lawful_run inputs.topology is_lawful packets inputs.lines.items fits in
     record {
       topology = inputs.topology;
       script = inputs.lines.items;
@@ -145,7 +145,7 @@ unfolding generated_done
 total_told number made are is_lawful before written Done o t =
     let packets : List (List ℕ) = packets_at made.capture in
     let run : Expansion = expanded made.topology packets made.lines.items in
-    let goes : IsLawfulRun made.topology packets run = expanded_goes made.topology is_lawful packets made.lines.items are.over.fit in
+    let goes : IsLawfulRun made.topology packets run = lawful_run made.topology is_lawful packets made.lines.items are.over.fit in
     record {
       topology = made.topology;
       script = made.lines.items;

@@ -1,5 +1,5 @@
 -- A drain of the network is the course's.
-use Rattle.std.proofs.Common.{ℕ, ◌≡◌, ◌+◌, ◌≤◌, ◌^◌, ◌<◌, inl, inr, false, List, length, refl, sym, ◌∙◌, ap, subst, Option, Some, None, Result}
+use Rattle.std.proofs.Common.{ℕ, ◌≡◌, ◌+◌, ◌≤◌, ◌^◌, ◌<◌, inl, inr, List, length, refl, sym, ◌∙◌, ap, subst, Option, Some, None, Result}
 use Rattle.std.proofs.Common.{Ok, Err}
 use Rattle.std.proofs.lemmas.Bool.Decides.{leb_tells}
 use Rattle.mn_topo.specs.Lawful.{IsLawful}

@@ -1,5 +1,5 @@
 -- When the clock may go on to a tick: where no frame in flight is due before it.
-use Rattle.std.proofs.Common.{◌≡◌, ◌≤◌, ◌<◌, ◌+◌, ℕ, false, max, arith, refl, sym, subst, Option, Some, None, IfSome}
+use Rattle.std.proofs.Common.{◌≡◌, ◌≤◌, ◌<◌, ◌+◌, ℕ, false, max, arith, refl, subst, Option, Some, None, IfSome}
 use Rattle.std.specs.List.{All as Each}
 use Rattle.std.proofs.lemmas.List.Elements.{All-weaker}
 use Rattle.mn_course.specs.declared.coming.Arrivals.{Arrivals}

@@ -1,11 +1,11 @@
 -- What a step comes to for the net and the watch.
-use Rattle.std.proofs.Common.{◌≡◌, ◌≢◌, ℕ, ◌+◌, ◌-◌, ◌≤◌, max, arith, Bool, true, false, List, [], ◌∷◌, ◌++◌, length, take, Option, Some, None, IfSome}
-use Rattle.std.proofs.Common.{slice_get, Result}
+use Rattle.std.proofs.Common.{◌≡◌, ◌≢◌, ℕ, ◌+◌, ◌≤◌, max, arith, Bool, true, false, List, [], ◌∷◌, ◌++◌, length, Option, Some, None, IfSome}
+use Rattle.std.proofs.Common.{Result}
 use Rattle.std.proofs.Common.{Ok, Err, IfOk, OnOk, OnErr, refl, sym, ◌∙◌, ap, subst, length-append, if◌then◌else◌}
-use Rattle.std.proofs.lemmas.List.{append-nil, take-append-le, take_all}
+use Rattle.std.proofs.lemmas.List.{append-nil}
 use Rattle.std.specs.Prelude.{nat_le}
 use Rattle.std.specs.Option.{ForSome}
-use Rattle.mn_base.proofs.Bools.{at_most_tells, and_right}
+use Rattle.mn_base.proofs.Bools.{at_most_tells, and_right, and_on}
 use Rattle.mn_topo.specs.Network.{Network}
 use Rattle.mn_topo.specs.Steps.{fits}
 use Rattle.mn_topo.specs.declared.steps.Step.{Step}
@@ -27,7 +27,9 @@ use Rattle.mn_base.specs.declared.numbers.SiteNo.{SiteNo}
 use Rattle.mn_course.specs.Coming.{delivery, earlier, is_due_before, next_arrival}
 use Rattle.mn_sched.specs.Arriving.{ArrivesNext}
 use Rattle.mn_course.specs.Course.{Past, Course, ends, as_due, arrived, with_step, one_by_one, is_journal_full, inputs_of, input_before, bytes_of, record_of}
-use Rattle.mn_course.specs.Course.{injected, tried, stepped, refusal_now, until, on_to}
+use Rattle.mn_course.specs.Course.{injected, tried, unless_refused, stepped, with_damage, damage_refused_by, damaged, refusal_now, until, on_to}
+use Rattle.mn_entry.specs.Damages.{number_of}
+use Rattle.mn_topo.specs.declared.steps.Damage.{Damage}
 use Rattle.mn_net.specs.declared.net.Done.{Done}
 use Rattle.mn_ledger.specs.OneMore.{added, with_packet}
 use Rattle.mn_laws.specs.Flight.{IsOpen}
@@ -40,10 +42,11 @@ use Rattle.mn_sched.specs.declared.line.Stopped.{Stopped}
 use Rattle.mn_sched.specs.declared.line.Stopped.TheVariants.{TooManySteps, Read, Write, NoMemory}
 use Rattle.mn_sched.specs.declared.watch.WatchBad.{WatchBad}
 use Rattle.mn_sched.specs.declared.watch.WatchBad.TheVariants as bad
-use Rattle.mn_sched.specs.Watching.{Together, Stood, Begun, but_last, made_over, MadeLast, LastFits}
+use Rattle.mn_sched.specs.Watching.{Together, Stood, Begun, MadeLast, LastFits}
 use Rattle.mn_sched.specs.Playing.{past_of, IsFirstPart, Arrives, Takes, After, Caused, Finished, MissingIff, names_no_record, arrived_by, stopped_by, IsOwnCause}
 use Rattle.mn_sched.specs.Playing.{as_played, IsPaced, IsOneLonger}
 use Rattle.mn_sched.proofs.Delivering.{first_part_refl, one_more}
+use Rattle.mn_sched.proofs.Growing.{ok_then, IsMore, plain, by_step, inputs_of-push, Names, Moves, stood_by, made_by, fits_by, tried_more, takes_by, entry_paced, grown_by}
 
 -- what holds of two holds of the earlier
 pub earlier_has : (P : Coming → Type 0) (one other : Option Coming) → IfSome one P → IfSome other P → IfSome (earlier one other) P
@@ -55,31 +58,7 @@ earlier_has P (Some x) (Some y) a b = pick (is_due_before y.due y.number x.due x
     pick true = b
     pick false = a
 
-pub on_ok : {T E : Type 0} (r : Result T E) (P : Type 0) → P → OnOk r P
-on_ok (Ok x) P p = p
-on_ok (Err e) P p = tt
-
-pub ok_then : {T E : Type 0} (r : Result T E) (P Q : Type 0) → OnOk r P → (P → Q) → OnOk r Q
-ok_then (Ok x) P Q p f = f p
-ok_then (Err e) P Q p f = tt
-
-pub err_then : {T E : Type 0} (r : Result T E) (P Q : Type 0) → OnErr r P → (P → Q) → OnErr r Q
-err_then (Ok x) P Q p f = tt
-err_then (Err e) P Q p f = f p
-
 -- 1. The packets of a longer journal
-
-input_before-append : (capture : List (List ℕ)) (step : Step) (later tail : List (List ℕ)) →
-    input_before capture step (later ++ tail) ≡ input_before capture step later ++ tail
-input_before-append capture (Inject s n) later tail = refl
-input_before-append capture _ later tail = refl
-
-pub inputs_of-push : (capture : List (List ℕ)) (entries : List JournalEntry) (entry : JournalEntry) →
-    inputs_of capture (entries ++ entry ∷ []) ≡ inputs_of capture entries ++ input_before capture entry.step []
-inputs_of-push capture [] entry = refl
-inputs_of-push capture (e ∷ es) entry =
-    ap (input_before capture e.step) (inputs_of-push capture es entry)
-    ∙ input_before-append capture e.step (inputs_of capture es) (input_before capture entry.step [])
 
 no_input : (capture : List (List ℕ)) (step : Step) → injects step ≡ false → input_before capture step [] ≡ []
 no_input capture (Inject s n) h = absurd (let e : true ≡ false = h in cc)
@@ -96,13 +75,6 @@ takes_no_input capture entries tick step bytes h =
     ∙ sym (inputs_of-push capture entries (record { tick = tick; step = step; damaged = Undamaged }) ∙ ap (λ l. inputs_of capture entries ++ l) (no_input capture step h)
     ∙ append-nil (inputs_of capture entries))
 
-pub but_last-push : (entries : List JournalEntry) (entry : JournalEntry) → but_last (entries ++ entry ∷ []) ≡ entries
-but_last-push entries entry =
-    ap (λ n. take n (entries ++ entry ∷ [])) (let e : length (entries ++ entry ∷ []) - 1 ≡ length entries =
-    omega (arith, length-append entries (entry ∷ [])) in e)
-    ∙ take-append-le (length entries) entries (entry ∷ []) (let l : length entries ≤ length entries = omega arith in l)
-    ∙ take_all (length entries) entries (let l : length entries ≤ length entries = omega arith in l)
-
 -- 2. The net and the watch, before the watch is told
 
 -- they stand together where the clock was set on
@@ -115,62 +87,31 @@ set_on old mid packets stands journal topology moves together = λ all told.
       subst (λ t. stands t mid.journal (inputs_of all mid.journal)) (sym topology) (subst (λ j. stands old.topology j (inputs_of all j)) (sym journal) both.1),
     )
 
+-- what a step makes of the net
+more_of : (stepped : Result Done Refused) (mid new : NetNow) (step : Step) → OnOk stepped (IsLonger mid new step) →
+    OnOk stepped (IsMore mid new (plain mid.tick step) (mid.tick + ticks_in step))
+more_of stepped mid new step long = ok_then stepped _ _ long (by_step mid new step)
+
 pub stood : (stepped : Result Done Refused) (mid new : NetNow) (step : Step) (bytes : List ℕ) (packets : Option (List (List ℕ))) (stands : Network →
-    List JournalEntry → List (List ℕ) → Type 0) → Together mid packets stands →
-    ((all : List (List ℕ)) → packets ≡ Some all →
-    with_packet step bytes (inputs_of all mid.journal) ≡ inputs_of all (mid.journal ++ record { tick = mid.tick; step = step; damaged = Undamaged } ∷ [])) →
-    OnOk stepped (IsLonger mid new step) → OnOk stepped ((inputs : List (List ℕ)) → StandsFor mid inputs → StandsFor new (with_packet step bytes inputs)) →
-    OnOk stepped (Stood new packets stands)
-stood (Err why) mid new step bytes packets stands together named long moves = tt
-stood (Ok made) mid new step bytes packets stands together named long moves = λ all told.
-    let both = together all told in
-    let before : but_last new.journal ≡ mid.journal = ap but_last long.journal ∙ but_last-push mid.journal (record { tick = mid.tick; step = step; damaged = Undamaged }) in (
-      subst (StandsFor new) (named all told ∙ ap (inputs_of all) (sym long.journal)) (moves (inputs_of all mid.journal) both.0),
-      subst (λ t. stands t (but_last new.journal) (inputs_of all (but_last new.journal))) (sym long.topology)
-          (subst (λ j. stands mid.topology j (inputs_of all j)) (sym before) both.1),
-    )
+    List JournalEntry → List (List ℕ) → Type 0) → Together mid packets stands → Names packets (with_packet step bytes) mid (plain mid.tick step) →
+    OnOk stepped (IsLonger mid new step) → OnOk stepped (Moves (with_packet step bytes) mid new) → OnOk stepped (Stood new packets stands)
+stood stepped mid new step bytes packets stands together named long moves =
+    stood_by stepped mid new (plain mid.tick step) (mid.tick + ticks_in step) (with_packet step bytes) packets stands together named
+    (more_of stepped mid new step long) moves
 
--- the net stands for the packets that its journal's steps name, once a step is done
-standing_then : (mid new : NetNow) (step : Step) (bytes : List ℕ) (all : List (List ℕ)) →
-    with_packet step bytes (inputs_of all mid.journal) ≡ inputs_of all (mid.journal ++ record { tick = mid.tick; step = step; damaged = Undamaged } ∷ []) →
-    IsLonger mid new step → ((inputs : List (List ℕ)) → StandsFor mid inputs → StandsFor new (with_packet step bytes inputs)) →
-    StandsFor mid (inputs_of all mid.journal) → StandsFor new (inputs_of all new.journal)
-standing_then mid new step bytes all named long moves before =
-    subst (StandsFor new) (named ∙ ap (inputs_of all) (sym long.journal)) (moves (inputs_of all mid.journal) before)
-
--- and what it has made by then is numbered on from what it had made
 pub made_last : (stepped : Result Done Refused) (mid new : NetNow) (step : Step) (bytes : List ℕ) (packets : Option (List (List ℕ))) (stands : Network →
-    List JournalEntry → List (List ℕ) → Type 0) → Together mid packets stands →
-    ((all : List (List ℕ)) → packets ≡ Some all →
-    with_packet step bytes (inputs_of all mid.journal) ≡ inputs_of all (mid.journal ++ record { tick = mid.tick; step = step; damaged = Undamaged } ∷ [])) →
-    OnOk stepped (IsLonger mid new step) → OnOk stepped ((inputs : List (List ℕ)) → StandsFor mid inputs → StandsFor new (with_packet step bytes inputs)) →
-    IfOk stepped (λ made. made.first ≡ mid.made) → IfOk stepped (λ made. made.end ≡ new.made) → IfOk stepped (λ made. MadeLast new packets made)
-made_last (Err why) mid new step bytes packets stands together named long moves first end = tt
-made_last (Ok made) mid new step bytes packets stands together named long moves first end = λ all told.
-    let before = (together all told).0 in
-    let was : but_last new.journal ≡ mid.journal = ap but_last long.journal ∙ but_last-push mid.journal (record { tick = mid.tick; step = step; damaged = Undamaged }) in (
-      first ∙ before.stands.made ∙ sym (ap (λ t. made_over t all (but_last new.journal)) long.topology ∙ ap (made_over mid.topology all) was),
-      end ∙ (standing_then mid new step bytes all (named all told) long moves before).stands.made,
-    )
-
-pushed_last : (entries : List JournalEntry) (entry : JournalEntry) → slice_get (entries ++ entry ∷ []) (length (entries ++ entry ∷ []) - 1) ≡ Some entry
-pushed_last entries entry =
-    ap (slice_get (entries ++ entry ∷ [])) (let e : length (entries ++ entry ∷ []) - 1 ≡ length entries =
-    omega (arith, length-append entries (entry ∷ [])) in e)
-    ∙ there entries
-  where
-    there : (es : List JournalEntry) → slice_get (es ++ entry ∷ []) (length es) ≡ Some entry
-    there [] = refl
-    there (e ∷ es) = there es
+    List JournalEntry → List (List ℕ) → Type 0) → Together mid packets stands → Names packets (with_packet step bytes) mid (plain mid.tick step) →
+    OnOk stepped (IsLonger mid new step) → OnOk stepped (Moves (with_packet step bytes) mid new) → IfOk stepped (λ made. made.first ≡ mid.made) →
+    IfOk stepped (λ made. made.end ≡ new.made) → IfOk stepped (λ made. MadeLast new packets made)
+made_last stepped mid new step bytes packets stands together named long moves first end =
+    made_by stepped mid new (plain mid.tick step) (mid.tick + ticks_in step) (with_packet step bytes) packets stands together named
+    (more_of stepped mid new step long) moves first end
 
 -- the step that was done fits
 pub last_fits : (stepped : Result Done Refused) (mid new : NetNow) (step : Step) → fits mid.topology step ≡ true → OnOk stepped (IsLonger mid new step) →
     OnOk stepped (LastFits new)
-last_fits (Err why) mid new step fit long = tt
-last_fits (Ok made) mid new step fit long =
-    subst (λ t. IfSome (slice_get new.journal (length new.journal - 1)) (λ entry. fits t entry.step ≡ true)) (sym long.topology)
-    (subst (λ o. IfSome o (λ entry. fits mid.topology entry.step ≡ true))
-    (sym (ap (λ j. slice_get j (length j - 1)) long.journal ∙ pushed_last mid.journal (record { tick = mid.tick; step = step; damaged = Undamaged }))) fit)
+last_fits stepped mid new step fit long =
+    fits_by stepped mid new (plain mid.tick step) (mid.tick + ticks_in step) (and_on (fits mid.topology step) true fit refl) (more_of stepped mid new step long)
 
 pub after_fault : (fault : WatchBad) (net : NetNow) (packets : Option (List (List ℕ))) (stands begins : Network → List JournalEntry → List (List ℕ) →
     Type 0) → ForSome packets (λ all. StandsFor net (inputs_of all net.journal)) → Begun net packets begins →
@@ -315,40 +256,11 @@ arrives_by arrivals item old mid new inputs step (Err why) past topology is plai
 
 -- 4. A step of a line
 
-tried_more : (past : Past) (step : Step) (why : Option Refused) → IsFirstPart past.entries (tried past step why).past.entries
-tried_more past step None = (_, refl)
-tried_more past step (Some cause.TooManySteps) = first_part_refl past.entries
-tried_more past step (Some _) = first_part_refl past.entries
-
 pub step_takes : (old new : NetNow) (step : Step) (why : Option Refused) (stepped : Result Done Refused) (ended : Result Played Stopped) →
     Answers why stepped → OnOk stepped (IsLonger old new step) → Leaves old new stepped → Finished stepped ended →
     Takes (tried (past_of old) step why) new ended
-step_takes old new step why (Ok made) ended answer long left finished =
-    subst (λ w. Takes (tried (past_of old) step w) new ended) (sym answer) (by ended finished)
-  where
-    now : past_of new ≡ with_step (past_of old) step
-    now = longer old new step long
-
-    part : IsFirstPart new.journal (with_step (past_of old) step).entries
-    part = subst (λ p. IsFirstPart new.journal p.entries) now (first_part_refl new.journal)
-
-    by : (e : Result Played Stopped) → Finished (let s : Result Done Refused = Ok made in s) e → Takes (tried (past_of old) step None) new e
-    by (Ok played.All) f = (refl, now)
-    by (Ok (played.Refused q)) f = absurd f
-    by (Ok played.NoRecord) f = absurd f
-    by (Err TooManySteps) f = absurd f
-    by (Err Read) f = part
-    by (Err Write) f = part
-    by (Err NoMemory) f = part
-step_takes old new step why (Err cause.TooManySteps) ended answer long left finished =
-    subst (λ e. Takes (tried (past_of old) step why) new e) (sym finished)
-    (subst (λ w. Takes (tried (past_of old) step w) new (Err TooManySteps)) (sym answer) (refl, ap (λ n. n.journal) left))
-step_takes old new step why (Err cause.NoMemory) ended answer long left finished =
-    subst (λ e. Takes (tried (past_of old) step why) new e) (sym finished)
-    (subst (λ j. IsFirstPart j (tried (past_of old) step why).past.entries) (sym left.journal) (tried_more (past_of old) step why))
-step_takes old new step why (Err q) ended answer long left finished =
-    subst (λ e. Takes (tried (past_of old) step why) new e) (sym finished)
-    (subst (λ w. Takes (tried (past_of old) step w) new (Ok (played.Refused q))) (sym answer) (refl, ap past_of left))
+step_takes old new step why stepped ended answer long left finished =
+    takes_by old new (plain old.tick step) (old.tick + ticks_in step) why stepped ended answer (more_of stepped old new step long) left finished
 
 pub after_step : (stepped : Result Done Refused) (ended : Result Played Stopped) (mid new : NetNow) (packets : Option (List (List ℕ)))
     (stands stands_then begins_then : Network → List JournalEntry → List (List ℕ) → Type 0) → Together mid packets stands → Leaves mid new stepped →
@@ -457,12 +369,12 @@ stepped_inject topology capture past step s number bytes is found =
 injected_more : (topology : Network) (capture : List (List ℕ)) (past : Past) (step : Step) (packet : Option (List ℕ)) →
     IsFirstPart past.entries (injected topology capture past step packet).past.entries
 injected_more topology capture past step None = first_part_refl past.entries
-injected_more topology capture past step (Some bytes) = tried_more past step (refusal_now topology capture past step bytes)
+injected_more topology capture past step (Some bytes) = tried_more (with_step past step) past (refusal_now topology capture past step bytes) (_, refl)
 
 pub stepped_more : (topology : Network) (capture : List (List ℕ)) (past : Past) (step : Step) →
     IsFirstPart past.entries (stepped topology capture past step).past.entries
 stepped_more topology capture past (Inject s n) = injected_more topology capture past (Inject s n) (record_of capture n)
-stepped_more topology capture past step = tried_more past step (refusal_now topology capture past step [])
+stepped_more topology capture past step = tried_more (with_step past step) past (refusal_now topology capture past step []) (_, refl)
 
 pub fault_takes : (course : Course) (net : NetNow) (fault : WatchBad) → IsFirstPart net.journal course.past.entries → Takes course net (Err (stopped_by fault))
 fault_takes course net bad.Read h = h
@@ -473,6 +385,19 @@ pub fault_missing : (missing : Bool) (fault : WatchBad) → MissingIff missing (
 fault_missing missing bad.Read = tt
 fault_missing missing bad.Write = tt
 fault_missing missing bad.NoMemory = tt
+
+-- a damage of which the capture has the record takes its course, and one whose record is missing leaves all as it was
+pub damaged_so : (topology : Network) (capture : List (List ℕ)) (past : Past) (damage : Damage) (bytes : List ℕ) →
+    record_of capture (number_of damage) ≡ Some bytes →
+    unless_refused (with_damage past damage) past (damage_refused_by topology capture past damage bytes)
+    ≡ damaged topology capture past damage (record_of capture (number_of damage))
+damaged_so topology capture past damage bytes found = sym (ap (damaged topology capture past damage) found)
+
+pub damaged_more : (topology : Network) (capture : List (List ℕ)) (past : Past) (damage : Damage) (packet : Option (List ℕ)) →
+    IsFirstPart past.entries (damaged topology capture past damage packet).past.entries
+damaged_more topology capture past damage None = first_part_refl past.entries
+damaged_more topology capture past damage (Some bytes) =
+    tried_more (with_damage past damage) past (damage_refused_by topology capture past damage bytes) (_, refl)
 
 -- 7. The clock
 
@@ -552,12 +477,8 @@ one_early (Err why) mid new step still long left = ap (λ (n : NetNow). n.tick) 
 
 pub step_paced : (stepped : Result Done Refused) (ended : Result Played Stopped) (old new : NetNow) (step : Step) → ticks_in step ≤ 1000000 →
     OnOk stepped (IsLonger old new step) → Leaves old new stepped → Finished stepped ended → OnOk ended (IsPaced 1000000 old new)
-step_paced (Ok made) ended old new step few long left finished = on_ok ended (IsPaced 1000000 old new)
-    (let more = one_more_entry old old new step refl long in (omega (arith, more), omega (arith, more, long.tick, few)))
-step_paced (Err cause.TooManySteps) ended old new step few long left finished = subst (λ e. OnOk e (IsPaced 1000000 old new)) (sym finished) tt
-step_paced (Err cause.NoMemory) ended old new step few long left finished = subst (λ e. OnOk e (IsPaced 1000000 old new)) (sym finished) tt
-step_paced (Err why) ended old new step few long left finished =
-    subst (λ e. OnOk e (IsPaced 1000000 old new)) (sym finished) (subst (λ n. IsPaced 1000000 old n) (sym left) (omega arith, omega arith))
+step_paced stepped ended old new step few long left finished =
+    entry_paced stepped ended old new (plain old.tick step) (old.tick + ticks_in step) (omega (arith, few)) (more_of stepped old new step long) left finished
 
 pub arrived_paced : (r : Result (Unit {0}) Stopped) (old new : NetNow) → OnOk r (IsPaced 0 old new) → OnOk (as_played r) (IsPaced 1000000 old new)
 arrived_paced (Ok x) old new h = (h.0, omega (arith, h.1))
@@ -590,9 +511,7 @@ leaves result old new left for_good = by_failed old.failed result old new refl l
 
 pub step_grown : (stepped : Result Done Refused) (old new : NetNow) (step : Step) → OnOk stepped (IsLonger old new step) → Leaves old new stepped →
     IsFirstPart old.journal new.journal
-step_grown (Ok made) old new step long left = (record { tick = old.tick; step = step; damaged = Undamaged } ∷ [], sym long.journal)
-step_grown (Err cause.NoMemory) old new step long left = subst (λ j. IsFirstPart old.journal j) (sym left.journal) (first_part_refl old.journal)
-step_grown (Err why) old new step long left = subst (λ n. IsFirstPart old.journal n.journal) (sym left) (first_part_refl old.journal)
+step_grown stepped old new step long left = grown_by stepped old new (plain old.tick step) (old.tick + ticks_in step) (more_of stepped old new step long) left
 
 pub step_kept : (stepped : Result Done Refused) (ended : Result Played Stopped) (old new : NetNow) → Leaves old new stepped → Finished stepped ended →
     IfOk ended (λ p. p ≢ played.All → new ≡ old)

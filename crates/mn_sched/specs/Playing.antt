@@ -5,8 +5,9 @@ use Rattle.mn_topo.specs.Steps.{fits}
 use Rattle.mn_topo.specs.declared.steps.Step.{Step}
 use Rattle.mn_topo.specs.declared.steps.Step.TheVariants.{Inject}
 use Rattle.mn_topo.specs.declared.steps.JournalEntry.{JournalEntry}
+use Rattle.mn_entry.specs.Damages.{number_of}
 use Rattle.mn_script.specs.declared.command.Command.{Command}
-use Rattle.mn_script.specs.declared.command.Command.TheVariants.{Do, Show}
+use Rattle.mn_script.specs.declared.command.Command.TheVariants.{Do, Damage, Show}
 use Rattle.mn_course.specs.declared.coming.Ending.TheVariants as ending
 use Rattle.mn_course.specs.declared.coming.Arrivals.{Arrivals}
 use Rattle.mn_course.specs.declared.coming.Arrivals.TheVariants.{DueBy, News, AllFrames}
@@ -75,9 +76,10 @@ IsOwnCause (Refused cause.TooManySteps) = ⊥
 IsOwnCause (Refused cause.NoMemory) = ⊥
 IsOwnCause other = ⊤
 
--- the line injects a record that the capture hasn't
+-- the line injects a record that the capture hasn't, or one that was to come in place of a message
 abbrev pub names_no_record : ℕ → Command → Bool
 names_no_record records (Do (Inject s number)) = not (is_record records number)
+names_no_record records (Damage damage) = not (is_record records (number_of damage))
 names_no_record records command = false
 
 -- that answer comes exactly there, but for faults and want of memory

@@ -4,7 +4,7 @@ use Rattle.std.specs.Option.{ForSome}
 use Rattle.std.specs.Borrow.{Bor}
 use Rattle.mn_edge.specs.Faults.{Grew}
 use Rattle.mn_topo.specs.Network.{Network}
-use Rattle.mn_topo.specs.Steps.{fits}
+use Rattle.mn_entry.specs.Entries.{entry_fits}
 use Rattle.mn_topo.specs.declared.steps.JournalEntry.{JournalEntry}
 use Rattle.mn_course.specs.Course.{record_of, inputs_of}
 use Rattle.mn_ledger.specs.Items.{flight_of}
@@ -63,6 +63,6 @@ abbrev pub MadeLast : NetNow → Option (List (List ℕ)) → Done → Type 0
 MadeLast net packets made =
     ForSome packets (λ all. (made.first ≡ made_over net.topology all (but_last net.journal)) × (made.end ≡ made_over net.topology all net.journal))
 
--- the last step is one of the topology
+-- the last entry is one of the topology: of a step, or of a damaged message
 abbrev pub LastFits : NetNow → Type 0
-LastFits net = IfSome (slice_get net.journal (length net.journal - 1)) (λ entry. fits net.topology entry.step ≡ true)
+LastFits net = IfSome (slice_get net.journal (length net.journal - 1)) (λ entry. entry_fits net.topology entry ≡ true)

@@ -1,5 +1,6 @@
 ghost use Rattle.std.specs.Prelude.{◌≡◌, ◌≢◌, ◌≤◌, ◌<◌, ◌+◌, ◌^◌, ℕ, List, [], true, false, Some, IfOk, IfErr, OnOk, OnErr};
 ghost use Rattle.std.specs.Option.{ForSome};
+ghost use Rattle.mn_entry.specs.Damages.{damage_fits};
 ghost use Rattle.mn_script.specs.Lines.{command_fits};
 ghost use Rattle.mn_course.specs.Coming.{delivery, next_arrival};
 ghost use Rattle.mn_course.specs.Course.{ends, one_by_one, is_journal_full, deliver, played, stepped, all, most_of};
@@ -16,10 +17,11 @@ ghost use Rattle.mn_sched.specs.declared.line.Stopped.TheVariants as stopped;
 use crate::arrivals::{delivery, next_arrival, set_clock};
 use crate::watch::{Watch, WatchBad};
 use mn_course::{Arrivals, Coming, Kind};
+use mn_entry::number_of;
 use mn_ledger::Refused;
 use mn_net::{Done, Net};
 use mn_script::Command;
-use mn_topo::Step;
+use mn_topo::{Damage, Step};
 
 /// What became of a line.
 #[derive(Clone, Copy, Debug, PartialEq, Eq)]
@@ -28,7 +30,7 @@ pub enum Played {
     All,
     /// Its step was refused: never for a full journal or want of memory.
     Refused(Refused),
-    /// It injects a record that the capture hasn't.
+    /// It names a record that the capture hasn't: of a packet to inject, or to come in place of a message.
     NoRecord,
 }
 
@@ -263,6 +265,31 @@ fn step_plainly<W: Watch>(net: &mut Net, step: Step, watch: &mut W) -> Result<Pl
     finish(net, stepped, watch)
 }
 
+/// Ends a session by a damaged message: the packet of a record comes in the message's place.
+fn damage<W: Watch>(net: &mut Net, damage: Damage, watch: &mut W) -> Result<Played, Stopped>
+    requires fits { damage_fits net.old.topology damage ≡ true }
+    requires together { Together net.old (W.packets watch.old) (W.stands watch.old) }
+    ensures course { ForSome (W.packets watch.old) (λ capture. Takes (played net.old.topology capture (past_of net.old) (Command.Damage damage)) net.new result) }
+    ensures after { After net.new (W.packets watch.old) (W.stands watch.new) (W.begins watch.new) result }
+    ensures missing { MissingIff (names_no_record (W.records watch.old) (Command.Damage damage)) result }
+    ensures topology { net.new.topology ≡ net.old.topology }
+    ensures kept { IfOk result (λ played. played ≢ Played.All → net.new ≡ net.old) }
+    ensures refused { IfOk result IsOwnCause }
+    ensures grown { IsFirstPart net.old.journal net.new.journal }
+    ensures clock { OnOk result (IsPaced 1000000 net.old net.new) }
+    ensures records { W.records watch.new ≡ W.records watch.old }
+    ensures packets { W.packets watch.new ≡ W.packets watch.old }
+    ensures goes_on { W.goes_on watch.old watch.new }
+    ensures cause { Caused (W.reads watch.old, W.writes watch.old) (W.reads watch.new, W.writes watch.new) result }
+{
+    let stepped = match watch.packet(number_of(&damage)) {
+        Ok(Some(bytes)) => net.damage(damage, bytes),
+        Ok(None) => return Ok(Played::NoRecord),
+        Err(bad) => return Err(stopped_by(bad)),
+    };
+    finish(net, stepped, watch)
+}
+
 /// Ticks pass, and what is due in them arrives.
 fn pass_ticks<W: Watch>(net: &mut Net, ticks: u32, watch: &mut W) -> Result<Played, Stopped>
     requires few { ticks ≤ 1000000 }
@@ -342,6 +369,7 @@ pub fn play<W: Watch>(net: &mut Net, command: &Command, watch: &mut W) -> Result
             Step::Inject(_, number) => inject(net, step, number, watch),
             _ => step_plainly(net, step, watch),
         },
+        Command::Damage(message) => damage(net, message, watch),
         Command::Run(ticks) => pass_ticks(net, ticks, watch),
         Command::Drain(most) => drain(net, most, watch),
         Command::Flush => as_played(deliver(net, Arrivals::AllFrames, all_items(), watch)),

@@ -42,9 +42,13 @@ use Rattle.mn_script.specs.declared.command.Command.TheVariants as command
 use Rattle.mn_script.specs.declared.command.Show.{Show}
 use Rattle.mn_script.specs.declared.command.Show.TheVariants as table
 use Rattle.mn_script.specs.Words.{is_word}
-use Rattle.mn_script.specs.Lines.{run_line, bounded_drain, drain_line, flush_line, plain_show, show_tree, show_vrf, show_line, do_line, table_line}
+use Rattle.mn_topo.specs.declared.steps.Damage.{Damage}
+use Rattle.mn_topo.specs.declared.steps.Damage.TheVariants.{Ldp, Bgp}
+use Rattle.mn_entry.specs.Damages.{damage_fits}
+use Rattle.mn_script.specs.Damages.{damage_ldp_line, damage_bgp_line, damage_line}
+use Rattle.mn_script.specs.Lines.{run_line, bounded_drain, drain_line, flush_line, plain_show, show_tree, show_vrf, show_frame, show_line, do_line, damaged_line, table_line}
 use Rattle.mn_script.specs.Lines.{command_line, line_says, show_fits, command_fits}
-use Rattle.mn_script.specs.Spelled.{show_words, command_words, IsCommand}
+use Rattle.mn_script.specs.Spelled.{damage_words, show_words, command_words, IsDamage, IsShow, IsCommand}
 
 -- each name names its thing
 pub node_again : (network : Network) (node : NodeNo) → IsLawful network → node.0 < length network.loopbacks → node_in network (node_text network node) ≡ Ok node
@@ -318,45 +322,85 @@ record StepWords (ws : List (List ℕ)) : Type 0 where
   drain : is_word ws 0 (codes "drain") ≡ false
   flush : is_word ws 0 (codes "flush") ≡ false
   show : is_word ws 0 (codes "show") ≡ false
+  damage : is_word ws 0 (codes "damage") ≡ false
 
 step_words_are : (network : Network) (step : Step) → StepWords (step_words network step)
-step_words_are network (LinkUp link) = record { some = refl; run = refl; drain = refl; flush = refl; show = refl }
-step_words_are network (LinkDown link) = record { some = refl; run = refl; drain = refl; flush = refl; show = refl }
-step_words_are network (Learn node link) = record { some = refl; run = refl; drain = refl; flush = refl; show = refl }
-step_words_are network (LdpAdmin link on) = record { some = refl; run = refl; drain = refl; flush = refl; show = refl }
-step_words_are network (HearLdp link direction) = record { some = refl; run = refl; drain = refl; flush = refl; show = refl }
-step_words_are network (BgpUp a b) = record { some = refl; run = refl; drain = refl; flush = refl; show = refl }
-step_words_are network (BgpDown a b) = record { some = refl; run = refl; drain = refl; flush = refl; show = refl }
-step_words_are network (HearBgp a b) = record { some = refl; run = refl; drain = refl; flush = refl; show = refl }
-step_words_are network (AddRoute site prefix) = record { some = refl; run = refl; drain = refl; flush = refl; show = refl }
-step_words_are network (DelRoute site prefix) = record { some = refl; run = refl; drain = refl; flush = refl; show = refl }
-step_words_are network (Import vrf target on) = record { some = refl; run = refl; drain = refl; flush = refl; show = refl }
-step_words_are network (Export vrf target on) = record { some = refl; run = refl; drain = refl; flush = refl; show = refl }
-step_words_are network (Attach site) = record { some = refl; run = refl; drain = refl; flush = refl; show = refl }
-step_words_are network (Detach site) = record { some = refl; run = refl; drain = refl; flush = refl; show = refl }
-step_words_are network (Inject site number) = record { some = refl; run = refl; drain = refl; flush = refl; show = refl }
-step_words_are network (Carry link direction place) = record { some = refl; run = refl; drain = refl; flush = refl; show = refl }
-step_words_are network (Lose link direction place) = record { some = refl; run = refl; drain = refl; flush = refl; show = refl }
-step_words_are network (Tick ticks) = record { some = refl; run = refl; drain = refl; flush = refl; show = refl }
+step_words_are network (LinkUp link) = record { some = refl; run = refl; drain = refl; flush = refl; show = refl; damage = refl }
+step_words_are network (LinkDown link) = record { some = refl; run = refl; drain = refl; flush = refl; show = refl; damage = refl }
+step_words_are network (Learn node link) = record { some = refl; run = refl; drain = refl; flush = refl; show = refl; damage = refl }
+step_words_are network (LdpAdmin link on) = record { some = refl; run = refl; drain = refl; flush = refl; show = refl; damage = refl }
+step_words_are network (HearLdp link direction) = record { some = refl; run = refl; drain = refl; flush = refl; show = refl; damage = refl }
+step_words_are network (BgpUp a b) = record { some = refl; run = refl; drain = refl; flush = refl; show = refl; damage = refl }
+step_words_are network (BgpDown a b) = record { some = refl; run = refl; drain = refl; flush = refl; show = refl; damage = refl }
+step_words_are network (HearBgp a b) = record { some = refl; run = refl; drain = refl; flush = refl; show = refl; damage = refl }
+step_words_are network (AddRoute site prefix) = record { some = refl; run = refl; drain = refl; flush = refl; show = refl; damage = refl }
+step_words_are network (DelRoute site prefix) = record { some = refl; run = refl; drain = refl; flush = refl; show = refl; damage = refl }
+step_words_are network (Import vrf target on) = record { some = refl; run = refl; drain = refl; flush = refl; show = refl; damage = refl }
+step_words_are network (Export vrf target on) = record { some = refl; run = refl; drain = refl; flush = refl; show = refl; damage = refl }
+step_words_are network (Attach site) = record { some = refl; run = refl; drain = refl; flush = refl; show = refl; damage = refl }
+step_words_are network (Detach site) = record { some = refl; run = refl; drain = refl; flush = refl; show = refl; damage = refl }
+step_words_are network (Inject site number) = record { some = refl; run = refl; drain = refl; flush = refl; show = refl; damage = refl }
+step_words_are network (Carry link direction place) = record { some = refl; run = refl; drain = refl; flush = refl; show = refl; damage = refl }
+step_words_are network (Lose link direction place) = record { some = refl; run = refl; drain = refl; flush = refl; show = refl; damage = refl }
+step_words_are network (Tick ticks) = record { some = refl; run = refl; drain = refl; flush = refl; show = refl; damage = refl }
 
 step_said : (network : Network) (ws : List (List ℕ)) (step : Step) → StepWords ws → step_line network ws ≡ Ok step →
     line_says network ws ≡ Ok (Some (command.Do step))
 unfolding line_says command_line do_line
-step_said network ws step words h = rw (words.some, words.run, words.drain, words.flush, words.show, h) refl
+step_said network ws step words h = rw (words.some, words.run, words.drain, words.flush, words.show, words.damage, h) refl
 
-show_again : (network : Network) (what : Show) → IsLawful network → show_fits network what ≡ true →
+-- the words of a damage are read as the damage
+damage_ldp : (network : Network) (link : LinkNo) (direction : Dir) (number : ℕ)
+    → IsLawful network → link.0 < length network.links → 1 ≤ number → number < 2 ^ 32
+    → damage_line network (damage_words network (Ldp link direction number)) ≡ Ok (Ldp link direction number)
+unfolding damage_line damage_ldp_line
+damage_ldp network link direction number lawful below low high =
+    ap (λ found. found >>= (λ k. link_in network (from_text network link direction) (to_text network link direction) >>= (λ it. Ok (Ldp it.0 it.1 k))))
+    (number_in_again number 1 4294967295 (omega arith) low (omega arith))
+    ∙ ap (λ found. found >>= (λ it. Ok (Ldp it.0 it.1 number))) (ends_again network link direction lawful below)
+
+damage_bgp : (network : Network) (a b : NodeNo) (number : ℕ) → IsLawful network → are_edges network a b ≡ true → 1 ≤ number → number < 2 ^ 32
+    → damage_line network (damage_words network (Bgp a b number)) ≡ Ok (Bgp a b number)
+unfolding damage_line damage_bgp_line
+damage_bgp network a b number lawful edges low high =
+    let both = and_parts _ _ (and_parts _ _ edges).0 in
+    ap (λ found. found >>= (λ k. edges_in network (node_text network a) (node_text network b) >>= (λ it. Ok (Bgp it.0 it.1 k))))
+    (number_in_again number 1 4294967295 (omega arith) low (omega arith))
+    ∙ ap (λ found. found >>= (λ it. Ok (Bgp it.0 it.1 number)))
+    (edges_again network a b lawful (edge_is_node network a lawful both.0) (edge_is_node network b lawful both.1) edges)
+
+damage_again : (network : Network) (damage : Damage) → IsLawful network → damage_fits network damage ≡ true → IsDamage damage →
+    damage_line network (damage_words network damage) ≡ Ok damage
+damage_again network (Ldp link direction number) lawful fit is = let both = and_parts _ _ fit in
+    damage_ldp network link direction number lawful (ltb-true _ _ both.0) (leb-true _ _ both.1) is
+damage_again network (Bgp a b number) lawful fit is = let both = and_parts _ _ fit in damage_bgp network a b number lawful both.0 (leb-true _ _ both.1) is
+
+damage_said : (network : Network) (damage : Damage) → damage_line network (damage_words network damage) ≡ Ok damage →
+    line_says network (damage_words network damage) ≡ Ok (Some (command.Damage damage))
+unfolding line_says command_line damaged_line
+damage_said network (Ldp link direction number) h = ap (λ found. (found >>= (λ it. Ok (command.Damage it))) >>= (λ it. Ok (Some it))) h
+damage_said network (Bgp a b number) h = ap (λ found. (found >>= (λ it. Ok (command.Damage it))) >>= (λ it. Ok (Some it))) h
+
+show_again : (network : Network) (what : Show) → IsLawful network → show_fits network what ≡ true → IsShow what →
     line_says network (show_words network what) ≡ Ok (Some (command.Show what))
-unfolding line_says command_line table_line show_line plain_show show_tree show_vrf
-show_again network table.Links lawful fit = refl
-show_again network (table.Tree node) lawful fit =
+unfolding line_says command_line table_line show_line plain_show show_tree show_vrf show_frame
+show_again network table.Links lawful fit is = refl
+show_again network (table.Tree node) lawful fit is =
     ap (λ found. ((found >>= (λ it. Ok (table.Tree it))) >>= (λ what. Ok (command.Show what))) >>= (λ it. Ok (Some it)))
     (node_again network node lawful (ltb-true _ _ fit))
-show_again network table.Ldp lawful fit = refl
-show_again network table.Bgp lawful fit = refl
-show_again network (table.Vrf vrf) lawful fit =
+show_again network table.Ldp lawful fit is = refl
+show_again network table.Bgp lawful fit is = refl
+show_again network (table.Vrf vrf) lawful fit is =
     ap (λ found. ((found >>= (λ it. Ok (table.Vrf it))) >>= (λ what. Ok (command.Show what))) >>= (λ it. Ok (Some it)))
     (vrf_again network vrf lawful (ltb-true _ _ fit))
-show_again network table.Flight lawful fit = refl
+show_again network table.Flight lawful fit is = refl
+show_again network (table.Frame node number) lawful fit is =
+    let both = and_parts _ _ fit in
+    let low : 1 ≤ number = leb-true _ _ both.1 in
+    ap (λ found. ((found >>= (λ k. node_in network (node_text network node) >>= (λ it. Ok (table.Frame it k)))) >>= (λ what. Ok (command.Show what)))
+    >>= (λ it. Ok (Some it))) (number_in_again number 1 4294967295 (omega arith) low (omega arith))
+    ∙ ap (λ found. ((found >>= (λ it. Ok (table.Frame it number))) >>= (λ what. Ok (command.Show what))) >>= (λ it. Ok (Some it)))
+    (node_again network node lawful (ltb-true _ _ both.0))
 
 -- the words of a command are read as the command
 pub command_again : (network : Network) (asked : Command) → IsLawful network → command_fits network asked ≡ true → IsCommand asked →
@@ -364,6 +408,7 @@ pub command_again : (network : Network) (asked : Command) → IsLawful network �
 unfolding line_says command_line run_line bounded_drain drain_line flush_line
 command_again network (command.Do step) lawful fit is =
     step_said network (step_words network step) step (step_words_are network step) (step_again network step lawful fit is)
+command_again network (command.Damage damage) lawful fit is = damage_said network damage (damage_again network damage lawful fit is)
 command_again network (command.Run ticks) lawful fit is =
     let most : ticks ≤ 1000000 = leb-true _ _ fit in
     ap (λ found. (found >>= (λ n. Ok (command.Run n))) >>= (λ it. Ok (Some it))) (number_in_again ticks 0 1000000 (omega arith) (omega arith) most)
@@ -372,4 +417,4 @@ command_again network (command.Drain (Some steps)) lawful fit is =
     let most : steps ≤ 4000000 = leb-true _ _ fit in
     ap (λ found. (found >>= (λ n. Ok (command.Drain (Some n)))) >>= (λ it. Ok (Some it))) (number_in_again steps 0 4000000 (omega arith) (omega arith) most)
 command_again network command.Flush lawful fit is = refl
-command_again network (command.Show what) lawful fit is = show_again network what lawful fit
+command_again network (command.Show what) lawful fit is = show_again network what lawful fit is

@@ -45,9 +45,12 @@ use Rattle.mn_script.specs.declared.command.Command.{Command}
 use Rattle.mn_script.specs.declared.command.Command.TheVariants as command
 use Rattle.mn_script.specs.declared.command.Show.{Show}
 use Rattle.mn_script.specs.declared.command.Show.TheVariants as table
-use Rattle.mn_script.specs.Lines.{run_line, bounded_drain, drain_line, flush_line, plain_show, show_tree, show_vrf, show_line, do_line, table_line}
+use Rattle.mn_topo.specs.declared.steps.Damage.{Damage}
+use Rattle.mn_topo.specs.declared.steps.Damage.TheVariants.{Ldp, Bgp}
+use Rattle.mn_script.specs.Damages.{damage_ldp_line, damage_bgp_line, damage_line}
+use Rattle.mn_script.specs.Lines.{run_line, bounded_drain, drain_line, flush_line, plain_show, show_tree, show_vrf, show_frame, show_line, do_line, damaged_line, table_line}
 use Rattle.mn_script.specs.Lines.{command_line, line_says}
-use Rattle.mn_script.specs.Spelled.{show_words, AskFor}
+use Rattle.mn_script.specs.Spelled.{damage_words, show_words, AskFor}
 
 -- 1. Chains of rules
 bind_ok : {A B : Type 0} (r : Result A ScriptRule) (f : A → Result B ScriptRule) (y : B) → (r >>= f) ≡ Ok y → (x : A) × (r ≡ Ok x) × (f x ≡ Ok y)
@@ -113,6 +116,15 @@ four_words (a ∷ b ∷ c ∷ []) h = absurd (omega arith)
 four_words (a ∷ b ∷ c ∷ d ∷ []) h = refl
 four_words (a ∷ b ∷ c ∷ d ∷ e ∷ ws) h = absurd (omega arith)
 
+five_words : (ws : List (List ℕ)) → length ws ≡ 5 → ws ≡ word_at ws 0 ∷ word_at ws 1 ∷ word_at ws 2 ∷ word_at ws 3 ∷ word_at ws 4 ∷ []
+five_words [] h = absurd (omega arith)
+five_words (a ∷ []) h = absurd (omega arith)
+five_words (a ∷ b ∷ []) h = absurd (omega arith)
+five_words (a ∷ b ∷ c ∷ []) h = absurd (omega arith)
+five_words (a ∷ b ∷ c ∷ d ∷ []) h = absurd (omega arith)
+five_words (a ∷ b ∷ c ∷ d ∷ e ∷ []) h = refl
+five_words (a ∷ b ∷ c ∷ d ∷ e ∷ f ∷ ws) h = absurd (omega arith)
+
 of_two : (ws : List (List ℕ)) (a b : List ℕ) → length ws ≡ 2 → word_at ws 0 ≡ a → word_at ws 1 ≡ b → ws ≡ a ∷ b ∷ []
 of_two ws a b n p q = let all = two_words ws n in cc
 
@@ -122,6 +134,10 @@ of_three ws a b c n p q r = let all = three_words ws n in cc
 of_four : (ws : List (List ℕ)) (a b c d : List ℕ) → length ws ≡ 4 → word_at ws 0 ≡ a → word_at ws 1 ≡ b → word_at ws 2 ≡ c → word_at ws 3 ≡ d →
     ws ≡ a ∷ b ∷ c ∷ d ∷ []
 of_four ws a b c d n p q r s = let all = four_words ws n in cc
+
+of_five : (ws : List (List ℕ)) (a b c d e : List ℕ) → length ws ≡ 5 → word_at ws 0 ≡ a → word_at ws 1 ≡ b → word_at ws 2 ≡ c → word_at ws 3 ≡ d →
+    word_at ws 4 ≡ e → ws ≡ a ∷ b ∷ c ∷ d ∷ e ∷ []
+of_five ws a b c d e n p q r s t = let all = five_words ws n in cc
 
 -- 3. What words name
 text_of : (names : List (List ℕ)) (w : List ℕ) (n : ℕ) → number_of names w ≡ Some n → w ≡ slice_index_or names n []
@@ -600,6 +616,17 @@ vrf_asked network ws shown first second h =
     subst (λ s. ws ≡ show_words network s) (same_Ok (table.Vrf vrf.0) shown vrf.2)
     (of_three ws (codes "show") (codes "vrf") _ (counted_only ws 3 full.0 full.1) first second (vrf_only network (word_at ws 2) vrf.0 vrf.1))
 
+frame_asked : (network : Network) (ws : List (List ℕ)) (shown : Show) → word_at ws 0 ≡ codes "show" → word_at ws 1 ≡ codes "frame" →
+    show_frame network ws ≡ Ok shown → AsksToShow network ws shown
+unfolding AsksToShow show_frame
+frame_asked network ws shown first second h =
+    let full = bind_ok (counted ws 4) _ shown h in
+    let number = bind_ok (number_in (word_at ws 3) 1 4294967295) _ shown full.2 in
+    let node = bind_ok (node_in network (word_at ws 2)) _ shown number.2 in
+    subst (λ s. ws ≡ show_words network s) (same_Ok (table.Frame node.0 number.0) shown node.2)
+    (of_four ws (codes "show") (codes "frame") _ _ (counted_only ws 4 full.0 full.1) first second (node_only network (word_at ws 2) node.0 node.1)
+    (number_in_only (word_at ws 3) 1 4294967295 number.0 (lit< tt) number.1))
+
 show_only : (network : Network) (ws : List (List ℕ)) (shown : Show) → word_at ws 0 ≡ codes "show" → show_line network ws ≡ Ok shown →
     AsksToShow network ws shown
 unfolding show_line
@@ -626,7 +653,12 @@ show_only network ws shown first h =
                                         (λ _. AsksToShow network ws shown) [
                                           | inl here ↦ plain_asked network ws table.Flight shown (codes "flight") first
                                               (word_is ws 1 (codes "flight") here.0) refl here.1
-                                          | inr h7 ↦ absurd cc
+                                          | inr h7 ↦
+                                              elim (either (is_word ws 1 (codes "frame")) (show_frame network ws) _ shown h7) as
+                                              (λ _. AsksToShow network ws shown) [
+                                                | inl here ↦ frame_asked network ws shown first (word_is ws 1 (codes "frame") here.0) here.1
+                                                | inr h8 ↦ absurd cc
+                                              ]
                                         ]
                                   ]
                             ]
@@ -641,6 +673,51 @@ unfolding table_line AsksToShow
 table_only network ws asked first h =
     let what = bind_ok (show_line network ws) _ asked h in
     subst (AskFor network ws) (same_Ok (command.Show what.0) asked what.2) (show_only network ws what.0 first what.1)
+
+-- the words ask for the damage
+AsksToDamage : Network → List (List ℕ) → Damage → Type 0
+AsksToDamage network ws damage = ws ≡ damage_words network damage
+
+damage_ldp_only : (network : Network) (ws : List (List ℕ)) (number : ℕ) (damage : Damage) → length ws ≡ 5 → word_at ws 0 ≡ codes "damage" →
+    word_at ws 1 ≡ codes "ldp" → word_at ws 4 ≡ number_text number → damage_ldp_line network ws number ≡ Ok damage → AsksToDamage network ws damage
+unfolding AsksToDamage damage_ldp_line
+damage_ldp_only network ws number damage five first second last h =
+    let found = bind_ok (link_in network (word_at ws 2) (word_at ws 3)) _ damage h in
+    let ends = ends_only network (word_at ws 2) (word_at ws 3) found.0 found.1 in
+    subst (λ d. ws ≡ damage_words network d) (same_Ok (Ldp found.0.0 found.0.1 number) damage found.2)
+    (of_five ws (codes "damage") (codes "ldp") _ _ _ five first second ends.0 ends.1 last)
+
+damage_bgp_only : (network : Network) (ws : List (List ℕ)) (number : ℕ) (damage : Damage) → length ws ≡ 5 → word_at ws 0 ≡ codes "damage" →
+    word_at ws 1 ≡ codes "bgp" → word_at ws 4 ≡ number_text number → damage_bgp_line network ws number ≡ Ok damage → AsksToDamage network ws damage
+unfolding AsksToDamage damage_bgp_line
+damage_bgp_only network ws number damage five first second last h =
+    let found = bind_ok (edges_in network (word_at ws 2) (word_at ws 3)) _ damage h in
+    let edges = edges_only network (word_at ws 2) (word_at ws 3) found.0 found.1 in
+    subst (λ d. ws ≡ damage_words network d) (same_Ok (Bgp found.0.0 found.0.1 number) damage found.2)
+    (of_five ws (codes "damage") (codes "bgp") _ _ _ five first second edges.0 edges.1 last)
+
+damage_either : (network : Network) (ws : List (List ℕ)) (number : ℕ) (damage : Damage) (ldp : Bool) → length ws ≡ 5 → word_at ws 0 ≡ codes "damage" →
+    word_at ws 1 ≡ (if ldp then codes "ldp" else codes "bgp") → word_at ws 4 ≡ number_text number →
+    (if ldp then damage_ldp_line network ws number else damage_bgp_line network ws number) ≡ Ok damage → AsksToDamage network ws damage
+damage_either network ws number damage true five first second last h = damage_ldp_only network ws number damage five first second last h
+damage_either network ws number damage false five first second last h = damage_bgp_only network ws number damage five first second last h
+
+damage_only : (network : Network) (ws : List (List ℕ)) (damage : Damage) → word_at ws 0 ≡ codes "damage" → damage_line network ws ≡ Ok damage →
+    AsksToDamage network ws damage
+unfolding damage_line
+damage_only network ws damage first h =
+    let ldp = bind_ok (choice ws (codes "ldp") (codes "bgp")) _ damage h in
+    let full = bind_ok (counted ws 5) _ damage ldp.2 in
+    let number = bind_ok (number_in (word_at ws 4) 1 4294967295) _ damage full.2 in
+    damage_either network ws number.0 damage ldp.0 (counted_only ws 5 full.0 full.1) first (choice_only ws (codes "ldp") (codes "bgp") ldp.0 ldp.1)
+    (number_in_only (word_at ws 4) 1 4294967295 number.0 (lit< tt) number.1) number.2
+
+damaged_only : (network : Network) (ws : List (List ℕ)) (asked : Command) → word_at ws 0 ≡ codes "damage" → damaged_line network ws ≡ Ok asked →
+    AskFor network ws asked
+unfolding damaged_line AsksToDamage
+damaged_only network ws asked first h =
+    let damage = bind_ok (damage_line network ws) _ asked h in
+    subst (AskFor network ws) (same_Ok (command.Damage damage.0) asked damage.2) (damage_only network ws damage.0 first damage.1)
 
 do_only : (network : Network) (ws : List (List ℕ)) (asked : Command) → do_line network ws ≡ Ok asked → AskFor network ws asked
 unfolding do_line
@@ -670,7 +747,11 @@ command_only network ws asked h =
                   | inr h3 ↦
                       elim (either (is_word ws 0 (codes "show")) (table_line network ws) _ asked h3) as (λ _. AskFor network ws asked) [
                         | inl here ↦ table_only network ws asked (word_is ws 0 (codes "show") here.0) here.1
-                        | inr h4 ↦ do_only network ws asked h4
+                        | inr h4 ↦
+                            elim (either (is_word ws 0 (codes "damage")) (damaged_line network ws) _ asked h4) as (λ _. AskFor network ws asked) [
+                              | inl here ↦ damaged_only network ws asked (word_is ws 0 (codes "damage") here.0) here.1
+                              | inr h5 ↦ do_only network ws asked h5
+                            ]
                       ]
                 ]
           ]

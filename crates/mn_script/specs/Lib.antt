@@ -2,6 +2,7 @@ pub mod Rules
 pub mod Words
 pub mod Operands
 pub mod Steps
+pub mod Damages
 pub mod Lines
 pub mod Reading
 pub mod Script

@@ -1,7 +1,8 @@
 -- All lines, by their first word.
-use Rattle.std.specs.Prelude.{ℕ, ◌==◌, if◌then◌else◌, nat_le, Bool, true, List, length, Option, Some, None, Result, Ok, Err, codes}
+use Rattle.std.specs.Prelude.{ℕ, ◌==◌, ◌&&◌, if◌then◌else◌, nat_le, Bool, true, List, length, Option, Some, None, Result, Ok, Err, codes}
 use Rattle.mn_base.specs.Limits.{most_steps}
 use Rattle.mn_topo.specs.Network.{Network}
+use Rattle.mn_entry.specs.Damages.{damage_fits}
 use Rattle.mn_topo.specs.Steps.{fits, has_node, has_vrf}
 use Rattle.mn_script.specs.declared.refusal.ScriptRule.{ScriptRule}
 use Rattle.mn_script.specs.declared.refusal.ScriptRule.TheVariants.{UnknownWord, WrongCount}
@@ -13,6 +14,7 @@ use Rattle.mn_script.specs.Rules.{◌>>=◌}
 use Rattle.mn_script.specs.Words.{word_at, is_word, counted}
 use Rattle.mn_script.specs.Operands.{number_in, node_in, vrf_in}
 use Rattle.mn_script.specs.Steps.{step_line}
+use Rattle.mn_script.specs.Damages.{damage_line}
 
 -- run T: ticks
 unfoldable pub run_line : List (List ℕ) → Result Command ScriptRule
@@ -58,6 +60,14 @@ show_vrf network ws = do
   vrf ← vrf_in network (word_at ws 2)
   Ok (table.Vrf vrf)
 
+-- show frame N K: the record of a capture, numbered from 1
+unfoldable pub show_frame : Network → List (List ℕ) → Result Show ScriptRule
+show_frame network ws = do
+  full ← counted ws 4
+  number ← number_in (word_at ws 3) 1 4294967295
+  node ← node_in network (word_at ws 2)
+  Ok (table.Frame node number)
+
 -- the table that a line shows, by its second word, which may be absent
 unfoldable pub show_line : Network → List (List ℕ) → Result Show ScriptRule
 show_line network ws =
@@ -68,6 +78,7 @@ show_line network ws =
     else if is_word ws 1 (codes "bgp") then plain_show ws table.Bgp
     else if is_word ws 1 (codes "vrf") then show_vrf network ws
     else if is_word ws 1 (codes "flight") then plain_show ws table.Flight
+    else if is_word ws 1 (codes "frame") then show_frame network ws
     else Err UnknownWord
 
 -- the step of a line, as a command
@@ -75,6 +86,12 @@ unfoldable pub do_line : Network → List (List ℕ) → Result Command ScriptRu
 do_line network ws = do
   step ← step_line network ws
   Ok (command.Do step)
+
+-- the damage of a line, as a command
+unfoldable pub damaged_line : Network → List (List ℕ) → Result Command ScriptRule
+damaged_line network ws = do
+  damage ← damage_line network ws
+  Ok (command.Damage damage)
 
 -- the table of a line, as a command
 unfoldable pub table_line : Network → List (List ℕ) → Result Command ScriptRule
@@ -89,13 +106,14 @@ command_line network ws =
     else if is_word ws 0 (codes "drain") then drain_line ws
     else if is_word ws 0 (codes "flush") then flush_line ws
     else if is_word ws 0 (codes "show") then table_line network ws
+    else if is_word ws 0 (codes "damage") then damaged_line network ws
     else do_line network ws
 
 -- the command of a line, none where it has no words
 unfoldable pub line_says : Network → List (List ℕ) → Result (Option Command) ScriptRule
 line_says network ws = if length ws == 0 then Ok None else command_line network ws >>= (λ found. Ok (Some found))
 
--- the table is of a node or a VRF of the topology
+-- the table is of a node or a VRF of the topology, and a record is from 1
 abbrev pub show_fits : Network → Show → Bool
 show_fits network table.Links = true
 show_fits network (table.Tree node) = has_node network node
@@ -103,10 +121,12 @@ show_fits network table.Ldp = true
 show_fits network table.Bgp = true
 show_fits network (table.Vrf vrf) = has_vrf network vrf
 show_fits network table.Flight = true
+show_fits network (table.Frame node number) = has_node network node && nat_le 1 number
 
 -- the command has numbers of the topology, at most 1,000,000 ticks and at most 4,000,000 steps
 abbrev pub command_fits : Network → Command → Bool
 command_fits network (command.Do step) = fits network step
+command_fits network (command.Damage damage) = damage_fits network damage
 command_fits network (command.Run ticks) = nat_le ticks 1000000
 command_fits network (command.Drain None) = true
 command_fits network (command.Drain (Some steps)) = nat_le steps most_steps

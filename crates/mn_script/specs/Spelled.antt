@@ -14,7 +14,10 @@ use Rattle.mn_text.specs.Pairs.{rt_text}
 use Rattle.mn_topo.specs.declared.steps.Step.{Step}
 use Rattle.mn_topo.specs.declared.steps.Step.TheVariants.{LinkUp, LinkDown, Learn, LdpAdmin, HearLdp, BgpUp, BgpDown, HearBgp, AddRoute, DelRoute, Import}
 use Rattle.mn_topo.specs.declared.steps.Step.TheVariants.{Export, Attach, Detach, Inject, Carry, Lose, Tick}
+use Rattle.mn_topo.specs.declared.steps.Damage.{Damage}
+use Rattle.mn_topo.specs.declared.steps.Damage.TheVariants.{Ldp, Bgp}
 use Rattle.mn_topo.specs.Network.{Network, wiring_of}
+use Rattle.mn_entry.specs.Damages.{number_of}
 use Rattle.mn_script.specs.declared.command.Command.{Command}
 use Rattle.mn_script.specs.declared.command.Command.TheVariants as command
 use Rattle.mn_script.specs.declared.command.Show.{Show}
@@ -72,6 +75,12 @@ turned_words network step = step_words network step
 abbrev pub AskForStep : Network → List (List ℕ) → Step → Type 0
 AskForStep network ws step = (ws ≡ step_words network step) ⊎ (ws ≡ turned_words network step)
 
+-- the words that ask for a damage
+abbrev pub damage_words : Network → Damage → List (List ℕ)
+damage_words network (Ldp link direction number) =
+    codes "damage" ∷ codes "ldp" ∷ from_text network link direction ∷ to_text network link direction ∷ number_text number ∷ []
+damage_words network (Bgp a b number) = codes "damage" ∷ codes "bgp" ∷ node_text network a ∷ node_text network b ∷ number_text number ∷ []
+
 -- the words that ask for a table
 abbrev pub show_words : Network → Show → List (List ℕ)
 show_words network table.Links = codes "show" ∷ codes "links" ∷ []
@@ -80,10 +89,12 @@ show_words network table.Ldp = codes "show" ∷ codes "ldp" ∷ []
 show_words network table.Bgp = codes "show" ∷ codes "bgp" ∷ []
 show_words network (table.Vrf vrf) = codes "show" ∷ codes "vrf" ∷ vrf_text network vrf ∷ []
 show_words network table.Flight = codes "show" ∷ codes "flight" ∷ []
+show_words network (table.Frame node number) = codes "show" ∷ codes "frame" ∷ node_text network node ∷ number_text number ∷ []
 
 -- the words that ask for a command
 abbrev pub command_words : Network → Command → List (List ℕ)
 command_words network (command.Do step) = step_words network step
+command_words network (command.Damage damage) = damage_words network damage
 command_words network (command.Run ticks) = codes "run" ∷ number_text ticks ∷ []
 command_words network (command.Drain None) = codes "drain" ∷ []
 command_words network (command.Drain (Some steps)) = codes "drain" ∷ number_text steps ∷ []
@@ -93,6 +104,7 @@ command_words network (command.Show what) = show_words network what
 -- the words ask for the command
 abbrev pub AskFor : Network → List (List ℕ) → Command → Type 0
 AskFor network ws (command.Do step) = AskForStep network ws step
+AskFor network ws (command.Damage damage) = ws ≡ damage_words network damage
 AskFor network ws (command.Run ticks) = ws ≡ command_words network (command.Run ticks)
 AskFor network ws (command.Drain bound) = ws ≡ command_words network (command.Drain bound)
 AskFor network ws command.Flush = ws ≡ command_words network command.Flush
@@ -107,6 +119,15 @@ IsStep (Carry link direction place) = place < 2 ^ 32
 IsStep (Lose link direction place) = place < 2 ^ 32
 IsStep _ = ⊤
 
+abbrev pub IsDamage : Damage → Type 0
+IsDamage damage = number_of damage < 2 ^ 32
+
+abbrev pub IsShow : Show → Type 0
+IsShow (table.Frame node number) = number < 2 ^ 32
+IsShow _ = ⊤
+
 abbrev pub IsCommand : Command → Type 0
 IsCommand (command.Do step) = IsStep step
+IsCommand (command.Damage damage) = IsDamage damage
+IsCommand (command.Show what) = IsShow what
 IsCommand _ = ⊤

@@ -1,7 +1,7 @@
 //! What a line of a script asks for.
 
 use mn_base::{NodeNo, VrfNo};
-use mn_topo::Step;
+use mn_topo::{Damage, Step};
 
 /// A table of the report.
 #[derive(Clone, Copy, Debug, PartialEq, Eq)]
@@ -18,6 +18,8 @@ pub enum Show {
     Vrf(VrfNo),
     /// What is in flight.
     Flight,
+    /// What the node would do with the packet of a record of the capture, numbered from 1, taken as a frame.
+    Frame(NodeNo, u32),
 }
 
 /// What a line asks for.
@@ -25,6 +27,8 @@ pub enum Show {
 pub enum Command {
     /// To do the step.
     Do(Step),
+    /// That the packet of a record of the capture comes in place of a session's message.
+    Damage(Damage),
     /// To let so many ticks pass, at most 1,000,000.
     Run(u32),
     /// To deliver the notices and then the messages of sessions, in at most so many steps (4,000,000 at

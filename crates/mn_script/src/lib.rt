@@ -9,7 +9,8 @@
 //! route add SITE PREFIX, route del ..     drain N, drain
 //! import add VRF TARGET, import del ..    flush
 //! export add VRF TARGET, export del ..    show links, show tree N, show ldp,
-//!                                           show bgp, show vrf VRF, show flight
+//! damage ldp A B K, damage bgp A B K        show bgp, show vrf VRF, show flight,
+//!                                           show frame N K
 //! ```
 //!
 //! A word that begins with `#` ends its line. A line without words is passed over, and counts as a line: lines
@@ -21,6 +22,7 @@
 //! - `words`: the words of a line, S1 and S2
 //! - `operands`: what the words of a line name, S3 to S6
 //! - `steps`: the lines that name a step, a function each
+//! - `damages`: the lines that name a damaged message
 //! - `lines`: all lines, by their first word
 //! - `reading`: the lines of a file in any language of lines, of which a script is one
 //! - `read`: the whole script
@@ -28,6 +30,7 @@
 #![tactic(auto)]
 
 mod command;
+mod damages;
 mod laws;
 mod lines;
 mod operands;

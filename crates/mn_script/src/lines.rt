@@ -2,9 +2,10 @@
 ghost use Rattle.std.specs.Prelude.{◌≡◌, ◌≤◌, true, IfOk, IfSome};
 ghost use Rattle.mn_topo.specs.Network.{Network};
 ghost use Rattle.mn_script.specs.Words.{texts};
-ghost use Rattle.mn_script.specs.Lines.{run_line, bounded_drain, drain_line, flush_line, plain_show, show_tree, show_vrf, show_line, table_line, do_line, command_line, line_says, show_fits, command_fits};
+ghost use Rattle.mn_script.specs.Lines.{run_line, bounded_drain, drain_line, flush_line, plain_show, show_tree, show_vrf, show_frame, show_line, table_line, do_line, damaged_line, command_line, line_says, show_fits, command_fits};
 ghost use Rattle.mn_script.specs.Script.{command_says};
 
+use crate::damages::damage_line;
 use crate::operands::{node_in, number_in, vrf_in};
 use crate::steps::{MOST_TICKS, step_line};
 use crate::words::{counted, is_word, word_at};
@@ -89,6 +90,18 @@ pub fn show_vrf(topology: &Topology, words: &[&[u8]]) -> Result<Show, ScriptRule
     Ok(Show::Vrf(vrf))
 }
 
+/// `show frame N K`.
+#[tactic(auto, unfolding(crate::specs::Lines::show_frame))]
+fn show_frame(topology: &Topology, words: &[&[u8]]) -> Result<Show, ScriptRule>
+    ensures value { result ≡ show_frame topology.now (texts words.now) }
+    ensures fits { IfOk result (λ table. show_fits topology.now table ≡ true) }
+{
+    counted(words, 4)?;
+    let number = number_in(word_at(words, 3), 1, u32::MAX)?;
+    let node = node_in(topology, word_at(words, 2))?;
+    Ok(Show::Frame(node, number))
+}
+
 #[tactic(auto, unfolding(crate::specs::Lines::show_line))]
 fn show_line(topology: &Topology, words: &[&[u8]]) -> Result<Show, ScriptRule>
     ensures value { result ≡ show_line topology.now (texts words.now) }
@@ -108,6 +121,8 @@ fn show_line(topology: &Topology, words: &[&[u8]]) -> Result<Show, ScriptRule>
         show_vrf(topology, words)
     } else if is_word(words, 1, "flight") {
         plain_show(words, Show::Flight)
+    } else if is_word(words, 1, "frame") {
+        show_frame(topology, words)
     } else {
         Err(ScriptRule::UnknownWord)
     }
@@ -133,6 +148,16 @@ fn do_line(topology: &Topology, words: &[&[u8]]) -> Result<Command, ScriptRule>
     Ok(Command::Do(step))
 }
 
+/// A line that names a damaged message.
+#[tactic(auto, unfolding(crate::specs::Lines::damaged_line))]
+fn damaged_line(topology: &Topology, words: &[&[u8]]) -> Result<Command, ScriptRule>
+    ensures value { result ≡ damaged_line topology.now (texts words.now) }
+    ensures fits { IfOk result (λ command. command_fits topology.now command ≡ true) }
+{
+    let damage = damage_line(topology, words)?;
+    Ok(Command::Damage(damage))
+}
+
 /// The command of a line with words, by the first of them.
 #[tactic(auto, unfolding(crate::specs::Lines::command_line))]
 fn command_line(topology: &Topology, words: &[&[u8]]) -> Result<Command, ScriptRule>
@@ -147,6 +172,8 @@ fn command_line(topology: &Topology, words: &[&[u8]]) -> Result<Command, ScriptR
         flush_line(words)
     } else if is_word(words, 0, "show") {
         table_line(topology, words)
+    } else if is_word(words, 0, "damage") {
+        damaged_line(topology, words)
     } else {
         do_line(topology, words)
     }

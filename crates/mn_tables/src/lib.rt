@@ -7,6 +7,7 @@
 //! bgp pe1 established pe2 established
 //! route red1 10.2.0.0/16 edge pe2 label 18
 //! frames pe1 p 3
+//! frame pe2 4 next p bytes 0001213E4500001C000000003F1167CD0A0100010A0200010035003500080000
 //! ```
 //!
 //! Each call puts one line of what it is given, and takes no memory.
@@ -14,10 +15,12 @@
 //! - `pieces`: pieces of text, one after another
 //! - `names`: the ends of a link and VRFs by their names
 //! - `links`, `tree`, `ldp`, `bgp`, `flight`, `routes`: the lines of these tables
+//! - `frame`: the line of what a node would do with a frame
 #![tactic(auto)]
 
 mod bgp;
 mod flight;
+mod frame;
 mod ldp;
 mod links;
 mod names;
@@ -27,6 +30,7 @@ mod tree;
 
 pub use bgp::put_bgp;
 pub use flight::{put_counts, put_frames};
+pub use frame::{put_outcome, put_unread};
 pub use ldp::put_ldp;
 pub use links::put_link;
 pub use pieces::put_pieces;

@@ -1,8 +1,6 @@
-// Devices that fail while a run goes over two links.
+// Devices that fail while a run goes over two links: what `mn_device_rows` can't say, since it compares whole bytes.
 use crate::one_node::{RUN, Ran, does, is_fault, reports, runs, shelf};
-use crate::two_links::{
-    CAPTURE, File, REPORT, SCRIPT, TOPOLOGY, are_whole, files, packet_files, sent,
-};
+use crate::two_links::{CAPTURE, File, REPORT, SCRIPT, TOPOLOGY, are_whole, files, packet_files};
 use mn_edge::MemShelf;
 use mn_run::Outcome;
 use std::alloc::{AllocError, Global};
@@ -68,15 +66,6 @@ fn sent_long(alloc: Global, script: &str, failing: Vec<u64>) -> Result<Ran, Allo
     runs(alloc, TOPOLOGY, script, capture, failing)
 }
 
-/// Whether these files were begun, and nothing is in them.
-fn are_empty(shelf: &MemShelf, files: &[File]) -> bool {
-    let mut empty = true;
-    for file in files {
-        empty = empty && shelf.file(file.0.as_str()) == Some(b"".as_slice());
-    }
-    empty
-}
-
 /// Whether each of these files was begun, and is a first part of its bytes.
 fn are_first_parts(shelf: &MemShelf, files: &[File]) -> bool {
     let mut parts = true;
@@ -87,57 +76,6 @@ fn are_first_parts(shelf: &MemShelf, files: &[File]) -> bool {
         };
     }
     parts
-}
-
-/// Whether the files before this place are whole, that at it is half there, and those behind it are empty.
-fn are_whole_up_to(shelf: &MemShelf, files: &[File], end: usize) -> bool {
-    let mut as_said = true;
-    for (place, file) in files.iter().enumerate() {
-        let whole = file.1.len();
-        let length = if place < end {
-            whole
-        } else if place == end {
-            whole / 2
-        } else {
-            0
-        };
-        as_said = match shelf.file(file.0.as_str()) {
-            Some(found) => as_said && found.len() == length,
-            None => false,
-        };
-    }
-    as_said
-}
-
-#[test]
-fn a_packet_that_cannot_be_fetched_again_leaves_the_files_empty(
-    rt: HostRuntime,
-) -> Result<(), Fail> {
-    // Calls 1 to 6 read the inputs, 7 to 17 begin the files, and 18 fetches the packet as it is injected.
-    let alloc = rt.alloc();
-    let ran = sent(alloc, vec![in alloc; 18u64]?)?;
-    is_fault(&rt, &ran, Outcome::ReadFault, 6);
-    assert!(rt; are_empty(&ran.shelf, &packet_files(alloc)?));
-    Ok(())
-}
-
-/// The call of this number fails, which appends the file at this place.
-fn leaves_half(rt: &impl Abort, alloc: Global, call: u64, place: usize) -> Result<(), Fail> {
-    let ran = sent(alloc, vec![in alloc; call]?)?;
-    is_fault(rt, &ran, Outcome::WriteFault, 7);
-    let files = packet_files(alloc)?;
-    assert!(rt; are_first_parts(&ran.shelf, &files));
-    assert!(rt; are_whole_up_to(&ran.shelf, &files, place));
-    Ok(())
-}
-
-#[test]
-fn a_failing_append_at_the_end_leaves_half_of_its_file(rt: HostRuntime) -> Result<(), Fail> {
-    // All bytes of the run wait until its end: then calls 19 to 29 append the files.
-    for place in 0..11usize {
-        leaves_half(&rt, rt.alloc(), place as u64 + 19, place)?;
-    }
-    Ok(())
 }
 
 /// The run over the capture, where the first put fails.
@@ -173,24 +111,6 @@ fn a_long_packet_is_written_in_two_parts(rt: HostRuntime) -> Result<(), Fail> {
     // the second link; and calls 29 to 32 the rest, at the end, to the journal, the labels, the deliveries and that
     // link's capture.
     assert_eq!(rt; ran.shelf.calls(), 32);
-    Ok(())
-}
-
-/// The call of this number fails, which appends a part of a file.
-fn leaves_first_parts(rt: &impl Abort, alloc: Global, call: u64) -> Result<(), Fail> {
-    let ran = sent_long(alloc, SCRIPT, vec![in alloc; call]?)?;
-    is_fault(rt, &ran, Outcome::WriteFault, 7);
-    let files = long_files(alloc)?;
-    assert!(rt; are_first_parts(&ran.shelf, &files));
-    assert!(rt; !are_whole(&ran.shelf, &files));
-    Ok(())
-}
-
-#[test]
-fn a_failing_append_in_the_middle_leaves_first_parts(rt: HostRuntime) -> Result<(), Fail> {
-    for call in 19..33u64 {
-        leaves_first_parts(&rt, rt.alloc(), call)?;
-    }
     Ok(())
 }
 

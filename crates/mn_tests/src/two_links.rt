@@ -1,7 +1,6 @@
 // Three nodes in a row: what a run leaves in which two labels carry a packet from the site at one end to the site at the other.
 ghost use Rattle.std.specs.Prelude.{◌<◌};
 
-use crate::one_node::{Ran, runs};
 use mn_edge::MemShelf;
 use std::alloc::{AllocError, Global};
 
@@ -366,10 +365,4 @@ pub(crate) fn are_whole(shelf: &MemShelf, files: &[File]) -> bool {
         whole = whole && shelf.file(file.0.as_str()) == Some(file.1.as_slice());
     }
     whole
-}
-
-/// The run over the capture, where the shelf's calls of these numbers fail.
-pub(crate) fn sent(alloc: Global, failing: Vec<u64>) -> Result<Ran, AllocError> {
-    let capture = Vec::from_slice(alloc, &CAPTURE)?;
-    runs(alloc, TOPOLOGY, SCRIPT, capture, failing)
 }

@@ -1,4 +1,4 @@
-use Rattle.std.proofs.Common.{length, map, ap, arith, ◌≡◌}
+use Rattle.std.proofs.Common.{length, ap, arith}
 use Rattle.std.proofs.lemmas.List.{length-map}
 use Rattle.std.specs.Prelude.{string_bytes}
 use Rattle.mn_output.specs.Files.{files_of, file_name}

@@ -4,7 +4,8 @@ use Rattle.mn_ledger.specs.Ledger.{injects}
 use Rattle.mn_ledger.specs.Time.{ticks_in}
 use Rattle.mn_course.specs.Coming.{delivery}
 use Rattle.mn_course.specs.Course.{inputs_of}
-use Rattle.mn_sched.proofs.Telling.{leaves, made_last, last_fits, err_then, set_on, stood, same_journal, takes_no_input, one_arrives, after_one, opens_then}
+use Rattle.mn_sched.proofs.Growing.{err_then}
+use Rattle.mn_sched.proofs.Telling.{leaves, made_last, last_fits, set_on, stood, same_journal, takes_no_input, one_arrives, after_one, opens_then}
 use Rattle.mn_sched.specs.Playing.{IsFirstPart}
 use Rattle.mn_sched.proofs.Telling.{one_paced, one_longer, one_early, step_grown}
 use Rattle.mn_sched.proofs.line.deliver_one.Goals as goal

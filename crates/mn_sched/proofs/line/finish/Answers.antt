@@ -1,4 +1,5 @@
-use Rattle.mn_sched.proofs.Telling.{ok_then, after_fault}
+use Rattle.mn_sched.proofs.Growing.{ok_then}
+use Rattle.mn_sched.proofs.Telling.{after_fault}
 use Rattle.mn_sched.proofs.line.finish.Goals as goal
 
 pub returns-in-Err-done-clause-after : goal.returns-in-Err-done-clause-after
