@@ -1,0 +1,13 @@
+use Rattle.std.proofs.Common.{◌≡◌, None}
+use Rattle.mn_legs.specs.Pairing.{Pairing, Both}
+use Rattle.mn_option_a.specs.Pairs.{PairStands}
+use Rattle.mn_option_a.specs.Moves.{PairGoesOn}
+use Rattle.mn_option_a.proofs.Coursing.{ComesOn}
+use Rattle.mn_option_a.proofs.pair.Pair.deliver.Given as goal
+
+abbrev pub invariant-loop-turn : goal.invariant-loop-turn
+invariant-loop-turn l = record {
+  comes : (pairing : Pairing) (both : Both) → PairStands pairing l.fn.self both → ComesOn pairing l.which l.arrivals both l.most l._turn l.self;
+  goes : PairGoesOn l.fn.self l.self;
+  stopped : l.self.stopped ≡ None;
+}

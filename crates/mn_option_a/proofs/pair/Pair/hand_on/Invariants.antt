@@ -1,0 +1,13 @@
+use Rattle.std.proofs.Common.{◌≡◌}
+use Rattle.mn_legs.specs.Pairing.{Pairing, Both}
+use Rattle.mn_option_a.specs.Pairs.{PairStands}
+use Rattle.mn_option_a.specs.Moves.{PairGoesOn}
+use Rattle.mn_option_a.proofs.Coursing.{GoesOver}
+use Rattle.mn_option_a.proofs.pair.Pair.hand_on.Given as goal
+
+abbrev pub invariant-loop-entry : goal.invariant-loop-entry
+invariant-loop-entry l = record {
+  over : (pairing : Pairing) (both : Both) → PairStands pairing l.fn.self both → GoesOver pairing l.fn.which both l._entry l.which l.fn.self l.self;
+  goes : PairGoesOn l.fn.self l.self;
+  stopped : l.self.stopped ≡ l.fn.self.stopped;
+}

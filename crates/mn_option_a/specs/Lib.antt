@@ -1,0 +1,4 @@
+pub mod Ends
+pub mod Pairs
+pub mod Plays
+pub mod Moves
