@@ -1,0 +1,154 @@
+-- One edge changes, and tells its peers.
+use Rattle.std.proofs.Common.{ℕ, ◌≡◌, ◌<◌, ◌+◌, Bool, true, false, List, [], ◌∷◌, length, sym, ap, ◌∙◌, subst, Option, Some, None}
+use Rattle.std.specs.Prelude.{slice_index_or, slice_set}
+use Rattle.std.specs.BTreeMap.{BTreeMap}
+use Rattle.std.proofs.lemmas.Option.{same_Some}
+use Rattle.mn_base.specs.declared.numbers.NodeNo.{NodeNo}
+use Rattle.mn_base.specs.declared.numbers.VrfNo.{VrfNo}
+use Rattle.mn_topo.specs.Network.{Network}
+use Rattle.mn_pe.specs.Edge.{Edge}
+use Rattle.mn_pe.specs.Held.{Exported}
+use Rattle.mn_pe.specs.Pe.{PeNow}
+use Rattle.mn_mail.specs.Mail.{Mail}
+use Rattle.mn_routing_model.specs.Routed.{working}
+use Rattle.mn_routing_model.specs.Doing.{AreNews, AreSayable}
+use Rattle.mn_routing_model.proofs.Placed.{index_of}
+use Rattle.mn_reflect_model.specs.Now.{ReflectNow}
+use Rattle.mn_reflect_model.specs.Letters.{edge_news}
+use Rattle.mn_reflect_model.specs.Goes.{edge_of_node, steady_of, either_news}
+use Rattle.mn_reflect.specs.Shape.{IsShaped, IsWhole}
+use Rattle.mn_reflect.specs.Doing.{IsEdgeAt, changed_edge, with_letters}
+use Rattle.mn_reflect.specs.Changing.{told_peers}
+use Rattle.mn_reflect_telling.proofs.Posting.{any_default}
+
+-- 1. What is kept stays whole
+
+module _ (vrfs : BTreeMap ℕ VrfNo) (now : ReflectNow) (h : IsWhole vrfs now) where
+  pub edges_whole : (edges : List (Option PeNow)) → length edges ≡ length now.edges → IsWhole vrfs (record now { edges = edges })
+  edges_whole edges many = record {
+    shape = record {
+      edges = many ∙ h.shape.edges;
+      sessions = h.shape.sessions;
+      ends = h.shape.ends;
+      heard = h.shape.heard;
+      peers = h.shape.peers;
+      attachments = h.shape.attachments;
+      nodes = h.shape.nodes;
+      reflectors = h.shape.reflectors;
+    };
+    finds = h.finds;
+  }
+
+  pub mail_whole : (mail : Mail) → mail.nodes ≡ now.mail.nodes → IsWhole vrfs (record now { mail = mail })
+  mail_whole mail many = record {
+    shape = record {
+      edges = h.shape.edges;
+      sessions = h.shape.sessions;
+      ends = h.shape.ends;
+      heard = h.shape.heard;
+      peers = h.shape.peers;
+      attachments = h.shape.attachments;
+      nodes = many ∙ h.shape.nodes;
+      reflectors = h.shape.reflectors;
+    };
+    finds = h.finds;
+  }
+
+  pub attachments_whole : (attachments : List ℕ) → length attachments ≡ length now.attachments → IsWhole vrfs (record now { attachments = attachments })
+  attachments_whole attachments many = record {
+    shape = record {
+      edges = h.shape.edges;
+      sessions = h.shape.sessions;
+      ends = h.shape.ends;
+      heard = h.shape.heard;
+      peers = h.shape.peers;
+      attachments = many ∙ h.shape.attachments;
+      nodes = h.shape.nodes;
+      reflectors = h.shape.reflectors;
+    };
+    finds = h.finds;
+  }
+
+  -- whatever the counts are
+  pub counts_whole : (statics done : ℕ) (failed : Bool) → IsWhole vrfs (record now { statics = statics; done = done; failed = failed })
+  counts_whole statics done failed = record {
+    shape = record {
+      edges = h.shape.edges;
+      sessions = h.shape.sessions;
+      ends = h.shape.ends;
+      heard = h.shape.heard;
+      peers = h.shape.peers;
+      attachments = h.shape.attachments;
+      nodes = h.shape.nodes;
+      reflectors = h.shape.reflectors;
+    };
+    finds = h.finds;
+  }
+
+-- 2. The edge of a node, as the code looks at it
+
+module _ (was now : ReflectNow) (same : was ≡ now) (k node : ℕ) (at : k ≡ node) (there : IsEdgeAt now node) (cell : Option PeNow)
+    (got : cell ≡ slice_index_or was.edges k cell) where
+  cell_is : cell ≡ Some (working (edge_of_node now.edges node))
+  cell_is =
+      got ∙ ap (λ (x : ReflectNow). slice_index_or x.edges k cell) same ∙ ap (λ n. slice_index_or now.edges n cell) at
+      ∙ index_of now.edges node (Some (working (edge_of_node now.edges node))) cell there
+
+  pub some_there : cell ≡ None → ⊥
+  some_there none = let clash : None ≡ Some (working (edge_of_node now.edges node)) = sym none ∙ cell_is in cc
+
+  module _ (old : PeNow) (some : cell ≡ Some old) where
+    pub old_is : old ≡ working (edge_of_node now.edges node)
+    old_is = same_Some old (working (edge_of_node now.edges node)) (sym some ∙ cell_is)
+
+    pub edge_set : (pe : PeNow) (change : Edge → Edge) → pe ≡ working (change old.edge) →
+        (let x : ReflectNow = record was { edges = slice_set was.edges k (Some pe) } in x) ≡ changed_edge node change now
+    edge_set pe change is =
+        ap (λ (y : ReflectNow). let x : ReflectNow = record y { edges = slice_set y.edges k (Some pe) } in x) same
+        ∙ ap (λ n. let x : ReflectNow = record now { edges = slice_set now.edges n (Some pe) } in x) at
+        ∙ ap (λ p. let x : ReflectNow = record now { edges = slice_set now.edges node (Some p) } in x)
+        (is ∙ ap (λ (p : PeNow). working (change p.edge)) old_is)
+
+-- how many attachments its sites have had
+pub count_is : (was now : ReflectNow) → was ≡ now → IsShaped was → (k node count : ℕ) → count ≡ slice_index_or was.attachments k count → k ≡ node →
+    node < length was.topology.loopbacks → count ≡ slice_index_or now.attachments node 0
+count_is was now same shape k node count is at below =
+    is
+    ∙ any_default was.attachments k count 0 (subst (λ n. n < length was.attachments) (sym at) (subst (λ n. node < n) (sym shape.attachments) below))
+    ∙ ap (λ n. slice_index_or was.attachments n 0) at ∙ ap (λ (x : ReflectNow). slice_index_or x.attachments node 0) same
+
+-- one more
+pub counted_on : (now one : ReflectNow) (e k count : ℕ) (change : ℕ → Edge → Edge) → one ≡ changed_edge e (change count) now → k ≡ e →
+    count ≡ slice_index_or now.attachments e 0 → (let x : ReflectNow = record one { attachments = slice_set one.attachments k (count + 1) } in x)
+    ≡ (let x : ReflectNow = record (changed_edge e (change (slice_index_or now.attachments e 0)) now) {
+      attachments = slice_set now.attachments e (slice_index_or now.attachments e 0 + 1);
+    } in x)
+counted_on now one e k count change is at so =
+    ap (λ (y : ReflectNow). let x : ReflectNow = record y { attachments = slice_set y.attachments k (count + 1) } in x) is
+    ∙ ap (λ n. let x : ReflectNow = record (changed_edge e (change count) now) { attachments = slice_set now.attachments n (count + 1) } in x) at
+    ∙ ap (λ n. let x : ReflectNow = record (changed_edge e (change n) now) { attachments = slice_set now.attachments e (n + 1) } in x) so
+
+-- 3. What it tells
+
+news_are : (t : Network) (node : ℕ) (peers : List NodeNo) (comes : Bool) (exports come went : List Exported) → AreNews comes exports come went →
+    edge_news t node peers comes exports ≡ either_news t node peers come went
+news_are t node peers comes exports [] went h = ap (λ b. edge_news t node peers b exports) h.0 ∙ ap (edge_news t node peers false) h.1
+news_are t node peers comes exports (export ∷ come) went h = ap (λ b. edge_news t node peers b exports) h.0 ∙ ap (edge_news t node peers true) h.1
+
+-- what it tells can be said
+pub either_sayable : (comes : Bool) (exports come went : List Exported) → AreNews comes exports come went → AreSayable come → AreSayable went → AreSayable exports
+either_sayable comes exports [] went h came gone = subst AreSayable (sym h.1) gone
+either_sayable comes exports (export ∷ come) went h came gone = subst AreSayable (sym h.1) came
+
+-- with the edge's number as the code has it
+module _ (one last : ReflectNow) (e home : ℕ) (at : e ≡ home) (exports : List Exported) (comes : Bool) (told : last ≡ told_peers e comes exports one) where
+  pub told_so : (mid : ℕ → ReflectNow) (says : ℕ → List Exported) → one ≡ mid e → exports ≡ says e → last ≡ told_peers home comes (says home) (mid home)
+  told_so mid says one_is says_is =
+      told ∙ ap (λ xs. told_peers e comes xs one) says_is ∙ ap (told_peers e comes (says e)) one_is ∙ ap (λ k. told_peers k comes (says k) (mid k)) at
+
+  pub told_either : (mid : ℕ → ReflectNow) (come went : ℕ → List Exported) → one ≡ mid e → AreNews comes exports (come e) (went e) →
+      last ≡ with_letters (either_news (mid home).topology home (steady_of (mid home).sessions home) (come home) (went home)) (mid home)
+  told_either mid come went one_is are =
+      told ∙ ap (told_peers e comes exports) one_is
+      ∙ ap (λ letters. with_letters letters (mid e)) (news_are (mid e).topology e (steady_of (mid e).sessions e) comes exports (come e) (went e) are)
+      ∙ ap (λ k. with_letters (either_news (mid k).topology k (steady_of (mid k).sessions k) (come k) (went k)) (mid k)) at

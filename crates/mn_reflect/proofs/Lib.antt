@@ -1,0 +1,27 @@
+pub mod Next
+pub mod Ends
+pub mod Arms
+pub mod Hearing
+pub mod Known
+pub mod Brought
+pub mod Finishing
+pub mod Talking
+pub mod Words
+pub mod Beginning
+pub mod Asked
+pub mod Chain
+pub mod Acts
+pub mod Edging
+mod Reading
+pub mod Tables
+pub mod Shows
+pub mod Shown
+pub mod Refusing
+pub mod Shapes
+pub mod Going
+pub mod Placed
+pub mod Rows
+pub mod Looking
+pub mod Stepping
+pub mod Turns
+pub mod Views

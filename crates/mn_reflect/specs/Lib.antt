@@ -1,0 +1,6 @@
+pub mod Course
+pub mod Shape
+pub mod Doing
+pub mod Changing
+pub mod Causes
+pub mod Acting

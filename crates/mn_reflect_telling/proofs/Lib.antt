@@ -1,0 +1,13 @@
+pub mod Results
+pub mod Starts
+pub mod Addresses
+pub mod Kept
+pub mod Posting
+pub mod Firsts
+pub mod ByName
+pub mod Finds
+pub mod Gone
+pub mod Offering
+pub mod Newness
+pub mod Decisions
+pub mod Saying

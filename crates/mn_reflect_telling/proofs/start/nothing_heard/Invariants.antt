@@ -1,0 +1,6 @@
+use Rattle.std.proofs.Common.{◌≡◌, [], map}
+use Rattle.std.specs.Prelude.{replicate}
+use Rattle.mn_reflect_telling.proofs.start.nothing_heard.Given as goal
+
+abbrev pub invariant-loop-node : goal.invariant-loop-node
+invariant-loop-node l = map (λ row. row.items) l.rows.items ≡ replicate l._node (replicate l.nodes [])

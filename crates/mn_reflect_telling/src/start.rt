@@ -1,0 +1,184 @@
+//! What there is at the start, when no session lives and nothing was heard.
+ghost use Rattle.std.specs.Prelude.{◌≡◌, ◌<◌, ◌≤◌, ◌++◌, ◌∷◌, [], None, length, map, take, drop, replicate, option_map, IfOk};
+ghost use Rattle.mn_wiring.specs.Wiring.{nodes_of};
+ghost use Rattle.mn_topo.specs.Network.{wiring_of};
+ghost use Rattle.mn_ledger.specs.Places.{sites_at};
+ghost use Rattle.mn_ledger.specs.Ledger.{first_config};
+ghost use Rattle.mn_routing_model.specs.Routed.{working};
+ghost use Rattle.mn_reflection.specs.Picks.{placed_by, by_address};
+ghost use Rattle.mn_reflect_telling.specs.Mentions.{AreNodes, numbers_of};
+ghost use Rattle.mn_reflect_telling.specs.Starting.{first_edge, first_edge_or_none};
+
+use crate::telling::loopback_of;
+use mn_base::{NodeNo, SiteNo};
+use mn_bgp_session::BgpSession;
+use mn_offers::Offers;
+use mn_pe::Pe;
+use mn_topo::Topology;
+use std::alloc::{AllocError, Global};
+
+/// No session, for each of so many peers.
+fn no_row(alloc: Global, peers: usize) -> Result<Vec<Option<BgpSession>>, AllocError>
+    ensures { IfOk result (λ row. row.items ≡ replicate peers None) }
+{
+    let mut row = Vec::new(alloc);
+    for _peer in 0..peers {
+        row.push(None)?;
+    }
+    Ok(row)
+}
+
+/// No session, between any of so many nodes.
+pub fn no_sessions(alloc: Global, nodes: usize) -> Result<Vec<Vec<Option<BgpSession>>>, AllocError>
+    ensures { IfOk result (λ rows. map (λ row. row.items) rows.items ≡ replicate nodes (replicate nodes None)) }
+{
+    let mut rows = Vec::new(alloc);
+    for _node in 0..nodes {
+        let row = no_row(alloc, nodes)?;
+        rows.push(row)?;
+    }
+    Ok(rows)
+}
+
+/// Nothing heard, of each of so many peers.
+fn no_offers(alloc: Global, peers: usize) -> Result<Vec<Offers>, AllocError>
+    ensures { IfOk result (λ row. row.items ≡ replicate peers []) }
+{
+    let mut row = Vec::new(alloc);
+    for _peer in 0..peers {
+        row.push(Offers::new(alloc))?;
+    }
+    Ok(row)
+}
+
+/// Nothing heard, at any of so many nodes.
+pub fn nothing_heard(alloc: Global, nodes: usize) -> Result<Vec<Vec<Offers>>, AllocError>
+    ensures { IfOk result (λ rows. map (λ row. row.items) rows.items ≡ replicate nodes (replicate nodes [])) }
+{
+    let mut rows = Vec::new(alloc);
+    for _node in 0..nodes {
+        let row = no_offers(alloc, nodes)?;
+        rows.push(row)?;
+    }
+    Ok(rows)
+}
+
+/// How many sites a node has.
+fn sites_at(topology: &Topology, node: NodeNo) -> u32
+    ensures { result ≡ length (sites_at topology.now node.0) }
+{
+    topology.laws();
+    let mut count = 0;
+    for number in 0..topology.sites().len() {
+        if topology.home_of(SiteNo(number as u16)).0 == node.0 {
+            count += 1;
+        }
+    }
+    count
+}
+
+/// How many attachments each node's sites have had.
+pub fn first_attachments(alloc: Global, topology: &Topology) -> Result<Vec<u32>, AllocError>
+    ensures { IfOk result (λ counts. counts.items ≡ map (λ node. length (sites_at topology.now node)) (nodes_of (wiring_of topology.now))) }
+{
+    topology.laws();
+    let mut counts = Vec::new(alloc);
+    for number in 0..topology.nodes().len() {
+        counts.push(sites_at(topology, NodeNo(number as u16)))?;
+    }
+    Ok(counts)
+}
+
+/// An edge whose sites have the first labels, in site order.
+fn first_edge(alloc: Global, topology: &Topology, node: NodeNo) -> Result<Pe, AllocError>
+    requires { node.0 < length topology.now.loopbacks }
+    ensures { IfOk result (λ pe. pe ≡ working (first_edge topology.now node.0)) }
+{
+    topology.laws();
+    let Ok(mut pe) = Pe::new(alloc, topology, node) else {
+        return Err(AllocError);
+    };
+    let mut label = 16;
+    for number in 0..topology.sites().len() {
+        let site = SiteNo(number as u16);
+        if topology.home_of(site).0 == node.0 {
+            let Ok(()) = pe.attach(site, label) else {
+                return Err(AllocError);
+            };
+            label += 1;
+        }
+    }
+    Ok(pe)
+}
+
+/// The edge at a node, none where the node is no edge.
+fn edge_if_any(alloc: Global, topology: &Topology, node: NodeNo) -> Result<Option<Pe>, AllocError>
+    requires { node.0 < length topology.now.loopbacks }
+    ensures { IfOk result (λ edge. edge ≡ option_map working (first_edge_or_none topology.now node.0)) }
+{
+    if !topology.is_edge(node) {
+        return Ok(None);
+    }
+    match first_edge(alloc, topology, node) {
+        Ok(pe) => Ok(Some(pe)),
+        Err(_) => Err(AllocError),
+    }
+}
+
+/// The edges, by node.
+pub fn first_edges(alloc: Global, topology: &Topology) -> Result<Vec<Option<Pe>>, AllocError>
+    ensures { IfOk result (λ edges. edges.items ≡ map (λ node. option_map working (first_edge_or_none topology.now node)) (nodes_of (wiring_of topology.now))) }
+{
+    topology.laws();
+    let mut edges = Vec::new(alloc);
+    for number in 0..topology.nodes().len() {
+        edges.push(edge_if_any(alloc, topology, NodeNo(number as u16))?)?;
+    }
+    Ok(edges)
+}
+
+/// How many routes there are over sites.
+pub fn statics_of(topology: &Topology) -> u32
+    ensures { result ≡ length (first_config topology.now).statics }
+{
+    topology.laws();
+    let mut count = 0;
+    for site in topology.sites() {
+        count += site.prefixes.as_slice().len() as u32;
+    }
+    count
+}
+
+/// Where a reflector stands among others by address: before the first of greater address.
+fn place_of(topology: &Topology, node: NodeNo, others: &[NodeNo]) -> usize
+    requires node { node.0 < length topology.now.loopbacks }
+    requires others { AreNodes topology.now others.now }
+    ensures within { result ≤ length others.now }
+    ensures place { take result (numbers_of others.now) ++ node.0 ∷ drop result (numbers_of others.now) ≡ placed_by topology.now node.0 (numbers_of others.now) }
+{
+    let address = loopback_of(topology, node);
+    for at in 0..others.len() {
+        if address < loopback_of(topology, others[at]) {
+            return at;
+        }
+    }
+    others.len()
+}
+
+/// Reflectors by address, the least first. They are put from the last one on.
+pub fn by_address(
+    alloc: Global,
+    topology: &Topology,
+    reflectors: &[NodeNo],
+) -> Result<Vec<NodeNo>, AllocError>
+    requires { AreNodes topology.now reflectors.now }
+    ensures { IfOk result (λ nodes. numbers_of nodes.items ≡ by_address topology.now (numbers_of reflectors.now)) }
+{
+    let mut nodes: Vec<NodeNo> = Vec::new(alloc);
+    for done in 0..reflectors.len() {
+        let node = reflectors[reflectors.len() - 1 - done];
+        let place = place_of(topology, node, &nodes);
+        nodes.insert(place, node)?;
+    }
+    Ok(nodes)
+}
