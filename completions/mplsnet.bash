@@ -45,11 +45,11 @@ _mplsnet() {
     COMPREPLY=()
     case $COMP_CWORD:${COMP_WORDS[1]} in
         1:-*) _mplsnet_words '--help --version' "$word" ;;
-        1:*) _mplsnet_words 'run check generate flood' "$word" ;;
-        2:run | 2:check | 2:flood) _mplsnet_files "$word" .toml ;;
-        3:run | 3:flood) _mplsnet_files "$word" ;;
-        4:run) _mplsnet_files "$word" .pcap ;;
-        5:run) _mplsnet_folders "$word" ;;
+        1:*) _mplsnet_words 'run check generate flood join' "$word" ;;
+        2:run | 2:check | 2:flood | [23]:join) _mplsnet_files "$word" .toml ;;
+        3:run | 3:flood | [45]:join) _mplsnet_files "$word" ;;
+        4:run | 6:join) _mplsnet_files "$word" .pcap ;;
+        5:run | 7:join) _mplsnet_folders "$word" ;;
     esac
 }
 

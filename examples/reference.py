@@ -1,13 +1,14 @@
 #!/usr/bin/env python3
-"""Works out what `mplsnet run` leaves and reports for any topology, script and capture, and what `mplsnet flood`
-reports for any topology and script, without the program.
+"""Works out what `mplsnet run` leaves and reports for any topology, script and capture, what `mplsnet flood` reports
+for any topology and script, and what `mplsnet join` leaves and reports for two joined networks, without the program.
 
 It is a second telling of the rules of docs/FORMATS.md and docs/WIRE.md (texts, bytes) and docs/LEDGER.md (who says
 what, and when), written from these and not from the program's source. It goes by the definitions and not by speed:
 the best route is chosen from the whole list, what a neighbour mentioned last is looked up in all that it said, what
 comes next in all that is in flight. The inputs are read by reference_inputs.py, messages and frames that come in their
 place by reference_readers.py; here are IPv4, the network and its steps, a script's course, the bytes of frames, LDP and
-BGP, the report, the files. Flooding is in reference_flood.py.
+BGP, the report, the files. Flooding is in reference_flood.py, what crosses from one network into another in
+reference_join.py.
 """
 
 import argparse
@@ -17,6 +18,7 @@ from dataclasses import dataclass
 from pathlib import Path
 
 import reference_flood
+import reference_join
 from reference_inputs import FLOOD_FORMS, ROUTES, TARGETS, Refused, address_text, contains, is_unicast, prefix_text
 from reference_inputs import read_capture, read_script, read_topology, target_text
 from reference_readers import reads_bgp, reads_pdu, stack_of
@@ -24,10 +26,11 @@ from reference_walks import costs_to, first_hop, tree_lines
 
 USAGE = """\
 reference.py [--compare] TOPOLOGY SCRIPT CAPTURE FOLDER
-       reference.py [--compare] flood TOPOLOGY SCRIPT FOLDER"""
+       reference.py [--compare] flood TOPOLOGY SCRIPT FOLDER
+       reference.py [--compare] join TOPOLOGY1 TOPOLOGY2 JOINTS SCRIPT CAPTURE FOLDER"""
 HELP = """\
 Writes every file of the run and its report, as report.txt, into FOLDER, which is made where it isn't there; flood has
-report.txt alone. With --compare nothing is written: the files of FOLDER, report.txt among them, are compared with
+report.txt alone, join that and delivered.pcap. With --compare nothing is written: the files of FOLDER, report.txt among them, are compared with
 those that are due, and the first difference is told. A refused input leaves report.txt alone, with the line of the
 refusal.
 
@@ -653,34 +656,41 @@ def let_arrive(network, item):
 
 
 def run(network, ticks):
+    """Step by step."""
     end = network.tick + ticks
     while (item := least(network, ("notice", "ldp", "bgp", "frame"))) and item.due <= end:
         network.tick = max(network.tick, item.due)
-        let_arrive(network, item)
+        yield let_arrive(network, item)
     network.tick = end
 
 
 def drain(network, bound):
+    """Step by step."""
     while bound != 0:
         item = least(network, ("notice",)) or least(network, ("ldp", "bgp"))
         if item is None:
             break
-        let_arrive(network, item)
+        yield let_arrive(network, item)
         bound = bound and bound - 1
 
 
 def flush(network):
+    """Step by step."""
     while item := least(network, ("frame",)):
         network.tick = max(network.tick, item.due)
-        let_arrive(network, item)
+        yield let_arrive(network, item)
+
+
+ARRIVALS = {"run": run, "drain": drain, "flush": flush}
 
 
 def play(network, commands, packets, notes):
     """Runs the script; notes get the report's refused lines and tables. How many lines were refused."""
     refused = 0
     for line, (verb, *given) in commands:
-        if verb in ("run", "drain", "flush"):
-            {"run": run, "drain": drain, "flush": flush}[verb](network, *given)
+        if verb in ARRIVALS:
+            for _ in ARRIVALS[verb](network, *given):
+                pass
         elif verb == "show frame":
             notes.append(frame_line(network, packets, *given))
         elif verb.startswith("show "):
@@ -979,7 +989,34 @@ def flood_of(topology_bytes, script_bytes):
         return text_of([str(refused)]), {}
 
 
-COMMANDS = {"run": run_of, "flood": flood_of}
+def read_second(bytes_):
+    """The second topology of two."""
+    try:
+        return read_topology(bytes_)
+    except Refused as refused:
+        raise Refused(f"second {refused}" if str(refused).startswith("topology refused ") else str(refused)) from None
+
+
+def join_of(first_bytes, second_bytes, joints_bytes, script_bytes, capture_bytes):
+    """The report and, by name, the one file of `join`; a refused input has a report alone."""
+    try:
+        topologies = read_topology(first_bytes), read_second(second_bytes)
+        joints = reference_join.read_joints(*topologies, joints_bytes)
+        commands = reference_join.read_pair_script(topologies, script_bytes)
+        packets = read_capture(capture_bytes)
+    except Refused as refused:
+        return text_of([str(refused)]), {}
+    pair, report = reference_join.Pair([Network(topology) for topology in topologies], joints), []
+    try:
+        reference_join.play(pair, commands, packets, ARRIVALS, report)
+        report += pair.lines()
+    except JournalFull:
+        report.append("too large steps")
+    return text_of(report), {"delivered.pcap": pcap(228, pair.exits)}
+
+
+COMMANDS = {"run": run_of, "flood": flood_of, "join": join_of}
+INPUTS = {"run": 3, "flood": 2, "join": 5}
 
 
 # The command line
@@ -1019,12 +1056,14 @@ def words_given():
     about = __doc__.split("\n\n")[0]
     how = argparse.RawDescriptionHelpFormatter
     form = argparse.ArgumentParser(usage=USAGE, description=about, epilog=HELP, formatter_class=how)
-    form.add_argument("words", nargs=4, metavar="WORD", help="an input, 'flood' before the first, or FOLDER")
+    form.add_argument("words", nargs="+", metavar="WORD", help="an input, 'flood' or 'join' before the first, or FOLDER")
     form.add_argument("--compare", action="store_true", help="compare FOLDER with what is due, and write nothing")
     given = form.parse_args()
-    *inputs, folder = given.words
-    command = "flood" if inputs[0] == "flood" else "run"
-    return command, inputs[command == "flood" :], Path(folder), given.compare
+    command = given.words.pop(0) if given.words[0] in ("flood", "join") else "run"
+    *inputs, folder = given.words or [""]
+    if len(inputs) != INPUTS[command]:
+        form.error(f"{command} has {INPUTS[command]} inputs, and then FOLDER")
+    return command, inputs, Path(folder), given.compare
 
 
 def main():

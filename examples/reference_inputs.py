@@ -357,15 +357,20 @@ def words_of(line):
     return words[:comment]
 
 
-def read_script(topology, bytes_, forms=FORMS):
-    """The commands of these forms, each with the number of its line."""
+def script_lines(bytes_):
+    """The lines of a script, which is within its limits."""
     if len(bytes_) > 67_108_864:
         raise Refused("too large script bytes")
     lines = lines_of(bytes_)
     if len(lines) > 3_000_000:
         raise Refused("too large script lines")
+    return lines
+
+
+def read_script(topology, bytes_, forms=FORMS):
+    """The commands of these forms, each with the number of its line."""
     commands = []
-    for at, line in enumerate(lines, 1):
+    for at, line in enumerate(script_lines(bytes_), 1):
         words = words_of(line)
         if words:
             commands.append((at, read_line(topology, words, at, forms)))

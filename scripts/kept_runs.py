@@ -7,8 +7,10 @@ command is the word in command.txt, and `run` where there is none.
 INPUTS = {
     "run": ["topology.toml", "script.txt", "capture.pcap"],
     "flood": ["topology.toml", "script.txt"],
+    "join": ["topology1.toml", "topology2.toml", "joints.txt", "script.txt", "capture.pcap"],
 }
-STATUS = {"topology": 3, "script": 4, "capture": 5, "too": 9}
+WRITERS = ("run", "join")  # the commands that write files, into a folder
+STATUS = {"topology": 3, "script": 4, "capture": 5, "too": 9, "joints": 11, "second": 12}
 
 
 class Unknown(Exception):
@@ -25,7 +27,7 @@ def command_of(folder):
 
 def words_of(command, inputs, out):
     """The words behind the program's name; out is the folder for files, where the command writes any."""
-    return [command, *inputs, *([out] if command == "run" else [])]
+    return [command, *inputs, *([out] if command in WRITERS else [])]
 
 
 def status_of(report):

@@ -2,7 +2,7 @@
 
 The script is made line by line beside the network of examples/reference.py as the lines so far have left it, so that
 most lines ask for something that can be done: in any order, though, and not for what would come next. So too the script
-of a flood, beside that of examples/reference_flood.py.
+of a flood, beside that of examples/reference_flood.py; lines of two joined networks are those of each.
 """
 
 import random
@@ -472,13 +472,14 @@ def random_record(rng, packet, link_type):
     return record[: rng.randrange(16)] if rng.random() < 0.05 else record
 
 
-def random_capture(rng, top):
+def random_capture(rng, top, network=None):
+    """Packets for the sites of a topology, and damaged messages and frames of a network, which is the topology's where none is given."""
     order, magic = rng.choice("<<>"), rng.choice([0xA1B2C3D4, 0xA1B2C3D4, 0xA1B23C4D])
     link_type = rng.choice([228, 228, 101, 1])
     bytes_ = struct.pack(order + "IHHiII", magic, 2, 4, rng.randrange(9), 0, rng.choice([0, 0x40000]))
     bytes_ += struct.pack(order + "I", link_type | rng.choice([0, 0, 0x10000]))
     packets = [random_packet(rng, top) for _ in range(rng.choice([0, 1, 3, 6, 10, 10]))]
-    packets += odd_records(rng, top) if rng.random() < 0.7 else []
+    packets += odd_records(rng, network or top) if rng.random() < 0.7 else []
     for packet in packets:
         record = random_record(rng, packet, link_type)
         bytes_ += struct.pack(order + "3I", rng.randrange(2**32), rng.randrange(2**32), len(record))
@@ -581,4 +582,62 @@ def random_flood(seed):
     return perhaps_wrong(rng, top, script_text(rng, flood_lines(rng, flood), [["drain"], [], [], []]))
 
 
-COMMANDS = {"run": random_run, "flood": random_flood}
+# Two joined networks
+
+
+def joined_sites(rng, tops):
+    """Some sites of the first with some of the second, each at most once."""
+    names = [[site["name"] for site in top["site"]] for top in tops]
+    count = rng.randrange(min(len(names[0]), len(names[1])) + 1)
+    return list(zip(*(rng.sample(some, count) for some in names)))
+
+
+def routes_over(rng, tops, joints):
+    """For the sites of joints, static routes to what the other network has."""
+    for joint in joints:
+        for which in range(2):
+            beyond = [of for site in tops[1 - which]["site"] for of in site.get("prefixes", [])]
+            for of in rng.sample(beyond, rng.randrange(min(len(beyond), 3) + 1)):
+                yield [str(which + 1), "route", "add", joint[which], of]
+
+
+def is_of_a_pair(words):
+    return words[0] not in ("run", "show")
+
+
+def joined_lines(rng, tops, joints, packets, networks):
+    """Lines of both networks, in turns; some that two networks don't play are left in."""
+    yield from routes_over(rng, tops, joints)
+    sides = [random_lines(rng, top, packets, network) for top, network in zip(tops, networks)]
+    while sides[0] or sides[1]:
+        which = rng.randrange(2)
+        words = next(sides[which] or iter(()), None)
+        if words is None:
+            sides[which] = None
+        elif is_of_a_pair(words) or rng.random() < 0.001:
+            yield [str(which + 1), *words]
+            if rng.random() < 0.1:
+                yield [str(rng.randrange(2) + 1), "flush"]
+
+
+def random_join(seed):
+    """Two topologies, their joints, a script and a capture as bytes."""
+    rng = random.Random(f"join {seed}")
+    tops = [random_topology(rng) for _ in range(2)]
+    networks = [reference.Network(inputs.read_topology(toml_text(top).encode())) for top in tops]
+    both = {"site": tops[0]["site"] + tops[1]["site"]}
+    capture = random_capture(rng, both, rng.choice(tops))
+    _, link_type, records = inputs.scan(capture)
+    packets = [inputs.packet_of(link_type, record) for record in records]
+    joints = joined_sites(rng, tops)
+    script = script_text(rng, joined_lines(rng, tops, joints, packets, networks), [["1 flush", "2 flush"], ["2 drain"], ["1"], []])
+    text = "".join(f"{one} {other}\n" for one, other in joints)
+    if rng.random() < 0.04:
+        text = damaged(rng, text)
+    if rng.random() < 0.04:
+        script = damaged(rng, script)
+    texts = [toml_text(wrong_topology(rng, top) if rng.random() < 0.05 else top).encode() for top in tops]
+    return *texts, text.encode(), script.encode(), capture
+
+
+COMMANDS = {"run": random_run, "flood": random_flood, "join": random_join}

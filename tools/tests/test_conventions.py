@@ -33,7 +33,7 @@ def section(name):
 def commands():
     """The first words of the command lines that docs/FORMATS.md says something is done for."""
     table = FORMATS.split("## Command line")[1].split("##")[0]
-    return set(re.findall(r"^\| `(\w+) [A-Z ]+` \|", table, re.M))
+    return set(re.findall(r"^\| `(\w+) [A-Z0-9 ]+` \|", table, re.M))
 
 
 class Page(unittest.TestCase):
@@ -78,6 +78,12 @@ class Bash(unittest.TestCase):
         self.assertEqual({"topology.toml", "expected"}, self.completed(first, "mplsnet", "flood", ""))
         self.assertIn("script.txt", self.completed(first, "mplsnet", "flood", "topology.toml", ""))
         self.assertEqual(set(), self.completed(first, "mplsnet", "flood", "topology.toml", "script.txt", ""))
+        joined, given = "examples/two-providers", []
+        for name in ("topology1.toml", "topology2.toml", "joints.txt", "script.txt", "capture.pcap"):
+            self.assertIn(name, self.completed(joined, "mplsnet", "join", *given, ""))
+            given.append(name)
+        self.assertEqual({"expected"}, self.completed(joined, "mplsnet", "join", *given, ""))
+        self.assertEqual(set(), self.completed(joined, "mplsnet", "join", *given, "expected", ""))
         self.assertEqual(set(), self.completed(first, "mplsnet", "check", "topology.toml", ""))
 
     def test_options_of_the_tools_are_those_of_their_help(self):

@@ -10,9 +10,11 @@ from pathlib import Path
 EXAMPLES = Path(__file__).resolve().parents[2] / "examples"
 RUNS = "first two-links overlap hub-and-spoke extranet micro-loop ordered-control site-moves loss late damaged ring".split()
 FLOODS = "flood older-database".split()
+JOINS = ["two-providers"]
 OF_ALL = ["README.md", "topology.toml", "script.txt", "expected/report.txt"]
 OF_RUNS = [*OF_ALL, "capture.py", "capture.pcap", "drawing.svg"]
 OF_FLOODS = [*OF_ALL, "command.txt"]
+OF_JOINS = ["README.md", "topology1.toml", "topology2.toml", "joints.txt", "script.txt", "capture.py", "capture.pcap", "command.txt", "expected/report.txt"]
 
 
 def run(*words, **how):
@@ -22,8 +24,8 @@ def run(*words, **how):
 class Examples(unittest.TestCase):
     def test_each_folder_is_an_example_with_all_its_parts(self):
         folders = {path.name for path in EXAMPLES.iterdir() if (path / "expected").is_dir()}
-        self.assertEqual(folders, {*RUNS, *FLOODS})
-        for names, parts in ((RUNS, OF_RUNS), (FLOODS, OF_FLOODS)):
+        self.assertEqual(folders, {*RUNS, *FLOODS, *JOINS})
+        for names, parts in ((RUNS, OF_RUNS), (FLOODS, OF_FLOODS), (JOINS, OF_JOINS)):
             for name in names:
                 for part in parts:
                     self.assertTrue((EXAMPLES / name / part).is_file(), f"{name}/{part}")
@@ -34,7 +36,7 @@ class Examples(unittest.TestCase):
             self.assertEqual(["report.txt"], [path.name for path in (EXAMPLES / name / "expected").iterdir()])
 
     def test_each_capture_is_what_its_script_makes(self):
-        for name in RUNS:
+        for name in RUNS + JOINS:
             with self.subTest(name), tempfile.TemporaryDirectory() as room:
                 copy = Path(room) / name
                 copy.mkdir()
@@ -46,7 +48,8 @@ class Examples(unittest.TestCase):
 
     def test_what_is_expected_is_what_the_reference_works_out(self):
         inputs = ["topology.toml", "script.txt"]
-        for names, words in ((RUNS, [*inputs, "capture.pcap"]), (FLOODS, ["flood", *inputs])):
+        joined = ["join", "topology1.toml", "topology2.toml", "joints.txt", "script.txt", "capture.pcap"]
+        for names, words in ((RUNS, [*inputs, "capture.pcap"]), (FLOODS, ["flood", *inputs]), (JOINS, joined)):
             for name in names:
                 with self.subTest(name):
                     compared = run("../reference.py", *words, "expected", "--compare", cwd=EXAMPLES / name)

@@ -16,7 +16,7 @@ from reference_flood import Flood  # noqa: E402
 from reference_walks import costs_to  # noqa: E402
 
 FLOOD = ROOT / "examples/flood"
-STORED = sorted(path.parent for path in ROOT.glob("crates/mn_stored_runs/data/runs/*/command.txt"))
+STORED = sorted(path.parent for path in ROOT.glob("crates/mn_stored_runs/data/runs/*/command.txt") if path.read_text().strip() == "flood")
 ROW = (FLOOD / "topology.toml").read_bytes()
 SEEDS = 60
 

@@ -1,7 +1,7 @@
-"""The program by hand: help and version, the line on standard error after a failed call or a limit, and `flood`.
+"""The program by hand: help and version, the line on standard error after a failed call or a limit, `flood` and `join`.
 
 It is the proved one where it is built, else the trial build, or what MPLSNET names; where neither is there these are passed over. So are
-those of `flood` where an older program doesn't know it.
+those of `flood` or `join` where an older program doesn't know it.
 """
 
 import os
@@ -20,6 +20,8 @@ BUILT = [sources.PROGRAM] * sources.is_proved() + [sources.TRIAL] * sources.is_t
 PROGRAM = Path(os.environ["MPLSNET"]) if "MPLSNET" in os.environ else next(iter(BUILT), None)
 FIRST = ROOT / "examples/first"
 FLOOD = ROOT / "examples/flood"
+JOINED = ROOT / "examples/two-providers"
+JOINS = [JOINED / name for name in ("topology1.toml", "topology2.toml", "joints.txt", "script.txt", "capture.pcap")]
 INPUTS = [FIRST / "topology.toml", FIRST / "script.txt", FIRST / "capture.pcap"]
 
 
@@ -29,7 +31,10 @@ def run(*words, **how):
 
 
 KNOWS_FLOOD = bool(PROGRAM) and "flood TOPOLOGY SCRIPT" in run()[1]
-FORMS = ["run TOPOLOGY SCRIPT CAPTURE FOLDER", "check TOPOLOGY", "generate NUMBER"] + ["flood TOPOLOGY SCRIPT"] * KNOWS_FLOOD
+JOIN = "join TOPOLOGY1 TOPOLOGY2 JOINTS SCRIPT CAPTURE FOLDER"
+KNOWS_JOIN = bool(PROGRAM) and JOIN in run()[1]
+FORMS = ["run TOPOLOGY SCRIPT CAPTURE FOLDER", "check TOPOLOGY", "generate NUMBER"]
+FORMS += ["flood TOPOLOGY SCRIPT"] * KNOWS_FLOOD + [JOIN] * KNOWS_JOIN
 USAGE = f"usage: mplsnet {' | '.join(FORMS)}\n"
 
 
@@ -138,6 +143,60 @@ class Flood(unittest.TestCase):
         lines += ["link down n1 n2", "drain", "link up n1 n2", "drain"] * 300
         inputs = self.file("topology", text.encode()), self.file("script", "\n".join(lines).encode())
         self.assertEqual((9, f"line {len(links) + 2} refused Unchanged\ntoo large steps\n"), run("flood", *inputs)[:2])
+
+
+@unittest.skipUnless(KNOWS_JOIN, "the program isn't built, or doesn't know 'join' yet")
+class Join(unittest.TestCase):
+    def setUp(self):
+        self.room = tempfile.TemporaryDirectory()
+        self.addCleanup(self.room.cleanup)
+        self.out = Path(self.room.name) / "out"
+        self.out.mkdir()
+
+    def file(self, name, content):
+        path = Path(self.room.name) / name
+        path.write_bytes(content)
+        return path
+
+    def test_puts_the_report_and_writes_what_comes_out(self):
+        report = (JOINED / "expected/report.txt").read_text()
+        self.assertEqual((0, report, ""), run("join", *JOINS, self.out))
+        self.assertEqual({"delivered.pcap"}, {path.name for path in self.out.iterdir()})
+        self.assertEqual((JOINED / "expected/delivered.pcap").read_bytes(), (self.out / "delivered.pcap").read_bytes())
+
+    def test_other_words_are_usage(self):
+        for words in ([], JOINS, [*JOINS[:4], self.out], [*JOINS, self.out, self.out]):
+            self.assertEqual((2, USAGE, ""), run("join", *words), words)
+
+    def test_an_input_in_the_folder_is_usage(self):
+        for place, path in enumerate(JOINS):
+            inside = self.out / path.name
+            inside.write_bytes(path.read_bytes())
+            self.assertEqual((2, USAGE, ""), run("join", *JOINS[:place], inside, *JOINS[place + 1 :], self.out))
+            inside.unlink()
+
+    def test_an_input_or_a_folder_that_is_not_there(self):
+        gone = Path(self.room.name) / "gone"
+        line = f"mplsnet: {gone}: can't be read: No such file or directory (os error 2)\n"
+        for place in range(5):
+            self.assertEqual((6, "", line), run("join", *JOINS[:place], gone, *JOINS[place + 1 :], self.out))
+        line = f"mplsnet: {gone}/delivered.pcap: can't be made: No such file or directory (os error 2)\n"
+        self.assertEqual((7, "", line), run("join", *JOINS, gone))
+
+    def test_inputs_are_tried_in_their_order(self):
+        bad = self.file("bad", b"x = 1\n")
+        self.assertEqual((3, "topology refused T2 UnknownKey at top\n", ""), run("join", bad, bad, *JOINS[2:], self.out))
+        self.assertEqual((12, "second topology refused T2 UnknownKey at top\n", ""), run("join", JOINS[0], bad, bad, *JOINS[3:], self.out))
+        self.assertEqual((11, "joints refused J1 WrongCount at line 1\n", ""), run("join", *JOINS[:2], bad, bad, JOINS[4], self.out))
+        self.assertEqual((4, "script refused S1 UnknownWord at line 1\n", ""), run("join", *JOINS[:3], bad, bad, self.out))
+        self.assertEqual([], list(self.out.iterdir()))
+
+    def test_limits(self):
+        big = self.file("big", bytes(1_048_577))
+        for place, name in ((0, "topology"), (1, "topology"), (2, "joints")):
+            what = f"{big}: more than 1048576 bytes" if name == "joints" else "more than 1048576 bytes of a topology"
+            told = (9, f"too large {name} bytes\n", f"mplsnet: {what}\n")
+            self.assertEqual(told, run("join", *JOINS[:place], big, *JOINS[place + 1 :], self.out))
 
 
 class Version(unittest.TestCase):

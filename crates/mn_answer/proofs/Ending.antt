@@ -13,7 +13,7 @@ use Rattle.std.proofs.lemmas.List.{take-append-drop, append-nil}
 use Rattle.mn_edge.specs.Files.{Files}
 use Rattle.mn_edge.specs.Written.{laid, PartWritten}
 use Rattle.mn_answer.specs.declared.outcome.Outcome.{Outcome}
-use Rattle.mn_answer.specs.declared.outcome.Outcome.TheVariants.{Done, Usage, ReadFault, WriteFault, NoMemory, BadTopology, BadScript, BadCapture, TooLarge}
+use Rattle.mn_answer.specs.declared.outcome.Outcome.TheVariants.{Done, Usage, ReadFault, WriteFault, NoMemory, BadTopology, BadScript, BadCapture, BadSecond, BadJoints, TooLarge}
 use Rattle.mn_lines.specs.Putting.{PartPut}
 use Rattle.mn_answer.specs.Answer.{Answer, refusal_of, if_lawful, if_accepted, most_topology_bytes, most_script_bytes}
 use Rattle.mn_answer.specs.Endings.{PartText, PartFiles, OutcomeIs, FilesAre, TextIs, IsLate, IsUnread, Answers, CausedBy, Completes, Counts, UsageIff}
@@ -63,6 +63,8 @@ completes a old new Usage h c x e none = inl (given a Usage h x e)
 completes a old new (BadTopology rule place) h c x e none = inl (given a (BadTopology rule place) h x e)
 completes a old new (BadScript rule line) h c x e none = inl (given a (BadScript rule line) h x e)
 completes a old new (BadCapture rule place) h c x e none = inl (given a (BadCapture rule place) h x e)
+completes a old new (BadSecond rule place) h c x e none = inl (given a (BadSecond rule place) h x e)
+completes a old new (BadJoints rule line) h c x e none = inl (given a (BadJoints rule line) h x e)
 completes a old new (TooLarge which limit) h c x e none = inl (given a (TooLarge which limit) h x e)
 
 -- the words were a command line
@@ -75,6 +77,8 @@ not_usage good Done e i = e
 not_usage good (BadTopology rule place) e i = e
 not_usage good (BadScript rule line) e i = e
 not_usage good (BadCapture rule place) e i = e
+not_usage good (BadSecond rule place) e i = e
+not_usage good (BadJoints rule line) e i = e
 not_usage good (TooLarge which limit) e i = e
 
 -- an answer that writes nothing, where no file changed
@@ -87,6 +91,8 @@ files_untouched a m after Done none same = same ∙ ap (λ f. Some (laid f m)) (
 files_untouched a m after (BadTopology rule place) none same = same ∙ ap (λ f. Some (laid f m)) (sym none)
 files_untouched a m after (BadScript rule line) none same = same ∙ ap (λ f. Some (laid f m)) (sym none)
 files_untouched a m after (BadCapture rule place) none same = same ∙ ap (λ f. Some (laid f m)) (sym none)
+files_untouched a m after (BadSecond rule place) none same = same ∙ ap (λ f. Some (laid f m)) (sym none)
+files_untouched a m after (BadJoints rule line) none same = same ∙ ap (λ f. Some (laid f m)) (sym none)
 files_untouched a m after (TooLarge which limit) none same = same ∙ ap (λ f. Some (laid f m)) (sym none)
 
 pub whole_untouched : (a : Answer) (m : Files) (after : Option Files) (before : List ℕ) (written : Option (List ℕ)) → a.files ≡ [] → after ≡ Some m →
@@ -111,6 +117,8 @@ sink_unread a m after before written old new NoMemory h = tt
 sink_unread a m after before written old new (BadTopology rule place) h = tt
 sink_unread a m after before written old new (BadScript rule line) h = tt
 sink_unread a m after before written old new (BadCapture rule place) h = tt
+sink_unread a m after before written old new (BadSecond rule place) h = tt
+sink_unread a m after before written old new (BadJoints rule line) h = tt
 sink_unread a m after before written old new (TooLarge which limit) h = tt
 
 -- an answer that writes no file
@@ -151,6 +159,8 @@ files_stay None m after Usage none h same = h
 files_stay None m after (BadTopology rule place) none h same = h
 files_stay None m after (BadScript rule line) none h same = h
 files_stay None m after (BadCapture rule place) none h same = h
+files_stay None m after (BadSecond rule place) none h same = h
+files_stay None m after (BadJoints rule line) none h same = h
 files_stay None m after (TooLarge which limit) none h same = h
 
 pub late_stays : (a : Option Answer) (m : Files) (after : Option Files) (before : List ℕ) (written : Option (List ℕ)) → WritesNone a → after ≡ Some m →
@@ -201,4 +211,6 @@ is_usage old new Done h c = absurd (let e : Usage ≡ Done = h in cc)
 is_usage old new (BadTopology rule place) h c = absurd (let e : Usage ≡ BadTopology rule place = h in cc)
 is_usage old new (BadScript rule line) h c = absurd (let e : Usage ≡ BadScript rule line = h in cc)
 is_usage old new (BadCapture rule place) h c = absurd (let e : Usage ≡ BadCapture rule place = h in cc)
+is_usage old new (BadSecond rule place) h c = absurd (let e : Usage ≡ BadSecond rule place = h in cc)
+is_usage old new (BadJoints rule line) h c = absurd (let e : Usage ≡ BadJoints rule line = h in cc)
 is_usage old new (TooLarge which limit) h c = absurd (let e : Usage ≡ TooLarge which limit = h in cc)

@@ -2,15 +2,21 @@
 use Rattle.std.specs.Prelude.{ℕ, ◌^◌, nat_lt, if◌then◌else◌, List, [], length, Option, Some, None, Result, Ok, Err}
 use Rattle.std.specs.Str.Lines.{lines}
 use Rattle.mn_base.specs.Limits.{most_script_lines}
+use Rattle.mn_joints.specs.declared.refusal.JointsRule.{JointsRule}
+use Rattle.mn_joints.specs.Joints.{SitePair, joints_of}
+use Rattle.mn_pcap.specs.Reading.{count_of}
+use Rattle.mn_pcap.specs.Reading as pcap
+use Rattle.mn_pcap.specs.declared.refusal.PcapBad.{PcapBad}
+use Rattle.mn_pcap.specs.declared.refusal.PcapBad.TheVariants as bad
 use Rattle.mn_script.specs.declared.refusal.ScriptRule.{ScriptRule}
 use Rattle.mn_script.specs.Reading.{Says, lines_of}
 use Rattle.mn_topo_toml.specs.declared.refusal.TopoRule.{TopoRule}
 use Rattle.mn_topo_toml.specs.declared.refusal.Place.{Place}
 use Rattle.mn_topo.specs.Network.{Network}
 use Rattle.mn_topo_toml.specs.Topology.{topology_of}
-use Rattle.mn_answer.specs.declared.outcome.Limit.TheVariants.{TopologyBytes, ScriptBytes, ScriptLines}
+use Rattle.mn_answer.specs.declared.outcome.Limit.TheVariants.{TopologyBytes, ScriptBytes, ScriptLines, CaptureBytes, CaptureRecords, JointsBytes}
 use Rattle.mn_answer.specs.declared.outcome.Outcome.{Outcome}
-use Rattle.mn_answer.specs.declared.outcome.Outcome.TheVariants.{BadTopology, BadScript, TooLarge}
+use Rattle.mn_answer.specs.declared.outcome.Outcome.TheVariants.{NoMemory, BadTopology, BadScript, BadCapture, BadJoints, BadSecond, TooLarge}
 use Rattle.mn_answer.specs.Refusals.{refusal_line}
 
 -- how the call ends, the files that it writes, what is in them while the lines of a script are played, and the text that it puts,
@@ -66,3 +72,63 @@ with_lines_of_bytes says bytes next =
 abbrev pub with_lines_of : {L : Type 0} → Says L → Option (List ℕ) → (List L → Option Answer) → Option Answer
 with_lines_of says None next = None
 with_lines_of says (Some bytes) next = with_lines_of_bytes says bytes next
+
+-- a capture has at most 64 MiB, and at most 100,000 whole records before its first refusal
+abbrev pub most_capture_bytes : ℕ
+most_capture_bytes = 2 ^ 26
+
+abbrev pub most_capture_records : ℕ
+most_capture_records = 100000
+
+-- a capture goes on with its packets, or is refused by rule and place
+abbrev pub if_captured : Result (List (List ℕ)) PcapBad → (List (List ℕ) → Option Answer) → Option Answer
+if_captured (Ok packets) next = next packets
+if_captured (Err (bad.Refused rule place)) next = Some (refusal_of (BadCapture rule place))
+if_captured (Err bad.NoMemory) next = Some (refusal_of NoMemory)
+
+-- the limits of a capture come before its own refusal
+abbrev pub with_records : List ℕ → (List (List ℕ) → Option Answer) → Option Answer
+with_records bytes next =
+    if nat_lt most_capture_records (count_of bytes) then Some (refusal_of (TooLarge CaptureRecords most_capture_records)) else if_captured
+    (pcap.packets_of bytes) next
+
+abbrev pub with_capture_bytes : List ℕ → (List (List ℕ) → Option Answer) → Option Answer
+with_capture_bytes bytes next =
+    if nat_lt most_capture_bytes (length bytes) then Some (refusal_of (TooLarge CaptureBytes most_capture_bytes)) else with_records bytes next
+
+abbrev pub with_capture : Option (List ℕ) → (List (List ℕ) → Option Answer) → Option Answer
+with_capture None next = None
+with_capture (Some bytes) next = with_capture_bytes bytes next
+
+-- the second topology of two goes on, or is refused by rule and place as the second; its limit is that of a topology
+abbrev pub if_second_lawful : Result Network (TopoRule × Place) → (Network → Option Answer) → Option Answer
+if_second_lawful (Ok topology) next = next topology
+if_second_lawful (Err refused) next = Some (refusal_of (BadSecond refused.0 refused.1))
+
+abbrev pub with_second_bytes : List ℕ → (Network → Option Answer) → Option Answer
+with_second_bytes bytes next =
+    if nat_lt most_topology_bytes (length bytes) then Some (refusal_of (TooLarge TopologyBytes most_topology_bytes)) else if_second_lawful
+    (topology_of bytes) next
+
+abbrev pub with_second : Option (List ℕ) → (Network → Option Answer) → Option Answer
+with_second None next = None
+with_second (Some bytes) next = with_second_bytes bytes next
+
+-- a list of joints has at most 1 MiB
+abbrev pub most_joints_bytes : ℕ
+most_joints_bytes = 2 ^ 20
+
+-- a list of joints goes on, or is refused by rule and line
+abbrev pub if_joined : Result (List SitePair) (JointsRule × ℕ) → (List SitePair → Option Answer) → Option Answer
+if_joined (Ok joints) next = next joints
+if_joined (Err refused) next = Some (refusal_of (BadJoints refused.0 refused.1))
+
+-- the limit of a list of joints comes before its own refusal
+abbrev pub with_joints_bytes : Network → Network → List ℕ → (List SitePair → Option Answer) → Option Answer
+with_joints_bytes first second bytes next =
+    if nat_lt most_joints_bytes (length bytes) then Some (refusal_of (TooLarge JointsBytes most_joints_bytes)) else if_joined
+    (joints_of first second bytes) next
+
+abbrev pub with_joints : Network → Network → Option (List ℕ) → (List SitePair → Option Answer) → Option Answer
+with_joints first second None next = None
+with_joints first second (Some bytes) next = with_joints_bytes first second bytes next

@@ -10,11 +10,13 @@ use Rattle.mn_topo_toml.specs.declared.refusal.Place.{Place}
 use Rattle.mn_topo_toml.specs.declared.refusal.Place.TheVariants.{Top, Node, Link, Vrf, Site}
 use Rattle.mn_script.specs.declared.refusal.ScriptRule.{ScriptRule}
 use Rattle.mn_script.specs.declared.refusal.ScriptRule.TheVariants as script
+use Rattle.mn_joints.specs.declared.refusal.JointsRule.{JointsRule}
+use Rattle.mn_joints.specs.declared.refusal.JointsRule.TheVariants as joints
 use Rattle.mn_lines.specs.Lines.{text}
 use Rattle.mn_answer.specs.declared.outcome.Limit.{Limit}
-use Rattle.mn_answer.specs.declared.outcome.Limit.TheVariants.{TopologyBytes, ScriptBytes, ScriptLines, CaptureBytes, CaptureRecords, Steps}
+use Rattle.mn_answer.specs.declared.outcome.Limit.TheVariants.{TopologyBytes, ScriptBytes, ScriptLines, CaptureBytes, CaptureRecords, Steps, JointsBytes}
 use Rattle.mn_answer.specs.declared.outcome.Outcome.{Outcome}
-use Rattle.mn_answer.specs.declared.outcome.Outcome.TheVariants.{Usage, BadTopology, BadScript, BadCapture, TooLarge}
+use Rattle.mn_answer.specs.declared.outcome.Outcome.TheVariants.{Usage, BadTopology, BadScript, BadCapture, BadJoints, BadSecond, TooLarge}
 
 -- a rule of topologies by its number and name
 abbrev pub topo_rule_name : TopoRule → List ℕ
@@ -61,6 +63,12 @@ pcap_rule_name BadVersion = codes "BadVersion"
 pcap_rule_name BadLinkType = codes "BadLinkType"
 pcap_rule_name BadRecord = codes "BadRecord"
 
+-- a rule of lists of joints by its number and name
+abbrev pub joints_rule_name : JointsRule → List ℕ
+joints_rule_name joints.WrongCount = codes "J1 WrongCount"
+joints_rule_name joints.NoSuchName = codes "J2 NoSuchName"
+joints_rule_name joints.TwiceJoined = codes "J3 TwiceJoined"
+
 -- the line of an input that passes a limit
 abbrev pub limit_line : Limit → List ℕ
 limit_line TopologyBytes = codes "too large topology bytes\n"
@@ -69,12 +77,15 @@ limit_line ScriptLines = codes "too large script lines\n"
 limit_line CaptureBytes = codes "too large capture bytes\n"
 limit_line CaptureRecords = codes "too large capture records\n"
 limit_line Steps = codes "too large steps\n"
+limit_line JointsBytes = codes "too large joints bytes\n"
 
 -- the line of an outcome that refuses
 abbrev pub refusal_line : Outcome → List ℕ
-refusal_line Usage = codes "usage: mplsnet run TOPOLOGY SCRIPT CAPTURE FOLDER | check TOPOLOGY | generate NUMBER | flood TOPOLOGY SCRIPT\n"
+refusal_line Usage = codes "usage: mplsnet run TOPOLOGY SCRIPT CAPTURE FOLDER | check TOPOLOGY | generate NUMBER | flood TOPOLOGY SCRIPT | join TOPOLOGY1 TOPOLOGY2 JOINTS SCRIPT CAPTURE FOLDER\n"
 refusal_line (BadTopology rule place) = text (codes "topology refused " ∷ topo_rule_name rule ∷ codes " at " ∷ place_text place ∷ codes "\n" ∷ [])
 refusal_line (BadScript rule line) = text (codes "script refused " ∷ script_rule_name rule ∷ codes " at line " ∷ decimal line ∷ codes "\n" ∷ [])
 refusal_line (BadCapture rule place) = text (codes "capture refused " ∷ pcap_rule_name rule ∷ codes " at byte " ∷ decimal place ∷ codes "\n" ∷ [])
+refusal_line (BadJoints rule line) = text (codes "joints refused " ∷ joints_rule_name rule ∷ codes " at line " ∷ decimal line ∷ codes "\n" ∷ [])
+refusal_line (BadSecond rule place) = text (codes "second topology refused " ∷ topo_rule_name rule ∷ codes " at " ∷ place_text place ∷ codes "\n" ∷ [])
 refusal_line (TooLarge which limit) = limit_line which
 refusal_line outcome = []

@@ -14,7 +14,10 @@ mod outcome;
 mod parse;
 mod refusals;
 
-pub use load::{load_lines, load_topology};
+pub use load::{load_capture, load_joints, load_lines, load_second, load_topology};
 pub use outcome::{Limit, Outcome};
-pub use parse::{parse_lines, parse_topology, too_large};
+pub use parse::{
+    MOST_CAPTURE_BYTES, MOST_CAPTURE_RECORDS, MOST_SCRIPT_BYTES, parse_joints, parse_lines,
+    parse_second, parse_topology, too_large,
+};
 pub use refusals::{put_line, refusal_line, refuse};

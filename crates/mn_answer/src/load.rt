@@ -3,12 +3,15 @@ ghost use Rattle.std.specs.Prelude.{◌≡◌, IfOk};
 ghost use Rattle.std.specs.Option.{ForSome};
 ghost use Rattle.mn_edge.specs.Faults.{Counted};
 ghost use Rattle.mn_edge.specs.Files.{file};
-ghost use Rattle.mn_answer.specs.Inputs.{IsSound, TopologyIs, LinesAre, LinesFit};
+ghost use Rattle.mn_answer.specs.Inputs.{IsSound, TopologyIs, LinesAre, LinesFit, CaptureIs, CaptureOf, SecondIs, JointsAre, JointsFit};
 
 use crate::outcome::{Limit, Outcome};
 use crate::parse::{
-    MOST_SCRIPT_BYTES, MOST_TOPOLOGY_BYTES, parse_lines, parse_topology, too_large,
+    MOST_CAPTURE_BYTES, MOST_CAPTURE_RECORDS, MOST_JOINTS_BYTES, MOST_SCRIPT_BYTES,
+    MOST_TOPOLOGY_BYTES, parse_joints, parse_lines, parse_second, parse_topology, too_large,
 };
+use mn_base::SiteNo;
+use mn_capture::{Capture, Scanned, scan};
 use mn_edge::{Content, DeviceBad, Shelf, read_all};
 use mn_script::Language;
 use mn_topo::Topology;
@@ -52,6 +55,72 @@ pub fn load_lines<L: Language, S: Shelf>(
     match read_all(alloc, shelf, name, MOST_SCRIPT_BYTES)? {
         Content::TooLarge => Ok(Err(too_large(Limit::ScriptBytes, MOST_SCRIPT_BYTES))),
         Content::Whole(bytes) => match parse_lines(alloc, language, &bytes) {
+            Ok(found) => Ok(found),
+            Err(_) => Err(DeviceBad::NoMemory),
+        },
+    }
+}
+
+/// Finds the records of the capture of this name, or its refusal.
+pub fn load_capture<S: Shelf>(
+    alloc: Global,
+    name: &str,
+    shelf: &mut S,
+) -> Result<Result<Capture, Outcome>, DeviceBad>
+    ensures answer { IfOk result (λ c. ForSome (S.files shelf.old) (λ files. CaptureIs (file files name.now) c)) }
+    ensures of { IfOk result (CaptureOf name.now) }
+    ensures sound { IfOk result IsSound }
+    ensures same { S.files shelf.new ≡ S.files shelf.old }
+    ensures reads { Counted (S.read_faults shelf.old) (S.read_faults shelf.new) result }
+    ensures writes { S.write_faults shelf.new ≡ S.write_faults shelf.old }
+{
+    match scan(alloc, shelf, name, MOST_CAPTURE_BYTES, MOST_CAPTURE_RECORDS)? {
+        Scanned::TooLong => Ok(Err(too_large(Limit::CaptureBytes, MOST_CAPTURE_BYTES))),
+        Scanned::TooMany => Ok(Err(too_large(Limit::CaptureRecords, MOST_CAPTURE_RECORDS))),
+        Scanned::Refused { rule, place } => Ok(Err(Outcome::BadCapture { rule, place })),
+        Scanned::Read(capture) => Ok(Ok(capture)),
+    }
+}
+
+/// Reads the topology of this name as the second of two, or its refusal.
+pub fn load_second<S: Shelf>(
+    alloc: Global,
+    name: &str,
+    shelf: &mut S,
+) -> Result<Result<Topology, Outcome>, DeviceBad>
+    ensures answer { IfOk result (λ t. ForSome (S.files shelf.old) (λ files. SecondIs (file files name.now) t)) }
+    ensures sound { IfOk result IsSound }
+    ensures same { S.files shelf.new ≡ S.files shelf.old }
+    ensures reads { Counted (S.read_faults shelf.old) (S.read_faults shelf.new) result }
+    ensures writes { S.write_faults shelf.new ≡ S.write_faults shelf.old }
+{
+    match read_all(alloc, shelf, name, MOST_TOPOLOGY_BYTES)? {
+        Content::TooLarge => Ok(Err(too_large(Limit::TopologyBytes, MOST_TOPOLOGY_BYTES))),
+        Content::Whole(bytes) => match parse_second(alloc, &bytes) {
+            Ok(found) => Ok(found),
+            Err(_) => Err(DeviceBad::NoMemory),
+        },
+    }
+}
+
+/// Reads the list of joints of this name, of two networks, or its refusal.
+pub fn load_joints<S: Shelf>(
+    alloc: Global,
+    name: &str,
+    shelf: &mut S,
+    first: &Topology,
+    second: &Topology,
+) -> Result<Result<Vec<(SiteNo, SiteNo)>, Outcome>, DeviceBad>
+    ensures answer { IfOk result (λ j. ForSome (S.files shelf.old) (λ files. JointsAre first.now second.now (file files name.now) j)) }
+    ensures fits { IfOk result (JointsFit first.now second.now) }
+    ensures sound { IfOk result IsSound }
+    ensures same { S.files shelf.new ≡ S.files shelf.old }
+    ensures reads { Counted (S.read_faults shelf.old) (S.read_faults shelf.new) result }
+    ensures writes { S.write_faults shelf.new ≡ S.write_faults shelf.old }
+{
+    match read_all(alloc, shelf, name, MOST_JOINTS_BYTES)? {
+        Content::TooLarge => Ok(Err(too_large(Limit::JointsBytes, MOST_JOINTS_BYTES))),
+        Content::Whole(bytes) => match parse_joints(alloc, first, second, &bytes) {
             Ok(found) => Ok(found),
             Err(_) => Err(DeviceBad::NoMemory),
         },

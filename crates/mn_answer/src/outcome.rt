@@ -1,6 +1,7 @@
 //! How a call of the program may end.
 ghost use Rattle.std.specs.Prelude.{◌≡◌};
 
+use mn_joints::JointsRule;
 use mn_pcap::PcapRule;
 use mn_script::ScriptRule;
 use mn_topo_toml::{Place, TopoRule};
@@ -20,6 +21,8 @@ pub enum Limit {
     CaptureRecords,
     /// 4,000,000 steps: a line asked for one more.
     Steps,
+    /// 1 MiB of a list of joints.
+    JointsBytes,
 }
 
 /// How `command` ends, with the status of the program at each.
@@ -43,6 +46,10 @@ pub enum Outcome {
     NoMemory,
     /// 9: an input, or the steps of the script, pass a limit, which is this number.
     TooLarge { which: Limit, limit: u64 },
+    /// 11: the list of joints is refused by this rule, at this line, from 1.
+    BadJoints { rule: JointsRule, line: u32 },
+    /// 12: the second topology is refused by this rule, at this table of the file.
+    BadSecond { rule: TopoRule, place: Place },
 }
 
 ghost use Rattle.mn_answer.specs.Status.{status_of};
@@ -62,6 +69,8 @@ impl Outcome {
             Outcome::WriteFault => 7,
             Outcome::NoMemory => 8,
             Outcome::TooLarge { .. } => 9,
+            Outcome::BadJoints { .. } => 11,
+            Outcome::BadSecond { .. } => 12,
         }
     }
 }

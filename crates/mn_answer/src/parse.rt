@@ -1,9 +1,10 @@
 //! Inputs from their bytes, and their limits.
 ghost use Rattle.std.specs.Prelude.{◌≡◌, IfOk, Some};
-ghost use Rattle.mn_answer.specs.Inputs.{IsSound, TopologyIs, LinesAre, LinesFit};
+ghost use Rattle.mn_answer.specs.Inputs.{IsSound, TopologyIs, LinesAre, LinesFit, SecondIs, JointsAre, JointsFit};
 
 use crate::outcome::{Limit, Outcome};
-use mn_base::MOST_SCRIPT_LINES;
+use mn_base::{MOST_SCRIPT_LINES, SiteNo};
+use mn_joints::{JointsBad, read_joints};
 use mn_script::{Language, ScriptBad, count_lines, read_lines};
 use mn_topo::Topology;
 use mn_topo_toml::{TopoBad, read_topology};
@@ -13,7 +14,16 @@ use std::alloc::{AllocError, Global};
 pub(crate) const MOST_TOPOLOGY_BYTES: u64 = 1 << 20;
 
 /// The most bytes of a script: 64 MiB.
-pub(crate) const MOST_SCRIPT_BYTES: u64 = 1 << 26;
+pub const MOST_SCRIPT_BYTES: u64 = 1 << 26;
+
+/// The most bytes of a capture: 64 MiB.
+pub const MOST_CAPTURE_BYTES: u64 = 1 << 26;
+
+/// The most whole records of a capture.
+pub const MOST_CAPTURE_RECORDS: u64 = 100_000;
+
+/// The most bytes of a list of joints: 1 MiB.
+pub(crate) const MOST_JOINTS_BYTES: u64 = 1 << 20;
 
 /// The refusal of what passes a limit.
 pub fn too_large(which: Limit, limit: u64) -> Outcome
@@ -57,5 +67,41 @@ pub fn parse_lines<L: Language>(
         Ok(lines) => Ok(Ok(lines)),
         Err(ScriptBad::Refused { rule, line }) => Ok(Err(Outcome::BadScript { rule, line })),
         Err(ScriptBad::NoMemory) => Err(AllocError),
+    }
+}
+
+/// Reads the bytes of the second topology of two, at most 1 MiB, or its refusal.
+pub fn parse_second(alloc: Global, bytes: &[u8]) -> Result<Result<Topology, Outcome>, AllocError>
+    ensures answer { IfOk result (SecondIs (Some bytes.now)) }
+    ensures sound { IfOk result IsSound }
+{
+    if bytes.len() as u64 > MOST_TOPOLOGY_BYTES {
+        return Ok(Err(too_large(Limit::TopologyBytes, MOST_TOPOLOGY_BYTES)));
+    }
+    match read_topology(alloc, bytes) {
+        Ok(topology) => Ok(Ok(topology)),
+        Err(TopoBad::Refused { rule, place }) => Ok(Err(Outcome::BadSecond { rule, place })),
+        Err(TopoBad::NoMemory) => Err(AllocError),
+    }
+}
+
+/// Reads the bytes of a list of joints of two networks, at most 1 MiB, or its refusal.
+pub fn parse_joints(
+    alloc: Global,
+    first: &Topology,
+    second: &Topology,
+    bytes: &[u8],
+) -> Result<Result<Vec<(SiteNo, SiteNo)>, Outcome>, AllocError>
+    ensures answer { IfOk result (JointsAre first.now second.now (Some bytes.now)) }
+    ensures fits { IfOk result (JointsFit first.now second.now) }
+    ensures sound { IfOk result IsSound }
+{
+    if bytes.len() as u64 > MOST_JOINTS_BYTES {
+        return Ok(Err(too_large(Limit::JointsBytes, MOST_JOINTS_BYTES)));
+    }
+    match read_joints(alloc, first, second, bytes) {
+        Ok(joints) => Ok(Ok(joints)),
+        Err(JointsBad::Refused { rule, line }) => Ok(Err(Outcome::BadJoints { rule, line })),
+        Err(JointsBad::NoMemory) => Err(AllocError),
     }
 }

@@ -3,13 +3,14 @@ ghost use Rattle.std.specs.Prelude.{◌≡◌, ◌≢◌, ◌++◌, IfOk, OnErr,
 ghost use Rattle.std.specs.Option.{ForSome};
 ghost use Rattle.mn_edge.specs.Faults.{Counted};
 ghost use Rattle.mn_lines.specs.Putting.{PartPut};
-ghost use Rattle.mn_answer.specs.Refusals.{topo_rule_name, place_text, script_rule_name, pcap_rule_name, limit_line, refusal_line};
+ghost use Rattle.mn_answer.specs.Refusals.{topo_rule_name, place_text, script_rule_name, pcap_rule_name, joints_rule_name, limit_line, refusal_line};
 ghost use Rattle.mn_answer.specs.Answer.{refusal_of};
 ghost use Rattle.mn_answer.specs.Inputs.{HasPlainLine, IsRefusal};
 ghost use Rattle.mn_answer.specs.Endings.{OutcomeIs, TextIs, CausedBy};
 
 use crate::outcome::{Limit, Outcome};
 use mn_edge::{DeviceBad, Sink};
+use mn_joints::JointsRule;
 use mn_pcap::PcapRule;
 use mn_script::ScriptRule;
 use mn_topo_toml::{Place, TopoRule};
@@ -80,6 +81,17 @@ fn pcap_rule_name(rule: PcapRule) -> &'static str
     }
 }
 
+/// A rule of lists of joints by its number and name.
+fn joints_rule_name(rule: JointsRule) -> &'static str
+    ensures { result.now ≡ joints_rule_name rule }
+{
+    match rule {
+        JointsRule::WrongCount => "J1 WrongCount",
+        JointsRule::NoSuchName => "J2 NoSuchName",
+        JointsRule::TwiceJoined => "J3 TwiceJoined",
+    }
+}
+
 /// The line of an outcome that refuses, and the empty text for another.
 pub fn refusal_line(alloc: Global, outcome: Outcome) -> Result<String, AllocError>
     ensures { IfOk result (λ line. string_bytes line ≡ refusal_line outcome) }
@@ -98,6 +110,15 @@ pub fn refusal_line(alloc: Global, outcome: Outcome) -> Result<String, AllocErro
             let rule = pcap_rule_name(rule);
             format!(in alloc; "capture refused {rule} at byte {place}\n")
         }
+        Outcome::BadJoints { rule, line } => {
+            let rule = joints_rule_name(rule);
+            format!(in alloc; "joints refused {rule} at line {line}\n")
+        }
+        Outcome::BadSecond { rule, place } => {
+            let rule = topo_rule_name(rule);
+            let place = place_text(alloc, place)?;
+            format!(in alloc; "second topology refused {rule} at {place}\n")
+        }
         other => String::from_str(alloc, plain_line(other)),
     }
 }
@@ -109,12 +130,14 @@ fn plain_line(outcome: Outcome) -> &'static str
 {
     match outcome {
         Outcome::Usage => {
-            "usage: mplsnet run TOPOLOGY SCRIPT CAPTURE FOLDER | check TOPOLOGY | generate NUMBER | flood TOPOLOGY SCRIPT\n"
+            "usage: mplsnet run TOPOLOGY SCRIPT CAPTURE FOLDER | check TOPOLOGY | generate NUMBER | flood TOPOLOGY SCRIPT | join TOPOLOGY1 TOPOLOGY2 JOINTS SCRIPT CAPTURE FOLDER\n"
         }
         Outcome::TooLarge { which, .. } => limit_line(which),
         Outcome::BadTopology { .. }
         | Outcome::BadScript { .. }
         | Outcome::BadCapture { .. }
+        | Outcome::BadJoints { .. }
+        | Outcome::BadSecond { .. }
         | Outcome::Done
         | Outcome::ReadFault
         | Outcome::WriteFault
@@ -133,6 +156,7 @@ fn limit_line(which: Limit) -> &'static str
         Limit::CaptureBytes => "too large capture bytes\n",
         Limit::CaptureRecords => "too large capture records\n",
         Limit::Steps => "too large steps\n",
+        Limit::JointsBytes => "too large joints bytes\n",
     }
 }
 

@@ -11,7 +11,7 @@ use Rattle.mn_lines.specs.Putting.{PutOn, PartPut, Puts, PutsPart}
 use Rattle.mn_lines.proofs.Putting.{begun, ended}
 use Rattle.mn_answer.specs.declared.outcome.Limit.TheVariants.{Steps}
 use Rattle.mn_answer.specs.declared.outcome.Outcome.{Outcome}
-use Rattle.mn_answer.specs.declared.outcome.Outcome.TheVariants.{Done, Usage, ReadFault, WriteFault, NoMemory, BadTopology, BadScript, BadCapture, TooLarge}
+use Rattle.mn_answer.specs.declared.outcome.Outcome.TheVariants.{Done, Usage, ReadFault, WriteFault, NoMemory, BadTopology, BadScript, BadCapture, BadSecond, BadJoints, TooLarge}
 use Rattle.mn_answer.specs.Endings.{OutcomeIs, TextIs, CausedBy}
 use Rattle.mn_flood_run.specs.declared.command.FloodLine.{FloodLine}
 use Rattle.mn_flood_run.specs.Language.{flood_says}
@@ -95,6 +95,8 @@ script_told topology lines script files before written NoMemory read settled dra
 script_told topology lines script files before written (BadTopology rule place) read settled drained text = tt
 script_told topology lines script files before written (BadScript rule line) read settled drained text = tt
 script_told topology lines script files before written (BadCapture rule place) read settled drained text = tt
+script_told topology lines script files before written (BadSecond rule place) read settled drained text = tt
+script_told topology lines script files before written (BadJoints rule line) read settled drained text = tt
 script_told topology lines script files before written (TooLarge which limit) read settled drained text = tt
 
 pub script_undone : (topology : Network) (script : List ℕ) (files : Files) (before : List ℕ) (written : Option (List ℕ)) (o : Outcome) → (o ≡ Done → ⊥) →
@@ -107,6 +109,8 @@ script_undone topology script files before written NoMemory not = tt
 script_undone topology script files before written (BadTopology rule place) not = tt
 script_undone topology script files before written (BadScript rule line) not = tt
 script_undone topology script files before written (BadCapture rule place) not = tt
+script_undone topology script files before written (BadSecond rule place) not = tt
+script_undone topology script files before written (BadJoints rule line) not = tt
 script_undone topology script files before written (TooLarge which limit) not = tt
 
 pub flood_told : (topology : Network) (name script : List ℕ) (files : Files) (before : List ℕ) (written : Option (List ℕ)) (o : Outcome) →
@@ -119,6 +123,8 @@ flood_told topology name script files before written NoMemory read kept = tt
 flood_told topology name script files before written (BadTopology rule place) read kept = tt
 flood_told topology name script files before written (BadScript rule line) read kept = tt
 flood_told topology name script files before written (BadCapture rule place) read kept = tt
+flood_told topology name script files before written (BadSecond rule place) read kept = tt
+flood_told topology name script files before written (BadJoints rule line) read kept = tt
 flood_told topology name script files before written (TooLarge which limit) read kept = tt
 
 pub flood_undone : (name script : List ℕ) (files : Files) (before : List ℕ) (written : Option (List ℕ)) (o : Outcome) → (o ≡ Done → ⊥) →
@@ -131,4 +137,6 @@ flood_undone name script files before written NoMemory not = tt
 flood_undone name script files before written (BadTopology rule place) not = tt
 flood_undone name script files before written (BadScript rule line) not = tt
 flood_undone name script files before written (BadCapture rule place) not = tt
+flood_undone name script files before written (BadSecond rule place) not = tt
+flood_undone name script files before written (BadJoints rule line) not = tt
 flood_undone name script files before written (TooLarge which limit) not = tt

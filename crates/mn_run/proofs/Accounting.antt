@@ -19,9 +19,9 @@ use Rattle.mn_course.specs.Expansion.{Expansion, expanded}
 use Rattle.mn_course.specs.Lawful.{IsLawfulRun}
 use Rattle.mn_answer.specs.declared.outcome.Limit.TheVariants.{Steps}
 use Rattle.mn_answer.specs.declared.outcome.Outcome.{Outcome}
-use Rattle.mn_answer.specs.declared.outcome.Outcome.TheVariants.{Done, Usage, BadTopology, BadScript, BadCapture, TooLarge, ReadFault, WriteFault, NoMemory}
+use Rattle.mn_answer.specs.declared.outcome.Outcome.TheVariants.{Done, Usage, BadTopology, BadScript, BadCapture, BadSecond, BadJoints, TooLarge, ReadFault, WriteFault, NoMemory}
 use Rattle.mn_run.specs.declared.words.Job.{Job}
-use Rattle.mn_run.specs.declared.words.Job.TheVariants.{Run, Check, Flood, Generate}
+use Rattle.mn_run.specs.declared.words.Job.TheVariants.{Run, Check, Flood, Join, Generate}
 use Rattle.mn_run.specs.Words.{word}
 use Rattle.mn_run.specs.Answer.{run_done, checked}
 use Rattle.mn_answer.specs.Endings.{OutcomeIs, FilesAre, TextIs}
@@ -34,6 +34,7 @@ use Rattle.mn_run.specs.Jobs.{AreRead, AreMade}
 use Rattle.mn_run.specs.declared.generate.Made.{Made}
 use Rattle.mn_run.specs.Answer.{generated_line, generated_done}
 use Rattle.mn_flood_run.specs.Headline.{IsFloodTold}
+use Rattle.mn_join_run.specs.Headline.{IsJoinTold}
 use Rattle.mn_run.specs.Headline.{IsKept, KeepsItsPromise, IsGenerated}
 
 pub promise : (topology script capture folder : List ℕ) (files : Files) (before : List ℕ) (after : Option Files) (written : Option (List ℕ))
@@ -81,6 +82,8 @@ kept words files before after written NoMemory inputs read is_lawful fits f t = 
 kept words files before after written (BadTopology rule place) inputs read is_lawful fits f t = tt
 kept words files before after written (BadScript rule line) inputs read is_lawful fits f t = tt
 kept words files before after written (BadCapture rule place) inputs read is_lawful fits f t = tt
+kept words files before after written (BadSecond rule place) inputs read is_lawful fits f t = tt
+kept words files before after written (BadJoints rule line) inputs read is_lawful fits f t = tt
 kept words files before after written (TooLarge which limit) inputs read is_lawful fits f t = tt
 
 -- what was not done keeps nothing
@@ -94,6 +97,8 @@ undone job words files before after written NoMemory not = tt
 undone job words files before after written (BadTopology rule place) not = tt
 undone job words files before after written (BadScript rule line) not = tt
 undone job words files before after written (BadCapture rule place) not = tt
+undone job words files before after written (BadSecond rule place) not = tt
+undone job words files before after written (BadJoints rule line) not = tt
 undone job words files before after written (TooLarge which limit) not = tt
 
 -- what a check tells, where it was done
@@ -108,6 +113,8 @@ topology_told words files before after written NoMemory t read same text = tt
 topology_told words files before after written (BadTopology rule place) t read same text = tt
 topology_told words files before after written (BadScript rule line) t read same text = tt
 topology_told words files before after written (BadCapture rule place) t read same text = tt
+topology_told words files before after written (BadSecond rule place) t read same text = tt
+topology_told words files before after written (BadJoints rule line) t read same text = tt
 topology_told words files before after written (TooLarge which limit) t read same text = tt
 
 -- what a flood tells, where it was done, and no file changed
@@ -121,7 +128,25 @@ flood_kept words files before after written NoMemory told same = tt
 flood_kept words files before after written (BadTopology rule place) told same = tt
 flood_kept words files before after written (BadScript rule line) told same = tt
 flood_kept words files before after written (BadCapture rule place) told same = tt
+flood_kept words files before after written (BadSecond rule place) told same = tt
+flood_kept words files before after written (BadJoints rule line) told same = tt
 flood_kept words files before after written (TooLarge which limit) told same = tt
+
+-- what two joined networks tell and leave, where it was done
+pub join_kept : (words : List (List ℕ)) (files : Files) (before : List ℕ) (after : Option Files) (written : Option (List ℕ)) (outcome : Outcome)
+    → IsJoinTold (word words 1) (word words 2) (word words 3) (word words 4) (word words 5) (word words 6) files before after written outcome →
+    IsKept Join words files before after written outcome
+join_kept words files before after written Done told = told
+join_kept words files before after written Usage told = tt
+join_kept words files before after written ReadFault told = tt
+join_kept words files before after written WriteFault told = tt
+join_kept words files before after written NoMemory told = tt
+join_kept words files before after written (BadTopology rule place) told = tt
+join_kept words files before after written (BadScript rule line) told = tt
+join_kept words files before after written (BadCapture rule place) told = tt
+join_kept words files before after written (BadSecond rule place) told = tt
+join_kept words files before after written (BadJoints rule line) told = tt
+join_kept words files before after written (TooLarge which limit) told = tt
 
 -- what the generator's run tells, where it was done, and no file changed
 pub generated_kept : (words : List (List ℕ)) (files : Files) (before : List ℕ) (after : Option Files) (written : Option (List ℕ)) (outcome : Outcome)
@@ -134,6 +159,8 @@ generated_kept words files before after written NoMemory number told same = tt
 generated_kept words files before after written (BadTopology rule place) number told same = tt
 generated_kept words files before after written (BadScript rule line) number told same = tt
 generated_kept words files before after written (BadCapture rule place) number told same = tt
+generated_kept words files before after written (BadSecond rule place) number told same = tt
+generated_kept words files before after written (BadJoints rule line) number told same = tt
 generated_kept words files before after written (TooLarge which limit) number told same = tt
 
 -- what the generator's run tells, where it was done
@@ -174,4 +201,6 @@ total_told number made are is_lawful before written NoMemory o t = tt
 total_told number made are is_lawful before written (BadTopology rule place) o t = tt
 total_told number made are is_lawful before written (BadScript rule line) o t = tt
 total_told number made are is_lawful before written (BadCapture rule place) o t = tt
+total_told number made are is_lawful before written (BadSecond rule place) o t = tt
+total_told number made are is_lawful before written (BadJoints rule line) o t = tt
 total_told number made are is_lawful before written (TooLarge which limit) o t = tt

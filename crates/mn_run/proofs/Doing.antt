@@ -14,14 +14,16 @@ use Rattle.mn_answer.specs.Inputs.{TopologyIs}
 use Rattle.mn_answer.proofs.Ending.{sink_answers, fault_answers, memory_answers}
 use Rattle.mn_flood_run.specs.Answer.{flood_answer}
 use Rattle.mn_flood_run.specs.Headline.{IsFloodTold}
+use Rattle.mn_join_run.specs.Answer.{join_answer}
+use Rattle.mn_join_run.specs.Headline.{IsJoinTold}
 use Rattle.mn_run.specs.declared.load.Inputs.{Inputs}
 use Rattle.mn_run.specs.declared.words.Job.{Job}
-use Rattle.mn_run.specs.declared.words.Job.TheVariants.{Run, Check, Flood, Generate, Nothing}
+use Rattle.mn_run.specs.declared.words.Job.TheVariants.{Run, Check, Flood, Join, Generate, Nothing}
 use Rattle.mn_run.specs.Words.{word}
 use Rattle.mn_run.specs.Answer.{job_answer, run_done, checked, generated}
 use Rattle.mn_run.specs.Jobs.{AreRead, ForDone}
 use Rattle.mn_run.specs.Headline.{IsGenerated, Ends}
-use Rattle.mn_run.proofs.Accounting.{kept, undone, topology_told, flood_kept, generated_kept}
+use Rattle.mn_run.proofs.Accounting.{kept, undone, topology_told, flood_kept, join_kept, generated_kept}
 use Rattle.mn_run.proofs.Generating.{generated_writes}
 use Rattle.mn_run.proofs.Loading.{answer_is}
 
@@ -33,6 +35,9 @@ check_makes_none number e = cc
 
 flood_makes_none : (number : ℕ) → Flood ≡ Generate number → ⊥
 flood_makes_none number e = cc
+
+join_makes_none : (number : ℕ) → Join ≡ Generate number → ⊥
+join_makes_none number e = cc
 
 nothing_makes_none : (number : ℕ) → Nothing ≡ Generate number → ⊥
 nothing_makes_none number e = cc
@@ -76,6 +81,18 @@ flood_ends words files after before written o answers told same = record {
   answers = answers;
   kept = λ m is before begun. flood_kept words m before after written o (told m is before begun) (same ∙ is);
   told = λ number e. absurd (flood_makes_none number e);
+}
+
+-- two joined networks were told
+pub join_ends : (words : List (List ℕ)) (files after : Option Files) (before written : Option (List ℕ)) (o : Outcome) →
+    ForSome files (λ m. Answers (join_answer (word words 1) (word words 2) (word words 3) (word words 4) (word words 5) (word words 6) m) m after before written o) →
+    ForSome files (λ m. ForSome before (λ text.
+    IsJoinTold (word words 1) (word words 2) (word words 3) (word words 4) (word words 5) (word words 6) m text after written o)) →
+    Ends Join words files after before written o
+join_ends words files after before written o answers told = record {
+  answers = answers;
+  kept = λ m is before begun. join_kept words m before after written o (told m is before begun);
+  told = λ number e. absurd (join_makes_none number e);
 }
 
 -- the generator's run was played

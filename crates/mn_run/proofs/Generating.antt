@@ -28,9 +28,9 @@ use Rattle.mn_answer.specs.declared.outcome.Outcome.{Outcome}
 use Rattle.mn_answer.specs.declared.outcome.Outcome.TheVariants.{Done, TooLarge}
 use Rattle.mn_answer.specs.declared.outcome.Limit.TheVariants.{CaptureBytes, CaptureRecords, Steps}
 use Rattle.mn_answer.specs.Answer.{Answer, refusal_of, most_topology_bytes, most_script_bytes}
+use Rattle.mn_answer.specs.Answer.{if_captured, with_capture_bytes, most_capture_bytes, most_capture_records}
 use Rattle.mn_answer.specs.Inputs.{TopologyIs}
 use Rattle.mn_run.specs.Answer.{generated_line, generated_done, generated_over, generated}
-use Rattle.mn_run.specs.Answer.{if_captured, with_capture_bytes, most_capture_bytes, most_capture_records}
 use Rattle.mn_base.specs.Limits.{most_script_lines}
 use Rattle.mn_answer.specs.Endings.{OutcomeIs, TextIs, CausedBy}
 use Rattle.mn_run.specs.Jobs.{ScriptIs, ScriptFits, HeldIs, AreMadeOver, MadeOverIs, MadeIs, outcome_of}

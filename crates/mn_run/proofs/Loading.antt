@@ -3,7 +3,7 @@ use Rattle.std.proofs.Common.{◌≡◌, ℕ, ◌<◌, true, List, length, get_o
 use Rattle.std.proofs.lemmas.List.{get_or-map, length-map}
 use Rattle.mn_base.proofs.Bools.{and_left}
 use Rattle.mn_edge.specs.Written.{texts}
-use Rattle.mn_run.specs.Words.{word, is_run, is_check, is_flood}
+use Rattle.mn_run.specs.Words.{word, is_run, is_check, is_flood, is_join}
 use Rattle.mn_edge.specs.Files.{Files, file}
 use Rattle.mn_topo.specs.Network.{Network}
 use Rattle.mn_capture.specs.Packets.{packets_in}
@@ -12,7 +12,7 @@ use Rattle.mn_answer.specs.declared.outcome.Outcome.{Outcome}
 use Rattle.mn_run.specs.Answer.{run_done, answer_over, run_over}
 use Rattle.mn_answer.specs.Inputs.{TopologyIs}
 use Rattle.mn_run.specs.Jobs.{OverIs, LoadedIs, AreOver, AreRead}
-use Rattle.mn_run.proofs.Forms.{is_two, is_three, is_five}
+use Rattle.mn_run.proofs.Forms.{is_two, is_three, is_five, is_seven}
 
 pub word_at : (words : List (String Global)) (i : ℕ) (s : String Global) (name : List ℕ) → i < length words → s ≡ get_or words i s → name ≡ string_bytes s →
     word (texts words) i ≡ name
@@ -29,6 +29,10 @@ check_len words h = rw length-map at (is_two (length (texts words)) (and_left _ 
 -- a flood has three words
 pub flood_len : (words : List (String Global)) → is_flood (texts words) ≡ true → length words ≡ 3
 flood_len words h = rw length-map at (is_three (length (texts words)) (and_left _ _ h))
+
+-- two joined networks have seven words
+pub join_len : (words : List (String Global)) → is_join (texts words) ≡ true → length words ≡ 7
+join_len words h = rw length-map at (is_seven (length (texts words)) (and_left _ _ h))
 
 -- a topology, and what was read over it
 pub loaded : (t : Network) (topology script capture : List ℕ) (files : Files) (l : Result Inputs Outcome) → TopologyIs (file files topology) (Ok t) →

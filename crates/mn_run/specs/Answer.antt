@@ -1,12 +1,8 @@
 -- What a call is to answer: how it ends, which files it writes, and what it puts.
-use Rattle.std.specs.Prelude.{ℕ, ◌^◌, nat_lt, cond, if◌then◌else◌, List, [], ◌∷◌, length, Option, Some, None, Result, Ok, Err, codes}
+use Rattle.std.specs.Prelude.{ℕ, cond, List, [], ◌∷◌, length, Option, Some, codes}
 use Rattle.std.specs.Fmt.{decimal}
 use Rattle.mn_base.specs.Limits.{most_steps}
 use Rattle.mn_edge.specs.Files.{Files, file}
-use Rattle.mn_pcap.specs.Reading.{count_of}
-use Rattle.mn_pcap.specs.Reading as pcap
-use Rattle.mn_pcap.specs.declared.refusal.PcapBad.{PcapBad}
-use Rattle.mn_pcap.specs.declared.refusal.PcapBad.TheVariants as bad
 use Rattle.mn_course.specs.Expansion.{Expansion, expanded}
 use Rattle.mn_gen.specs.Topology.{topology_text}
 use Rattle.mn_gen.specs.Script.{script_text}
@@ -21,12 +17,13 @@ use Rattle.mn_script.specs.declared.command.Line.{Line}
 use Rattle.mn_script.specs.Script.{command_says}
 use Rattle.mn_topo.specs.Network.{Network}
 use Rattle.mn_topo.specs.SiteTable.{statics_of}
-use Rattle.mn_answer.specs.declared.outcome.Limit.TheVariants.{CaptureBytes, CaptureRecords, Steps}
-use Rattle.mn_answer.specs.declared.outcome.Outcome.TheVariants.{Done, Usage, NoMemory, BadCapture, TooLarge}
-use Rattle.mn_answer.specs.Answer.{Answer, refusal_of, with_topology_bytes, with_topology, with_lines_of_bytes, with_lines_of}
+use Rattle.mn_answer.specs.declared.outcome.Limit.TheVariants.{Steps}
+use Rattle.mn_answer.specs.declared.outcome.Outcome.TheVariants.{Done, Usage, TooLarge}
+use Rattle.mn_answer.specs.Answer.{Answer, refusal_of, with_topology_bytes, with_topology, with_lines_of_bytes, with_lines_of, with_capture_bytes, with_capture}
 use Rattle.mn_flood_run.specs.Answer.{flood_answer}
+use Rattle.mn_join_run.specs.Answer.{join_answer}
 use Rattle.mn_run.specs.declared.words.Job.{Job}
-use Rattle.mn_run.specs.declared.words.Job.TheVariants.{Run, Check, Flood, Generate, Nothing}
+use Rattle.mn_run.specs.declared.words.Job.TheVariants.{Run, Check, Flood, Join, Generate, Nothing}
 use Rattle.mn_run.specs.Words.{word, job_of}
 
 -- what a run leaves and puts: refused lines and tables come early; where its journal was full it is too large, and its files are
@@ -41,33 +38,6 @@ run_done folder topology script packets =
       early = notes_text topology packets (expanded topology packets script);
       text = run.text;
     }
-
--- a capture has at most 64 MiB, and at most 100,000 whole records before its first refusal
-abbrev pub most_capture_bytes : ℕ
-most_capture_bytes = 2 ^ 26
-
-abbrev pub most_capture_records : ℕ
-most_capture_records = 100000
-
--- a capture goes on with its packets, or is refused by rule and place
-abbrev pub if_captured : Result (List (List ℕ)) PcapBad → (List (List ℕ) → Option Answer) → Option Answer
-if_captured (Ok packets) next = next packets
-if_captured (Err (bad.Refused rule place)) next = Some (refusal_of (BadCapture rule place))
-if_captured (Err bad.NoMemory) next = Some (refusal_of NoMemory)
-
--- the limits of a capture come before its own refusal
-abbrev pub with_records : List ℕ → (List (List ℕ) → Option Answer) → Option Answer
-with_records bytes next =
-    if nat_lt most_capture_records (count_of bytes) then Some (refusal_of (TooLarge CaptureRecords most_capture_records)) else if_captured
-    (pcap.packets_of bytes) next
-
-abbrev pub with_capture_bytes : List ℕ → (List (List ℕ) → Option Answer) → Option Answer
-with_capture_bytes bytes next =
-    if nat_lt most_capture_bytes (length bytes) then Some (refusal_of (TooLarge CaptureBytes most_capture_bytes)) else with_records bytes next
-
-abbrev pub with_capture : Option (List ℕ) → (List (List ℕ) → Option Answer) → Option Answer
-with_capture None next = None
-with_capture (Some bytes) next = with_capture_bytes bytes next
 
 -- a script goes on with its lines, or its refusal is the answer
 abbrev pub with_script_bytes : Network → List ℕ → (List Line → Option Answer) → Option Answer
@@ -131,6 +101,7 @@ abbrev pub job_answer : Job → List (List ℕ) → Files → Option Answer
 job_answer Run words files = run_answer words files
 job_answer Check words files = check_answer words files
 job_answer Flood words files = flood_answer (word words 1) (word words 2) files
+job_answer Join words files = join_answer (word words 1) (word words 2) (word words 3) (word words 4) (word words 5) (word words 6) files
 job_answer (Generate number) words files = generated number
 job_answer Nothing words files = Some (refusal_of Usage)
 

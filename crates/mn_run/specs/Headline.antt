@@ -25,8 +25,9 @@ use Rattle.mn_answer.specs.declared.outcome.Outcome.{Outcome}
 use Rattle.mn_answer.specs.declared.outcome.Outcome.TheVariants.{Done}
 use Rattle.mn_answer.specs.Endings.{Answers}
 use Rattle.mn_flood_run.specs.Headline.{TellsFlood}
+use Rattle.mn_join_run.specs.Headline.{TellsJoin}
 use Rattle.mn_run.specs.declared.words.Job.{Job}
-use Rattle.mn_run.specs.declared.words.Job.TheVariants.{Run, Check, Flood, Generate, Nothing}
+use Rattle.mn_run.specs.declared.words.Job.TheVariants.{Run, Check, Flood, Join, Generate, Nothing}
 use Rattle.mn_run.specs.Words.{word, job_of}
 use Rattle.mn_run.specs.Answer.{check_line, generated_line, job_answer}
 
@@ -80,12 +81,14 @@ abbrev pub IsGenerated : ℕ → List ℕ → Option (List ℕ) → Outcome → 
 IsGenerated number before written Done = TellsTotal number before written
 IsGenerated number before written outcome = ⊤
 
--- what each job has done: a run keeps its promise, a check tells the topology, a flood tells its course and changes no file, and the
--- generator's run tells the total and changes no file
+-- what each job has done: a run keeps its promise, a check tells the topology, a flood tells its course and changes no file, two joined
+-- networks tell theirs and leave what came out, and the generator's run tells the total and changes no file
 abbrev pub Keeps : Job → List (List ℕ) → Files → List ℕ → Option Files → Option (List ℕ) → Type 0
 Keeps Run words files before after written = KeepsItsPromise (word words 1) (word words 2) (word words 3) (word words 4) files before after written
 Keeps Check words files before after written = TellsTopology words files before after written
 Keeps Flood words files before after written = TellsFlood (word words 1) (word words 2) files before written × (after ≡ Some files)
+Keeps Join words files before after written =
+    TellsJoin (word words 1) (word words 2) (word words 3) (word words 4) (word words 5) (word words 6) files before after written
 Keeps (Generate number) words files before after written = TellsTotal number before written × (after ≡ Some files)
 Keeps Nothing words files before after written = ⊤
 

@@ -24,9 +24,9 @@ use Rattle.mn_gen.specs.Script.{script_text}
 use Rattle.mn_gen.specs.Capture.{capture_bytes}
 use Rattle.mn_perform.specs.Memory.{MemoryView, packets_at}
 use Rattle.mn_run.specs.declared.generate.Made.{Made}
-use Rattle.mn_answer.specs.Answer.{Answer, refusal_of}
+use Rattle.mn_answer.specs.Answer.{Answer, refusal_of, with_capture_bytes}
 use Rattle.mn_answer.specs.Inputs.{LinesAre, LinesFit}
-use Rattle.mn_run.specs.Answer.{run_done, answer_over, run_over, with_capture, with_capture_bytes}
+use Rattle.mn_run.specs.Answer.{run_done, answer_over, run_over}
 use Rattle.mn_run.specs.Answer.{generated_done, generated_over, generated}
 
 -- what follows a script follows this one, or its refusal is the answer
@@ -37,22 +37,11 @@ ScriptIs topology input found = LinesAre (command_says topology) input found
 abbrev pub ScriptFits : Network → Result (Vec Line Global) Outcome → Type 0
 ScriptFits topology found = LinesFit (λ (line : Line). command_fits topology line.command) found
 
--- the same of a capture, by the places of its records
-abbrev pub CaptureIs : Option (List ℕ) → Result CaptureView Outcome → Type 0
-CaptureIs input (Ok capture) =
-    (bytes : List ℕ) × (input ≡ Some bytes) × (pcap.packets_of bytes ≡ Ok (packets_in capture bytes)) × ((next : List (List ℕ) → Option Answer) →
-    with_capture input next ≡ next (packets_in capture bytes))
-CaptureIs input (Err outcome) = (next : List (List ℕ) → Option Answer) → with_capture input next ≡ Some (refusal_of outcome)
-
 -- the same of a capture in memory
 abbrev pub HeldIs : List ℕ → Result MemoryView Outcome → Type 0
 HeldIs bytes (Ok capture) =
     (pcap.packets_of bytes ≡ Ok (packets_at capture)) × ((next : List (List ℕ) → Option Answer) → with_capture_bytes bytes next ≡ next (packets_at capture))
 HeldIs bytes (Err outcome) = (next : List (List ℕ) → Option Answer) → with_capture_bytes bytes next ≡ Some (refusal_of outcome)
-
-abbrev pub CaptureOf : List ℕ → Result CaptureView Outcome → Type 0
-CaptureOf name (Ok capture) = capture.name ≡ name
-CaptureOf name (Err outcome) = ⊤
 
 -- script and capture over a topology, and all three inputs: they were read, and the answer is that of the run
 pub record AreOver (topology : Network) (script capture : List ℕ) (files : Files) (inputs : Inputs) : Type 0 where

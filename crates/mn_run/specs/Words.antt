@@ -4,7 +4,7 @@ use lib.Pointwise.{pointwise}
 use Rattle.mn_text.specs.Numbers.{number_up_to}
 use Rattle.mn_perform.specs.Inside.{is_inside}
 use Rattle.mn_run.specs.declared.words.Job.{Job}
-use Rattle.mn_run.specs.declared.words.Job.TheVariants.{Run, Check, Flood, Generate, Nothing}
+use Rattle.mn_run.specs.declared.words.Job.TheVariants.{Run, Check, Flood, Join, Generate, Nothing}
 
 -- the word at this place, which is there where there are enough words
 abbrev pub word : List (List ℕ) → ℕ → List ℕ
@@ -24,6 +24,13 @@ is_check words = (length words == 2) && pointwise nat_eq (word words 0) (codes "
 abbrev pub is_flood : List (List ℕ) → Bool
 is_flood words = (length words == 3) && pointwise nat_eq (word words 0) (codes "flood")
 
+-- `join`, two topologies, their joints, a script, a capture and a folder in which none of the five lies
+abbrev pub is_join : List (List ℕ) → Bool
+is_join words =
+    (length words == 7) && (pointwise nat_eq (word words 0) (codes "join")
+    && not (is_inside (word words 1) (word words 6) || (is_inside (word words 2) (word words 6) || (is_inside (word words 3) (word words 6)
+    || (is_inside (word words 4) (word words 6) || is_inside (word words 5) (word words 6))))))
+
 -- `generate` and a number from 0 to 99: the number
 abbrev pub generator_number : List (List ℕ) → Option ℕ
 generator_number words = if (length words == 2) && pointwise nat_eq (word words 0) (codes "generate") then number_up_to (word words 1) 99 else None
@@ -34,13 +41,15 @@ generating None = Nothing
 generating (Some number) = Generate number
 
 abbrev pub job_of : List (List ℕ) → Job
-job_of words = if is_run words then Run else if is_check words then Check else if is_flood words then Flood else generating (generator_number words)
+job_of words = if is_run words then Run else if is_check words then Check else if is_flood words then Flood else if is_join words then Join else
+    generating (generator_number words)
 
 -- the words have the form of the job
 abbrev pub IsForm : Job → List (List ℕ) → Type 0
 IsForm Run words = is_run words ≡ true
 IsForm Check words = is_check words ≡ true
 IsForm Flood words = is_flood words ≡ true
+IsForm Join words = is_join words ≡ true
 IsForm (Generate number) words = number ≤ 99
 IsForm Nothing words = ⊤
 

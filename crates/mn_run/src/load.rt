@@ -2,11 +2,9 @@
 ghost use Rattle.std.specs.Prelude.{◌≡◌, IfOk};
 ghost use Rattle.std.specs.Option.{ForSome};
 ghost use Rattle.mn_edge.specs.Faults.{Counted};
-ghost use Rattle.mn_edge.specs.Files.{file};
 
-use crate::parse::{MOST_CAPTURE_BYTES, MOST_CAPTURE_RECORDS};
-use mn_answer::{Limit, Outcome, load_lines, load_topology, too_large};
-use mn_capture::{Capture, Scanned, scan};
+use mn_answer::{Outcome, load_capture, load_lines, load_topology};
+use mn_capture::Capture;
 use mn_edge::{DeviceBad, Shelf};
 use mn_script::{Commands, Line};
 use mn_topo::Topology;
@@ -21,28 +19,7 @@ pub(crate) struct Inputs {
 }
 
 ghost use Rattle.mn_answer.specs.Inputs.{IsSound};
-ghost use Rattle.mn_run.specs.Jobs.{CaptureIs, CaptureOf, OverIs, LoadedIs, InputsFit};
-
-/// Finds the records of a capture, or its refusal.
-fn load_capture<S: Shelf>(
-    alloc: Global,
-    name: &str,
-    shelf: &mut S,
-) -> Result<Result<Capture, Outcome>, DeviceBad>
-    ensures answer { IfOk result (λ c. ForSome (S.files shelf.old) (λ files. CaptureIs (file files name.now) c)) }
-    ensures of { IfOk result (CaptureOf name.now) }
-    ensures sound { IfOk result IsSound }
-    ensures same { S.files shelf.new ≡ S.files shelf.old }
-    ensures reads { Counted (S.read_faults shelf.old) (S.read_faults shelf.new) result }
-    ensures writes { S.write_faults shelf.new ≡ S.write_faults shelf.old }
-{
-    match scan(alloc, shelf, name, MOST_CAPTURE_BYTES, MOST_CAPTURE_RECORDS)? {
-        Scanned::TooLong => Ok(Err(too_large(Limit::CaptureBytes, MOST_CAPTURE_BYTES))),
-        Scanned::TooMany => Ok(Err(too_large(Limit::CaptureRecords, MOST_CAPTURE_RECORDS))),
-        Scanned::Refused { rule, place } => Ok(Err(Outcome::BadCapture { rule, place })),
-        Scanned::Read(capture) => Ok(Ok(capture)),
-    }
-}
+ghost use Rattle.mn_run.specs.Jobs.{OverIs, LoadedIs, InputsFit};
 
 /// Reads the inputs of a run, the topology first and the capture last, or the first refusal.
 pub(crate) fn load<S: Shelf>(

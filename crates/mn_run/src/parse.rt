@@ -3,16 +3,10 @@ ghost use Rattle.std.specs.Prelude.{IfOk};
 ghost use Rattle.mn_answer.specs.Inputs.{IsSound};
 ghost use Rattle.mn_run.specs.Jobs.{HeldIs};
 
-use mn_answer::{Limit, Outcome, too_large};
+use mn_answer::{Limit, MOST_CAPTURE_BYTES, MOST_CAPTURE_RECORDS, Outcome, too_large};
 use mn_pcap::{PcapBad, count_records};
 use mn_perform::MemoryCapture;
 use std::alloc::{AllocError, Global};
-
-/// The most bytes of a capture: 64 MiB.
-pub(crate) const MOST_CAPTURE_BYTES: u64 = 1 << 26;
-
-/// The most whole records of a capture.
-pub(crate) const MOST_CAPTURE_RECORDS: u64 = 100_000;
 
 /// Reads the bytes of a capture, or its refusal.
 pub(crate) fn parse_capture(

@@ -6,7 +6,7 @@ ghost use Rattle.mn_edge.specs.Written.{texts};
 ghost use Rattle.mn_perform.specs.Inside.{is_inside};
 ghost use Rattle.mn_script.specs.Script.{AllFit};
 ghost use Rattle.mn_answer.specs.Endings.{Answers, OutcomeIs, FilesAre, TextIs, CausedBy, UsageIff, Completes, IsLate, IsUnread};
-ghost use Rattle.mn_run.specs.Words.{is_run, is_check, is_flood, is_command, generator_number, job_of};
+ghost use Rattle.mn_run.specs.Words.{is_run, is_check, is_flood, is_join, is_command, generator_number, job_of};
 ghost use Rattle.mn_run.specs.Answer.{answer_of, checked};
 ghost use Rattle.mn_run.specs.Headline.{IsGenerated, HeadlineIs, Ends};
 ghost use Rattle.mn_run.specs.Jobs.{ForDone, outcome_of};
@@ -61,7 +61,9 @@ pub fn command<S: Shelf, O: Sink>(
     // arrives. The journal is the script's, and lawful; report and files are its own, and no other file changed. By
     // `check`, the topology breaks no rule, its line tells how much it has, and no file changed. By `flood`, the report is
     // that of the script's course, its trees are those of the links that are up where no advert flies, no drain heard more
-    // than its bound, and no file changed. By `generate`, the same holds of the packets of its run, what was put is its
+    // than its bound, and no file changed. By `join`, the report and the file of what came out are those of the script's course
+    // over both networks, each packet's legs are its injections, each at the site to which the leg before was handed on, and no
+    // other file changed. By `generate`, the same holds of the packets of its run, what was put is its
     // number and their total, and no file changed.
     ensures headline { ForSome (S.files shelf.old) (λ files. ForSome (O.written out.old) (λ before.
         HeadlineIs (texts words.now) files before (S.files shelf.new) (O.written out.new) result)) }
@@ -83,6 +85,7 @@ fn answer<S: Shelf, O: Sink>(alloc: Global, words: &[String], shelf: &mut S, out
         Job::Run => run(alloc, words, shelf, out),
         Job::Check => check(alloc, words, shelf, out),
         Job::Flood => flood(alloc, words, shelf, out),
+        Job::Join => join(alloc, words, shelf, out),
         Job::Generate(number) => generate(alloc, number, out),
         Job::Nothing => refuse(alloc, out, Outcome::Usage),
     }
@@ -206,4 +209,25 @@ fn flood<S: Shelf, O: Sink>(alloc: Global, words: &[String], shelf: &mut S, out:
     ensures usage { result ≢ Outcome.Usage }
 {
     mn_flood_run::flood(alloc, words[1].as_str(), words[2].as_str(), shelf, out)
+}
+
+/// Plays a script on two joined networks, by the words `join TOPOLOGY1 TOPOLOGY2 JOINTS SCRIPT CAPTURE FOLDER`.
+fn join<S: Shelf, O: Sink>(alloc: Global, words: &[String], shelf: &mut S, out: &mut O) -> Outcome
+    requires { is_join (texts words.now) ≡ true }
+    ensures ends { Ends Job.Join (texts words.now) (S.files shelf.old) (S.files shelf.new) (O.written out.old) (O.written out.new) result }
+    ensures cause { CausedBy (S.read_faults shelf.old, S.write_faults shelf.old, O.faults out.old)
+        (S.read_faults shelf.new, S.write_faults shelf.new, O.faults out.new) result }
+    ensures usage { result ≢ Outcome.Usage }
+{
+    mn_join_run::join(
+        alloc,
+        words[1].as_str(),
+        words[2].as_str(),
+        words[3].as_str(),
+        words[4].as_str(),
+        words[5].as_str(),
+        words[6].as_str(),
+        shelf,
+        out,
+    )
 }

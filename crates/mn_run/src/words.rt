@@ -1,8 +1,8 @@
 //! The words of the command line.
-ghost use Rattle.std.specs.Prelude.{◌≡◌, ◌≤◌, IfSome};
+ghost use Rattle.std.specs.Prelude.{◌≡◌, ◌≤◌, ◌||◌, IfSome};
 ghost use Rattle.mn_edge.specs.Written.{texts};
 ghost use Rattle.mn_perform.specs.Inside.{is_inside};
-ghost use Rattle.mn_run.specs.Words.{is_run, is_check, is_flood, generator_number, job_of, IsForm};
+ghost use Rattle.mn_run.specs.Words.{is_run, is_check, is_flood, is_join, generator_number, job_of, IsForm};
 
 use mn_text::number_up_to;
 
@@ -18,6 +18,8 @@ pub(crate) enum Job {
     Check,
     /// `flood TOPOLOGY SCRIPT`.
     Flood,
+    /// `join TOPOLOGY1 TOPOLOGY2 JOINTS SCRIPT CAPTURE FOLDER`.
+    Join,
     /// `generate NUMBER`, from 0 to 99.
     Generate(u32),
     /// Nothing that the program does.
@@ -35,6 +37,8 @@ pub(crate) fn parse_job(words: &[String]) -> Job
         Job::Check
     } else if is_flood(words) {
         Job::Flood
+    } else if is_join(words) {
+        Job::Join
     } else {
         match generator_number(words) {
             Some(number) => Job::Generate(number),
@@ -77,6 +81,45 @@ fn is_flood(words: &[String]) -> bool
         return false;
     };
     command.as_str() == "flood"
+}
+
+/// Whether the words are `join TOPOLOGY1 TOPOLOGY2 JOINTS SCRIPT CAPTURE FOLDER`, and no input lies in the folder that is written.
+fn is_join(words: &[String]) -> bool
+    ensures { result ≡ is_join (texts words.now) }
+{
+    let [command, first, second, joints, script, capture, folder] = words else {
+        return false;
+    };
+    if command.as_str() != "join" {
+        return false;
+    }
+    !is_any_inside(
+        first.as_str(),
+        second.as_str(),
+        joints.as_str(),
+        script.as_str(),
+        capture.as_str(),
+        folder.as_str(),
+    )
+}
+
+/// Whether one of the five inputs lies in the folder.
+fn is_any_inside(
+    first: &str,
+    second: &str,
+    joints: &str,
+    script: &str,
+    capture: &str,
+    folder: &str,
+) -> bool
+    ensures { result ≡ (is_inside first.now folder.now || (is_inside second.now folder.now || (is_inside joints.now folder.now
+        || (is_inside script.now folder.now || is_inside capture.now folder.now)))) }
+{
+    is_inside(first, folder)
+        || is_inside(second, folder)
+        || is_inside(joints, folder)
+        || is_inside(script, folder)
+        || is_inside(capture, folder)
 }
 
 /// The number of `generate NUMBER`, from 0 to 99.

@@ -39,19 +39,34 @@ fn capture_of(rt: &HostRuntime, run: &str, left: &str) -> io::Result<String> {
     }
 }
 
-/// The first words of the run's command line, which every command has.
+/// The texts that a command reads, in their order.
+fn texts_of(command: &str) -> &'static [&'static str] {
+    if command == "join" {
+        &[
+            "topology1.toml",
+            "topology2.toml",
+            "joints.txt",
+            "script.txt",
+        ]
+    } else {
+        &["topology.toml", "script.txt"]
+    }
+}
+
+/// The first words of the run's command line: the command, and the texts that it reads.
 fn first_words(alloc: Global, command: &str, run: &str) -> Result<Vec<String>, AllocError> {
     let mut words = Vec::new(alloc);
     words.push(String::from_str(alloc, command)?)?;
-    words.push(format!(in alloc; "{run}/topology.toml")?)?;
-    words.push(format!(in alloc; "{run}/script.txt")?)?;
+    for text in texts_of(command) {
+        words.push(format!(in alloc; "{run}/{text}")?)?;
+    }
     Ok(words)
 }
 
-/// The words of the run's command line. `run` alone has a capture, and a folder for its files.
+/// The words of the run's command line. `flood` alone has no capture, and no folder for its files.
 fn words_of(rt: &HostRuntime, command: &str, run: &str, left: &str) -> io::Result<Vec<String>> {
     let mut words = first_words(rt.alloc(), command, run)?;
-    if command == "run" {
+    if command != "flood" {
         words.push(capture_of(rt, run, left)?)?;
         words.push(String::from_str(rt.alloc(), left)?)?;
     }

@@ -29,6 +29,7 @@ usage: mplsnet run TOPOLOGY SCRIPT CAPTURE FOLDER
        mplsnet check TOPOLOGY
        mplsnet generate NUMBER
        mplsnet flood TOPOLOGY SCRIPT
+       mplsnet join TOPOLOGY1 TOPOLOGY2 JOINTS SCRIPT CAPTURE FOLDER
        mplsnet --help | --version
 
 run       reads a topology (TOML), a script of events and a capture (pcap) of customer packets, writes what nodes said
@@ -36,10 +37,12 @@ run       reads a topology (TOML), a script of events and a capture (pcap) of cu
 check     reads a topology and tells how much it has, or the first rule that it breaks and where
 generate  makes a network of a number, 0 to 99, runs it without files and puts its total
 flood     floods adverts of links through a topology by a script of its own, and puts each node's tree and a total
+join      runs two networks that are joined site to site by one script, writes what comes out of them into FOLDER, and
+          puts a report with a line for each packet and the legs that it went
 
 status: 0 all was done; 2 wrong words; 3, 4, 5 the topology, the script or the capture is refused; 6 an input can't be
-read; 7 a file or the report can't be written; 8 memory ran out; 9 a limit is passed. With 6 to 9 a line on standard
-error says which file, call or limit.
+read; 7 a file or the report can't be written; 8 memory ran out; 9 a limit is passed; 11 the joints are refused; 12 the
+second topology is. With 6 to 9 a line on standard error says which file, call or limit.
 
 'mplsnet-lint TOPOLOGY SCRIPT' tells all that is wrong with both, and where; 'man mplsnet' every line and file.
 "#;
@@ -94,25 +97,35 @@ fn outcome_of_put(put: Result<(), DeviceBad>) -> Outcome
     }
 }
 
-/// What passed a limit: the word of the command line that names it, and what there may be of it.
-fn limited(which: Limit) -> (usize, &'static str) {
+/// What passed a limit: the place of the word that names it, none where it may be either of two topologies, and what there may
+/// be of it.
+fn limited(is_joined: bool, which: Limit) -> (Option<usize>, &'static str) {
+    let (script, capture) = if is_joined { (4, 5) } else { (2, 3) };
     match which {
-        Limit::TopologyBytes => (1, "bytes"),
-        Limit::ScriptBytes => (2, "bytes"),
-        Limit::ScriptLines => (2, "lines"),
-        Limit::CaptureBytes => (3, "bytes"),
-        Limit::CaptureRecords => (3, "records"),
-        Limit::Steps => (2, "steps of a run"),
+        Limit::TopologyBytes if is_joined => (None, "bytes of a topology"),
+        Limit::TopologyBytes => (Some(1), "bytes"),
+        Limit::JointsBytes => (Some(3), "bytes"),
+        Limit::ScriptBytes => (Some(script), "bytes"),
+        Limit::ScriptLines => (Some(script), "lines"),
+        Limit::CaptureBytes => (Some(capture), "bytes"),
+        Limit::CaptureRecords => (Some(capture), "records"),
+        Limit::Steps => (Some(script), "steps of a run"),
+    }
+}
+
+/// The word at the place, if there is one.
+fn word_at(words: &[String], place: Option<usize>) -> Option<&str> {
+    match words.get(place?) {
+        Some(word) => Some(word.as_str()),
+        None => None,
     }
 }
 
 fn tell_limit(rt: &HostRuntime, words: &[String], which: Limit, limit: u64) -> io::Result<()> {
-    let (place, what) = limited(which);
-    match words.get(place) {
-        Some(name) => {
-            let name = name.as_str();
-            eprintln!(rt; "mplsnet: {name}: more than {limit} {what}")
-        }
+    let is_joined = word_at(words, Some(0)) == Some("join");
+    let (place, what) = limited(is_joined, which);
+    match word_at(words, place) {
+        Some(name) => eprintln!(rt; "mplsnet: {name}: more than {limit} {what}"),
         None => eprintln!(rt; "mplsnet: more than {limit} {what}"),
     }
 }

@@ -33,6 +33,15 @@ pub returns-in-Flood-clause-usage : goal.returns-in-Flood-clause-usage
 returns-in-Flood-clause-usage g c =
     subst (λ j. UsageIff (is_job j) c.flood.result) c.in-Flood.ensures.value (not_usage true c.flood.result refl c.flood.ensures.usage)
 
+pub returns-in-Join-clause-ends : goal.returns-in-Join-clause-ends
+returns-in-Join-clause-ends g c =
+    subst (λ j. Ends j (texts c.args.words.now) (g.S.Shelf.files c.args.shelf.now) (g.S.Shelf.files c.join.new.shelf) (g.O.Sink.written c.args.out.now)
+    (g.O.Sink.written c.join.new.out) c.join.result) c.in-Join.ensures.value c.join.ensures.ends
+
+pub returns-in-Join-clause-usage : goal.returns-in-Join-clause-usage
+returns-in-Join-clause-usage g c =
+    subst (λ j. UsageIff (is_job j) c.join.result) c.in-Join.ensures.value (not_usage true c.join.result refl c.join.ensures.usage)
+
 pub returns-in-Generate-clause-ends : goal.returns-in-Generate-clause-ends
 returns-in-Generate-clause-ends g c =
     subst (λ j. Ends j (texts c.args.words.now) (g.S.Shelf.files c.args.shelf.now) (g.S.Shelf.files c.args.shelf.now) (g.O.Sink.written c.args.out.now)

@@ -1,0 +1,3 @@
+pub mod Course
+pub mod Report
+pub mod Reading

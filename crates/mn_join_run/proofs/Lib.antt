@@ -1,0 +1,11 @@
+mod Growing
+mod Standing
+mod Files
+mod Noting
+mod Going
+mod Ends
+mod Telling
+mod Legs
+mod Told
+mod Played
+mod Runs

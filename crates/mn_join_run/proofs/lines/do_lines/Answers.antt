@@ -1,0 +1,83 @@
+use Rattle.std.proofs.Common.{◌≡◌, length, refl, sym, ◌∙◌, subst, arith}
+use Rattle.mn_edge.specs.Kept.{Framed}
+use Rattle.mn_edge.specs.KeptLaws.{framed_same}
+use Rattle.mn_record.specs.Laws.{same_packets}
+use Rattle.mn_record.proofs.Adding.{framed_then}
+use Rattle.mn_perform.proofs.Results.{err_is}
+use Rattle.mn_join_report.specs.Course.{at_start}
+use Rattle.mn_join_run.specs.Outside.{outside}
+use Rattle.mn_join_run.proofs.Going.{goes_on, stops, breaks, all_gone}
+use Rattle.mn_join_run.proofs.lines.do_lines.Goals as goal
+
+pub loop-line-init : goal.loop-line-init
+loop-line-init g c = record {
+  names = refl;
+  first = refl;
+  second = refl;
+  framed = framed_same _ _;
+  at = λ pairing start names keeps. record { run = at_start; keeps = keeps; rest = λ all told. refl };
+  reads = refl;
+  writes = refl;
+  faults = refl;
+}
+
+pub returns-in-TooManySteps-clause-framed : goal.returns-in-TooManySteps-clause-framed
+returns-in-TooManySteps-clause-framed g c =
+    let l = c.loop-line in framed_then c.args.file.now.names l.file.names _ _ _ l.invariant.names l.invariant.framed c.do_line.ensures.framed
+
+pub returns-in_err-do_line-clause-framed : goal.returns-in_err-do_line-clause-framed
+returns-in_err-do_line-clause-framed g c =
+    let l = c.loop-line in framed_then c.args.file.now.names l.file.names _ _ _ l.invariant.names l.invariant.framed c.do_line.ensures.framed
+
+pub returns-in-TooManySteps-clause-went : goal.returns-in-TooManySteps-clause-went
+returns-in-TooManySteps-clause-went g c = λ pairing start names keeps.
+    let l = c.loop-line in
+    let at = l.invariant.at pairing start names keeps in
+    let same = same_packets start.names c.args.capture.now (g.S.Shelf.files c.args.shelf.now) (g.S.Shelf.files l.shelf)
+    (subst (λ n. Framed n (g.S.Shelf.files c.args.shelf.now) (g.S.Shelf.files l.shelf)) (sym names) l.invariant.framed) in
+    stops pairing start (g.S.Shelf.files c.args.shelf.now) (g.S.Shelf.files l.shelf) c.args.capture.now c.args.lines.now l.line-index c.line-item.result
+    c.loop-line-test.true c.line-item.is same at.run at.keeps.running at.rest c.do_line.new.pair c.do_line.new.desk
+    (outside c.do_line.new.desk.page (g.O.Sink.written c.do_line.new.out) c.do_line.new.file.held (g.S.Shelf.files c.do_line.new.shelf))
+    (rw c.in-TooManySteps.is at (c.in_ok-do_line.ensures.went pairing start at.run (names ∙ sym l.invariant.names) at.keeps))
+
+pub returns-in_err-do_line-clause-went : goal.returns-in_err-do_line-clause-went
+returns-in_err-do_line-clause-went g c = λ pairing start names keeps.
+    let l = c.loop-line in
+    let at = l.invariant.at pairing start names keeps in
+    let same = same_packets start.names c.args.capture.now (g.S.Shelf.files c.args.shelf.now) (g.S.Shelf.files l.shelf)
+    (subst (λ n. Framed n (g.S.Shelf.files c.args.shelf.now) (g.S.Shelf.files l.shelf)) (sym names) l.invariant.framed) in
+    rw (err_is c.from_residual.result c.in_err-do_line.field-0.0 c.from_residual.ensures.1)
+    (breaks pairing start (g.S.Shelf.files c.args.shelf.now) (g.S.Shelf.files l.shelf) c.args.capture.now c.args.lines.now l.line-index c.line-item.result
+    c.loop-line-test.true c.line-item.is same at.run at.keeps.running at.rest c.do_line.new.pair c.do_line.new.desk
+    (outside c.do_line.new.desk.page (g.O.Sink.written c.do_line.new.out) c.do_line.new.file.held (g.S.Shelf.files c.do_line.new.shelf))
+    c.in_err-do_line.field-0.0
+    (c.in_err-do_line.ensures.went pairing start at.run (names ∙ sym l.invariant.names) at.keeps))
+
+pub loop-line-preserved : goal.loop-line-preserved
+loop-line-preserved g c =
+    let l = c.loop-line in
+    let done = c.in_ok-do_line.ensures in
+    record {
+      names = c.do_line.ensures.names ∙ l.invariant.names;
+      first = c.do_line.ensures.first ∙ l.invariant.first;
+      second = c.do_line.ensures.second ∙ l.invariant.second;
+      framed = framed_then c.args.file.now.names l.file.names _ _ _ l.invariant.names l.invariant.framed c.do_line.ensures.framed;
+      at = λ pairing start names keeps.
+          let at = l.invariant.at pairing start names keeps in
+          let same = same_packets start.names c.args.capture.now (g.S.Shelf.files c.args.shelf.now) (g.S.Shelf.files l.shelf)
+          (subst (λ n. Framed n (g.S.Shelf.files c.args.shelf.now) (g.S.Shelf.files l.shelf)) (sym names) l.invariant.framed) in
+          goes_on pairing start (g.S.Shelf.files c.args.shelf.now) (g.S.Shelf.files l.shelf) c.args.capture.now c.args.lines.now l.line-index
+          c.line-item.result c.loop-line-test.true c.line-item.is same at.run at.keeps.running at.rest c.do_line.new.pair c.do_line.new.desk
+          (outside c.do_line.new.desk.page (g.O.Sink.written c.do_line.new.out) c.do_line.new.file.held (g.S.Shelf.files c.do_line.new.shelf))
+          (rw c.in-All.is at (done.went pairing start at.run (names ∙ sym l.invariant.names) at.keeps));
+      reads = done.cause.0 ∙ l.invariant.reads;
+      writes = done.cause.1 ∙ l.invariant.writes;
+      faults = done.cause.2 ∙ l.invariant.faults;
+    }
+
+pub returns-clause-went : goal.returns-clause-went
+returns-clause-went g c = λ pairing start names keeps.
+    let l = c.loop-line in
+    all_gone pairing start _ c.args.capture.now c.args.lines.now l.line-index _ _ _ (let e : l.line-index ≡ length c.args.lines.now =
+    omega (arith, l.auto.line-index-end, c.loop-line-test.false) in e)
+    (l.invariant.at pairing start names keeps)

@@ -1,0 +1,22 @@
+use Rattle.std.proofs.Common.{◌≡◌}
+use Rattle.mn_edge.specs.Kept.{Framed}
+use Rattle.mn_legs.specs.Pairing.{Pairing}
+use Rattle.mn_join_report.specs.Course.{at_start}
+use Rattle.mn_join_run.specs.Outside.{Start, outside}
+use Rattle.mn_join_run.specs.Playing.{Keeps, IsAt}
+use Rattle.mn_join_run.proofs.lines.do_lines.Given as goal
+
+abbrev pub invariant-loop-line : goal.invariant-loop-line
+invariant-loop-line g l = record {
+  names : l.file.names ≡ l.fn.file.names;
+  first : l.pair.first.net.topology ≡ l.fn.pair.first.net.topology;
+  second : l.pair.second.net.topology ≡ l.fn.pair.second.net.topology;
+  framed : Framed l.fn.file.names (g.S.Shelf.files l.fn.shelf) (g.S.Shelf.files l.shelf);
+  at : (pairing : Pairing) (start : Start) → start.names ≡ l.fn.file.names →
+      Keeps pairing start at_start l.fn.pair l.fn.desk (outside l.fn.desk.page (g.O.Sink.written l.fn.out) l.fn.file.held (g.S.Shelf.files l.fn.shelf)) →
+      IsAt pairing start (g.S.Shelf.files l.fn.shelf) l.capture l.lines l.line-index l.pair l.desk
+      (outside l.desk.page (g.O.Sink.written l.out) l.file.held (g.S.Shelf.files l.shelf));
+  reads : g.S.Shelf.read_faults l.shelf ≡ g.S.Shelf.read_faults l.fn.shelf;
+  writes : g.S.Shelf.write_faults l.shelf ≡ g.S.Shelf.write_faults l.fn.shelf;
+  faults : g.O.Sink.faults l.out ≡ g.O.Sink.faults l.fn.out;
+}

@@ -1,0 +1,5 @@
+pub mod Outside
+pub mod Playing
+pub mod Answer
+pub mod Ending
+pub mod Headline

@@ -1,0 +1,3 @@
+mod Front
+mod Gathering
+mod Playing
