@@ -11,8 +11,7 @@ ghost use Rattle.mn_join_report.specs.Report.{last_leg, end_of, ends_of, totals_
 use mn_base::SiteNo;
 use mn_ledger::{Refused, Verdict};
 use mn_legs::{Leg, Which};
-use mn_net::Net;
-use mn_option_a::Pair;
+use mn_option_a::{Net, Pair};
 
 /// The end of a packet.
 #[derive(Clone, Copy, Debug, PartialEq, Eq)]

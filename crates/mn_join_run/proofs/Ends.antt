@@ -15,7 +15,7 @@ use Rattle.mn_perform.specs.declared.ended.Fault.{Fault}
 use Rattle.mn_perform.specs.declared.ended.Fault.TheVariants as fault
 use Rattle.mn_perform.specs.Running.{is_stopped}
 use Rattle.mn_legs.specs.Pairing.{Pairing}
-use Rattle.mn_option_a.specs.Pairs.{PairNow}
+use Rattle.mn_join_report.specs.Pairs.{PairNow}
 use Rattle.mn_join_report.specs.Course.{JoinRun}
 use Rattle.mn_join_report.specs.Report.{refused_texts, report, exits_file}
 use Rattle.mn_join_run.specs.Outside.{Outside, outside, Start, Stands, IsCut, Holding, Beginning}

@@ -4,12 +4,12 @@ use Rattle.std.proofs.Common.{◌∙◌, ap, subst, arith}
 use Rattle.std.specs.Option.{ForSome}
 use Rattle.mn_edge.specs.Files.{Files}
 use Rattle.mn_capture.specs.Packets.{CaptureView}
-use Rattle.mn_record.specs.Recorded.{told_packets}
+use Rattle.mn_perform.specs.Recorded.{told_packets}
 use Rattle.mn_script.specs.declared.command.Command.{Command}
 use Rattle.mn_perform.specs.declared.ended.Ended.TheVariants as ended
 use Rattle.mn_perform.specs.declared.ended.Fault.{Fault}
 use Rattle.mn_legs.specs.Pairing.{Pairing}
-use Rattle.mn_option_a.specs.Pairs.{PairNow}
+use Rattle.mn_join_report.specs.Pairs.{PairNow}
 use Rattle.mn_join_script.specs.declared.line.JoinLine.{JoinLine}
 use Rattle.mn_join_report.specs.Course.{JoinRun, packet_for, with_packet, with_line, unless_stopped, run_from, run_of}
 use Rattle.mn_join_report.specs.Report.{refused_texts, exits_file}

@@ -2,7 +2,7 @@
 use Rattle.std.proofs.Common.{◌≡◌, ℕ, false, List, map, Option, None, Result, Ok, Err, refl, sym, ◌∙◌, ap, subst}
 use Rattle.std.specs.Prelude.{codes}
 use Rattle.std.specs.Result.{IsErrAnd}
-use Rattle.mn_report.specs.Shown.{sending_of}
+use Rattle.mn_perform.specs.Shown.{sending_of}
 use Rattle.mn_perform.specs.declared.ended.Ended.{Ended}
 use Rattle.mn_perform.specs.declared.ended.Ended.TheVariants as ended
 use Rattle.mn_perform.specs.declared.ended.Fault.{Fault}
@@ -10,11 +10,11 @@ use Rattle.mn_legs.specs.declared.leg.Which.{Which}
 use Rattle.mn_legs.specs.declared.leg.Which.TheVariants.{First, Second}
 use Rattle.mn_legs.specs.Pairing.{Pairing, network, Both}
 use Rattle.mn_legs.specs.Course.{PairCourse}
-use Rattle.mn_option_a.specs.declared.played.Played.{Played}
-use Rattle.mn_option_a.specs.declared.played.Played.TheVariants as played
-use Rattle.mn_option_a.specs.declared.played.PairBad.TheVariants.{TooManySteps}
-use Rattle.mn_option_a.specs.Pairs.{PairNow, net_of, PairStands}
-use Rattle.mn_option_a.specs.Plays.{Plays}
+use Rattle.mn_join_report.specs.Played.{Played}
+use Rattle.mn_join_report.specs.Played.TheVariants as played
+use Rattle.mn_join_report.specs.PairBad.TheVariants.{TooManySteps}
+use Rattle.mn_join_report.specs.Pairs.{PairNow, net_of, PairStands}
+use Rattle.mn_join_report.specs.Plays.{Plays}
 use Rattle.mn_join_script.specs.declared.line.JoinLine.{JoinLine}
 use Rattle.mn_join_report.specs.Course.{JoinRun, goes_on, with_refusal, after_course, with_packet}
 use Rattle.mn_join_report.specs.Report.{refused_texts, exits_file}

@@ -14,7 +14,7 @@ use Rattle.mn_answer.specs.Answer.{Answer, refusal_of}
 use Rattle.mn_answer.specs.Endings.{OutcomeIs, FilesAre, TextIs, CausedBy, Answers}
 use Rattle.mn_answer.proofs.Ending.{sink_answers}
 use Rattle.mn_legs.specs.Legs.{AllHaveLegs}
-use Rattle.mn_option_a.specs.Pairs.{pairing_of}
+use Rattle.mn_join_report.specs.Pairs.{pairing_of}
 use Rattle.mn_join_script.specs.declared.line.JoinLine.{JoinLine}
 use Rattle.mn_join_script.specs.Language.{join_says}
 use Rattle.mn_join_report.specs.Course.{run_of}

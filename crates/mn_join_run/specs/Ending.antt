@@ -10,14 +10,14 @@ use Rattle.mn_answer.specs.declared.outcome.Outcome.TheVariants as outcome
 use Rattle.mn_answer.specs.declared.outcome.Limit.TheVariants.{Steps}
 use Rattle.mn_base.specs.Limits.{most_steps}
 use Rattle.mn_lines.specs.Putting.{PartPut}
-use Rattle.mn_report.specs.Shown.{sending_of}
+use Rattle.mn_perform.specs.Shown.{sending_of}
 use Rattle.mn_perform.specs.Running.{is_stopped}
 use Rattle.mn_perform.specs.declared.ended.Ended.{Ended}
 use Rattle.mn_perform.specs.declared.ended.Ended.TheVariants as ended
 use Rattle.mn_perform.specs.declared.ended.Fault.{Fault}
 use Rattle.mn_perform.specs.declared.ended.Fault.TheVariants as fault
 use Rattle.mn_legs.specs.Pairing.{Pairing, at_first}
-use Rattle.mn_option_a.specs.Pairs.{PairNow, PairStands}
+use Rattle.mn_join_report.specs.Pairs.{PairNow, PairStands}
 use Rattle.mn_join_report.specs.Course.{JoinRun}
 use Rattle.mn_join_report.specs.Reading.{IsJoined}
 use Rattle.mn_join_report.specs.Report.{refused_texts, ended_text, report, exits_file}

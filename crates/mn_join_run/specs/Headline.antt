@@ -11,7 +11,7 @@ use Rattle.mn_answer.specs.declared.outcome.Outcome.{Outcome}
 use Rattle.mn_answer.specs.declared.outcome.Outcome.TheVariants.{Done}
 use Rattle.mn_legs.specs.Pairing.{travel}
 use Rattle.mn_legs.specs.Legs.{HasLegs}
-use Rattle.mn_option_a.specs.Pairs.{pairing_of}
+use Rattle.mn_join_report.specs.Pairs.{pairing_of}
 use Rattle.mn_join_script.specs.declared.line.JoinLine.{JoinLine}
 use Rattle.mn_join_script.specs.Language.{join_says}
 use Rattle.mn_join_report.specs.Course.{JoinRun, run_of}

@@ -3,18 +3,18 @@ use Rattle.std.specs.Prelude.{◌≡◌, ℕ, true, false, List, map, drop, Opti
 use Rattle.std.specs.Option.{ForSome}
 use Rattle.mn_edge.specs.Files.{Files}
 use Rattle.mn_capture.specs.Packets.{CaptureView}
-use Rattle.mn_record.specs.Recorded.{told_packets}
+use Rattle.mn_perform.specs.Recorded.{told_packets}
 use Rattle.mn_script.specs.declared.command.Command.{Command}
-use Rattle.mn_report.specs.Shown.{sending_of}
+use Rattle.mn_perform.specs.Shown.{sending_of}
 use Rattle.mn_perform.specs.declared.ended.Ended.{Ended}
 use Rattle.mn_perform.specs.declared.ended.Ended.TheVariants as ended
 use Rattle.mn_perform.specs.declared.ended.Fault.{Fault}
 use Rattle.mn_course.specs.declared.coming.Ending.{Ending}
 use Rattle.mn_course.specs.declared.coming.Ending.TheVariants as ending
 use Rattle.mn_legs.specs.Pairing.{Pairing}
-use Rattle.mn_option_a.specs.declared.played.Played.{Played}
-use Rattle.mn_option_a.specs.declared.played.Played.TheVariants as played
-use Rattle.mn_option_a.specs.Pairs.{PairNow, PairStands}
+use Rattle.mn_join_report.specs.Played.{Played}
+use Rattle.mn_join_report.specs.Played.TheVariants as played
+use Rattle.mn_join_report.specs.Pairs.{PairNow, PairStands}
 use Rattle.mn_join_script.specs.declared.line.JoinLine.{JoinLine}
 use Rattle.mn_join_report.specs.Course.{JoinRun, packet_for, with_packet, run_from, run_of}
 use Rattle.mn_join_report.specs.Report.{refused_texts, exits_file}

@@ -4,7 +4,7 @@ ghost use Rattle.std.specs.Option.{ForSome};
 ghost use Rattle.mn_edge.specs.Files.{file};
 ghost use Rattle.mn_answer.specs.Endings.{Answers, CausedBy};
 ghost use Rattle.mn_joints.specs.Joints.{joints_of};
-ghost use Rattle.mn_option_a.specs.Pairs.{AreSites, AreApart, pairing_of};
+ghost use Rattle.mn_join_report.specs.Pairs.{AreSites, AreApart, pairing_of};
 ghost use Rattle.mn_perform.specs.Inside.{is_inside};
 ghost use Rattle.mn_script.specs.Reading.{lines_of};
 ghost use Rattle.mn_topo_toml.specs.Topology.{topology_of};

@@ -1,7 +1,7 @@
 //! What a run keeps for its report.
 ghost use Rattle.std.specs.Prelude.{◌≡◌, ◌++◌, [], map, IfOk, OnOk};
 ghost use Rattle.mn_course.specs.Expansion.{sending_by};
-ghost use Rattle.mn_report.specs.Shown.{sending_of};
+ghost use Rattle.mn_perform.specs.Shown.{sending_of};
 
 use mn_join_script::JoinLine;
 use mn_lines::{Page, Sent};

@@ -14,9 +14,9 @@ ghost use Rattle.mn_join_run.specs.Answer.{exits_name};
 ghost use Rattle.mn_join_run.specs.Outside.{Holding, Beginning};
 
 use mn_edge::{DeviceBad, Gather, Shelf, begin_all};
-use mn_option_a::Pair;
+use mn_join_report::Pair;
 use mn_pcap::put_header;
-use mn_record::record_header;
+use mn_perform::record_header;
 use std::alloc::{AllocError, Global};
 use std::marker::Model;
 

@@ -3,14 +3,14 @@ ghost use Rattle.std.specs.Prelude.{◌≡◌, ℕ, List, option_map, IfOk};
 ghost use Rattle.std.specs.Option.{ForSome};
 ghost use Rattle.mn_edge.specs.Faults.{Counted};
 ghost use Rattle.mn_course.specs.Course.{record_of};
-ghost use Rattle.mn_record.specs.Recorded.{told_packets};
+ghost use Rattle.mn_perform.specs.Recorded.{told_packets};
 ghost use Rattle.mn_join_run.specs.Playing.{IsPacket};
 
 use mn_capture::Capture;
 use mn_edge::{DeviceBad, Shelf};
 use mn_entry::number_of;
 use mn_pcap::packet_of;
-use mn_record::is_record;
+use mn_perform::is_record;
 use mn_script::Command;
 use mn_topo::Step;
 

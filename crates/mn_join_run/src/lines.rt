@@ -2,10 +2,10 @@
 ghost use Rattle.std.specs.Prelude.{◌≡◌, true, All, Some, map};
 ghost use Rattle.mn_edge.specs.Kept.{Framed};
 ghost use Rattle.mn_perform.specs.Faults.{Blamed};
-ghost use Rattle.mn_report.specs.Shown.{sending_of};
+ghost use Rattle.mn_perform.specs.Shown.{sending_of};
 ghost use Rattle.mn_legs.specs.Pairing.{Pairing, network};
 ghost use Rattle.mn_legs.specs.Course.{PairCourse};
-ghost use Rattle.mn_option_a.specs.Pairs.{net_of};
+ghost use Rattle.mn_join_report.specs.Pairs.{net_of};
 ghost use Rattle.mn_join_script.specs.Language.{line_fits};
 ghost use Rattle.mn_join_report.specs.Course.{JoinRun, at_start, after_course, with_packet};
 ghost use Rattle.mn_join_report.specs.Report.{refused_texts, exits_file};
@@ -17,10 +17,9 @@ use crate::exits::ExitsFile;
 use crate::fetch::fetch;
 use mn_capture::Capture;
 use mn_edge::{DeviceBad, Shelf, Sink};
+use mn_join_report::{Pair, PairBad, Played};
 use mn_join_script::JoinLine;
-use mn_option_a::{Pair, PairBad, Played};
-use mn_perform::{Ended, Fault};
-use mn_report::{Shown, put_refused};
+use mn_perform::{Ended, Fault, Shown, put_refused};
 
 /// Notes what became of a line that was played, and what came out in it.
 fn note<S: Shelf, O: Sink>(

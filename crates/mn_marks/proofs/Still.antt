@@ -20,7 +20,7 @@ use Rattle.mn_transit.specs.Stands as transit
 use Rattle.mn_transport_model.specs.Stands as transport
 use Rattle.mn_routing_model.specs.Routed as routing
 use Rattle.mn_net_model.specs.Stands as model
-use Rattle.mn_net_tally.specs.Tallies.{Tally, Tallies, lost_numbers}
+use Rattle.mn_net_now.specs.Tallies.{Tally, Tallies, lost_numbers}
 use Rattle.mn_net_now.specs.Now.{NetNow, StandsFor, packed_in}
 use Rattle.mn_topo.specs.declared.steps.Damaged.{Damaged}
 use Rattle.mn_marks.specs.Marks.{IsStill, marked, marked_last, MarksLast}

@@ -36,8 +36,8 @@ use Rattle.mn_timetable.proofs.OtherKeys.{edge-below, pair_one}
 use Rattle.mn_transport_model.specs.Sending.{spelled}
 use Rattle.mn_transport_model.proofs.Spelled.{sends-here}
 use Rattle.mn_net_model.proofs.News.{all_there}
-use Rattle.mn_net_refusal.specs.Coming.{dir_of}
-use Rattle.mn_net_refusal.proofs.OnChannels.{names_all, message_named, route_named}
+use Rattle.mn_net_look.specs.Coming.{dir_of}
+use Rattle.mn_net_look.proofs.OnChannels.{names_all, message_named, route_named}
 use Rattle.mn_net_now.specs.Now.{NetNow, StandsFor}
 use Rattle.mn_net.specs.declared.flight.Channel.TheVariants as its
 use Rattle.mn_net.specs.declared.flight.Channel.{Channel as Place}

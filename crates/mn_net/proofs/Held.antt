@@ -43,8 +43,8 @@ use Rattle.mn_routing_model.specs.Whole.{routes_in, edge_or_none, session_or_non
 use Rattle.mn_routing_model.proofs.Holding.{Stands, holds}
 use Rattle.mn_routing_model.proofs.Lawful.{rests, stands}
 use Rattle.mn_routing_model.proofs.Tables.{map_numbers_at}
-use Rattle.mn_net_refusal.specs.Refusal.{asked}
-use Rattle.mn_net_refusal.proofs.Vrfs.{vrf_is}
+use Rattle.mn_net_look.specs.Refusal.{asked}
+use Rattle.mn_net_look.proofs.Vrfs.{vrf_is}
 use Rattle.mn_net_now.specs.Now.{NetNow, IsNet}
 use Rattle.mn_net.specs.Tables.{prefixes_of, best_at, held_at}
 use Rattle.mn_net.proofs.Prefixes.{place_told}

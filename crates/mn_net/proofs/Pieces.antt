@@ -21,7 +21,7 @@ use Rattle.mn_course.specs.Coming.{is_kind, kind_of, place_of}
 use Rattle.mn_transit.specs.declared.flown.Flown.{Flown}
 use Rattle.mn_transport_model.specs.declared.notice.Notice.{Notice as NoticeOf}
 use Rattle.mn_timetable.specs.Keys.{Numbering, keys_in, keys_on, with_key, of_notices, of_messages, of_routes, of_frames}
-use Rattle.mn_net_refusal.specs.Coming.{dir_of, pending_seen}
+use Rattle.mn_net_look.specs.Coming.{dir_of, pending_seen}
 use Rattle.mn_net_look.specs.Parts.{OnChannels, packed_of}
 use Rattle.mn_net_now.specs.Now.{NetNow, StandsFor}
 use Rattle.mn_net.specs.declared.flight.Channel.{Channel as Place}

@@ -3,3 +3,5 @@ pub mod Standing
 pub mod Chain
 pub mod Nexts
 pub mod Counts
+pub use Rattle.mn_net_refusal.proofs.OnChannels
+pub use Rattle.mn_net_refusal.proofs.Vrfs

@@ -15,8 +15,8 @@ use Rattle.mn_ledger.specs.Refusal.{refusal_at}
 use Rattle.mn_ledger.specs.Lawful.{IsLawfulJournal}
 use Rattle.mn_ledger.specs.Items.{Channel, Load, Item, Flight, numbered, left_in_flight, in_time, flight_of}
 use Rattle.mn_ledger.specs.Time.{clock_after, timed_by}
-use Rattle.mn_frames.specs.Given.{Labelling, given, given_in}
-use Rattle.mn_frames.proofs.Labels.{gives_more, has_fecs}
+use Rattle.mn_transit.specs.Given.{Labelling, given, given_in}
+use Rattle.mn_transit.proofs.Labels.{gives_more, has_fecs}
 use Rattle.mn_transit.specs.Moving.{Moving}
 use Rattle.mn_transit.specs.Stands as transit
 use Rattle.mn_transit.proofs.Labelled.{stands_later}

@@ -22,7 +22,7 @@ use Rattle.mn_ledger.specs.Lawful.{IsLawfulJournal}
 use Rattle.mn_ledger.specs.Items.{Channel, Frames, Load, Carries, Item, Flight, items_on, notices_in, messages_in, routes_in, frames_in, numbered}
 use Rattle.mn_ledger.specs.Items.{left_in_flight, in_time, flight_of}
 use Rattle.mn_ledger.proofs.Flows.{in_flight}
-use Rattle.mn_frames.specs.Given.{given}
+use Rattle.mn_transit.specs.Given.{given}
 use Rattle.mn_transit.specs.declared.flown.Flown.{Flown}
 use Rattle.mn_transit.specs.Moving.{Moving}
 use Rattle.mn_transit.specs.Stands as transit

@@ -18,7 +18,7 @@ use Rattle.mn_ledger.specs.Verdicts.{one_if}
 use Rattle.mn_ledger.specs.Ledger.{packets_of}
 use Rattle.mn_ledger.specs.Time.{ticks_in, expire}
 use Rattle.mn_ledger.specs.Items.{notices_in, frames_in, numbered}
-use Rattle.mn_frames.specs.Given.{Labelling, given}
+use Rattle.mn_transit.specs.Given.{Labelling, given}
 use Rattle.mn_transit.specs.declared.flown.Flown.{Flown}
 use Rattle.mn_transit.specs.Moving.{Moving}
 use Rattle.mn_transit.specs.Stands as transit

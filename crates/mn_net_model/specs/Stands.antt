@@ -6,7 +6,7 @@ use Rattle.mn_ledger.specs.Ledger.{packets_of}
 use Rattle.mn_ledger.specs.Verdicts.{injections}
 use Rattle.mn_ledger.specs.Lawful.{IsLawfulJournal}
 use Rattle.mn_ledger.specs.Items.{flight_of}
-use Rattle.mn_frames.specs.Given.{given}
+use Rattle.mn_transit.specs.Given.{given}
 use Rattle.mn_transit.specs.Moving.{Moving}
 use Rattle.mn_transit.specs.Stands as transit
 use Rattle.mn_timetable.specs.Keys.{Key, keys_in, keys_on, of_notices, of_messages, of_routes, of_frames}

@@ -13,7 +13,7 @@ use Rattle.mn_ledger.specs.Ledger.{world_of, packets_of, packets_by}
 use Rattle.mn_ledger.specs.Lawful.{GoesForward}
 use Rattle.mn_ledger.specs.Refusal.{refusal}
 use Rattle.mn_ledger.specs.Items.{Channel, Load, notices_in, numbered, flight_of}
-use Rattle.mn_frames.specs.Given.{given}
+use Rattle.mn_transit.specs.Given.{given}
 use Rattle.mn_transit.specs.Stands as transit
 use Rattle.mn_timetable.specs.Keys.{keys_in, keys_on, of_notices, of_messages, of_routes, of_frames, notices_leave, messages_leave, routes_leave}
 use Rattle.mn_timetable.specs.Steps.{pushed, later_world, messages_now, routes_now}

@@ -13,6 +13,8 @@
 ghost use Rattle.mn_net_model.specs.Counted.{IsCounted};
 ghost use Rattle.mn_net_model.specs.Stepped.{GoesOn};
 
+pub use mn_transit::Transit;
+
 /// Once each part has done a step, the network stands for the ledger after the journal with that step.
 pub fn a_network_goes_on()
     ensures { GoesOn }

@@ -10,7 +10,7 @@ use Rattle.mn_ledger.specs.Packets.{channel, flying_on}
 use Rattle.mn_frames.specs.Given.{given, label_for}
 use Rattle.mn_frames.specs.Tables.{TableStands}
 use Rattle.mn_lsr.specs.Standing.{Standing, session_label}
-use Rattle.mn_transit.specs.Stands.{AreFlown}
+use Rattle.mn_net_tally.specs.Stands.{AreFlown}
 use Rattle.mn_transport_model.specs.Sending.{spelled}
 use Rattle.mn_routing_model.specs.Routed.{IsRoutes}
 use Rattle.mn_net_now.specs.Now.{NetNow}

@@ -4,13 +4,13 @@ use Rattle.mn_base.specs.Limits.{most_flying_bytes}
 use Rattle.mn_topo.specs.Network.{Network}
 use Rattle.mn_topo.specs.declared.steps.JournalEntry.{JournalEntry}
 use Rattle.mn_ledger.specs.OneMore.{tick_from}
-use Rattle.mn_transit.specs.Moving.{Moving, bytes_in}
+use Rattle.mn_net_tally.specs.Moving.{Moving, bytes_in}
 use Rattle.mn_transport_model.specs.Carried.{Carried}
 use Rattle.mn_transport_model.specs.Stands.{IsTransport}
 use Rattle.mn_routing_model.specs.Routed.{Routed, IsRoutes}
 use Rattle.mn_timetable.specs.Keys.{keys_in}
-use Rattle.mn_net_model.specs.Stands.{Packed}
-use Rattle.mn_net_model.specs.Stands as model
+use Rattle.mn_net_tally.specs.NetModelStands.{Packed}
+use Rattle.mn_net_tally.specs.NetModelStands as model
 use Rattle.mn_net_tally.specs.Tallies.{Tally, Tallies}
 use Rattle.std.specs.List.{All}
 

@@ -8,7 +8,7 @@ use Rattle.mn_ledger.specs.declared.verdict.Verdict.TheVariants.{Delivered, Drop
 use Rattle.mn_ledger.specs.Packets.{Packets}
 use Rattle.mn_laws.specs.Accounts.{is_copy}
 use Rattle.mn_laws.proofs.Copies.{AreNumbered}
-use Rattle.mn_net.specs.Landing.{IsLandingOf, IsLanding}
+use Rattle.mn_sched.specs.Landing.{IsLandingOf, IsLanding}
 use Rattle.mn_legs.specs.Pairing.{Landing, landed, landed_by, landed_as}
 
 abbrev at_place : List Verdict → ℕ → Verdict

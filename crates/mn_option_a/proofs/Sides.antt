@@ -26,9 +26,9 @@ use Rattle.mn_laws.proofs.Copies.{numbered}
 use Rattle.mn_course.specs.declared.coming.Arrivals.{Arrivals}
 use Rattle.mn_course.specs.Coming.{next_arrival}
 use Rattle.mn_course.specs.Course.{Past, with_step, arrived, is_journal_full}
-use Rattle.mn_net.specs.declared.net.Done.{Done}
-use Rattle.mn_net.specs.Damaged.{IsDamaged}
-use Rattle.mn_net.specs.Landing.{IsLanding}
+use Rattle.mn_sched.specs.Done.{Done}
+use Rattle.mn_sched.specs.Damaged.{IsDamaged}
+use Rattle.mn_sched.specs.Landing.{IsLanding}
 use Rattle.mn_net_now.specs.Now.{NetNow, StandsFor}
 use Rattle.mn_net_now.specs.Done.{IsLonger, Leaves, Answers}
 use Rattle.mn_sched.specs.Playing.{past_of, IsFirstPart, IsPaced}

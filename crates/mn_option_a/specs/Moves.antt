@@ -17,7 +17,7 @@ use Rattle.mn_course.specs.declared.coming.Coming.{Coming}
 use Rattle.mn_course.specs.declared.coming.Ending.TheVariants as ending
 use Rattle.mn_course.specs.Coming.{next_arrival, delivery}
 use Rattle.mn_course.specs.Course.{with_step, as_due, is_journal_full}
-use Rattle.mn_net.specs.declared.net.Done.{Done}
+use Rattle.mn_sched.specs.Done.{Done}
 use Rattle.mn_sched.specs.Playing.{IsFirstPart}
 use Rattle.mn_legs.specs.declared.leg.Which.{Which}
 use Rattle.mn_legs.specs.Pairing.{opposite, Pairing, network, partner, Side, Both, side, packets_in, Travel, marked_step, with_travel, with_injection, Landing, landed}

@@ -24,5 +24,6 @@ mod played;
 mod side;
 
 pub use mn_legs::{Leg, Which};
+pub use mn_sched::Net;
 pub use pair::{Delivery, Pair};
 pub use played::{PairBad, Played};

@@ -15,7 +15,7 @@ use crate::side::Side;
 use mn_base::SiteNo;
 use mn_ledger::Refused;
 use mn_legs::{Leg, Which};
-use mn_net::Net;
+use mn_sched::Net;
 use mn_script::Command;
 use mn_topo::Topology;
 use std::alloc::{AllocError, Global};

@@ -15,8 +15,7 @@ use crate::played::PairBad;
 use mn_base::SiteNo;
 use mn_course::Arrivals;
 use mn_ledger::Refused;
-use mn_net::{Done, Net};
-use mn_sched::arrive;
+use mn_sched::{Done, Net, arrive};
 use mn_topo::{Damage, Step};
 use std::marker::Model;
 

@@ -14,7 +14,7 @@ use Rattle.mn_ledger.specs.Exports.{present_with, exports_of}
 use Rattle.mn_ledger.specs.Held.{HeldRoute, held, best, own_routes, near_routes, far_routes, held_by, imported, believed}
 use Rattle.mn_ledger.specs.Held as ledger_held
 use Rattle.mn_ledger.specs.Packets.{entry_rules}
-use Rattle.mn_laws.proofs.Entering.{best_is}
+use Rattle.mn_frames.proofs.LawsEntering.{best_is}
 use Rattle.mn_frames.specs.Given.{Labelling}
 use Rattle.mn_frames.specs.Entries.{Stays, Leaves, fate, fate_by, fate_of, IsAged, IsFit, IsFall}
 use Rattle.mn_frames.proofs.Fit.{fits_or_falls}

@@ -16,7 +16,7 @@ use Rattle.mn_topo.specs.declared.steps.JournalEntry.{JournalEntry}
 use Rattle.mn_output.specs.Files.{OutputFile, Journal, files_of, file_name, base_name}
 use Rattle.mn_output.specs.Contents.{contents, whole, tail_of, output}
 use Rattle.mn_record.specs.Recorded.{contents_at, whole_at, packets_there, told_packets}
-use Rattle.mn_sched.specs.Playing.{IsFirstPart}
+use Rattle.mn_record.specs.Playing.{IsFirstPart}
 use Rattle.mn_perform.specs.Inside.{is_inside}
 use Rattle.mn_perform.specs.Whole.{running}
 use Rattle.mn_perform.proofs.Growing.{contents_first}

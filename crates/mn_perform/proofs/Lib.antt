@@ -8,3 +8,5 @@ pub mod Whole
 pub mod Records
 pub mod Showing
 pub mod Totals
+pub use Rattle.mn_record.proofs.Adding
+pub use Rattle.mn_record.proofs.Closing

@@ -6,3 +6,6 @@ pub mod Whole
 pub mod Memory
 pub mod MemoryLaws
 pub mod Total
+pub use Rattle.mn_report.specs.Shown
+pub use Rattle.mn_record.specs.Laws
+pub use Rattle.mn_record.specs.Recorded

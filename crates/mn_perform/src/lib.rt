@@ -21,5 +21,7 @@ mod total;
 
 pub use ended::{Ended, Fault};
 pub use memory::MemoryCapture;
+pub use mn_record::{is_record, record_header};
+pub use mn_report::{Shown, put_refused};
 pub use run::perform;
 pub use total::tally;

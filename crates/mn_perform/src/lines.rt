@@ -6,7 +6,7 @@ ghost use Rattle.mn_edge.specs.Kept.{Framed};
 ghost use Rattle.mn_script.specs.Lines.{command_fits};
 ghost use Rattle.mn_script.specs.Script.{AllFit};
 ghost use Rattle.mn_course.specs.Expansion.{Expansion, with_line, start_of, expanded};
-ghost use Rattle.mn_sched.specs.Playing.{is_show, IsPaced};
+ghost use Rattle.mn_record.specs.Playing.{is_show, IsPaced};
 ghost use Rattle.mn_record.specs.Recorded.{IsFor, told_packets};
 ghost use Rattle.mn_perform.specs.Faults.{Blamed};
 ghost use Rattle.mn_perform.specs.Running.{Stands, Keeps, Went};
@@ -16,9 +16,7 @@ use crate::ended::{Ended, Fault};
 use crate::show::put_shown;
 use mn_capture::Capture;
 use mn_edge::{Shelf, Sink};
-use mn_net::Net;
-use mn_record::{Books, record_line};
-use mn_sched::Stopped;
+use mn_record::{Books, Net, Stopped, record_line};
 use mn_script::{Command, Line};
 
 /// Plays a line that isn't a table, and notes what became of it.

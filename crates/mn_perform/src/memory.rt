@@ -2,14 +2,12 @@
 ghost use Rattle.std.specs.Prelude.{◌≡◌, ◌≢◌, ◌≤◌, length, Some, Ok, Err, IfOk, IfErr, ⊤};
 ghost use Rattle.mn_pcap.specs.Reading.{packets_of, end_of};
 ghost use Rattle.mn_pcap.specs.declared.refusal.PcapBad.TheVariants.{NoMemory};
-ghost use Rattle.mn_sched.specs.Watching.{Found};
+ghost use Rattle.mn_record.specs.Watching.{Found};
 ghost use Rattle.mn_perform.specs.Memory.{packets_at};
 ghost use Rattle.mn_perform.specs.MemoryLaws.{has_each};
 
-use mn_net::{Done, Net};
 use mn_pcap::{LinkKind, PcapBad, Place, packet_of, read_header, records};
-use mn_record::is_record;
-use mn_sched::{Watch, WatchBad};
+use mn_record::{Done, Net, Watch, WatchBad, is_record};
 use std::alloc::Global;
 use std::marker::Model;
 

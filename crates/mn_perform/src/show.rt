@@ -14,9 +14,8 @@ use crate::desk::Desk;
 use crate::ended::Fault;
 use mn_capture::Capture;
 use mn_edge::{DeviceBad, Shelf, Sink};
-use mn_net::Net;
 use mn_pcap::packet_of;
-use mn_record::is_record;
+use mn_record::{Net, is_record};
 use mn_script::Show;
 
 /// The packet of the record that a table names, fetched into the buffer: none where it names none, or the capture hasn't the record.

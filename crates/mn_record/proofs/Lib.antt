@@ -9,3 +9,6 @@ pub mod Recording
 pub mod Stepping
 pub mod Closing
 pub mod Few
+pub use Rattle.mn_sched.proofs.Delivering
+pub use Rattle.mn_sched.proofs.Growing
+pub use Rattle.mn_sched.proofs.Telling

@@ -21,7 +21,7 @@ use Rattle.mn_frames.specs.Numbers.{labels_of}
 use Rattle.mn_frames.specs.Frames.{stack_of}
 use Rattle.mn_stack.specs.Grammar.{stack_bytes}
 use Rattle.mn_bgp_spelling.specs.Spelling.{bytes_in}
-use Rattle.mn_net.specs.Told.{channel_of, bytes_on}
+use Rattle.mn_sched.specs.Told.{channel_of, bytes_on}
 use Rattle.mn_output.specs.Files.{OutputFile, Journal, Labels, Deliveries, Frames, Said}
 use Rattle.mn_output.specs.Files as file
 use Rattle.mn_output.specs.Contents.{frame_record, over_ppp, told_on}

@@ -8,9 +8,9 @@ use Rattle.mn_wiring.specs.declared.links.Dir.TheVariants.{Forth, Back}
 use Rattle.mn_base.proofs.Bools.{and_left, and_right, same_test, same_numbers, not_both_ways}
 use Rattle.mn_topo.specs.Network.{Network}
 use Rattle.mn_topo.specs.declared.steps.JournalEntry.{JournalEntry}
-use Rattle.mn_net.specs.declared.flight.Channel.{Channel}
-use Rattle.mn_net.specs.declared.flight.Channel.TheVariants as channel
-use Rattle.mn_net.specs.Told.{Told, told_at}
+use Rattle.mn_sched.specs.Channel.{Channel}
+use Rattle.mn_sched.specs.Channel.TheVariants as channel
+use Rattle.mn_sched.specs.Told.{Told, told_at}
 use Rattle.mn_output.specs.Files.{OutputFile, Journal, Labels, Deliveries, Frames, Said, files_of}
 use Rattle.mn_output.specs.Files as file
 use Rattle.mn_files.specs.Numbers.{IsNumber, IsPlace, file_at}

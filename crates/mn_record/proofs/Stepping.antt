@@ -17,7 +17,7 @@ use Rattle.mn_output.specs.Contents.{contents, adds, delivery_record}
 use Rattle.mn_output.proofs.Adding.{adding}
 use Rattle.mn_files.specs.Numbers.{file_at}
 use Rattle.mn_files.proofs.Places.{journal_is, deliveries_are}
-use Rattle.mn_net.specs.declared.net.Done.{Done}
+use Rattle.mn_sched.specs.Done.{Done}
 use Rattle.mn_net_now.specs.Now.{NetNow, StandsFor}
 use Rattle.mn_sched.specs.Watching.{but_last, made_over}
 use Rattle.mn_record.specs.Recorded.{BooksNow, IsFor, contents_at}

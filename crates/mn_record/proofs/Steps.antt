@@ -34,7 +34,7 @@ use Rattle.mn_frames.specs.Numbers.{labels_of}
 use Rattle.mn_bgp_spelling.specs.Spelling.{bytes_in}
 use Rattle.mn_course.specs.Course.{inputs_of, input_before}
 use Rattle.mn_course.proofs.Going.{a_packet_each, inputs_more, packet_at}
-use Rattle.mn_net.specs.Told.{told_at, item_told, channel_of}
+use Rattle.mn_sched.specs.Told.{told_at, item_told, channel_of}
 use Rattle.mn_output.specs.Moments.{Moment, journal_then, made, injected, world_then, packets_then}
 use Rattle.mn_output.specs.Files.{OutputFile, Journal, Labels, Deliveries, Frames, Said}
 use Rattle.mn_output.specs.Files as file

@@ -4,3 +4,7 @@ pub mod Labels
 pub mod Parts
 pub mod Watched
 pub mod Laws
+pub use Rattle.mn_sched.specs.declared.line.Played
+pub use Rattle.mn_sched.specs.Playing
+pub use Rattle.mn_sched.specs.declared.line.Stopped
+pub use Rattle.mn_sched.specs.Watching

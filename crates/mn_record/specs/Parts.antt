@@ -7,10 +7,10 @@ use Rattle.mn_topo.specs.Network.{Network}
 use Rattle.mn_topo.specs.declared.steps.JournalEntry.{JournalEntry}
 use Rattle.mn_edge.specs.Files.{Files}
 use Rattle.mn_edge.specs.Kept.{HoldsOn, BeginsOn}
-use Rattle.mn_net.specs.declared.net.Done.{Done}
-use Rattle.mn_net.specs.declared.flight.Channel.{Channel}
-use Rattle.mn_net.specs.declared.flight.Channel.TheVariants as channel
-use Rattle.mn_net.specs.Told.{Told, told_at}
+use Rattle.mn_sched.specs.Done.{Done}
+use Rattle.mn_sched.specs.Channel.{Channel}
+use Rattle.mn_sched.specs.Channel.TheVariants as channel
+use Rattle.mn_sched.specs.Told.{Told, told_at}
 use Rattle.mn_net_now.specs.Now.{NetNow}
 use Rattle.mn_output.specs.Files.{OutputFile, Journal, Labels, Deliveries, Frames, Said}
 use Rattle.mn_output.specs.Files as file

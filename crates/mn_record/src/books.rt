@@ -26,7 +26,7 @@ use mn_base::{LinkNo, NodeNo};
 use mn_edge::{DeviceBad, Shelf, begin_all};
 use mn_files::{EdgePlaces, deliveries_file, file_names, find_frames};
 use mn_labels::Bind;
-use mn_net::Net;
+use mn_sched::Net;
 use mn_topo::Topology;
 use std::alloc::{AllocError, Global};
 use std::marker::Model;

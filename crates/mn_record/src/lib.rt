@@ -27,4 +27,5 @@ mod step;
 
 pub use books::Books;
 pub use capture_record::record_header;
+pub use mn_sched::{Done, Net, Played, Stopped, Watch, WatchBad, play};
 pub use recorder::{is_record, record_line};

@@ -19,9 +19,8 @@ use crate::output::Output;
 use crate::step::write_step;
 use mn_capture::Capture;
 use mn_edge::{DeviceBad, Shelf};
-use mn_net::{Done, Net};
 use mn_pcap::packet_of;
-use mn_sched::{Played, Stopped, Watch, WatchBad, play};
+use mn_sched::{Done, Net, Played, Stopped, Watch, WatchBad, play};
 use mn_script::Command;
 
 /// Writes the files of a run as its steps are done, and hands out the packets of a capture.

@@ -3,7 +3,7 @@ ghost use Rattle.std.specs.Prelude.{◌≡◌, ◌-◌, ℕ, List, OnOk, OnErr};
 ghost use Rattle.mn_edge.specs.Faults.{Counted};
 ghost use Rattle.mn_edge.specs.Kept.{Framed};
 ghost use Rattle.mn_ledger.specs.Ledger.{packets_of};
-ghost use Rattle.mn_net.specs.Told.{told_at};
+ghost use Rattle.mn_sched.specs.Told.{told_at};
 ghost use Rattle.mn_net_now.specs.Now.{StandsFor};
 ghost use Rattle.mn_course.specs.Course.{inputs_of};
 ghost use Rattle.mn_output.specs.Contents.{delivery_record};
@@ -15,7 +15,7 @@ ghost use Rattle.mn_record.specs.Parts.{by_number, item_part, items_part, IsMade
 use crate::output::Output;
 use mn_edge::{DeviceBad, Shelf};
 use mn_files::deliveries_file;
-use mn_net::{Channel, Done, Net};
+use mn_sched::{Channel, Done, Net};
 
 /// A PPP frame that carries MPLS begins with its protocol's number: RFC 3032, section 4.3.
 const MPLS_OVER_PPP: [u8; 2] = [0x02, 0x81];

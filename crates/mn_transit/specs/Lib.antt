@@ -4,3 +4,4 @@ pub mod Stands
 pub mod Entering
 pub mod Aging
 pub mod Landed
+pub use Rattle.mn_frames.specs.Given

@@ -3,7 +3,7 @@ use Rattle.mn_edge.specs.Files.{file}
 use Rattle.mn_answer.specs.Inputs.{JointsAre, JointsFit}
 use Rattle.mn_answer.specs.Endings.{Answers}
 use Rattle.mn_answer.proofs.Ending.{fault_answers, memory_answers}
-use Rattle.mn_option_a.specs.Pairs.{AreSites, AreApart}
+use Rattle.mn_join_report.specs.Pairs.{AreSites, AreApart}
 use Rattle.mn_join_run.specs.Answer.{with_both, with_pairing}
 use Rattle.mn_join_run.proofs.Told.{undone, refused}
 use Rattle.mn_join_run.proofs.command.join_both.Goals as goal

@@ -6,7 +6,7 @@ use Rattle.mn_capture.specs.Packets.{packets_in}
 use Rattle.mn_answer.specs.Inputs.{CaptureIs, CaptureOf}
 use Rattle.mn_answer.specs.Endings.{Answers}
 use Rattle.mn_answer.proofs.Ending.{fault_answers, memory_answers}
-use Rattle.mn_option_a.specs.Pairs.{pairing_of}
+use Rattle.mn_join_report.specs.Pairs.{pairing_of}
 use Rattle.mn_perform.specs.Inside.{is_inside}
 use Rattle.mn_join_run.specs.Answer.{join_done, with_script}
 use Rattle.mn_join_run.proofs.Legs.{all_have_legs}

@@ -1,8 +1,8 @@
 use Rattle.std.proofs.Common.{◌≡◌, length, refl, sym, ◌∙◌, subst, arith}
 use Rattle.mn_edge.specs.Kept.{Framed}
 use Rattle.mn_edge.specs.KeptLaws.{framed_same}
-use Rattle.mn_record.specs.Laws.{same_packets}
-use Rattle.mn_record.proofs.Adding.{framed_then}
+use Rattle.mn_perform.specs.Laws.{same_packets}
+use Rattle.mn_perform.proofs.Adding.{framed_then}
 use Rattle.mn_perform.proofs.Results.{err_is}
 use Rattle.mn_join_report.specs.Course.{at_start}
 use Rattle.mn_join_run.specs.Outside.{outside}

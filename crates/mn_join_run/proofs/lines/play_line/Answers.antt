@@ -1,8 +1,8 @@
 use Rattle.std.proofs.Common.{◌≡◌, ◌++◌, ℕ, List, Some, None, Ok, Err, sym, subst}
 use Rattle.std.specs.List.{flat_map}
 use Rattle.mn_legs.specs.Course.{PairCourse, played}
-use Rattle.mn_option_a.specs.declared.played.PairBad.TheVariants.{TooManySteps}
-use Rattle.mn_option_a.specs.Plays.{Plays}
+use Rattle.mn_join_report.specs.PairBad.TheVariants.{TooManySteps}
+use Rattle.mn_join_report.specs.Plays.{Plays}
 use Rattle.mn_join_report.specs.Course.{after_course}
 use Rattle.mn_join_report.specs.Report.{exit_record}
 use Rattle.mn_join_run.specs.Outside.{outside, Holding, Beginning}

@@ -1,6 +1,6 @@
 use Rattle.std.proofs.Common.{cond, [], map, refl, sym, ◌∙◌, ap, subst}
 use Rattle.std.specs.Prelude.{codes, false}
-use Rattle.mn_report.specs.Shown.{sending_of}
+use Rattle.mn_perform.specs.Shown.{sending_of}
 use Rattle.mn_tables.proofs.Telling.{tells_as}
 use Rattle.mn_join_report.specs.Course.{JoinRun}
 use Rattle.mn_join_report.specs.Reading.{IsJoined}

@@ -1,6 +1,6 @@
 use Rattle.std.proofs.Common.{◌≡◌, ◌∙◌, sym, ap, subst, Some, None, length, ◌<◌}
 use Rattle.std.proofs.Common.{option_map}
-use Rattle.mn_net.specs.Told.{Told, told_at}
+use Rattle.mn_sched.specs.Told.{Told, told_at}
 use Rattle.mn_files.specs.Numbers.{file_at}
 use Rattle.mn_pcap.specs.Format.{record_of}
 use Rattle.mn_output.specs.Contents.{over_ppp}

@@ -1,5 +1,5 @@
 use Rattle.std.proofs.Common.{◌≡◌, ◌++◌, ◌∙◌, ap, refl, arith, ◌-◌, ◌+◌, ◌<◌, ◌≤◌}
-use Rattle.mn_net.specs.Told.{told_at}
+use Rattle.mn_sched.specs.Told.{told_at}
 use Rattle.mn_edge.specs.KeptLaws.{framed_same}
 use Rattle.mn_files.specs.Numbers.{file_at}
 use Rattle.mn_record.specs.Parts.{by_number, item_part, items_part}

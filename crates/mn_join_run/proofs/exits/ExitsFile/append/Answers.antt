@@ -1,7 +1,7 @@
 use Rattle.std.proofs.Common.{length, ap, ◌∙◌}
 use Rattle.std.proofs.lemmas.List.{length-map}
 use Rattle.mn_edge.specs.Written.{texts}
-use Rattle.mn_record.proofs.Adding.{ok_then, err_then}
+use Rattle.mn_perform.proofs.Adding.{ok_then, err_then}
 use Rattle.mn_join_run.proofs.Files.{one_differs, grows, grows_in_part}
 use Rattle.mn_join_run.proofs.exits.ExitsFile.append.Goals as goal
 

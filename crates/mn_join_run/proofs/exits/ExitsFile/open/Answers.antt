@@ -2,8 +2,8 @@ use Rattle.std.proofs.Common.{[], ℕ, List, sym, ◌∙◌, ap, subst}
 use Rattle.mn_edge.specs.Kept.{Framed}
 use Rattle.mn_edge.specs.KeptLaws.{framed_both}
 use Rattle.mn_edge.specs.Written.{texts, Stands}
-use Rattle.mn_record.proofs.Adding.{on_err}
-use Rattle.mn_record.proofs.Closing.{framed_begun}
+use Rattle.mn_perform.proofs.Adding.{on_err}
+use Rattle.mn_perform.proofs.Closing.{framed_begun}
 use Rattle.mn_join_run.specs.Answer.{exits_name}
 use Rattle.mn_join_run.specs.Outside.{FileNow}
 use Rattle.mn_join_run.proofs.Files.{opened, open_fails}

@@ -1,6 +1,6 @@
 use Rattle.std.proofs.Common.{◌≡◌, ◌++◌, ap}
 use Rattle.mn_pcap.specs.Format.{record_of}
-use Rattle.mn_record.proofs.Adding.{on_err, ok_then, err_then, framed_then}
+use Rattle.mn_perform.proofs.Adding.{on_err, ok_then, err_then, framed_then}
 use Rattle.mn_join_run.proofs.Files.{both_grow, second_grows, first_grows}
 use Rattle.mn_join_run.proofs.exits.ExitsFile.put_exit.Goals as goal
 

@@ -2,7 +2,7 @@ use Rattle.std.proofs.Common.{◌≡◌, ◌<◌, ◌+◌, ◌-◌, ◌++◌, Li
 use Rattle.std.specs.Prelude.{slice_get}
 use Rattle.std.specs.List.{flat_map}
 use Rattle.mn_edge.specs.KeptLaws.{begins_on}
-use Rattle.mn_record.proofs.Adding.{on_err, framed_then}
+use Rattle.mn_perform.proofs.Adding.{on_err, framed_then}
 use Rattle.mn_legs.specs.Course.{Exit}
 use Rattle.mn_join_report.specs.Report.{exit_record}
 use Rattle.mn_join_run.specs.Outside.{Holding}

@@ -1,7 +1,7 @@
 use Rattle.std.proofs.Common.{◌≡◌, sym, subst, slice_index_or}
 use Rattle.std.specs.Prelude.{slice_get}
 use Rattle.mn_ledger.specs.Ledger.{packets_of}
-use Rattle.mn_net.specs.Landing.{IsLanding}
+use Rattle.mn_sched.specs.Landing.{IsLanding}
 use Rattle.mn_option_a.specs.Pairs.{SideNow, IsSide, joined_to}
 use Rattle.mn_option_a.specs.Moves.{leads_to}
 use Rattle.mn_option_a.proofs.Sides.{finds_some}
