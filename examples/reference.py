@@ -1,14 +1,14 @@
 #!/usr/bin/env python3
-"""Works out what `mplsnet run` leaves and reports for any topology, script and capture, what `mplsnet flood` reports
-for any topology and script, and what `mplsnet join` leaves and reports for two joined networks, without the program.
+"""Works out what `mplsnet run` leaves and reports for any topology, script and capture, what `mplsnet flood` and `mplsnet
+reflect` report for any topology and script, and what `mplsnet join` leaves and reports for two joined networks, without the program.
 
 It is a second telling of the rules of docs/FORMATS.md and docs/WIRE.md (texts, bytes) and docs/LEDGER.md (who says
 what, and when), written from these and not from the program's source. It goes by the definitions and not by speed:
 the best route is chosen from the whole list, what a neighbour mentioned last is looked up in all that it said, what
 comes next in all that is in flight. The inputs are read by reference_inputs.py, messages and frames that come in their
 place by reference_readers.py; here are IPv4, the network and its steps, a script's course, the bytes of frames, LDP and
-BGP, the report, the files. Flooding is in reference_flood.py, what crosses from one network into another in
-reference_join.py.
+BGP, the report, the files. Flooding is in reference_flood.py, reflected routes are in reference_reflect.py, what crosses
+from one network into another in reference_join.py.
 """
 
 import argparse
@@ -19,18 +19,20 @@ from pathlib import Path
 
 import reference_flood
 import reference_join
+import reference_reflect
 from reference_inputs import FLOOD_FORMS, ROUTES, TARGETS, Refused, address_text, contains, is_unicast, prefix_text
-from reference_inputs import read_capture, read_script, read_topology, target_text
+from reference_inputs import read_capture, read_reflect_script, read_script, read_topology, target_text
 from reference_readers import reads_bgp, reads_pdu, stack_of
+from reference_routes import Route, vrf_table
 from reference_walks import costs_to, first_hop, tree_lines
 
 USAGE = """\
 reference.py [--compare] TOPOLOGY SCRIPT CAPTURE FOLDER
-       reference.py [--compare] flood TOPOLOGY SCRIPT FOLDER
+       reference.py [--compare] flood|reflect TOPOLOGY SCRIPT FOLDER
        reference.py [--compare] join TOPOLOGY1 TOPOLOGY2 JOINTS SCRIPT CAPTURE FOLDER"""
 HELP = """\
-Writes every file of the run and its report, as report.txt, into FOLDER, which is made where it isn't there; flood has
-report.txt alone, join that and delivered.pcap. With --compare nothing is written: the files of FOLDER, report.txt among them, are compared with
+Writes every file of the run and its report, as report.txt, into FOLDER, which is made where it isn't there; flood and
+reflect have report.txt alone, join that and delivered.pcap. With --compare nothing is written: the files of FOLDER, report.txt among them, are compared with
 those that are due, and the first difference is told. A refused input leaves report.txt alone, with the line of the
 refusal.
 
@@ -89,17 +91,6 @@ def aged(packet, by):
 
 
 # The network
-
-
-@dataclass
-class Route:
-    """What a VRF holds: own routes are preferred, then those of another VRF of the edge, then those of other edges."""
-
-    prefix: tuple
-    rank: tuple
-    edge: int
-    site: int
-    attachment: int
 
 
 @dataclass
@@ -818,22 +809,6 @@ def bgp_table(network):
     ]
 
 
-def vrf_table(network, vrf):
-    topology, held, lines = network.topology, network.held(vrf), []
-    for of in sorted({route.prefix for route in held}):
-        best = min((route for route in held if route.prefix == of), key=lambda route: route.rank)
-        site = topology.sites[best.site]
-        if best.rank[0] == 0:
-            source = f"site {site.name}"
-        elif best.rank[0] == 1:
-            source = f"vrf {topology.vrfs[site.vrf].name} site {site.name}"
-        else:
-            label = network.site_label(best.edge, best.site, best.attachment)
-            source = f"edge {topology.nodes[best.edge].name} label {label}"
-        lines.append(f"route {topology.vrfs[vrf].name} {prefix_text(of)} {source}")
-    return lines
-
-
 def flight_table(network):
     names = [node.name for node in network.topology.nodes]
     kinds = [item.kind for item in network.in_flight]
@@ -989,6 +964,15 @@ def flood_of(topology_bytes, script_bytes):
         return text_of([str(refused)]), {}
 
 
+def reflect_of(topology_bytes, script_bytes):
+    """The report of `reflect`, which has no files."""
+    try:
+        topology = read_topology(topology_bytes)
+        return text_of(reference_reflect.report_of(topology, read_reflect_script(topology, script_bytes))), {}
+    except Refused as refused:
+        return text_of([str(refused)]), {}
+
+
 def read_second(bytes_):
     """The second topology of two."""
     try:
@@ -1015,8 +999,8 @@ def join_of(first_bytes, second_bytes, joints_bytes, script_bytes, capture_bytes
     return text_of(report), {"delivered.pcap": pcap(228, pair.exits)}
 
 
-COMMANDS = {"run": run_of, "flood": flood_of, "join": join_of}
-INPUTS = {"run": 3, "flood": 2, "join": 5}
+COMMANDS = {"run": run_of, "flood": flood_of, "reflect": reflect_of, "join": join_of}
+INPUTS = {"run": 3, "flood": 2, "reflect": 2, "join": 5}
 
 
 # The command line
@@ -1056,10 +1040,10 @@ def words_given():
     about = __doc__.split("\n\n")[0]
     how = argparse.RawDescriptionHelpFormatter
     form = argparse.ArgumentParser(usage=USAGE, description=about, epilog=HELP, formatter_class=how)
-    form.add_argument("words", nargs="+", metavar="WORD", help="an input, 'flood' or 'join' before the first, or FOLDER")
+    form.add_argument("words", nargs="+", metavar="WORD", help="an input, a command before the first, or FOLDER")
     form.add_argument("--compare", action="store_true", help="compare FOLDER with what is due, and write nothing")
     given = form.parse_args()
-    command = given.words.pop(0) if given.words[0] in ("flood", "join") else "run"
+    command = given.words.pop(0) if given.words[0] in ("flood", "reflect", "join") else "run"
     *inputs, folder = given.words or [""]
     if len(inputs) != INPUTS[command]:
         form.error(f"{command} has {INPUTS[command]} inputs, and then FOLDER")

@@ -342,6 +342,9 @@ FLOOD_FORMS = {
     "hear flood": ["node", "node"],
     "drain": [],
 }
+REFLECT_VERBS = ["bgp up", "bgp down", "hear bgp", "route add", "route del", "import add", "import del", "export add"]
+REFLECT_VERBS += ["export del", "site up", "site down", "drain", "show vrf"]
+REFLECT_FORMS = {"reflector": ["node"]} | {verb: FORMS[verb] for verb in REFLECT_VERBS}
 
 
 def lines_of(bytes_):
@@ -367,17 +370,37 @@ def script_lines(bytes_):
     return lines
 
 
+def lines_with_words(bytes_):
+    """The words of each line of a script that has some, with the line's number."""
+    return [(at, words) for at, line in enumerate(script_lines(bytes_), 1) if (words := words_of(line))]
+
+
 def read_script(topology, bytes_, forms=FORMS):
     """The commands of these forms, each with the number of its line."""
-    commands = []
-    for at, line in enumerate(script_lines(bytes_), 1):
-        words = words_of(line)
-        if words:
-            commands.append((at, read_line(topology, words, at, forms)))
-    return commands
+    return [(at, read_line(topology, words, at, forms)) for at, words in lines_with_words(bytes_)]
 
 
-def read_line(topology, words, line, forms=FORMS):
+def read_reflect_script(topology, bytes_):
+    """The reflectors that the first lines name, and the commands of the others, each with the number of its line."""
+    edges, reflectors, commands = topology.edges(), [], []
+
+    def may_peer(a, b):
+        return any(one in reflectors and other in [*reflectors, *edges] for one, other in ((a, b), (b, a)))
+
+    for at, words in lines_with_words(bytes_):
+        verb, *given = read_line(topology, words, at, REFLECT_FORMS, may_peer)
+        if verb != "reflector":
+            commands.append((at, (verb, *given)))
+        elif commands or given[0] in [*reflectors, *edges]:
+            raise Refused(f"script refused S6 NotEdge at line {at}")
+        else:
+            reflectors += given
+    return reflectors, commands
+
+
+def read_line(topology, words, line, forms=FORMS, may_peer=None):
+    """The command of the line. Two edges may have a session, or else the nodes of which it is said."""
+
     def refused(rule):
         raise Refused(f"script refused {rule} at line {line}")
 
@@ -399,7 +422,7 @@ def read_line(topology, words, line, forms=FORMS):
         refused("S3 BadNumber")
     if None in values:
         refused("S4 NoSuchName")
-    return command_of(topology, verb, values, refused)
+    return command_of(topology, verb, values, may_peer or (lambda a, b: {a, b} <= {*topology.edges()}), refused)
 
 
 def read_word(topology, word, kind):
@@ -408,10 +431,10 @@ def read_word(topology, word, kind):
     return number(word, *kind) if isinstance(kind, tuple) else kind(word)
 
 
-def command_of(topology, verb, values, refused):
+def command_of(topology, verb, values, may_peer, refused):
     """The command, with a link in place of its ends, and before it or after it the node that is meant."""
     if verb in ("bgp up", "bgp down", "hear bgp", "damage bgp"):
-        if values[0] == values[1] or not {*values[:2]} <= {*topology.edges()}:
+        if values[0] == values[1] or not may_peer(*values[:2]):
             refused("S6 NotEdge")
         return verb, *(sorted(values) if verb in ("bgp up", "bgp down") else values)
     if verb == "drain":

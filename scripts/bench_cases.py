@@ -289,6 +289,21 @@ def mesh(routes):
     return Inputs("".join(parts), script())
 
 
+def reflect(routes):
+    """64 edges with a VRF each, all of one VPN, and two reflectors: each edge has a session with both."""
+    each = routes // 64
+    parts = [node(at) for at in range(66)]
+    parts += [vrf(f"v{at}", at, 1 + at, TARGET) for at in range(64)]
+    parts += [site(f"s{at}", f"v{at}", [prefix(at * each + k) for k in range(each)]) for at in range(64)]
+
+    def script():
+        yield "reflector n64\nreflector n65\nbgp up n64 n65\n"
+        yield from (f"bgp up n{at} n{reflector}\n" for reflector in (64, 65) for at in range(64))
+        yield "drain\nshow vrf v0\n"
+
+    return Inputs("".join(parts), script())
+
+
 def told(routes):
     """Routes are there before the session of two edges opens."""
     prefixes = [prefix(at) for at in range(routes)]
@@ -368,6 +383,7 @@ CASES = [
     Case("links", "64 of the 256 links of 64 nodes go down and come up, drained", lambda: down_and_up(64, 64)),
     Case("links-large", "64 of the 1,024 links of 256 nodes go down and come up, drained", lambda: down_and_up(256, 64)),
     *sized("mesh", "16 edges with 32 VRFs each, {} routes", mesh, (8_192, 49_152)),
+    *sized("reflect", "64 edges and two reflectors, {} routes", reflect, (1_024, 8_000), command="reflect"),
     *sized("told", "{} routes are told as a session opens", told, (1_000, 8_000, 60_000)),
     *sized("shown", "'show vrf' of {} routes", shown, (1_000, 8_000, 60_000)),
     *sized("statics", "{} statics added and taken back", statics, (250_000, 1_000_000)),

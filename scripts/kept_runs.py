@@ -7,6 +7,7 @@ command is the word in command.txt, and `run` where there is none.
 INPUTS = {
     "run": ["topology.toml", "script.txt", "capture.pcap"],
     "flood": ["topology.toml", "script.txt"],
+    "reflect": ["topology.toml", "script.txt"],
     "join": ["topology1.toml", "topology2.toml", "joints.txt", "script.txt", "capture.pcap"],
 }
 WRITERS = ("run", "join")  # the commands that write files, into a folder

@@ -2,7 +2,8 @@
 
 The script is made line by line beside the network of examples/reference.py as the lines so far have left it, so that
 most lines ask for something that can be done: in any order, though, and not for what would come next. So too the script
-of a flood, beside that of examples/reference_flood.py; lines of two joined networks are those of each.
+of a flood, beside that of examples/reference_flood.py, and of reflected routes, beside that of reference_reflect.py; lines
+of two joined networks are those of each.
 """
 
 import random
@@ -15,6 +16,7 @@ sys.path.insert(0, str(Path(__file__).resolve().parents[1] / "examples"))
 import reference  # noqa: E402
 import reference_flood  # noqa: E402
 import reference_inputs as inputs  # noqa: E402
+import reference_reflect  # noqa: E402
 
 PREFIXES = """
 0.0.0.0/0 10.0.0.0/8 10.1.0.0/16 10.1.2.0/24 10.1.2.3/32 10.1.2.2/31 10.128.0.0/9 192.168.0.0/17 172.16.0.0/12
@@ -413,7 +415,8 @@ def said_and_told(rng, top):
     network = reference.Network(inputs.read_topology(toml_text(top).encode()))
     for words in bring_up(rng, top):
         is_refused(network, words, [])
-    reference.drain(network, 100)
+    for _ in reference.drain(network, 100):
+        pass
     pdus = [pdu for bytes_ in network.pdus.values() for pdu in parts_of(bytes_, 2, 4)]
     return pdus, [message for bytes_ in network.messages.values() for message in parts_of(bytes_, 16, 0)]
 
@@ -582,6 +585,103 @@ def random_flood(seed):
     return perhaps_wrong(rng, top, script_text(rng, flood_lines(rng, flood), [["drain"], [], [], []]))
 
 
+# Reflected routes
+
+REFLECT_VERBS = {
+    "bgp up": 16, "bgp down": 4, "hear bgp": 60, "route add": 6, "route del": 4, "import add": 4, "import del": 3, "export add": 4,
+    "export del": 3, "site up": 6, "site down": 4, "drain": 5, "show vrf": 10,
+}  # fmt: skip
+NO_REFLECT_LINES = [["link", "up", "a", "b"], ["hear", "ldp"], ["hear"], ["show", "links"], ["drain", "-1"], ["bgp", "up", "nobody"], ["reflector"]]
+
+
+def reflect_topology(rng):
+    """Up to four edges, mostly with a VRF each and a prefix, and up to three other nodes; links are of no account."""
+    count = rng.choice([1, 2, 3, 4, 4, 5, 5, 6, 6, 7])
+    names, loopbacks = rng.sample(NAMES, count), rng.sample(LOOPBACKS, count)
+    nodes = [{"name": name, "loopback": loopback} for name, loopback in zip(names, loopbacks)]
+    edges = rng.sample(nodes, max(1, count - rng.choice([1, 1, 2, 2, 3])))[:4]
+    vrfs = list(random_vrfs(rng, edges))
+    return {"node": nodes, "link": list(random_links(rng, nodes)), "vrf": vrfs, "site": list(random_sites(rng, vrfs))}
+
+
+def first_words(rng, top):
+    """The reflectors: most of the nodes that aren't edges, in any order, and now and then one that can't be."""
+    edges = {vrf["node"] for vrf in top["vrf"]}
+    others = [node["name"] for node in top["node"] if node["name"] not in edges]
+    named = rng.sample(others, rng.choice([len(others), len(others), max(0, len(others) - 1)]))
+    wrong = rng.choice([[*edges], named, ["nobody"]]) if rng.random() < 0.02 else []
+    return [["reflector", name] for name in named + wrong[:1]]
+
+
+def reflect_words(rng, top, world):
+    """The words of a line, which mostly asks for what can be done."""
+    if rng.random() < 0.001:
+        return rng.choice(NO_REFLECT_LINES)
+    names = [node.name for node in world.topology.nodes]
+    may = [(a, b) for a in world.reflectors for b in [*world.reflectors, *world.edges] if a != b]
+    verbs = [verb for verb in REFLECT_VERBS if makes_sense(verb, top) or "bgp" in verb and may]
+    verb = rng.choices(verbs, [REFLECT_VERBS[verb] for verb in verbs])[0]
+    if "bgp" not in verb:
+        return [*verb.split(), *words_for(rng, verb, top, [], world)]
+    if verb == "hear bgp" and world.flying and rng.random() < 0.95:
+        ends = rng.choice(world.flying)
+    else:
+        pairs = [pair for pair in may if world.lives[pair] != (verb == "bgp up")]
+        ends = rng.sample(rng.choice(pairs if pairs and rng.random() < 0.9 else may or [(0, 0)]), 2)
+    return [*verb.split(), *(names[end] for end in ends)]
+
+
+def is_refused_by(world, words):
+    """Does the line's command; whether it was refused, in which case nothing was done."""
+
+    def may_peer(a, b):
+        return any(one in world.reflectors and other in [*world.reflectors, *world.edges] for one, other in ((a, b), (b, a)))
+
+    try:
+        verb, *given = inputs.read_line(world.topology, words, 1, inputs.REFLECT_FORMS, may_peer)
+    except inputs.Refused:
+        return False  # it is written as it is
+    if verb == "drain":
+        return world.drain(*given)
+    return verb not in ("show vrf", "reflector") and bool(world.do(verb, *given))
+
+
+def peerings(rng, world):
+    """Lines by which most sessions come up, and most of what is sent in them is received."""
+    names = [node.name for node in world.topology.nodes]
+    pairs = [(a, b) for a in world.reflectors for b in [*world.reflectors, *world.edges] if a != b and (b not in world.reflectors or a < b)]
+    lines = [["bgp", "up", names[a], names[b]] for a, b in pairs if rng.random() < 0.85]
+    rng.shuffle(lines)
+    return lines + [rng.choice([["drain"], ["drain"], ["drain", "20"]])]
+
+
+def reflect_lines(rng, top, world):
+    """Lines one after another; of those that would be refused most are left out."""
+    for words in peerings(rng, world) if rng.random() < 0.85 else []:
+        is_refused_by(world, words)
+        yield words
+    for _ in range(rng.choice([0, 3, 10, 20, 40, 80])):
+        for _ in range(6):
+            words = reflect_words(rng, top, world)
+            if not is_refused_by(world, words) or rng.random() < 0.1:
+                yield words
+                break
+    for vrf in top["vrf"] if rng.random() < 0.7 else []:
+        yield ["show", "vrf", vrf["name"]]
+
+
+def random_reflection(seed):
+    """Topology and script of reflected routes as bytes."""
+    rng = random.Random(f"reflect {seed}")
+    top = reflect_topology(rng)
+    first = first_words(rng, top)
+    topology = inputs.read_topology(toml_text(top).encode())
+    numbers = [topology.named("node", words[1]) for words in first]
+    edges = topology.edges()
+    world = reference_reflect.Reflection(topology, [no for no in dict.fromkeys(numbers) if no is not None and no not in edges])
+    return perhaps_wrong(rng, top, script_text(rng, [*first, *reflect_lines(rng, top, world)], [["drain"], ["drain"], [], []]))
+
+
 # Two joined networks
 
 
@@ -640,4 +740,4 @@ def random_join(seed):
     return *texts, text.encode(), script.encode(), capture
 
 
-COMMANDS = {"run": random_run, "flood": random_flood, "join": random_join}
+COMMANDS = {"run": random_run, "flood": random_flood, "reflect": random_reflection, "join": random_join}

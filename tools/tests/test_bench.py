@@ -83,6 +83,12 @@ class Inputs(unittest.TestCase):
     def test_a_flood_is_given_a_topology_and_a_script(self):
         self.assertEqual(["flood", "in/topology.toml", "in/script.txt"], bench.words_of(case("flood-64"), Path("in"), Path("out")))
 
+    def test_so_are_reflected_routes(self):
+        self.assertEqual(["reflect", "in/topology.toml", "in/script.txt"], bench.words_of(case("reflect-8000"), Path("in"), Path("out")))
+        inputs = case("reflect-8000").make()
+        self.assertEqual(8_000, inputs.topology.count("/24"))
+        self.assertEqual(129, "".join(inputs.script).count("bgp up"))
+
     def test_names_of_cases_differ(self):
         names = [one.name for one in bench_cases.CASES]
         self.assertEqual(len(names), len(set(names)))

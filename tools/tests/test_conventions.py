@@ -78,6 +78,8 @@ class Bash(unittest.TestCase):
         self.assertEqual({"topology.toml", "expected"}, self.completed(first, "mplsnet", "flood", ""))
         self.assertIn("script.txt", self.completed(first, "mplsnet", "flood", "topology.toml", ""))
         self.assertEqual(set(), self.completed(first, "mplsnet", "flood", "topology.toml", "script.txt", ""))
+        self.assertEqual({"topology.toml", "expected"}, self.completed(first, "mplsnet", "reflect", ""))
+        self.assertEqual(set(), self.completed(first, "mplsnet", "reflect", "topology.toml", "script.txt", ""))
         joined, given = "examples/two-providers", []
         for name in ("topology1.toml", "topology2.toml", "joints.txt", "script.txt", "capture.pcap"):
             self.assertIn(name, self.completed(joined, "mplsnet", "join", *given, ""))

@@ -1,5 +1,6 @@
 """Tests of the examples: each is whole, a capture is what its script makes, and what is expected is what reference.py works out."""
 
+import re
 import shutil
 import subprocess
 import sys
@@ -9,11 +10,11 @@ from pathlib import Path
 
 EXAMPLES = Path(__file__).resolve().parents[2] / "examples"
 RUNS = "first two-links overlap hub-and-spoke extranet micro-loop ordered-control site-moves loss late damaged ring".split()
-FLOODS = "flood older-database".split()
+REPORTED = {"flood": "flood", "older-database": "flood", "reflectors": "reflect"}  # of a report alone, by example the command
 JOINS = ["two-providers"]
 OF_ALL = ["README.md", "topology.toml", "script.txt", "expected/report.txt"]
 OF_RUNS = [*OF_ALL, "capture.py", "capture.pcap", "drawing.svg"]
-OF_FLOODS = [*OF_ALL, "command.txt"]
+OF_REPORTED = [*OF_ALL, "command.txt"]
 OF_JOINS = ["README.md", "topology1.toml", "topology2.toml", "joints.txt", "script.txt", "capture.py", "capture.pcap", "command.txt", "expected/report.txt"]
 
 
@@ -24,15 +25,20 @@ def run(*words, **how):
 class Examples(unittest.TestCase):
     def test_each_folder_is_an_example_with_all_its_parts(self):
         folders = {path.name for path in EXAMPLES.iterdir() if (path / "expected").is_dir()}
-        self.assertEqual(folders, {*RUNS, *FLOODS, *JOINS})
-        for names, parts in ((RUNS, OF_RUNS), (FLOODS, OF_FLOODS), (JOINS, OF_JOINS)):
+        self.assertEqual(folders, {*RUNS, *REPORTED, *JOINS})
+        for names, parts in ((RUNS, OF_RUNS), (REPORTED, OF_REPORTED), (JOINS, OF_JOINS)):
             for name in names:
                 for part in parts:
                     self.assertTrue((EXAMPLES / name / part).is_file(), f"{name}/{part}")
 
-    def test_a_flood_has_a_report_alone(self):
-        for name in FLOODS:
-            self.assertEqual("flood\n", (EXAMPLES / name / "command.txt").read_text())
+    def test_all_are_run(self):
+        """By scripts/examples, which make examples calls."""
+        listed = re.search(r'^ALL = "(.*)"\.split', (EXAMPLES.parent / "scripts/examples").read_text(), re.M)[1].split()
+        self.assertEqual(sorted([*RUNS, *REPORTED, *JOINS]), sorted(listed))
+
+    def test_one_of_another_command_has_a_report_alone(self):
+        for name, command in REPORTED.items():
+            self.assertEqual(f"{command}\n", (EXAMPLES / name / "command.txt").read_text())
             self.assertEqual(["report.txt"], [path.name for path in (EXAMPLES / name / "expected").iterdir()])
 
     def test_each_capture_is_what_its_script_makes(self):
@@ -48,12 +54,12 @@ class Examples(unittest.TestCase):
 
     def test_what_is_expected_is_what_the_reference_works_out(self):
         inputs = ["topology.toml", "script.txt"]
-        joined = ["join", "topology1.toml", "topology2.toml", "joints.txt", "script.txt", "capture.pcap"]
-        for names, words in ((RUNS, [*inputs, "capture.pcap"]), (FLOODS, ["flood", *inputs]), (JOINS, joined)):
-            for name in names:
-                with self.subTest(name):
-                    compared = run("../reference.py", *words, "expected", "--compare", cwd=EXAMPLES / name)
-                    self.assertEqual(compared.returncode, 0, compared.stdout)
+        words = dict.fromkeys(RUNS, [*inputs, "capture.pcap"]) | {name: [command, *inputs] for name, command in REPORTED.items()}
+        words |= dict.fromkeys(JOINS, ["join", "topology1.toml", "topology2.toml", "joints.txt", "script.txt", "capture.pcap"])
+        for name in words:
+            with self.subTest(name):
+                compared = run("../reference.py", *words[name], "expected", "--compare", cwd=EXAMPLES / name)
+                self.assertEqual(compared.returncode, 0, compared.stdout)
 
     def test_each_page_tells_what_becomes_of_each_packet(self):
         """Every rule by which a packet is dropped in a report stands in the example's page."""

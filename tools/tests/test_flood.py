@@ -184,7 +184,7 @@ class Reference(unittest.TestCase):
 
     def test_other_words(self):
         self.assertEqual(2, self.run_it("flood", FLOOD / "topology.toml", self.room)[0])
-        self.assertIn("reference.py [--compare] flood TOPOLOGY SCRIPT FOLDER", self.run_it("--help")[1])
+        self.assertIn("reference.py [--compare] flood|reflect TOPOLOGY SCRIPT FOLDER", self.run_it("--help")[1])
 
 
 class Compare(unittest.TestCase):

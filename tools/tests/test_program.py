@@ -1,7 +1,7 @@
-"""The program by hand: help and version, the line on standard error after a failed call or a limit, `flood` and `join`.
+"""The program by hand: help and version, the line on standard error after a failed call or a limit, `flood`, `reflect` and `join`.
 
 It is the proved one where it is built, else the trial build, or what MPLSNET names; where neither is there these are passed over. So are
-those of `flood` or `join` where an older program doesn't know it.
+those of a command that an older program doesn't know.
 """
 
 import os
@@ -20,6 +20,7 @@ BUILT = [sources.PROGRAM] * sources.is_proved() + [sources.TRIAL] * sources.is_t
 PROGRAM = Path(os.environ["MPLSNET"]) if "MPLSNET" in os.environ else next(iter(BUILT), None)
 FIRST = ROOT / "examples/first"
 FLOOD = ROOT / "examples/flood"
+REFLECT = ROOT / "examples/reflectors"
 JOINED = ROOT / "examples/two-providers"
 JOINS = [JOINED / name for name in ("topology1.toml", "topology2.toml", "joints.txt", "script.txt", "capture.pcap")]
 INPUTS = [FIRST / "topology.toml", FIRST / "script.txt", FIRST / "capture.pcap"]
@@ -30,11 +31,11 @@ def run(*words, **how):
     return ran.returncode, ran.stdout, ran.stderr
 
 
-KNOWS_FLOOD = bool(PROGRAM) and "flood TOPOLOGY SCRIPT" in run()[1]
+KNOWS_FLOOD, KNOWS_REFLECT = (bool(PROGRAM) and f"{word} TOPOLOGY SCRIPT" in run()[1] for word in ("flood", "reflect"))
 JOIN = "join TOPOLOGY1 TOPOLOGY2 JOINTS SCRIPT CAPTURE FOLDER"
 KNOWS_JOIN = bool(PROGRAM) and JOIN in run()[1]
 FORMS = ["run TOPOLOGY SCRIPT CAPTURE FOLDER", "check TOPOLOGY", "generate NUMBER"]
-FORMS += ["flood TOPOLOGY SCRIPT"] * KNOWS_FLOOD + [JOIN] * KNOWS_JOIN
+FORMS += ["flood TOPOLOGY SCRIPT"] * KNOWS_FLOOD + ["reflect TOPOLOGY SCRIPT"] * KNOWS_REFLECT + [JOIN] * KNOWS_JOIN
 USAGE = f"usage: mplsnet {' | '.join(FORMS)}\n"
 
 
@@ -143,6 +144,47 @@ class Flood(unittest.TestCase):
         lines += ["link down n1 n2", "drain", "link up n1 n2", "drain"] * 300
         inputs = self.file("topology", text.encode()), self.file("script", "\n".join(lines).encode())
         self.assertEqual((9, f"line {len(links) + 2} refused Unchanged\ntoo large steps\n"), run("flood", *inputs)[:2])
+
+
+@unittest.skipUnless(KNOWS_REFLECT, "the program isn't built, or doesn't know 'reflect' yet")
+class Reflect(unittest.TestCase):
+    def setUp(self):
+        self.room = tempfile.TemporaryDirectory()
+        self.addCleanup(self.room.cleanup)
+
+    def file(self, name, content):
+        path = Path(self.room.name) / name
+        path.write_bytes(content)
+        return path
+
+    def test_puts_the_report_and_writes_nothing(self):
+        report = (REFLECT / "expected/report.txt").read_text()
+        self.assertEqual((0, report, ""), run("reflect", REFLECT / "topology.toml", REFLECT / "script.txt", cwd=self.room.name))
+        self.assertEqual([], list(Path(self.room.name).iterdir()))
+
+    def test_other_words_are_usage(self):
+        topology, script = REFLECT / "topology.toml", REFLECT / "script.txt"
+        for words in (["reflect"], ["reflect", topology], ["reflect", topology, script, INPUTS[2]], ["Reflect", topology, script]):
+            self.assertEqual((2, USAGE, ""), run(*words), words)
+
+    def test_inputs_are_those_of_a_run(self):
+        topology, gone = REFLECT / "topology.toml", Path(self.room.name) / "gone"
+        line = f"mplsnet: {gone}: can't be read: No such file or directory (os error 2)\n"
+        self.assertEqual((6, "", line), run("reflect", topology, gone))
+        bad = self.file("bad", b"reflector rr1\nbgp up pe1 pe2\n")
+        self.assertEqual((4, "script refused S6 NotEdge at line 2\n", ""), run("reflect", topology, bad))
+        lines = self.file("lines", b"\n" * 3_000_001)
+        told = (9, "too large script lines\n", f"mplsnet: {lines}: more than 3000000 lines\n")
+        self.assertEqual(told, run("reflect", topology, lines))
+
+    @unittest.skipUnless(PROGRAM and PROGRAM != sources.TRIAL, "a trial build takes minutes")
+    def test_a_step_past_the_last_ends_it(self):
+        """A session that begins and ends, without end."""
+        lines = self.file("lines", b"reflector rr1\n" + b"bgp up pe1 rr1\nbgp down pe1 rr1\n" * 1_499_999)
+        self.assertEqual((0, "total steps 2999998 refused 0 flying 0\n"), run("reflect", REFLECT / "topology.toml", lines)[:2])
+        script = b"reflector rr1\n" + b"bgp up pe1 rr1\ndrain 4\nbgp down pe1 rr1\n" * 700_000 + b"bgp down pe1 rr1\n"
+        lines = self.file("lines", script)
+        self.assertEqual((9, "too large steps\n"), run("reflect", REFLECT / "topology.toml", lines)[:2])
 
 
 @unittest.skipUnless(KNOWS_JOIN, "the program isn't built, or doesn't know 'join' yet")

@@ -135,13 +135,13 @@ pub topology_bytes_write : (b : Bool) (found : Result Network (TopoRule × Place
 topology_bytes_write true found next h = refl
 topology_bytes_write false found next h = topology_writes found next h
 
-pub script_writes : {L : Type 0} (found : Result (List L) (ScriptRule × ℕ)) (next : List L → Option Answer) →
-    ((s : List L) → WritesNone (next s)) → WritesNone (if_accepted found next)
+pub script_writes : {S : Type 0} (found : Result S (ScriptRule × ℕ)) (next : S → Option Answer) →
+    ((s : S) → WritesNone (next s)) → WritesNone (if_accepted found next)
 script_writes (Ok s) next h = h s
 script_writes (Err refused) next h = refl
 
-pub script_bytes_write : {L : Type 0} (b many : Bool) (found : Result (List L) (ScriptRule × ℕ)) (next : List L → Option Answer) →
-    ((s : List L) → WritesNone (next s))
+pub script_bytes_write : {S : Type 0} (b many : Bool) (found : Result S (ScriptRule × ℕ)) (next : S → Option Answer) →
+    ((s : S) → WritesNone (next s))
     → WritesNone
     (if b then Some (refusal_of (TooLarge ScriptBytes most_script_bytes)) else if many then Some
     (refusal_of (TooLarge ScriptLines most_script_lines)) else if_accepted found next)

@@ -54,24 +54,30 @@ with_topology (Some bytes) next = with_topology_bytes bytes next
 abbrev pub most_script_bytes : ℕ
 most_script_bytes = 2 ^ 26
 
--- a script in a language of lines goes on with them, or is refused by rule and line
-abbrev pub if_accepted : {L : Type 0} → Result (List L) (ScriptRule × ℕ) → (List L → Option Answer) → Option Answer
+-- a script goes on, or is refused by rule and line
+abbrev pub if_accepted : {S : Type 0} → Result S (ScriptRule × ℕ) → (S → Option Answer) → Option Answer
 if_accepted (Ok script) next = next script
 if_accepted (Err refused) next = Some (refusal_of (BadScript refused.0 refused.1))
 
 -- the limits of a script come before its own refusal: its lines are counted before any is looked at
-abbrev pub with_lines_within : {L : Type 0} → Says L → List ℕ → (List L → Option Answer) → Option Answer
-with_lines_within says bytes next =
-    if nat_lt most_script_lines (length (lines bytes)) then Some (refusal_of (TooLarge ScriptLines most_script_lines)) else if_accepted
-    (lines_of says 1 bytes) next
+abbrev pub with_script_within : {S : Type 0} → (List ℕ → Result S (ScriptRule × ℕ)) → List ℕ → (S → Option Answer) → Option Answer
+with_script_within read bytes next =
+    if nat_lt most_script_lines (length (lines bytes)) then Some (refusal_of (TooLarge ScriptLines most_script_lines)) else if_accepted (read bytes) next
 
+abbrev pub with_script_of_bytes : {S : Type 0} → (List ℕ → Result S (ScriptRule × ℕ)) → List ℕ → (S → Option Answer) → Option Answer
+with_script_of_bytes read bytes next =
+    if nat_lt most_script_bytes (length bytes) then Some (refusal_of (TooLarge ScriptBytes most_script_bytes)) else with_script_within read bytes next
+
+abbrev pub with_script_of : {S : Type 0} → (List ℕ → Result S (ScriptRule × ℕ)) → Option (List ℕ) → (S → Option Answer) → Option Answer
+with_script_of read None next = None
+with_script_of read (Some bytes) next = with_script_of_bytes read bytes next
+
+-- so does a script in a language of lines
 abbrev pub with_lines_of_bytes : {L : Type 0} → Says L → List ℕ → (List L → Option Answer) → Option Answer
-with_lines_of_bytes says bytes next =
-    if nat_lt most_script_bytes (length bytes) then Some (refusal_of (TooLarge ScriptBytes most_script_bytes)) else with_lines_within says bytes next
+with_lines_of_bytes says bytes next = with_script_of_bytes (lines_of says 1) bytes next
 
 abbrev pub with_lines_of : {L : Type 0} → Says L → Option (List ℕ) → (List L → Option Answer) → Option Answer
-with_lines_of says None next = None
-with_lines_of says (Some bytes) next = with_lines_of_bytes says bytes next
+with_lines_of says input next = with_script_of (lines_of says 1) input next
 
 -- a capture has at most 64 MiB, and at most 100,000 whole records before its first refusal
 abbrev pub most_capture_bytes : ℕ

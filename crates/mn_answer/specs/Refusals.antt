@@ -81,7 +81,7 @@ limit_line JointsBytes = codes "too large joints bytes\n"
 
 -- the line of an outcome that refuses
 abbrev pub refusal_line : Outcome → List ℕ
-refusal_line Usage = codes "usage: mplsnet run TOPOLOGY SCRIPT CAPTURE FOLDER | check TOPOLOGY | generate NUMBER | flood TOPOLOGY SCRIPT | join TOPOLOGY1 TOPOLOGY2 JOINTS SCRIPT CAPTURE FOLDER\n"
+refusal_line Usage = codes "usage: mplsnet run TOPOLOGY SCRIPT CAPTURE FOLDER | check TOPOLOGY | generate NUMBER | flood TOPOLOGY SCRIPT | reflect TOPOLOGY SCRIPT | join TOPOLOGY1 TOPOLOGY2 JOINTS SCRIPT CAPTURE FOLDER\n"
 refusal_line (BadTopology rule place) = text (codes "topology refused " ∷ topo_rule_name rule ∷ codes " at " ∷ place_text place ∷ codes "\n" ∷ [])
 refusal_line (BadScript rule line) = text (codes "script refused " ∷ script_rule_name rule ∷ codes " at line " ∷ decimal line ∷ codes "\n" ∷ [])
 refusal_line (BadCapture rule place) = text (codes "capture refused " ∷ pcap_rule_name rule ∷ codes " at byte " ∷ decimal place ∷ codes "\n" ∷ [])

@@ -130,7 +130,7 @@ fn plain_line(outcome: Outcome) -> &'static str
 {
     match outcome {
         Outcome::Usage => {
-            "usage: mplsnet run TOPOLOGY SCRIPT CAPTURE FOLDER | check TOPOLOGY | generate NUMBER | flood TOPOLOGY SCRIPT | join TOPOLOGY1 TOPOLOGY2 JOINTS SCRIPT CAPTURE FOLDER\n"
+            "usage: mplsnet run TOPOLOGY SCRIPT CAPTURE FOLDER | check TOPOLOGY | generate NUMBER | flood TOPOLOGY SCRIPT | reflect TOPOLOGY SCRIPT | join TOPOLOGY1 TOPOLOGY2 JOINTS SCRIPT CAPTURE FOLDER\n"
         }
         Outcome::TooLarge { which, .. } => limit_line(which),
         Outcome::BadTopology { .. }

@@ -1,7 +1,8 @@
 -- The promise of a run, from the definition of its answer.
-use Rattle.std.proofs.Common.{◌≡◌, ℕ, Bool, true, false, List, ◌++◌, Option, Some}
+use Rattle.std.proofs.Common.{◌≡◌, ◌≤◌, ℕ, Bool, true, false, List, ◌++◌, length, Option, Some}
 use Rattle.std.proofs.Common.{Ok, option_map, refl, ap, ◌∙◌}
 use Rattle.std.specs.Prelude.{cond, codes}
+use Rattle.mn_base.specs.Limits.{most_script_lines}
 use Rattle.mn_ledger.specs.Ledger.{packets_of}
 use Rattle.mn_lines.specs.Lines.{total_line}
 use Rattle.mn_output.specs.Report.{totals_of}
@@ -21,7 +22,7 @@ use Rattle.mn_answer.specs.declared.outcome.Limit.TheVariants.{Steps}
 use Rattle.mn_answer.specs.declared.outcome.Outcome.{Outcome}
 use Rattle.mn_answer.specs.declared.outcome.Outcome.TheVariants.{Done, Usage, BadTopology, BadScript, BadCapture, BadSecond, BadJoints, TooLarge, ReadFault, WriteFault, NoMemory}
 use Rattle.mn_run.specs.declared.words.Job.{Job}
-use Rattle.mn_run.specs.declared.words.Job.TheVariants.{Run, Check, Flood, Join, Generate}
+use Rattle.mn_run.specs.declared.words.Job.TheVariants.{Run, Check, Flood, Reflect, Join, Generate}
 use Rattle.mn_run.specs.Words.{word}
 use Rattle.mn_run.specs.Answer.{run_done, checked}
 use Rattle.mn_answer.specs.Endings.{OutcomeIs, FilesAre, TextIs}
@@ -34,18 +35,20 @@ use Rattle.mn_run.specs.Jobs.{AreRead, AreMade}
 use Rattle.mn_run.specs.declared.generate.Made.{Made}
 use Rattle.mn_run.specs.Answer.{generated_line, generated_done}
 use Rattle.mn_flood_run.specs.Headline.{IsFloodTold}
+use Rattle.mn_reflect_run.specs.Headline.{IsReflectTold}
 use Rattle.mn_join_run.specs.Headline.{IsJoinTold}
 use Rattle.mn_run.specs.Headline.{IsKept, KeepsItsPromise, IsGenerated}
+use Rattle.mn_run.proofs.Draining.{each_is_drained}
 
 pub promise : (topology script capture folder : List ℕ) (files : Files) (before : List ℕ) (after : Option Files) (written : Option (List ℕ))
     (inputs : Inputs) → AreRead topology script capture files inputs
-    → IsLawful inputs.topology → AllFit inputs.topology inputs.lines.items
+    → IsLawful inputs.topology → AllFit inputs.topology inputs.lines.items → length inputs.lines.items ≤ most_script_lines
     → (bytes : List ℕ) → file files capture ≡ Some bytes → option_map pcap.packets_of (file files capture) ≡ Some (Ok (packets_in inputs.capture bytes))
     → after ≡ Some (laid (run_done folder inputs.topology inputs.lines.items (packets_in inputs.capture bytes)).files files)
     → written ≡ Some (before ++ (run_done folder inputs.topology inputs.lines.items (packets_in inputs.capture bytes)).text)
     → KeepsItsPromise topology script capture folder files before after written
 unfolding run_done
-promise topology script capture folder files before after written inputs read is_lawful fits bytes there capture_read files_are text_is =
+promise topology script capture folder files before after written inputs read is_lawful fits few bytes there capture_read files_are text_is =
     let packets : List (List ℕ) = packets_in inputs.capture bytes in
     let run : Expansion = expanded inputs.topology packets inputs.lines.items in
     let goes : IsLawfulRun inputs.topology packets run = lawful_run inputs.topology is_lawful packets inputs.lines.items fits in
@@ -62,6 +65,7 @@ promise topology script capture folder files before after written inputs read is
       told = each_packet_has_its_line inputs.topology packets inputs.lines.items;
       accounts = accounts inputs.topology run.past.entries (inputs_of packets run.past.entries) is_lawful goes.past.journal goes.past.each;
       arrives = it_arrives inputs.topology run.past.entries (inputs_of packets run.past.entries) is_lawful goes.past.journal;
+      drained = each_is_drained inputs.topology is_lawful packets inputs.lines.items fits few;
       lines = text_is;
       written_files = files_are;
     }
@@ -69,22 +73,22 @@ promise topology script capture folder files before after written inputs read is
 -- where a run is done its promise is kept
 pub kept : (words : List (List ℕ)) (files : Files) (before : List ℕ) (after : Option Files) (written : Option (List ℕ)) (outcome : Outcome) (inputs : Inputs)
     (read : AreRead (word words 1) (word words 2) (word words 3) files inputs) → IsLawful inputs.topology → AllFit inputs.topology inputs.lines.items
-    → FilesAre (Some (run_done (word words 4) inputs.topology inputs.lines.items (packets_in inputs.capture read.over.bytes))) files after outcome
+    → length inputs.lines.items ≤ most_script_lines → FilesAre (Some (run_done (word words 4) inputs.topology inputs.lines.items (packets_in inputs.capture read.over.bytes))) files after outcome
     → TextIs (Some (run_done (word words 4) inputs.topology inputs.lines.items (packets_in inputs.capture read.over.bytes))) before written outcome
     → IsKept Run words files before after written outcome
-kept words files before after written Done inputs read is_lawful fits f t =
-    promise (word words 1) (word words 2) (word words 3) (word words 4) files before after written inputs read is_lawful fits read.over.bytes read.over.there
+kept words files before after written Done inputs read is_lawful fits few f t =
+    promise (word words 1) (word words 2) (word words 3) (word words 4) files before after written inputs read is_lawful fits few read.over.bytes read.over.there
     read.over.capture_read f t
-kept words files before after written Usage inputs read is_lawful fits f t = tt
-kept words files before after written ReadFault inputs read is_lawful fits f t = tt
-kept words files before after written WriteFault inputs read is_lawful fits f t = tt
-kept words files before after written NoMemory inputs read is_lawful fits f t = tt
-kept words files before after written (BadTopology rule place) inputs read is_lawful fits f t = tt
-kept words files before after written (BadScript rule line) inputs read is_lawful fits f t = tt
-kept words files before after written (BadCapture rule place) inputs read is_lawful fits f t = tt
-kept words files before after written (BadSecond rule place) inputs read is_lawful fits f t = tt
-kept words files before after written (BadJoints rule line) inputs read is_lawful fits f t = tt
-kept words files before after written (TooLarge which limit) inputs read is_lawful fits f t = tt
+kept words files before after written Usage inputs read is_lawful fits few f t = tt
+kept words files before after written ReadFault inputs read is_lawful fits few f t = tt
+kept words files before after written WriteFault inputs read is_lawful fits few f t = tt
+kept words files before after written NoMemory inputs read is_lawful fits few f t = tt
+kept words files before after written (BadTopology rule place) inputs read is_lawful fits few f t = tt
+kept words files before after written (BadScript rule line) inputs read is_lawful fits few f t = tt
+kept words files before after written (BadCapture rule place) inputs read is_lawful fits few f t = tt
+kept words files before after written (BadSecond rule place) inputs read is_lawful fits few f t = tt
+kept words files before after written (BadJoints rule line) inputs read is_lawful fits few f t = tt
+kept words files before after written (TooLarge which limit) inputs read is_lawful fits few f t = tt
 
 -- what was not done keeps nothing
 pub undone : (job : Job) (words : List (List ℕ)) (files : Files) (before : List ℕ) (after : Option Files) (written : Option (List ℕ)) (outcome : Outcome) →
@@ -131,6 +135,21 @@ flood_kept words files before after written (BadCapture rule place) told same = 
 flood_kept words files before after written (BadSecond rule place) told same = tt
 flood_kept words files before after written (BadJoints rule line) told same = tt
 flood_kept words files before after written (TooLarge which limit) told same = tt
+
+-- what reflected routes tell, where it was done, and no file changed
+pub reflect_kept : (words : List (List ℕ)) (files : Files) (before : List ℕ) (after : Option Files) (written : Option (List ℕ)) (outcome : Outcome)
+    → IsReflectTold (word words 1) (word words 2) files before written outcome → after ≡ Some files → IsKept Reflect words files before after written outcome
+reflect_kept words files before after written Done told same = (told, same)
+reflect_kept words files before after written Usage told same = tt
+reflect_kept words files before after written ReadFault told same = tt
+reflect_kept words files before after written WriteFault told same = tt
+reflect_kept words files before after written NoMemory told same = tt
+reflect_kept words files before after written (BadTopology rule place) told same = tt
+reflect_kept words files before after written (BadScript rule line) told same = tt
+reflect_kept words files before after written (BadCapture rule place) told same = tt
+reflect_kept words files before after written (BadSecond rule place) told same = tt
+reflect_kept words files before after written (BadJoints rule line) told same = tt
+reflect_kept words files before after written (TooLarge which limit) told same = tt
 
 -- what two joined networks tell and leave, where it was done
 pub join_kept : (words : List (List ℕ)) (files : Files) (before : List ℕ) (after : Option Files) (written : Option (List ℕ)) (outcome : Outcome)
@@ -186,6 +205,7 @@ total_told number made are is_lawful before written Done o t =
       told = each_packet_has_its_line made.topology packets made.lines.items;
       accounts = accounts made.topology run.past.entries (inputs_of packets run.past.entries) is_lawful goes.past.journal goes.past.each;
       arrives = it_arrives made.topology run.past.entries (inputs_of packets run.past.entries) is_lawful goes.past.journal;
+      drained = each_is_drained made.topology is_lawful packets made.lines.items are.over.fit are.over.few;
       lines = t ∙ ap (λ b. Some (before ++ cond b (codes "too large steps\n")
           (generated_line number ++ total_line (totals_of run (packets_of made.topology run.past.entries (inputs_of packets run.past.entries)).verdicts))))
           (not_stopped run.is_stopped o);

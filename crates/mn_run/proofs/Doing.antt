@@ -1,6 +1,7 @@
 -- How a call ends for a job.
-use Rattle.std.proofs.Common.{◌≡◌, ℕ, List, Option, Some, Ok, refl, sym, ◌∙◌, ap, subst}
+use Rattle.std.proofs.Common.{◌≡◌, ◌≤◌, ℕ, List, length, Option, Some, Ok, refl, sym, ◌∙◌, ap, subst}
 use Rattle.std.specs.Option.{ForSome}
+use Rattle.mn_base.specs.Limits.{most_script_lines}
 use Rattle.mn_edge.specs.Files.{Files, file}
 use Rattle.mn_topo.specs.Network.{Network}
 use Rattle.mn_topo.specs.Lawful.{IsLawful}
@@ -14,16 +15,18 @@ use Rattle.mn_answer.specs.Inputs.{TopologyIs}
 use Rattle.mn_answer.proofs.Ending.{sink_answers, fault_answers, memory_answers}
 use Rattle.mn_flood_run.specs.Answer.{flood_answer}
 use Rattle.mn_flood_run.specs.Headline.{IsFloodTold}
+use Rattle.mn_reflect_run.specs.Answer.{reflect_answer}
+use Rattle.mn_reflect_run.specs.Headline.{IsReflectTold}
 use Rattle.mn_join_run.specs.Answer.{join_answer}
 use Rattle.mn_join_run.specs.Headline.{IsJoinTold}
 use Rattle.mn_run.specs.declared.load.Inputs.{Inputs}
 use Rattle.mn_run.specs.declared.words.Job.{Job}
-use Rattle.mn_run.specs.declared.words.Job.TheVariants.{Run, Check, Flood, Join, Generate, Nothing}
+use Rattle.mn_run.specs.declared.words.Job.TheVariants.{Run, Check, Flood, Reflect, Join, Generate, Nothing}
 use Rattle.mn_run.specs.Words.{word}
 use Rattle.mn_run.specs.Answer.{job_answer, run_done, checked, generated}
 use Rattle.mn_run.specs.Jobs.{AreRead, ForDone}
 use Rattle.mn_run.specs.Headline.{IsGenerated, Ends}
-use Rattle.mn_run.proofs.Accounting.{kept, undone, topology_told, flood_kept, join_kept, generated_kept}
+use Rattle.mn_run.proofs.Accounting.{kept, undone, topology_told, flood_kept, reflect_kept, join_kept, generated_kept}
 use Rattle.mn_run.proofs.Generating.{generated_writes}
 use Rattle.mn_run.proofs.Loading.{answer_is}
 
@@ -36,6 +39,9 @@ check_makes_none number e = cc
 flood_makes_none : (number : ℕ) → Flood ≡ Generate number → ⊥
 flood_makes_none number e = cc
 
+reflect_makes_none : (number : ℕ) → Reflect ≡ Generate number → ⊥
+reflect_makes_none number e = cc
+
 join_makes_none : (number : ℕ) → Join ≡ Generate number → ⊥
 join_makes_none number e = cc
 
@@ -45,13 +51,13 @@ nothing_makes_none number e = cc
 -- the script was played
 pub run_ends : (words : List (List ℕ)) (inputs : Inputs) (files after : Option Files) (before written : Option (List ℕ)) (o : Outcome) →
     ((m : Files) → files ≡ Some m → AreRead (word words 1) (word words 2) (word words 3) m inputs) → inputs.capture.name ≡ word words 3 →
-    IsLawful inputs.topology → AllFit inputs.topology inputs.lines.items →
+    IsLawful inputs.topology → AllFit inputs.topology inputs.lines.items → length inputs.lines.items ≤ most_script_lines →
     ForDone (λ answer m. Answers answer m after before written o) (word words 4) inputs.topology inputs.lines.items inputs.capture files →
     Ends Run words files after before written o
-run_ends words inputs files after before written o read named is_lawful fits played = record {
+run_ends words inputs files after before written o read named is_lawful fits few played = record {
   answers = λ m is.
       subst (λ a. Answers a m after before written o) (sym (answer_is (word words 1) (word words 2) (word words 3) m inputs (read m is) (word words 4))) (done m is);
-  kept = λ m is text begun. kept words m text after written o inputs (read m is) is_lawful fits (done m is).files_are ((done m is).text_is text begun);
+  kept = λ m is text begun. kept words m text after written o inputs (read m is) is_lawful fits few (done m is).files_are ((done m is).text_is text begun);
   told = λ number same. absurd (run_makes_none number same);
 }
   where
@@ -81,6 +87,17 @@ flood_ends words files after before written o answers told same = record {
   answers = answers;
   kept = λ m is before begun. flood_kept words m before after written o (told m is before begun) (same ∙ is);
   told = λ number e. absurd (flood_makes_none number e);
+}
+
+-- reflected routes were told
+pub reflect_ends : (words : List (List ℕ)) (files after : Option Files) (before written : Option (List ℕ)) (o : Outcome) →
+    ForSome files (λ m. Answers (reflect_answer (word words 1) (word words 2) m) m after before written o) →
+    ForSome files (λ m. ForSome before (λ text. IsReflectTold (word words 1) (word words 2) m text written o)) → after ≡ files →
+    Ends Reflect words files after before written o
+reflect_ends words files after before written o answers told same = record {
+  answers = answers;
+  kept = λ m is before begun. reflect_kept words m before after written o (told m is before begun) (same ∙ is);
+  told = λ number e. absurd (reflect_makes_none number e);
 }
 
 -- two joined networks were told

@@ -7,8 +7,8 @@ use Rattle.mn_base.proofs.Bools.{and_left, and_right}
 use Rattle.mn_edge.proofs.Entries.{text-eq}
 use Rattle.mn_text.specs.Numbers.{number_up_to}
 use Rattle.mn_perform.specs.Inside.{is_inside}
-use Rattle.mn_run.specs.declared.words.Job.TheVariants.{Run, Check, Flood, Join, Generate}
-use Rattle.mn_run.specs.Words.{word, is_run, is_check, is_flood, is_join, generator_number, generating, job_of}
+use Rattle.mn_run.specs.declared.words.Job.TheVariants.{Run, Check, Flood, Reflect, Join, Generate}
+use Rattle.mn_run.specs.Words.{word, is_run, is_check, is_flood, is_reflect, is_join, generator_number, generating, job_of}
 
 pub is_five : (n : ℕ) → (n == 5) ≡ true → n ≡ 5
 is_five n h = grind (arith, nat_tests)
@@ -67,7 +67,7 @@ join_said ws one two three four five six seven named a b c d e f =
     ∙ ap (λ w. joined 7 true one two three four w (word ws 6)) e
     ∙ ap (joined 7 true one two three four five) f
 
--- the generator's words are none of a run, of a check, of a flood or of two joined networks
+-- the generator's words are none of a run, of a check, of a flood, of reflected routes or of two joined networks
 no_number_run : (words : List (List ℕ)) (number : ℕ) → is_run words ≡ true → generator_number words ≡ Some number → ⊥
 no_number_run words number run is = not_both (length words) _ _ (number_up_to (word words 1) 99) run is
   where
@@ -93,6 +93,14 @@ no_number_flood words number flood is = not_both (length words) _ _ (number_up_t
         let three : n ≡ 3 = is_three n (and_left (n == 3) a h) in
         let none : None ≡ Some number = sym (ap (λ n. if (n == 2) && b then x else None) three) ∙ e in cc
 
+no_number_reflect : (words : List (List ℕ)) (number : ℕ) → is_reflect words ≡ true → generator_number words ≡ Some number → ⊥
+no_number_reflect words number reflect is = not_both (length words) _ _ (number_up_to (word words 1) 99) reflect is
+  where
+    not_both : (n : ℕ) (a b : Bool) (x : Option ℕ) → ((n == 3) && a) ≡ true → (if (n == 2) && b then x else None) ≡ Some number → ⊥
+    not_both n a b x h e =
+        let three : n ≡ 3 = is_three n (and_left (n == 3) a h) in
+        let none : None ≡ Some number = sym (ap (λ n. if (n == 2) && b then x else None) three) ∙ e in cc
+
 no_number_join : (words : List (List ℕ)) (number : ℕ) → is_join words ≡ true → generator_number words ≡ Some number → ⊥
 no_number_join words number join is = not_both (length words) _ _ (number_up_to (word words 1) 99) join is
   where
@@ -104,15 +112,17 @@ no_number_join words number join is = not_both (length words) _ _ (number_up_to 
 -- words with a number ask for its run
 pub number_job : (words : List (List ℕ)) (number : ℕ) → generator_number words ≡ Some number → job_of words ≡ Generate number
 number_job words number is =
-    by (is_run words) (is_check words) (is_flood words) (is_join words) (λ run. no_number_run words number run is)
-    (λ check. no_number_check words number check is) (λ flood. no_number_flood words number flood is) (λ join. no_number_join words number join is)
+    by (is_run words) (is_check words) (is_flood words) (is_reflect words) (is_join words) (λ run. no_number_run words number run is)
+    (λ check. no_number_check words number check is) (λ flood. no_number_flood words number flood is)
+    (λ reflect. no_number_reflect words number reflect is) (λ join. no_number_join words number join is)
     ∙ ap generating is
   where
-    by : (run check flood join : Bool) → (run ≡ true → ⊥) → (check ≡ true → ⊥) → (flood ≡ true → ⊥) → (join ≡ true → ⊥) →
-        (if run then Run else if check then Check else if flood then Flood else if join then Join else generating (generator_number words))
-        ≡ generating (generator_number words)
-    by true check flood join no_run no_check no_flood no_join = absurd (no_run refl)
-    by false true flood join no_run no_check no_flood no_join = absurd (no_check refl)
-    by false false true join no_run no_check no_flood no_join = absurd (no_flood refl)
-    by false false false true no_run no_check no_flood no_join = absurd (no_join refl)
-    by false false false false no_run no_check no_flood no_join = refl
+    by : (run check flood reflect join : Bool) → (run ≡ true → ⊥) → (check ≡ true → ⊥) → (flood ≡ true → ⊥) → (reflect ≡ true → ⊥) → (join ≡ true → ⊥) →
+        (if run then Run else if check then Check else if flood then Flood else if reflect then Reflect else if join then Join else
+        generating (generator_number words)) ≡ generating (generator_number words)
+    by true check flood reflect join no_run no_check no_flood no_reflect no_join = absurd (no_run refl)
+    by false true flood reflect join no_run no_check no_flood no_reflect no_join = absurd (no_check refl)
+    by false false true reflect join no_run no_check no_flood no_reflect no_join = absurd (no_flood refl)
+    by false false false true join no_run no_check no_flood no_reflect no_join = absurd (no_reflect refl)
+    by false false false false true no_run no_check no_flood no_reflect no_join = absurd (no_join refl)
+    by false false false false false no_run no_check no_flood no_reflect no_join = refl

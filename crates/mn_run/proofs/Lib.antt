@@ -1,5 +1,6 @@
 pub mod Forms
 pub mod Loading
+pub mod Draining
 pub mod Accounting
 pub mod Playing
 pub mod Generating

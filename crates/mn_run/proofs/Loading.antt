@@ -3,7 +3,7 @@ use Rattle.std.proofs.Common.{◌≡◌, ℕ, ◌<◌, true, List, length, get_o
 use Rattle.std.proofs.lemmas.List.{get_or-map, length-map}
 use Rattle.mn_base.proofs.Bools.{and_left}
 use Rattle.mn_edge.specs.Written.{texts}
-use Rattle.mn_run.specs.Words.{word, is_run, is_check, is_flood, is_join}
+use Rattle.mn_run.specs.Words.{word, is_run, is_check, is_flood, is_reflect, is_join}
 use Rattle.mn_edge.specs.Files.{Files, file}
 use Rattle.mn_topo.specs.Network.{Network}
 use Rattle.mn_capture.specs.Packets.{packets_in}
@@ -26,9 +26,12 @@ run_len words h = rw length-map at (is_five (length (texts words)) (and_left _ _
 pub check_len : (words : List (String Global)) → is_check (texts words) ≡ true → length words ≡ 2
 check_len words h = rw length-map at (is_two (length (texts words)) (and_left _ _ h))
 
--- a flood has three words
+-- a flood has three words, and so have reflected routes
 pub flood_len : (words : List (String Global)) → is_flood (texts words) ≡ true → length words ≡ 3
 flood_len words h = rw length-map at (is_three (length (texts words)) (and_left _ _ h))
+
+pub reflect_len : (words : List (String Global)) → is_reflect (texts words) ≡ true → length words ≡ 3
+reflect_len words h = rw length-map at (is_three (length (texts words)) (and_left _ _ h))
 
 -- two joined networks have seven words
 pub join_len : (words : List (String Global)) → is_join (texts words) ≡ true → length words ≡ 7

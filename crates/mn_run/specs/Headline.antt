@@ -1,16 +1,18 @@
 -- The promise of a call where all was done, in the words of a customer.
 use Rattle.std.specs.Option.{ForSome}
-use Rattle.std.specs.Prelude.{◌≡◌, ℕ, List, ◌++◌, Option, Some, option_map, Ok, ⊤}
+use Rattle.std.specs.Prelude.{◌≡◌, ℕ, false, List, ◌∷◌, ◌++◌, Option, Some, None, option_map, Ok, ⊤}
 use Rattle.mn_edge.specs.Files.{Files, file}
 use Rattle.mn_edge.specs.Written.{laid}
 use Rattle.mn_pcap.specs.Reading as pcap
+use Rattle.mn_script.specs.declared.command.Command.TheVariants.{Drain}
 use Rattle.mn_script.specs.declared.command.Line.{Line}
 use Rattle.mn_script.specs.Script.{script_of}
 use Rattle.mn_topo.specs.Network.{Network}
 use Rattle.mn_topo_toml.specs.Topology.{topology_of}
 use Rattle.mn_laws.specs.Accounts.{Accounts}
 use Rattle.mn_arrival.specs.Arrival.{ItArrives}
-use Rattle.mn_course.specs.Course.{inputs_of}
+use Rattle.mn_course.specs.Course.{inputs_of, played}
+use Rattle.mn_course.specs.Drains.{DrainsAll}
 use Rattle.mn_course.specs.Expansion.{Expansion, expanded}
 use Rattle.mn_course.specs.Lawful.{IsLawfulRun}
 use Rattle.mn_output.specs.Contents.{output}
@@ -25,16 +27,26 @@ use Rattle.mn_answer.specs.declared.outcome.Outcome.{Outcome}
 use Rattle.mn_answer.specs.declared.outcome.Outcome.TheVariants.{Done}
 use Rattle.mn_answer.specs.Endings.{Answers}
 use Rattle.mn_flood_run.specs.Headline.{TellsFlood}
+use Rattle.mn_reflect_run.specs.Headline.{TellsReflect}
 use Rattle.mn_join_run.specs.Headline.{TellsJoin}
 use Rattle.mn_run.specs.declared.words.Job.{Job}
-use Rattle.mn_run.specs.declared.words.Job.TheVariants.{Run, Check, Flood, Join, Generate, Nothing}
+use Rattle.mn_run.specs.declared.words.Job.TheVariants.{Run, Check, Flood, Reflect, Join, Generate, Nothing}
 use Rattle.mn_run.specs.Words.{word, job_of}
 use Rattle.mn_run.specs.Answer.{check_line, generated_line, job_answer}
 
+-- A line `drain` without a number, to which the script came behind these lines, does the steps of a drain, no more than its bound; where
+-- the journal had room for as many, no notice and no message flies at its end, and the network is settled there, if LDP is switched on
+-- for each link that is up and BGP between all edges.
+abbrev pub DrainsEach : Network → List (List ℕ) → List Line → Type 0
+DrainsEach topology packets script =
+    (before after : List Line) (line : Line) → script ≡ before ++ line ∷ after → line.command ≡ Drain None →
+    (expanded topology packets before).is_stopped ≡ false →
+    DrainsAll topology (expanded topology packets before).past (played topology packets (expanded topology packets before).past line.command)
+
 -- the script makes a journal of lawful steps, and every packet that it sends is accounted for: it reached only the site of the
 -- best route that its VRF held as it was sent, unchanged but for TTL and checksum, or it fell to the first rule that applied, or
--- it is on its way; in a settled, connected network it arrives; what was put is the report of that journal, the files are its
--- own, and no other file changed
+-- it is on its way; in a settled, connected network it arrives; each drain is bounded, and settles the network; what was put is the
+-- report of that journal, the files are its own, and no other file changed
 pub record KeepsItsPromise (topology_name script_name capture_name folder : List ℕ) (files : Files) (before : List ℕ) (after : Option Files)
     (written : Option (List ℕ)) : Type 0 where
   pub topology : Network
@@ -49,6 +61,7 @@ pub record KeepsItsPromise (topology_name script_name capture_name folder : List
   pub told : AreSentBy script run
   pub accounts : Accounts topology run.past.entries (inputs_of packets run.past.entries)
   pub arrives : ItArrives topology run.past.entries (inputs_of packets run.past.entries)
+  pub drained : DrainsEach topology packets script
   pub lines : written ≡ Some (before ++ report topology packets run)
   pub written_files : after ≡ Some (laid (output folder topology packets run.past.entries) files)
 
@@ -74,6 +87,7 @@ pub record TellsTotal (number : ℕ) (before : List ℕ) (written : Option (List
   pub told : AreSentBy script run
   pub accounts : Accounts topology run.past.entries (inputs_of packets run.past.entries)
   pub arrives : ItArrives topology run.past.entries (inputs_of packets run.past.entries)
+  pub drained : DrainsEach topology packets script
   pub lines : written ≡ Some
       (before ++ (generated_line number ++ total_line (totals_of run (packets_of topology run.past.entries (inputs_of packets run.past.entries)).verdicts)))
 
@@ -81,12 +95,13 @@ abbrev pub IsGenerated : ℕ → List ℕ → Option (List ℕ) → Outcome → 
 IsGenerated number before written Done = TellsTotal number before written
 IsGenerated number before written outcome = ⊤
 
--- what each job has done: a run keeps its promise, a check tells the topology, a flood tells its course and changes no file, two joined
--- networks tell theirs and leave what came out, and the generator's run tells the total and changes no file
+-- what each job has done: a run keeps its promise, a check tells the topology, a flood and reflected routes tell their course and change
+-- no file, two joined networks tell theirs and leave what came out, and the generator's run tells the total and changes no file
 abbrev pub Keeps : Job → List (List ℕ) → Files → List ℕ → Option Files → Option (List ℕ) → Type 0
 Keeps Run words files before after written = KeepsItsPromise (word words 1) (word words 2) (word words 3) (word words 4) files before after written
 Keeps Check words files before after written = TellsTopology words files before after written
 Keeps Flood words files before after written = TellsFlood (word words 1) (word words 2) files before written × (after ≡ Some files)
+Keeps Reflect words files before after written = TellsReflect (word words 1) (word words 2) files before written × (after ≡ Some files)
 Keeps Join words files before after written =
     TellsJoin (word words 1) (word words 2) (word words 3) (word words 4) (word words 5) (word words 6) files before after written
 Keeps (Generate number) words files before after written = TellsTotal number before written × (after ≡ Some files)

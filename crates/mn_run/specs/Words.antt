@@ -4,7 +4,7 @@ use lib.Pointwise.{pointwise}
 use Rattle.mn_text.specs.Numbers.{number_up_to}
 use Rattle.mn_perform.specs.Inside.{is_inside}
 use Rattle.mn_run.specs.declared.words.Job.{Job}
-use Rattle.mn_run.specs.declared.words.Job.TheVariants.{Run, Check, Flood, Join, Generate, Nothing}
+use Rattle.mn_run.specs.declared.words.Job.TheVariants.{Run, Check, Flood, Reflect, Join, Generate, Nothing}
 
 -- the word at this place, which is there where there are enough words
 abbrev pub word : List (List ℕ) → ℕ → List ℕ
@@ -24,6 +24,10 @@ is_check words = (length words == 2) && pointwise nat_eq (word words 0) (codes "
 abbrev pub is_flood : List (List ℕ) → Bool
 is_flood words = (length words == 3) && pointwise nat_eq (word words 0) (codes "flood")
 
+-- `reflect`, a topology and a script
+abbrev pub is_reflect : List (List ℕ) → Bool
+is_reflect words = (length words == 3) && pointwise nat_eq (word words 0) (codes "reflect")
+
 -- `join`, two topologies, their joints, a script, a capture and a folder in which none of the five lies
 abbrev pub is_join : List (List ℕ) → Bool
 is_join words =
@@ -41,14 +45,16 @@ generating None = Nothing
 generating (Some number) = Generate number
 
 abbrev pub job_of : List (List ℕ) → Job
-job_of words = if is_run words then Run else if is_check words then Check else if is_flood words then Flood else if is_join words then Join else
-    generating (generator_number words)
+job_of words =
+    if is_run words then Run else if is_check words then Check else if is_flood words then Flood else if is_reflect words then Reflect else
+    if is_join words then Join else generating (generator_number words)
 
 -- the words have the form of the job
 abbrev pub IsForm : Job → List (List ℕ) → Type 0
 IsForm Run words = is_run words ≡ true
 IsForm Check words = is_check words ≡ true
 IsForm Flood words = is_flood words ≡ true
+IsForm Reflect words = is_reflect words ≡ true
 IsForm Join words = is_join words ≡ true
 IsForm (Generate number) words = number ≤ 99
 IsForm Nothing words = ⊤

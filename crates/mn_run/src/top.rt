@@ -6,7 +6,7 @@ ghost use Rattle.mn_edge.specs.Written.{texts};
 ghost use Rattle.mn_perform.specs.Inside.{is_inside};
 ghost use Rattle.mn_script.specs.Script.{AllFit};
 ghost use Rattle.mn_answer.specs.Endings.{Answers, OutcomeIs, FilesAre, TextIs, CausedBy, UsageIff, Completes, IsLate, IsUnread};
-ghost use Rattle.mn_run.specs.Words.{is_run, is_check, is_flood, is_join, is_command, generator_number, job_of};
+ghost use Rattle.mn_run.specs.Words.{is_run, is_check, is_flood, is_reflect, is_join, is_command, generator_number, job_of};
 ghost use Rattle.mn_run.specs.Answer.{answer_of, checked};
 ghost use Rattle.mn_run.specs.Headline.{IsGenerated, HeadlineIs, Ends};
 ghost use Rattle.mn_run.specs.Jobs.{ForDone, outcome_of};
@@ -58,13 +58,15 @@ pub fn command<S: Shelf, O: Sink>(
     // Where all was done by `run`, each packet that was sent has one line and is accounted for: it reached only the
     // site of the best route that its VRF held, unchanged but for TTL and checksum, or it fell to the first rule that
     // applies, or it is on its way; sent in a steady stretch of a settled network with a way to its route's edge, it
-    // arrives. The journal is the script's, and lawful; report and files are its own, and no other file changed. By
+    // arrives. Each `drain` without a number did no more steps than its bound, and settled the network where the journal had
+    // room for them. The journal is the script's, and lawful; report and files are its own, and no other file changed. By
     // `check`, the topology breaks no rule, its line tells how much it has, and no file changed. By `flood`, the report is
     // that of the script's course, its trees are those of the links that are up where no advert flies, no drain heard more
-    // than its bound, and no file changed. By `join`, the report and the file of what came out are those of the script's course
-    // over both networks, each packet's legs are its injections, each at the site to which the leg before was handed on, and no
-    // other file changed. By `generate`, the same holds of the packets of its run, what was put is its
-    // number and their total, and no file changed.
+    // than its bound, and no file changed. By `reflect`, the report is that of the script's course, each table that is printed
+    // where no message flies in a joined network is that of a full mesh, and no file changed. By `join`, the report and the file
+    // of what came out are those of the script's course over both networks, each packet's legs are its injections, each at the
+    // site to which the leg before was handed on, and no other file changed. By `generate`, the same holds of the packets of its
+    // run, what was put is its number and their total, and no file changed.
     ensures headline { ForSome (S.files shelf.old) (λ files. ForSome (O.written out.old) (λ before.
         HeadlineIs (texts words.now) files before (S.files shelf.new) (O.written out.new) result)) }
     // What is said of `generate`, but for files, holds over each shelf, whether or not it tells its files.
@@ -85,6 +87,7 @@ fn answer<S: Shelf, O: Sink>(alloc: Global, words: &[String], shelf: &mut S, out
         Job::Run => run(alloc, words, shelf, out),
         Job::Check => check(alloc, words, shelf, out),
         Job::Flood => flood(alloc, words, shelf, out),
+        Job::Reflect => reflect(alloc, words, shelf, out),
         Job::Join => join(alloc, words, shelf, out),
         Job::Generate(number) => generate(alloc, number, out),
         Job::Nothing => refuse(alloc, out, Outcome::Usage),
@@ -209,6 +212,22 @@ fn flood<S: Shelf, O: Sink>(alloc: Global, words: &[String], shelf: &mut S, out:
     ensures usage { result ≢ Outcome.Usage }
 {
     mn_flood_run::flood(alloc, words[1].as_str(), words[2].as_str(), shelf, out)
+}
+
+/// Reflects routes by a script, by the words `reflect TOPOLOGY SCRIPT`.
+fn reflect<S: Shelf, O: Sink>(
+    alloc: Global,
+    words: &[String],
+    shelf: &mut S,
+    out: &mut O,
+) -> Outcome
+    requires { is_reflect (texts words.now) ≡ true }
+    ensures ends { Ends Job.Reflect (texts words.now) (S.files shelf.old) (S.files shelf.new) (O.written out.old) (O.written out.new) result }
+    ensures cause { CausedBy (S.read_faults shelf.old, S.write_faults shelf.old, O.faults out.old)
+        (S.read_faults shelf.new, S.write_faults shelf.new, O.faults out.new) result }
+    ensures usage { result ≢ Outcome.Usage }
+{
+    mn_reflect_run::reflect(alloc, words[1].as_str(), words[2].as_str(), shelf, out)
 }
 
 /// Plays a script on two joined networks, by the words `join TOPOLOGY1 TOPOLOGY2 JOINTS SCRIPT CAPTURE FOLDER`.

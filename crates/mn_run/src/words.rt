@@ -2,7 +2,7 @@
 ghost use Rattle.std.specs.Prelude.{◌≡◌, ◌≤◌, ◌||◌, IfSome};
 ghost use Rattle.mn_edge.specs.Written.{texts};
 ghost use Rattle.mn_perform.specs.Inside.{is_inside};
-ghost use Rattle.mn_run.specs.Words.{is_run, is_check, is_flood, is_join, generator_number, job_of, IsForm};
+ghost use Rattle.mn_run.specs.Words.{is_run, is_check, is_flood, is_reflect, is_join, generator_number, job_of, IsForm};
 
 use mn_text::number_up_to;
 
@@ -18,6 +18,8 @@ pub(crate) enum Job {
     Check,
     /// `flood TOPOLOGY SCRIPT`.
     Flood,
+    /// `reflect TOPOLOGY SCRIPT`.
+    Reflect,
     /// `join TOPOLOGY1 TOPOLOGY2 JOINTS SCRIPT CAPTURE FOLDER`.
     Join,
     /// `generate NUMBER`, from 0 to 99.
@@ -37,6 +39,8 @@ pub(crate) fn parse_job(words: &[String]) -> Job
         Job::Check
     } else if is_flood(words) {
         Job::Flood
+    } else if is_reflect(words) {
+        Job::Reflect
     } else if is_join(words) {
         Job::Join
     } else {
@@ -81,6 +85,16 @@ fn is_flood(words: &[String]) -> bool
         return false;
     };
     command.as_str() == "flood"
+}
+
+/// Whether the words are `reflect TOPOLOGY SCRIPT`.
+fn is_reflect(words: &[String]) -> bool
+    ensures { result ≡ is_reflect (texts words.now) }
+{
+    let [command, _, _] = words else {
+        return false;
+    };
+    command.as_str() == "reflect"
 }
 
 /// Whether the words are `join TOPOLOGY1 TOPOLOGY2 JOINTS SCRIPT CAPTURE FOLDER`, and no input lies in the folder that is written.

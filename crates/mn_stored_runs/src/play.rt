@@ -63,10 +63,10 @@ fn first_words(alloc: Global, command: &str, run: &str) -> Result<Vec<String>, A
     Ok(words)
 }
 
-/// The words of the run's command line. `flood` alone has no capture, and no folder for its files.
+/// The words of the run's command line. `flood` and `reflect` have no capture, and no folder for files.
 fn words_of(rt: &HostRuntime, command: &str, run: &str, left: &str) -> io::Result<Vec<String>> {
     let mut words = first_words(rt.alloc(), command, run)?;
-    if command != "flood" {
+    if command != "flood" && command != "reflect" {
         words.push(capture_of(rt, run, left)?)?;
         words.push(String::from_str(rt.alloc(), left)?)?;
     }

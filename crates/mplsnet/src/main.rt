@@ -29,6 +29,7 @@ usage: mplsnet run TOPOLOGY SCRIPT CAPTURE FOLDER
        mplsnet check TOPOLOGY
        mplsnet generate NUMBER
        mplsnet flood TOPOLOGY SCRIPT
+       mplsnet reflect TOPOLOGY SCRIPT
        mplsnet join TOPOLOGY1 TOPOLOGY2 JOINTS SCRIPT CAPTURE FOLDER
        mplsnet --help | --version
 
@@ -37,6 +38,7 @@ run       reads a topology (TOML), a script of events and a capture (pcap) of cu
 check     reads a topology and tells how much it has, or the first rule that it breaks and where
 generate  makes a network of a number, 0 to 99, runs it without files and puts its total
 flood     floods adverts of links through a topology by a script of its own, and puts each node's tree and a total
+reflect   passes VPN routes on by route reflectors, by a script of its own, and puts the tables that it shows and a total
 join      runs two networks that are joined site to site by one script, writes what comes out of them into FOLDER, and
           puts a report with a line for each packet and the legs that it went
 

@@ -33,6 +33,15 @@ pub returns-in-Flood-clause-usage : goal.returns-in-Flood-clause-usage
 returns-in-Flood-clause-usage g c =
     subst (λ j. UsageIff (is_job j) c.flood.result) c.in-Flood.ensures.value (not_usage true c.flood.result refl c.flood.ensures.usage)
 
+pub returns-in-Reflect-clause-ends : goal.returns-in-Reflect-clause-ends
+returns-in-Reflect-clause-ends g c =
+    subst (λ j. Ends j (texts c.args.words.now) (g.S.Shelf.files c.args.shelf.now) (g.S.Shelf.files c.reflect.new.shelf) (g.O.Sink.written c.args.out.now)
+    (g.O.Sink.written c.reflect.new.out) c.reflect.result) c.in-Reflect.ensures.value c.reflect.ensures.ends
+
+pub returns-in-Reflect-clause-usage : goal.returns-in-Reflect-clause-usage
+returns-in-Reflect-clause-usage g c =
+    subst (λ j. UsageIff (is_job j) c.reflect.result) c.in-Reflect.ensures.value (not_usage true c.reflect.result refl c.reflect.ensures.usage)
+
 pub returns-in-Join-clause-ends : goal.returns-in-Join-clause-ends
 returns-in-Join-clause-ends g c =
     subst (λ j. Ends j (texts c.args.words.now) (g.S.Shelf.files c.args.shelf.now) (g.S.Shelf.files c.join.new.shelf) (g.O.Sink.written c.args.out.now)

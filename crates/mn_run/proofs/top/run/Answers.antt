@@ -36,7 +36,7 @@ returns-in-Ok-Ok-clause-ends g c =
     run_ends (texts c.args.words.now) c.in-Ok-Ok.inputs _ _ _ _ c.run_inputs.result
     (λ m is. loaded_by_words (texts c.args.words.now) _ _ _ m (Ok c.in-Ok-Ok.inputs) one two three
     (subst (LoadedIs c.as_str.result.now c.as_str-2.result.now c.as_str-3.result.now m) c.in-Ok-Ok.field-0-is (c.in-Ok-Ok.ensures.answer m is)))
-    (fit.2 ∙ sym three) c.laws.ensures fit.0
+    (fit.2 ∙ sym three) c.laws.ensures fit.0 fit.1
     (subst (λ n. ForDone (λ answer m. Answers answer m (g.S.Shelf.files c.run_inputs.new.shelf) (g.O.Sink.written c.args.out.now) (g.O.Sink.written c.run_inputs.new.out)
     c.run_inputs.result) n c.in-Ok-Ok.inputs.topology c.in-Ok-Ok.inputs.lines.items c.in-Ok-Ok.inputs.capture (g.S.Shelf.files c.args.shelf.now)) (sym four)
     (subst (ForDone (λ answer m. Answers answer m (g.S.Shelf.files c.run_inputs.new.shelf) (g.O.Sink.written c.args.out.now) (g.O.Sink.written c.run_inputs.new.out)

@@ -1,0 +1,11 @@
+pub mod Front
+pub mod Scripts
+pub mod Taken
+pub mod Courses
+pub mod Hearings
+pub mod Sound
+pub mod Holding
+pub mod Routed
+pub mod Rows
+pub mod Plays
+pub mod Endings

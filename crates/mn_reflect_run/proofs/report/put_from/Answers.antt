@@ -1,0 +1,21 @@
+use Rattle.std.proofs.Common.{sym, ◌∙◌}
+use Rattle.mn_tables.proofs.Telling.{tells_as}
+use Rattle.mn_reflect_run.proofs.Routed.{is_own, is_near, is_far, no_labels, own_line, near_line}
+use Rattle.mn_reflect_run.proofs.report.put_from.Goals as goal
+
+pub returns-in-Own : goal.returns-in-Own
+returns-in-Own g c = λ labels route is_prefix is_source.
+    let own = is_own labels route c.in-Own.site (sym c.in-Own.is ∙ is_source) in
+    tells_as _ _ _ _ _ (c.put_own_route.ensures no_labels route is_prefix own.source_is own.site_is)
+    (own_line c.args.topology.now labels c.args.vrf.0 route own.source_is)
+
+pub returns-in-Near : goal.returns-in-Near
+returns-in-Near g c = λ labels route is_prefix is_source.
+    let near = is_near labels route c.in-Near.other c.in-Near.site (sym c.in-Near.is ∙ is_source) in
+    tells_as _ _ _ _ _ (c.put_near_route.ensures no_labels route is_prefix near.source_is near.site_is)
+    (near_line c.args.topology.now labels c.args.vrf.0 route _ near.source_is)
+
+pub returns-in-Far : goal.returns-in-Far
+returns-in-Far g c = λ labels route is_prefix is_source.
+    let far = is_far labels route _ _ c.in-Far.edge c.in-Far.label (sym c.in-Far.is ∙ is_source) in
+    c.put_far_route.ensures labels route far.address far.rd is_prefix far.source_is far.edge_is far.label_is

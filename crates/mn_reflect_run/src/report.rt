@@ -1,0 +1,177 @@
+//! The lines of the report, put on a page.
+ghost use Rattle.std.specs.Prelude.{◌≡◌, ◌<◌, ℕ, List, Some, length};
+ghost use Rattle.mn_text.specs.Addresses.{prefix_text};
+ghost use Rattle.mn_topo.specs.Network.{Network};
+ghost use Rattle.mn_topo.specs.declared.steps.Step.{Step as StepOf};
+ghost use Rattle.mn_ledger.specs.Held.{HeldRoute, Far};
+ghost use Rattle.mn_lines.specs.Lines.{refused_line, cause_text};
+ghost use Rattle.mn_tables.specs.Telling.{standing, Tells};
+ghost use Rattle.mn_bgp_spelling.specs.Spelling.{Labels};
+ghost use Rattle.mn_routing_model.specs.Sources.{source_from};
+ghost use Rattle.mn_reflection.specs.World.{world_of};
+ghost use Rattle.mn_reflect.specs.Course.{IsRun};
+ghost use Rattle.mn_reflect_run.specs.Report.{route_line, table_text, total_line};
+
+use itoa::Buffer;
+use mn_base::{NodeNo, VrfNo};
+use mn_edge::{DeviceBad, Sink};
+use mn_ledger::Refused;
+use mn_lines::{Page, node_name, write_refusal};
+use mn_prefix::Prefix;
+use mn_reflect::Reflect;
+use mn_tables::{put_near_route, put_own_route, put_pieces};
+use mn_text::put_prefix;
+use mn_topo::Topology;
+use mn_vrf::Source;
+
+/// Puts the line of a script's line that was refused. `text` is written anew.
+pub(crate) fn put_refusal<O: Sink>(
+    out: &mut O,
+    page: &mut Page,
+    text: &mut Vec<u8>,
+    topology: &Topology,
+    number: u32,
+    cause: Refused,
+) -> Result<(), DeviceBad>
+    ensures { Tells (refused_line number (cause_text topology.now.site_names cause))
+        (standing page.old (O.written out.old) (O.faults out.old)) (standing page.new (O.written out.new) (O.faults out.new)) result }
+{
+    text.clear();
+    write_refusal(text, topology, number, cause)?;
+    put_pieces(out, page, &[text.as_slice()])
+}
+
+/// Puts the line of a route that another edge told, by the label that it gave. The prefix comes as its text.
+fn put_far_route<O: Sink>(
+    out: &mut O,
+    page: &mut Page,
+    topology: &Topology,
+    vrf: VrfNo,
+    prefix: &[u8],
+    edge: NodeNo,
+    label: u32,
+) -> Result<(), DeviceBad>
+    requires { vrf.0 < length topology.now.vrfs }
+    ensures { (labels : Labels) (route : HeldRoute) (address rd : ℕ) → prefix.now ≡ prefix_text route.prefix → route.source ≡ Far address rd → edge.0 ≡ route.edge →
+        label ≡ labels route.site route.attachment →
+        Tells (route_line topology.now labels vrf.0 (Some route))
+        (standing page.old (O.written out.old) (O.faults out.old)) (standing page.new (O.written out.new) (O.faults out.new)) result }
+{
+    topology.laws();
+    let table = topology.vrf_name(vrf);
+    let teller = node_name(topology, edge);
+    let mut buffer = Buffer::new();
+    let number = buffer.format(label).as_bytes();
+    put_pieces(
+        out,
+        page,
+        &[
+            b"route ", table, b" ", prefix, b" edge ", teller, b" label ", number, b"\n",
+        ],
+    )
+}
+
+/// Puts the line of a route from a source. The prefix comes as its text.
+fn put_from<O: Sink>(
+    out: &mut O,
+    page: &mut Page,
+    topology: &Topology,
+    vrf: VrfNo,
+    prefix: &[u8],
+    source: Source,
+) -> Result<(), DeviceBad>
+    requires { vrf.0 < length topology.now.vrfs }
+    ensures { (labels : Labels) (route : HeldRoute) → prefix.now ≡ prefix_text route.prefix → source ≡ source_from labels route.edge route.site route.attachment route.source →
+        Tells (route_line topology.now labels vrf.0 (Some route))
+        (standing page.old (O.written out.old) (O.faults out.old)) (standing page.new (O.written out.new) (O.faults out.new)) result }
+{
+    match source {
+        Source::Own(site) => put_own_route(out, page, topology, vrf, prefix, site),
+        Source::Near(other, site) => {
+            put_near_route(out, page, topology, vrf, prefix, other, site)
+        }
+        Source::Far { edge, label, .. } => {
+            put_far_route(out, page, topology, vrf, prefix, edge, label)
+        }
+    }
+}
+
+/// Puts the line of the best route of a prefix. `text` is written anew.
+fn put_route<O: Sink>(
+    out: &mut O,
+    page: &mut Page,
+    text: &mut Vec<u8>,
+    topology: &Topology,
+    vrf: VrfNo,
+    prefix: Prefix,
+    source: Source,
+) -> Result<(), DeviceBad>
+    requires { vrf.0 < length topology.now.vrfs }
+    ensures { (labels : Labels) (route : HeldRoute) → prefix ≡ route.prefix → source ≡ source_from labels route.edge route.site route.attachment route.source →
+        Tells (route_line topology.now labels vrf.0 (Some route))
+        (standing page.old (O.written out.old) (O.faults out.old)) (standing page.new (O.written out.new) (O.faults out.new)) result }
+{
+    text.clear();
+    put_prefix(text, prefix)?;
+    put_from(out, page, topology, vrf, text.as_slice(), source)
+}
+
+/// Puts the lines of the best routes of all prefixes that a VRF holds, in order. `text` is written anew.
+pub(crate) fn put_table<O: Sink>(
+    out: &mut O,
+    page: &mut Page,
+    text: &mut Vec<u8>,
+    topology: &Topology,
+    reflect: &Reflect,
+    vrf: VrfNo,
+) -> Result<(), DeviceBad>
+    requires over { reflect.now.topology ≡ topology.now }
+    requires vrf { vrf.0 < length topology.now.vrfs }
+    ensures { (reflectors : List ℕ) (steps : List StepOf) → IsRun topology.now reflectors steps reflect.now →
+        Tells (table_text topology.now reflectors steps vrf.0)
+        (standing page.old (O.written out.old) (O.faults out.old)) (standing page.new (O.written out.new) (O.faults out.new)) result }
+{
+    let mut route = reflect.held(vrf, 0);
+    for _ in 0..u32::MAX {
+        match route {
+            None => return Ok(()),
+            Some(found) => {
+                put_route(out, page, text, topology, vrf, found.0, found.1)?;
+                route = reflect.held_after(vrf, found.0);
+            }
+        }
+    }
+    // There are never so many prefixes: long before that memory is wanted.
+    Err(DeviceBad::NoMemory)
+}
+
+/// Puts the last line, where so many lines were refused.
+#[tactic(auto, unfolding(crate::specs::Report::total_line))]
+pub(crate) fn put_total<O: Sink>(
+    out: &mut O,
+    page: &mut Page,
+    reflect: &Reflect,
+    refused: u32,
+) -> Result<(), DeviceBad>
+    ensures { (topology : Network) (reflectors : List ℕ) (steps : List StepOf) → IsRun topology reflectors steps reflect.now →
+        Tells (total_line (length steps) refused (length (world_of topology reflectors steps).flying))
+        (standing page.old (O.written out.old) (O.faults out.old)) (standing page.new (O.written out.new) (O.faults out.new)) result }
+{
+    let (mut first, mut second, mut third) = (Buffer::new(), Buffer::new(), Buffer::new());
+    let steps = first.format(reflect.done()).as_bytes();
+    let refused = second.format(refused).as_bytes();
+    let flying = third.format(reflect.pending()).as_bytes();
+    put_pieces(
+        out,
+        page,
+        &[
+            b"total steps ",
+            steps,
+            b" refused ",
+            refused,
+            b" flying ",
+            flying,
+            b"\n",
+        ],
+    )
+}
