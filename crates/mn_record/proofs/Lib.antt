@@ -12,3 +12,4 @@ pub mod Few
 pub use Rattle.mn_sched.proofs.Delivering
 pub use Rattle.mn_sched.proofs.Growing
 pub use Rattle.mn_sched.proofs.Telling
+pub mod Records

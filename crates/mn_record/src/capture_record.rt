@@ -1,9 +1,10 @@
-//! The header of a record of a capture.
-ghost use Rattle.std.specs.Prelude.{◌≡◌, ◌<◌, ◌^◌};
+//! Records of a capture.
+ghost use Rattle.std.specs.Prelude.{◌≡◌, ◌++◌, OnOk};
 ghost use Rattle.byteorder.specs.Endian.{little_bytes};
-ghost use Rattle.mn_pcap.specs.Format.{record_header};
+ghost use Rattle.mn_pcap.specs.Format.{record_header, record_of};
 
 use byteorder::{ByteOrder, LittleEndian};
+use std::alloc::AllocError;
 
 const RECORD_HEADER: usize = 16;
 
@@ -27,4 +28,18 @@ pub fn record_header(tick: u64, length: usize) -> [u8; RECORD_HEADER]
     LittleEndian::write_u32(&mut fields[8..], captured);
     LittleEndian::write_u32(&mut fields[12..], captured);
     fields
+}
+
+/// Appends the record of a packet of two parts that was seen at this tick, in milliseconds from the start.
+pub(crate) fn append_record(
+    out: &mut Vec<u8>,
+    tick: u64,
+    front: &[u8],
+    packet: &[u8],
+) -> Result<(), AllocError>
+    ensures { OnOk result (out.new.items ≡ out.old.items ++ record_of tick (front.now ++ packet.now)) }
+{
+    out.extend_from_slice(&record_header(tick, front.len() + packet.len()))?;
+    out.extend_from_slice(front)?;
+    out.extend_from_slice(packet)
 }

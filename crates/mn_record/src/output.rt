@@ -13,7 +13,7 @@ ghost use Rattle.mn_record.specs.Labels.{label_line};
 ghost use Rattle.mn_record.specs.Adding.{Adds, MayAdd, only_in};
 ghost use Rattle.mn_record.specs.Parts.{file_for, IsFileOf};
 
-use crate::capture_record::record_header;
+use crate::capture_record::append_record;
 use crate::labels::put_label;
 use mn_base::NodeNo;
 use mn_edge::{DeviceBad, Gather, Shelf};
@@ -205,7 +205,7 @@ impl Output {
         )
     }
 
-    /// A capture grows by the record of a packet of two parts.
+    /// A capture grows by the record of a packet of two parts, as one piece.
     pub(crate) fn put_record<S: Shelf>(
         &mut self,
         shelf: &mut S,
@@ -222,13 +222,9 @@ impl Output {
         ensures writes { Counted (S.write_faults shelf.old) (S.write_faults shelf.new) result }
         ensures reads { S.read_faults shelf.new ≡ S.read_faults shelf.old }
     {
-        self.put(
-            shelf,
-            file,
-            &record_header(tick, front.len() + packet.len()),
-        )?;
-        self.put(shelf, file, front)?;
-        self.put(shelf, file, packet)
+        self.line.clear();
+        append_record(&mut self.line, tick, front, packet)?;
+        put_piece(&mut self.gather, shelf, &self.names, file, &self.line)
     }
 
     /// Appends all that waits.
