@@ -14,13 +14,18 @@ use Rattle.mn_perform.specs.declared.ended.Ended.TheVariants as how
 use Rattle.mn_perform.specs.declared.ended.Fault.{Fault}
 use Rattle.mn_perform.specs.declared.ended.Fault.TheVariants as fault
 use Rattle.mn_perform.specs.Running.{is_stopped}
-use Rattle.mn_legs.specs.Pairing.{Pairing}
-use Rattle.mn_join_report.specs.Pairs.{PairNow}
+use Rattle.mn_ledger.specs.Lawful.{IsLawfulJournal}
+use Rattle.mn_ledger.specs.Verdicts.{injections}
+use Rattle.mn_course.specs.Course.{Past}
+use Rattle.mn_legs.specs.declared.leg.Which.{Which}
+use Rattle.mn_legs.specs.Pairing.{Pairing, Both, side}
+use Rattle.mn_join_report.specs.Pairs.{PairNow, PairStands, side_of}
 use Rattle.mn_join_report.specs.Course.{JoinRun}
 use Rattle.mn_join_report.specs.Report.{refused_texts, report, exits_file}
 use Rattle.mn_join_run.specs.Outside.{Outside, outside, Start, Stands, IsCut, Holding, Beginning}
 use Rattle.mn_join_run.specs.Playing.{Went}
-use Rattle.mn_join_run.specs.Ending.{last_text, IsEnded, HasEnded, the_files, BegunAtRead, UntoldAtRead, RunEnds}
+use Rattle.mn_join_run.specs.Ending.{last_text, IsEnded, HasEnded, outcome_by, AreLawfulIfDone, the_files, BegunAtRead, UntoldAtRead, RunEnds}
+use Rattle.mn_join_run.specs.Promise.{IsLawfulSide}
 use Rattle.mn_join_run.specs.declared.desk.Desk.{Desk}
 use Rattle.mn_join_run.proofs.Standing.{cut_here}
 
@@ -71,6 +76,12 @@ all_begun names contents m after framed begins =
 
 -- 2. A run that was cut off among its lines
 
+-- of a call that wasn't done nothing is said
+pub not_done : (pairing : Pairing) (run : JoinRun) (why : Fault) → AreLawfulIfDone pairing run (outcome_by (Err why))
+not_done pairing run fault.Read = tt
+not_done pairing run fault.Write = tt
+not_done pairing run fault.NoMemory = tt
+
 module _ (pairing : Pairing) (start : Start) (run : JoinRun) (now : Outside) (cut : IsCut start (refused_texts run) (exits_file run.exits) now)
     (framed : Framed start.names start.base now.files) where
   part : (m : Files) → start.base ≡ Some m → PartWritten (the_files start run) m now.files
@@ -99,6 +110,7 @@ module _ (pairing : Pairing) (start : Start) (run : JoinRun) (now : Outside) (cu
     late = λ m is before begun. inr (cut.text before begun);
     begun = at_read why;
     untold = untold why;
+    lawful = not_done pairing run why;
   }
 
 -- 3. A run whose lines ended
@@ -139,6 +151,23 @@ pub is_ended : (pairing : Pairing) (start : Start) (run : JoinRun) (pair : PairN
 is_ended pairing start run pair desk now how.All went = record { pairing = pairing; both = run.both; become = went.pair_stands }
 is_ended pairing start run pair desk now how.TooManySteps went = tt
 
+-- a network that stands for its ledger has a lawful journal
+lawful_sides : (pairing : Pairing) (pair : PairNow) (both : Both) → PairStands pairing pair both → (which : Which) → IsLawfulSide pairing both which
+lawful_sides pairing pair both stands which =
+    let now = stands.sides which in
+    let entries = ap (λ (p : Past). p.entries) now.past in
+    record {
+      journal = subst (λ t. IsLawfulJournal t (side both which).past.entries (side both which).inputs) now.topology
+          (subst (λ es. IsLawfulJournal (side_of pair which).net.topology es (side both which).inputs) entries now.stands.stands.lawful);
+      each = now.stands.stands.each ∙ ap injections entries;
+      bytes = now.bytes;
+    }
+
+pub ended_lawful : (pairing : Pairing) (start : Start) (run : JoinRun) (pair : PairNow) (desk : Desk) (now : Outside) (ended : Ended) →
+    Went pairing start run pair desk now (Ok ended) → AreLawfulIfDone pairing run (outcome_by (Ok ended))
+ended_lawful pairing start run pair desk now how.All went = lawful_sides pairing pair run.both went.pair_stands
+ended_lawful pairing start run pair desk now how.TooManySteps went = tt
+
 module _ (pairing : Pairing) (start : Start) (run : JoinRun) (waits : List ℕ) (written : Option (List ℕ)) (held : List (List ℕ)) (files after : Option Files)
     (stands : Stands start (refused_texts run) (exits_file run.exits) (outside waits written held files)) where
   -- the file couldn't be ended: nothing more was put
@@ -163,17 +192,19 @@ module _ (pairing : Pairing) (start : Start) (run : JoinRun) (waits : List ℕ) 
     late = λ m is before begun. inl (whole m is);
     begun = λ m is. never_begun (the_files start run) m after why unread;
     untold = λ before is. never_untold (refused_texts run) before now why unread;
+    lawful = not_done pairing run why;
   }
 
   -- the file is whole, and so is the report
-  pub all_ends : (ended : Ended) → run.is_stopped ≡ is_stopped ended → (now : Option (List ℕ)) →
+  pub all_ends : (ended : Ended) → run.is_stopped ≡ is_stopped ended → AreLawfulIfDone pairing run (outcome_by (Ok ended)) → (now : Option (List ℕ)) →
       ((m : Files) → start.base ≡ Some m → after ≡ Some (laid (the_files start run) m)) →
       ((before : List ℕ) → start.before ≡ Some before → now ≡ Some (before ++ report pairing run)) → RunEnds pairing start run after now (Ok ended)
-  all_ends ended is now whole put = record {
+  all_ends ended is lawful now whole put = record {
     ended = is;
     files = whole;
     text = put;
     late = λ m base before begun. inl (whole m base);
     begun = λ m base. tt;
     untold = λ before begun. tt;
+    lawful = lawful;
   }

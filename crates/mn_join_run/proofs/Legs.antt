@@ -1,10 +1,12 @@
--- What both networks are after a script is what some lines made of them, so each packet has its legs.
-use Rattle.std.proofs.Common.{◌≡◌, ℕ, Bool, true, false, List, [], ◌∷◌, ◌++◌, Option, Some, None, refl, sym, ◌∙◌, ap, subst}
+-- What both networks are after a script is what some lines made of them, so each packet has its legs, and crosses by them.
+use Rattle.std.proofs.Common.{◌≡◌, ◌<◌, ℕ, Bool, true, false, List, [], ◌∷◌, ◌++◌, length, Option, Some, None, refl, sym, ◌∙◌, ap, subst}
 use Rattle.mn_course.specs.declared.coming.Ending.{Ending}
 use Rattle.mn_course.specs.declared.coming.Ending.TheVariants as ending
-use Rattle.mn_legs.specs.Pairing.{Pairing, Both, at_first}
+use Rattle.mn_legs.specs.declared.leg.Which.{Which}
+use Rattle.mn_legs.specs.Pairing.{Pairing, Both, travel, at_first}
 use Rattle.mn_legs.specs.Course.{PairCourse, played}
-use Rattle.mn_legs.specs.Legs.{Line, after_lines, AllHaveLegs}
+use Rattle.mn_legs.specs.Legs.{Line, after_lines, ArrivesByItsLegs, IsLawfulIn}
+use Rattle.mn_legs.proofs.Arriving.{arrive_by_legs}
 use Rattle.mn_join_script.specs.declared.line.JoinLine.{JoinLine}
 use Rattle.mn_join_report.specs.Course.{JoinRun, after_course, with_packet, packet_for, with_line, unless_stopped, run_from, run_of}
 
@@ -53,9 +55,13 @@ by_script pairing capture now (line ∷ lines) =
     (then_after pairing now.both (with_line pairing capture now line).both _ (by_packet pairing now line (packet_for capture line.command))
     (by_script pairing capture (with_line pairing capture now line) lines))
 
+-- what its last leg delivers has crossed the networks of all its legs, where both are lawful
+abbrev AllArrive : Pairing → Both → Type 0
+AllArrive pairing both =
+    ((which : Which) → IsLawfulIn pairing both which) → (packet : ℕ) → packet < length both.travels → ArrivesByItsLegs pairing both (travel both packet)
+
 -- so what holds after all lines holds after the script
-pub all_have_legs : (pairing : Pairing) (capture : List (List ℕ)) (lines : List JoinLine) →
-    ((lines : List Line) → AllHaveLegs pairing (after_lines pairing lines at_first)) → AllHaveLegs pairing (run_of pairing capture lines).both
-all_have_legs pairing capture lines law =
+pub all_arrive : (pairing : Pairing) (capture : List (List ℕ)) (lines : List JoinLine) → AllArrive pairing (run_of pairing capture lines).both
+all_arrive pairing capture lines =
     let after : IsAfter pairing at_first (run_of pairing capture lines).both = by_script pairing capture _ lines in
-    subst (AllHaveLegs pairing) (sym after.is) (law after.lines)
+    subst (AllArrive pairing) (sym after.is) (arrive_by_legs pairing after.lines)

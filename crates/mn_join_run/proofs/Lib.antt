@@ -6,6 +6,8 @@ mod Going
 mod Ends
 mod Telling
 mod Legs
+mod Sent
+mod Promise
 mod Told
 mod Played
 mod Runs

@@ -31,7 +31,7 @@ use Rattle.mn_join_run.specs.Ending.{last_text, the_files, RunEnds, start_in}
 use Rattle.mn_join_run.specs.declared.desk.Desk.{Desk}
 use Rattle.mn_join_run.proofs.Growing.{Grows, script_grows, texts_begin, file_begins}
 use Rattle.mn_join_run.proofs.Standing.{cut_more, cut_here}
-use Rattle.mn_join_run.proofs.Ends.{IsNoRead, never_begun, never_untold, cut_ends}
+use Rattle.mn_join_run.proofs.Ends.{IsNoRead, never_begun, never_untold, not_done, cut_ends}
 
 -- 1. Faults
 
@@ -52,6 +52,7 @@ not_begun pairing start run after why unread part = record {
   late = λ m is before put. inr (nothing_put (refused_texts run) before start.before put);
   begun = λ m is. never_begun (the_files start run) m after why unread;
   untold = λ before is. never_untold (refused_texts run) before start.before why unread;
+  lawful = not_done pairing run why;
 }
 
 -- 2. The start

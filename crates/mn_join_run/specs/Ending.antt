@@ -16,6 +16,7 @@ use Rattle.mn_perform.specs.declared.ended.Ended.{Ended}
 use Rattle.mn_perform.specs.declared.ended.Ended.TheVariants as ended
 use Rattle.mn_perform.specs.declared.ended.Fault.{Fault}
 use Rattle.mn_perform.specs.declared.ended.Fault.TheVariants as fault
+use Rattle.mn_legs.specs.declared.leg.Which.{Which}
 use Rattle.mn_legs.specs.Pairing.{Pairing, at_first}
 use Rattle.mn_join_report.specs.Pairs.{PairNow, PairStands}
 use Rattle.mn_join_report.specs.Course.{JoinRun}
@@ -23,6 +24,7 @@ use Rattle.mn_join_report.specs.Reading.{IsJoined}
 use Rattle.mn_join_report.specs.Report.{refused_texts, ended_text, report, exits_file}
 use Rattle.mn_join_run.specs.Answer.{exits_name}
 use Rattle.mn_join_run.specs.Outside.{Start}
+use Rattle.mn_join_run.specs.Promise.{IsLawfulSide}
 use Rattle.mn_join_run.specs.declared.desk.Desk.{Desk}
 
 -- both networks are at their start
@@ -48,7 +50,21 @@ HasEnded pairing run ended.All pair desk =
     (run.is_stopped ≡ is_stopped ended.All) × PairStands pairing pair run.both × (map sending_of desk.sent.items ≡ run.sendings)
 HasEnded pairing run ended.TooManySteps pair desk = run.is_stopped ≡ is_stopped ended.TooManySteps
 
--- 2. What stands in the end
+-- 2. How the call ends
+
+abbrev pub outcome_by : Result Ended Fault → Outcome
+outcome_by (Ok ended.All) = outcome.Done
+outcome_by (Ok ended.TooManySteps) = outcome.TooLarge Steps most_steps
+outcome_by (Err fault.Read) = outcome.ReadFault
+outcome_by (Err fault.Write) = outcome.WriteFault
+outcome_by (Err fault.NoMemory) = outcome.NoMemory
+
+-- where all was done, both networks are lawful
+abbrev pub AreLawfulIfDone : Pairing → JoinRun → Outcome → Type 0
+AreLawfulIfDone pairing run outcome.Done = (which : Which) → IsLawfulSide pairing run.both which
+AreLawfulIfDone pairing run other = ⊤
+
+-- 3. What stands in the end
 
 -- whether a full journal stopped it
 abbrev pub EndsAs : JoinRun → Result Ended Fault → Type 0
@@ -89,15 +105,7 @@ pub record RunEnds (pairing : Pairing) (start : Start) (run : JoinRun) (after : 
   pub late : ForSome start.base (λ m. ForSome start.before (λ before. TellsLate (the_files start run) (refused_texts run) m after before written))
   pub begun : ForSome start.base (λ m. BegunAtRead (the_files start run) m after result)
   pub untold : ForSome start.before (λ before. UntoldAtRead (refused_texts run) before written result)
-
--- 3. How the call ends
-
-abbrev pub outcome_by : Result Ended Fault → Outcome
-outcome_by (Ok ended.All) = outcome.Done
-outcome_by (Ok ended.TooManySteps) = outcome.TooLarge Steps most_steps
-outcome_by (Err fault.Read) = outcome.ReadFault
-outcome_by (Err fault.Write) = outcome.WriteFault
-outcome_by (Err fault.NoMemory) = outcome.NoMemory
+  pub lawful : AreLawfulIfDone pairing run (outcome_by result)
 
 -- a run into a folder, over these files and behind this text
 abbrev pub start_in : List ℕ → Option Files → Option (List ℕ) → Start

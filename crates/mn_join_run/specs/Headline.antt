@@ -1,5 +1,5 @@
 -- What a script of two joined networks has told and left where all was done.
-use Rattle.std.specs.Prelude.{◌≡◌, ◌<◌, ℕ, List, ◌++◌, length, Option, Some, option_map, Ok, ⊤}
+use Rattle.std.specs.Prelude.{◌≡◌, ◌<◌, ℕ, List, ◌++◌, length, slice_index_or, Option, Some, option_map, Ok, ⊤}
 use Rattle.mn_edge.specs.Files.{Files, file}
 use Rattle.mn_edge.specs.Written.{laid}
 use Rattle.mn_topo.specs.Network.{Network}
@@ -9,18 +9,20 @@ use Rattle.mn_script.specs.Reading.{lines_of}
 use Rattle.mn_joints.specs.Joints.{SitePair, joints_of}
 use Rattle.mn_answer.specs.declared.outcome.Outcome.{Outcome}
 use Rattle.mn_answer.specs.declared.outcome.Outcome.TheVariants.{Done}
+use Rattle.mn_legs.specs.declared.leg.Which.{Which}
 use Rattle.mn_legs.specs.Pairing.{travel}
-use Rattle.mn_legs.specs.Legs.{HasLegs}
 use Rattle.mn_join_report.specs.Pairs.{pairing_of}
 use Rattle.mn_join_script.specs.declared.line.JoinLine.{JoinLine}
 use Rattle.mn_join_script.specs.Language.{join_says}
 use Rattle.mn_join_report.specs.Course.{JoinRun, run_of}
-use Rattle.mn_join_report.specs.Report.{report}
+use Rattle.mn_join_report.specs.Report.{no_line, report}
 use Rattle.mn_join_run.specs.Answer.{exits_files}
+use Rattle.mn_join_run.specs.Promise.{AccountsForLegs, IsAnsweredFor}
 
 -- the two topologies, their joints, the script's lines and the capture's packets are those of the files; the run is the script's over
--- both networks; each packet's legs are its injections, each in the network and at the site to which the leg before was handed on, with
--- what that delivered; what was put is the report of the run, and the file is what came out at sites that aren't joined
+-- both networks; each network keeps what a run of it alone promises; each packet is answered for: its legs are its injections, each in the
+-- network and at the site to which the leg before was handed on, with what that delivered, and what is told as delivered has crossed the
+-- networks of all its legs; what was put is the report of the run, and the file is what came out at sites that aren't joined
 pub record TellsJoin (first_name second_name joints_name script_name capture_name folder : List ℕ) (files : Files) (before : List ℕ)
     (after : Option Files) (written : Option (List ℕ)) : Type 0 where
   pub first : Network
@@ -35,7 +37,9 @@ pub record TellsJoin (first_name second_name joints_name script_name capture_nam
   pub lines_read : option_map (lines_of (join_says first second) 1) (file files script_name) ≡ Some (Ok lines)
   pub capture_read : option_map pcap.packets_of (file files capture_name) ≡ Some (Ok packets)
   pub played : run ≡ run_of (pairing_of first second joints) packets lines
-  pub legs : (packet : ℕ) → packet < length run.both.travels → HasLegs (pairing_of first second joints) run.both (travel run.both packet)
+  pub each : (which : Which) → AccountsForLegs (pairing_of first second joints) run.both which
+  pub answered : (k : ℕ) → k < length run.both.travels →
+      IsAnsweredFor (pairing_of first second joints) packets run.both (slice_index_or run.sendings k no_line) (travel run.both k)
   pub told : written ≡ Some (before ++ report (pairing_of first second joints) run)
   pub written_files : after ≡ Some (laid (exits_files folder run) files)
 

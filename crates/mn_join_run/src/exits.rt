@@ -121,11 +121,7 @@ impl ExitsFile {
         let mut k: u32 = 0;
         'exits: while let Some(exit) = pair.delivery(k) {
             self.put_exit(shelf, exit.tick, exit.bytes)?;
-            // There is no memory for more than numbers name.
-            let Some(next) = k.checked_add(1) else {
-                return Err(DeviceBad::NoMemory);
-            };
-            k = next;
+            k += 1;
         }
         Ok(())
     }

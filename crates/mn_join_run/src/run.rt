@@ -16,7 +16,7 @@ ghost use Rattle.mn_join_report.specs.Course.{JoinRun, run_of};
 ghost use Rattle.mn_join_run.specs.Answer.{join_done};
 ghost use Rattle.mn_join_run.specs.Outside.{Start, outside};
 ghost use Rattle.mn_join_run.specs.Playing.{Went};
-ghost use Rattle.mn_join_run.specs.Ending.{AreAtFirst, IsEnded, HasEnded, last_text, RunEnds, outcome_by, start_in};
+ghost use Rattle.mn_join_run.specs.Ending.{AreAtFirst, IsEnded, HasEnded, last_text, outcome_by, AreLawfulIfDone, RunEnds, start_in};
 
 use crate::desk::Desk;
 use crate::exits::ExitsFile;
@@ -144,6 +144,8 @@ pub(crate) fn join_networks<S: Shelf, O: Sink>(
     requires apart { is_inside capture.now.name folder.now ≡ false }
     ensures answers { ForSome (S.files shelf.old) (λ m. ForSome (file m capture.now.name) (λ bytes.
         Answers (Some (join_done folder.now (pairing_of first second joints.now) lines.now (packets_in capture.now bytes))) m (S.files shelf.new) (O.written out.old) (O.written out.new) result)) }
+    ensures lawful { ForSome (S.files shelf.old) (λ m. ForSome (file m capture.now.name) (λ bytes.
+        AreLawfulIfDone (pairing_of first second joints.now) (run_of (pairing_of first second joints.now) (packets_in capture.now bytes) lines.now) result)) }
     ensures cause { CausedBy (S.read_faults shelf.old, S.write_faults shelf.old, O.faults out.old)
         (S.read_faults shelf.new, S.write_faults shelf.new, O.faults out.new) result }
     ensures usage { result ≢ Outcome.Usage }

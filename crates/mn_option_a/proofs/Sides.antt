@@ -1,8 +1,9 @@
 -- One network: what it does is what has happened in it.
-use Rattle.std.proofs.Common.{ℕ, ◌≡◌, ◌+◌, ◌≤◌, true, false, List, [], ◌∷◌, ◌++◌, length, Option, Some, None, Result, Ok, Err, OnOk, OnErr, arith}
+use Rattle.std.proofs.Common.{ℕ, zero, suc, ◌≡◌, ◌+◌, ◌<◌, ◌≤◌, true, false, List, [], ◌∷◌, ◌++◌, length, Option, Some, None, Result, Ok, Err, OnOk, OnErr, arith}
 use Rattle.std.proofs.Common.{sym, ◌∙◌, ap, subst, slice_index_or}
-use Rattle.std.specs.Prelude.{slice_get}
+use Rattle.std.specs.Prelude.{slice_get, slice_index}
 use Rattle.std.proofs.lemmas.List.{length_push}
+use Rattle.std.proofs.lemmas.Option.{same_Some}
 use Rattle.mn_base.specs.declared.numbers.SiteNo.{SiteNo}
 use Rattle.mn_topo.specs.Steps.{fits}
 use Rattle.mn_topo.specs.declared.steps.Step.{Step}
@@ -23,6 +24,7 @@ use Rattle.mn_ledger.specs.Refusal.{refusal}
 use Rattle.mn_ledger.specs.Time.{ticks_in}
 use Rattle.mn_ledger.proofs.OnePlace.{in_one_place}
 use Rattle.mn_laws.proofs.Copies.{numbered}
+use Rattle.mn_laws.specs.Named.{AreBytes}
 use Rattle.mn_course.specs.declared.coming.Arrivals.{Arrivals}
 use Rattle.mn_course.specs.Coming.{next_arrival}
 use Rattle.mn_course.specs.Course.{Past, with_step, arrived, is_journal_full}
@@ -65,6 +67,13 @@ damage_more : (old new : NetNow) (d : Damage) → IsDamaged old new d
     → IsMore old new (marked old.tick (end_of d) (mark_of d)) (old.tick + ticks_in (end_of d))
 damage_more old new d h = record { topology = h.topology; journal = h.journal; tick = h.tick ∙ no_ticks old.tick d }
 
+-- bytes are sent behind what was sent
+bytes_more : (inputs : List (List ℕ)) (bytes : List ℕ) → AreBytes inputs → ((i : ℕ) → slice_index bytes i < 256) → AreBytes (inputs ++ bytes ∷ [])
+bytes_more [] bytes h small zero there e = subst (λ b. (i : ℕ) → slice_index b i < 256) (same_Some bytes there e) small
+bytes_more [] bytes h small (suc n) there e = absurd (let clash : None ≡ Some there = e in cc)
+bytes_more (first ∷ inputs) bytes h small zero there e = h zero there e
+bytes_more (first ∷ inputs) bytes h small (suc n) there e = bytes_more inputs bytes (λ k. h (suc k)) small n there e
+
 module _ (pairing : Pairing) (which : Which) (now : SideNow) (side : Side) (h : IsSide pairing which now side) where
   same_entries : now.net.journal ≡ side.past.entries
   same_entries = ap (λ (p : Past). p.entries) h.past
@@ -89,6 +98,7 @@ module _ (pairing : Pairing) (which : Which) (now : SideNow) (side : Side) (h : 
     past = ap past_of net ∙ h.past;
     owners = owners ∙ h.owners;
     owned = h.owned;
+    bytes = h.bytes;
     joined = λ s. ap (λ ps. joined_to (slice_get ps s)) partners ∙ h.joined s;
   }
 
@@ -101,6 +111,7 @@ module _ (pairing : Pairing) (which : Which) (now : SideNow) (side : Side) (h : 
     past = more_past now.net new.net (marked now.net.tick step mark) (now.net.tick + ticks_in step) long ∙ ap (λ p. marked_step p step mark) h.past;
     owners = owners ∙ h.owners;
     owned = h.owned;
+    bytes = h.bytes;
     joined = λ s. ap (λ ps. joined_to (slice_get ps s)) partners ∙ h.joined s;
   }
 
@@ -141,25 +152,27 @@ module _ (pairing : Pairing) (which : Which) (now : SideNow) (side : Side) (h : 
       (same_damage d bytes) answer left partners owners
 
   -- an injection
-  pub entered_as : (new : SideNow) (site : SiteNo) (number : ℕ) (bytes : List ℕ) (owner : ℕ) → IsLonger now.net new.net (Inject site number)
+  pub entered_as : (new : SideNow) (site : SiteNo) (number : ℕ) (bytes : List ℕ) (owner : ℕ) → ((i : ℕ) → slice_index bytes i < 256)
+      → IsLonger now.net new.net (Inject site number)
       → ((inputs : List (List ℕ)) → StandsFor now.net inputs → StandsFor new.net (with_packet (Inject site number) bytes inputs))
       → new.partners ≡ now.partners → new.owners ≡ now.owners ++ owner ∷ [] → IsSide pairing which new (entered_side side site number bytes owner)
-  entered_as new site number bytes owner long stands partners owners = record {
+  entered_as new site number bytes owner small long stands partners owners = record {
     topology = long.topology ∙ h.topology;
     stands = stands side.inputs h.stands;
     past = longer_past now.net new.net (Inject site number) long ∙ ap (λ p. with_step p (Inject site number)) h.past;
     owners = owners ∙ ap (λ os. os ++ owner ∷ []) h.owners;
     owned = omega (arith, length_push side.owners owner, length_push side.inputs bytes, h.owned);
+    bytes = bytes_more side.inputs bytes h.bytes small;
     joined = λ s. ap (λ ps. joined_to (slice_get ps s)) partners ∙ h.joined s;
   }
 
-  pub enters_done : (new : SideNow) (site : SiteNo) (number : ℕ) (bytes : List ℕ) (owner packet : ℕ)
+  pub enters_done : (new : SideNow) (site : SiteNo) (number : ℕ) (bytes : List ℕ) (owner packet : ℕ) → ((i : ℕ) → slice_index bytes i < 256)
       → refusal now.net.topology now.net.journal side.inputs (Inject site number) bytes ≡ None → packet ≡ length side.inputs
       → IsLonger now.net new.net (Inject site number)
       → ((inputs : List (List ℕ)) → StandsFor now.net inputs → StandsFor new.net (with_packet (Inject site number) bytes inputs))
       → new.partners ≡ now.partners → new.owners ≡ now.owners ++ owner ∷ [] → Enters pairing which side site number bytes owner new (Ok packet)
-  enters_done new site number bytes owner packet answer counted long stands partners owners =
-      (sym (same_refusal (Inject site number) bytes) ∙ answer, counted, entered_as new site number bytes owner long stands partners owners)
+  enters_done new site number bytes owner packet small answer counted long stands partners owners =
+      (sym (same_refusal (Inject site number) bytes) ∙ answer, counted, entered_as new site number bytes owner small long stands partners owners)
 
   pub enters_not : (new : SideNow) (site : SiteNo) (number : ℕ) (bytes : List ℕ) (owner : ℕ) (why : Refused)
       → Answers (refusal now.net.topology now.net.journal side.inputs (Inject site number) bytes) (refused_by why)
@@ -186,6 +199,7 @@ module _ (pairing : Pairing) (which : Which) (now : SideNow) (side : Side) (h : 
       past = came.past ∙ ap (λ p. arrived arrivals p item) h.past;
       owners = owners ∙ h.owners;
       owned = h.owned;
+      bytes = h.bytes;
       joined = λ s. ap (λ ps. joined_to (slice_get ps s)) partners ∙ h.joined s;
     },
   )

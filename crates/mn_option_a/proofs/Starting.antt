@@ -1,5 +1,5 @@
 -- A pair at its start, and as it is kept from line to line.
-use Rattle.std.proofs.Common.{ℕ, ◌≡◌, ◌<◌, List, [], ◌++◌, length, slice_index_or, Err, refl, arith, ap, ◌∙◌, subst, sym}
+use Rattle.std.proofs.Common.{ℕ, ◌≡◌, ◌<◌, List, [], ◌++◌, length, slice_index_or, Some, None, Err, refl, arith, ap, ◌∙◌, subst, sym}
 use Rattle.std.specs.Prelude.{slice_get}
 use Rattle.std.specs.List.{All}
 use Rattle.mn_base.proofs.Bools.{none_below}
@@ -24,6 +24,7 @@ starts_side pairing which now topology stands journal tick owners joined = recor
   past = ap (λ t. record { clock = t; entries = now.net.journal }) tick ∙ ap (λ j. record { clock = 0; entries = j }) journal;
   owners = owners;
   owned = refl;
+  bytes = λ packet there e. absurd (let clash : None ≡ Some there = e in cc);
   joined = joined;
 }
 

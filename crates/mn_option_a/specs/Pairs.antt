@@ -3,6 +3,7 @@ use Rattle.std.specs.Prelude.{◌≡◌, ◌≢◌, ◌<◌, ◌≤◌, ◌*◌,
 use Rattle.std.specs.List.{All, AllPairs}
 use Rattle.mn_base.specs.declared.numbers.SiteNo.{SiteNo}
 use Rattle.mn_topo.specs.Network.{Network}
+use Rattle.mn_laws.specs.Named.{AreBytes}
 use Rattle.mn_net_now.specs.Now.{NetNow, StandsFor}
 use Rattle.mn_sched.specs.Playing.{past_of}
 use Rattle.mn_legs.specs.declared.leg.Which.{Which}
@@ -59,12 +60,14 @@ LeadTo other partners = LeadBelow (length other.sites) partners
 abbrev pub IsPacedFromStart : NetNow → Type 0
 IsPacedFromStart net = net.tick ≤ 1000000 * length net.journal
 
--- What holds of every pair. Each packet has the number of a record, from 1; and the clocks are behind their steps until a line is stopped.
+-- What holds of every pair. Each packet has the number of a record, from 1; what came out in a line is numbered; and the clocks are behind
+-- their steps until a line is stopped.
 pub record IsPair (pair : PairNow) : Type 0 where
   pub first_joints : LeadTo pair.second.net.topology pair.first.partners
   pub second_joints : LeadTo pair.first.net.topology pair.second.partners
   pub numbers : All (λ packet. 1 ≤ packet.number) pair.travels
   pub few : length pair.travels < 2 ^ 32
+  pub few_exits : length pair.exits < 2 ^ 32
   pub first_clock : pair.stopped ≡ None → IsPacedFromStart pair.first.net
   pub second_clock : pair.stopped ≡ None → IsPacedFromStart pair.second.net
 
@@ -76,13 +79,14 @@ joined_to None = None
 joined_to (Some None) = None
 joined_to (Some (Some site)) = Some site.0
 
--- a network works, and is what has happened in it; its joints are those of the pairing
+-- a network works, and is what has happened in it; what was sent into it are bytes; its joints are those of the pairing
 pub record IsSide (pairing : Pairing) (which : Which) (now : SideNow) (side : Side) : Type 0 where
   pub topology : now.net.topology ≡ network pairing which
   pub stands : StandsFor now.net side.inputs
   pub past : past_of now.net ≡ side.past
   pub owners : now.owners ≡ side.owners
   pub owned : length side.owners ≡ length side.inputs
+  pub bytes : AreBytes side.inputs
   pub joined : (s : ℕ) → joined_to (slice_get now.partners s) ≡ partner pairing which s
 
 -- each injection is a leg of a packet

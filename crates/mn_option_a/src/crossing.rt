@@ -1,5 +1,5 @@
 //! A packet on its way over both networks: it is sent into one, and handed over to the other where that has delivered it at a joint.
-ghost use Rattle.std.specs.Prelude.{◌≡◌, ◌≢◌, ◌≤◌, ◌<◌, ◌++◌, ◌∷◌, [], ℕ, List, true, length, IfOk, OnErr, OnOk};
+ghost use Rattle.std.specs.Prelude.{◌≡◌, ◌≢◌, ◌≤◌, ◌<◌, ◌+◌, ◌++◌, ◌∷◌, [], ℕ, List, true, length, IfOk, OnErr, OnOk};
 ghost use Rattle.std.specs.List.{All};
 ghost use Rattle.mn_topo.specs.Steps.{fits};
 ghost use Rattle.mn_topo.specs.declared.steps.Step.TheVariants as step;
@@ -131,6 +131,8 @@ pub(crate) fn hand_over(
         HandsOver pairing which both here.now there.new crossings.new.items exits.old.items exits.new.items result }
     ensures numbers { All (λ packet. 1 ≤ packet.number) crossings.new.items }
     ensures as_many { length crossings.new.items ≡ length crossings.old.items }
+    ensures one_more { length exits.new.items ≤ length exits.old.items + 1 }
+    ensures entered { IfOk result (λ entered. entered ≡ true → exits.new.items ≡ exits.old.items) }
     ensures goes { GoesOn there.old there.new }
     ensures left { OnErr result ((there.new.net.journal ≡ there.old.net.journal) × (exits.new.items ≡ exits.old.items)) }
     ensures paced { IsPacedFromStart there.old.net → IsPacedFromStart there.new.net }

@@ -1,5 +1,5 @@
 //! What a line asks for, step by step, each with what it hands on.
-ghost use Rattle.std.specs.Prelude.{◌≡◌, ◌≢◌, ◌≤◌, ◌^◌, ℕ, List, [], true, false, None, IfOk, OnOk, OnErr};
+ghost use Rattle.std.specs.Prelude.{◌≡◌, ◌≢◌, ◌≤◌, ◌<◌, ◌+◌, ◌^◌, ℕ, List, [], true, false, None, length, IfOk, OnOk, OnErr};
 ghost use Rattle.mn_topo.specs.Steps.{fits};
 ghost use Rattle.mn_topo.specs.declared.steps.Step.TheVariants as step;
 ghost use Rattle.mn_entry.specs.Damages.{damage_fits};
@@ -67,9 +67,12 @@ fn most_of(most: Option<u32>) -> u32
 impl Pair {
     /// What a network has just delivered enters the other, or comes out. It answers whether a packet entered.
     fn cross(&mut self, which: Which) -> Result<bool, PairBad>
+        requires few { length self.old.exits + 1 < 2 ^ 32 }
         ensures crosses { (pairing : Pairing) (both : Both) → PairStands pairing self.old both → Crosses pairing which both self.old self.new result }
         ensures goes { PairGoesOn self.old self.new }
         ensures left { OnErr result (StoodStill self.old self.new) }
+        ensures one_more { length self.new.exits ≤ length self.old.exits + 1 }
+        ensures entered { IfOk result (λ entered. entered ≡ true → self.new.exits ≡ self.old.exits) }
         ensures stopped { self.new.stopped ≡ self.old.stopped }
     {
         match which {
@@ -94,8 +97,10 @@ impl Pair {
 
     /// What a network has just delivered goes on, from one network into the other, until no packet enters.
     fn hand_on(&mut self, which: Which) -> Result<(), PairBad>
+        requires few { length self.old.exits + 1 < 2 ^ 32 }
         ensures takes { (pairing : Pairing) (both : Both) → PairStands pairing self.old both → Takes pairing (handed_on pairing which both) self.old self.new result }
         ensures goes { PairGoesOn self.old self.new }
+        ensures one_more { length self.new.exits ≤ length self.old.exits + 1 }
         ensures stopped { self.new.stopped ≡ self.old.stopped }
     {
         let mut which = which;

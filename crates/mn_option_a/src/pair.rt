@@ -1,5 +1,5 @@
 //! Two networks that are joined.
-ghost use Rattle.std.specs.Prelude.{◌≡◌, ◌≢◌, ◌<◌, ℕ, List, [], true, Some, None, Err, length, slice_get, slice_index_or, option_map, IfOk, IfSome};
+ghost use Rattle.std.specs.Prelude.{◌≡◌, ◌≢◌, ◌<◌, ◌+◌, ◌^◌, ℕ, List, [], true, Some, None, Err, length, slice_get, slice_index_or, option_map, IfOk, IfSome};
 ghost use Rattle.mn_script.specs.Lines.{command_fits};
 ghost use Rattle.mn_legs.specs.Pairing.{Pairing, Both, at_first, travel, no_travel};
 ghost use Rattle.mn_legs.specs.Course.{played};
@@ -177,8 +177,9 @@ impl Pair {
     /// A delivery of the last line at a site that isn't joined, by its number from 0, in the order of the steps; `None` where there were no
     /// more.
     pub fn delivery(&self, k: u32) -> Option<Delivery<'_>>
-        ensures { option_map (λ delivery. record { which = delivery.which; site = delivery.site.0; tick = delivery.tick; bytes = delivery.bytes.now }) result
+        ensures told { option_map (λ delivery. record { which = delivery.which; site = delivery.site.0; tick = delivery.tick; bytes = delivery.bytes.now }) result
             ≡ slice_get self.now.exits k }
+        ensures few { IfSome result (λ delivery. k + 1 < 2 ^ 32) }
     {
         let kept = self.exits.get(k as usize)?;
         Some(Delivery {

@@ -9,7 +9,6 @@ use Rattle.mn_answer.proofs.Ending.{fault_answers, memory_answers}
 use Rattle.mn_join_report.specs.Pairs.{pairing_of}
 use Rattle.mn_perform.specs.Inside.{is_inside}
 use Rattle.mn_join_run.specs.Answer.{join_done, with_script}
-use Rattle.mn_join_run.proofs.Legs.{all_have_legs}
 use Rattle.mn_join_run.proofs.Told.{undone, refused, played_told}
 use Rattle.mn_join_run.proofs.command.join_script.Goals as goal
 
@@ -32,7 +31,8 @@ returns-in-Ok-Ok-clause-told g c = λ m is before begun one two three four read_
     (g.O.Sink.written c.join_networks.new.out) c.args.first c.args.second c.args.joints.now c.args.lines.now
     (packets_in c.in-Ok-Ok.capture read.0) c.join_networks.result read_one read_two read_three read_four
     (ap (option_map pcap.packets_of) read.1 ∙ ap (λ p. Some p) read.2)
-    (all_have_legs pairing (packets_in c.in-Ok-Ok.capture read.0) c.args.lines.now (c.each_packet_has_its_legs.ensures pairing)) answers.files_are
+    c.laws.ensures c.laws-2.ensures
+    (c.join_networks.ensures.lawful m (c.load_capture.ensures.same ∙ is) read.0 (ap (file m) named ∙ read.1)) answers.outcome_is answers.files_are
     (answers.text_is before begun)
 
 pub join_networks-requires-clause-apart : goal.join_networks-requires-clause-apart

@@ -8,7 +8,7 @@ use Rattle.mn_edge.specs.Written.{laid}
 use Rattle.mn_join_report.specs.Report.{exits_file}
 use Rattle.mn_join_run.specs.Outside.{Holding, Beginning}
 use Rattle.mn_join_run.specs.Ending.{RunEnds}
-use Rattle.mn_join_run.proofs.Ends.{stood, has_ended, ends_as, file_fails, text_fails, all_ends}
+use Rattle.mn_join_run.proofs.Ends.{stood, has_ended, ends_as, ended_lawful, file_fails, text_fails, all_ends}
 use Rattle.mn_join_run.proofs.Runs.{no_read_of, report_part, report_cut, report_put}
 use Rattle.mn_join_run.proofs.run.finish.Goals as goal
 
@@ -59,7 +59,8 @@ returns-clause-went g c = λ pairing start run names framed went.
     Holding n bytes c.args.file.now.held (g.S.Shelf.files c.args.shelf.now) → g.S.Shelf.files c.end.new.shelf ≡ Some (laid (named n (λ _. bytes)) m))
     (sym names) c.in_ok-end.ensures.whole in
     all_ends pairing start run c.args.desk.now.page (g.O.Sink.written c.args.out.now) c.args.file.now.held (g.S.Shelf.files c.args.shelf.now)
-    (g.S.Shelf.files c.end.new.shelf) stands c.args.how (ends_as pairing start run _ _ _ c.args.how went) (g.O.Sink.written c.end-2.new.out)
+    (g.S.Shelf.files c.end.new.shelf) stands c.args.how (ends_as pairing start run _ _ _ c.args.how went)
+    (ended_lawful pairing start run _ _ _ c.args.how went) (g.O.Sink.written c.end-2.new.out)
     (λ m is. whole (exits_file run.exits) m (subst (λ b. Framed start.names b (g.S.Shelf.files c.args.shelf.now)) is framed) (stands.file m is))
     (λ before is. report_put pairing run before _ _ _ _ _ _ (stands.text before is)
     (c.in_ok-put_last.ensures.told pairing run (has_ended pairing start run _ _ _ c.args.how went)).put c.in_ok-end-2.ensures.put c.in_ok-end-2.ensures.ended)

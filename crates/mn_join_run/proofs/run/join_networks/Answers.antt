@@ -9,7 +9,7 @@ use Rattle.mn_join_report.specs.Pairs.{pairing_of}
 use Rattle.mn_join_script.specs.Language.{line_fits}
 use Rattle.mn_join_report.specs.Course.{run_of}
 use Rattle.mn_join_run.specs.Answer.{run_done, join_done}
-use Rattle.mn_join_run.specs.Ending.{RunEnds, start_in}
+use Rattle.mn_join_run.specs.Ending.{AreLawfulIfDone, RunEnds, start_in}
 use Rattle.mn_join_run.proofs.Telling.{played, blames, no_usage}
 use Rattle.mn_join_run.proofs.run.join_networks.Goals as goal
 
@@ -35,6 +35,16 @@ returns-in-Ok-clause-answers g c = λ m is bytes there.
     (subst (λ o. RunEnds pairing (start_in c.args.folder.now o (g.O.Sink.written c.args.out.now)) run (g.S.Shelf.files c.perform.new.shelf)
     (g.O.Sink.written c.perform.new.out) c.perform.result) is
     (c.perform.ensures.ends pairing c.in-Ok.ensures.stands c.in-Ok.ensures.goes m is bytes there)))
+
+pub returns-in-Ok-clause-lawful : goal.returns-in-Ok-clause-lawful
+returns-in-Ok-clause-lawful g c = λ m is bytes there.
+    let pairing = pairing_of c.args.first c.args.second c.args.joints.now in
+    let run = run_of pairing (packets_in c.args.capture.now bytes) c.args.lines.now in
+    subst (AreLawfulIfDone pairing run) (sym c.outcome_by.ensures)
+    (c.perform.ensures.ends pairing c.in-Ok.ensures.stands c.in-Ok.ensures.goes m is bytes there).lawful
+
+pub returns-in-Err-clause-lawful : goal.returns-in-Err-clause-lawful
+returns-in-Err-clause-lawful g c = λ m is bytes there. tt
 
 pub returns-in-Ok-clause-cause : goal.returns-in-Ok-clause-cause
 returns-in-Ok-clause-cause g c =

@@ -1,7 +1,6 @@
 use Rattle.std.proofs.Common.{◌≡◌, ◌<◌, ◌+◌, ◌-◌, ◌++◌, List, length, take, Some, None, sym, ◌∙◌, subst, arith}
 use Rattle.std.specs.Prelude.{slice_get}
 use Rattle.std.specs.List.{flat_map}
-use Rattle.mn_edge.specs.KeptLaws.{begins_on}
 use Rattle.mn_perform.proofs.Adding.{on_err, framed_then}
 use Rattle.mn_legs.specs.Course.{Exit}
 use Rattle.mn_join_report.specs.Report.{exit_record}
@@ -19,18 +18,15 @@ exits-preserved g c =
       tick = c.in-Some.exit.tick;
       bytes = c.in-Some.exit.bytes.now;
     } in
-    let is : slice_get exits c.exits.k ≡ Some exit = rw c.in-Some.is at (sym c.delivery.ensures) in
-    let next : c.in-Some-checked_add.next ≡ c.exits.k + 1 = c.in-Some-checked_add.ensures.1 in
+    let is : slice_get exits c.exits.k ≡ Some exit = rw c.in-Some.is at (sym c.delivery.ensures.told) in
     record {
-      within = let w = exit_within exits c.exits.k exit is in omega (arith, next, w);
+      within = let w = exit_within exits c.exits.k exit is in omega (arith, w);
       names = c.put_exit.ensures.names ∙ i.names;
       framed = framed_then c.args.self.now.names c.exits.self.names _ _ _ i.names i.framed c.put_exit.ensures.framed;
       grown = λ bytes holding.
-          subst (λ n. Holding c.args.self.now.names (bytes ++ flat_map exit_record (take n exits)) c.put_exit.new.self.held (g.S.Shelf.files c.put_exit.new.shelf))
-          (sym next)
-          (both_grow c.args.self.now.names c.exits.self.names bytes (flat_map exit_record (take c.exits.k exits)) (exit_record exit)
+          both_grow c.args.self.now.names c.exits.self.names bytes (flat_map exit_record (take c.exits.k exits)) (exit_record exit)
           (flat_map exit_record (take (c.exits.k + 1) exits)) c.exits.self.held c.put_exit.new.self.held _ _ i.names (exits_more exits c.exits.k exit is)
-          c.in_ok-put_exit.ensures.grown (i.grown bytes holding));
+          c.in_ok-put_exit.ensures.grown (i.grown bytes holding);
       reads = c.put_exit.ensures.reads ∙ i.reads;
       writes = c.in_ok-put_exit.ensures.writes ∙ i.writes;
     }
@@ -44,10 +40,9 @@ exits-smaller g c =
       tick = c.in-Some.exit.tick;
       bytes = c.in-Some.exit.bytes.now;
     } in
-    let is : slice_get exits c.exits.k ≡ Some exit = rw c.in-Some.is at (sym c.delivery.ensures) in
-    let next : c.in-Some-checked_add.next ≡ c.exits.k + 1 = c.in-Some-checked_add.ensures.1 in
+    let is : slice_get exits c.exits.k ≡ Some exit = rw c.in-Some.is at (sym c.delivery.ensures.told) in
     let w = exit_within exits c.exits.k exit is in
-    let e : length exits - c.in-Some-checked_add.next < length exits - c.exits.k = omega (arith, next, w) in e
+    let e : length exits - (c.exits.k + 1) < length exits - c.exits.k = omega (arith, w) in e
 
 pub returns-in_err-put_exit-clause-part : goal.returns-in_err-put_exit-clause-part
 returns-in_err-put_exit-clause-part g c = on_err c.from_residual.result _ (λ bytes holding.
@@ -59,7 +54,7 @@ returns-in_err-put_exit-clause-part g c = on_err c.from_residual.result _ (λ by
       tick = c.in-Some.exit.tick;
       bytes = c.in-Some.exit.bytes.now;
     } in
-    let is : slice_get exits c.exits.k ≡ Some exit = rw c.in-Some.is at (sym c.delivery.ensures) in
+    let is : slice_get exits c.exits.k ≡ Some exit = rw c.in-Some.is at (sym c.delivery.ensures.told) in
     let rest = exits_begin exits (c.exits.k + 1) in
     first_grows c.args.self.now.names bytes (flat_map exit_record (take (c.exits.k + 1) exits)) rest.0 (flat_map exit_record exits)
     (g.S.Shelf.files c.put_exit.new.shelf) rest.1
@@ -71,32 +66,9 @@ pub returns-in_err-put_exit-clause-framed : goal.returns-in_err-put_exit-clause-
 returns-in_err-put_exit-clause-framed g c =
     framed_then c.args.self.now.names c.exits.self.names _ _ _ c.exits.invariant.names c.exits.invariant.framed c.put_exit.ensures.framed
 
-pub returns-in_default-checked_add-clause-part : goal.returns-in_default-checked_add-clause-part
-returns-in_default-checked_add-clause-part g c = λ bytes holding.
-    let i = c.exits.invariant in
-    let exits : List Exit = c.args.pair.now.exits in
-    let exit : Exit = record {
-      which = c.in-Some.exit.which;
-      site = c.in-Some.exit.site.0;
-      tick = c.in-Some.exit.tick;
-      bytes = c.in-Some.exit.bytes.now;
-    } in
-    let is : slice_get exits c.exits.k ≡ Some exit = rw c.in-Some.is at (sym c.delivery.ensures) in
-    let rest = exits_begin exits (c.exits.k + 1) in
-    first_grows c.args.self.now.names bytes (flat_map exit_record (take (c.exits.k + 1) exits)) rest.0 (flat_map exit_record exits)
-    (g.S.Shelf.files c.put_exit.new.shelf) rest.1
-    (begins_on c.args.self.now.names _ c.put_exit.new.self.held _
-    (both_grow c.args.self.now.names c.exits.self.names bytes (flat_map exit_record (take c.exits.k exits)) (exit_record exit)
-    (flat_map exit_record (take (c.exits.k + 1) exits)) c.exits.self.held c.put_exit.new.self.held _ _ i.names (exits_more exits c.exits.k exit is)
-    c.in_ok-put_exit.ensures.grown (i.grown bytes holding)))
-
-pub returns-in_default-checked_add-clause-framed : goal.returns-in_default-checked_add-clause-framed
-returns-in_default-checked_add-clause-framed g c =
-    framed_then c.args.self.now.names c.exits.self.names _ _ _ c.exits.invariant.names c.exits.invariant.framed c.put_exit.ensures.framed
-
 pub returns-clause-grown : goal.returns-clause-grown
 returns-clause-grown g c = λ bytes holding.
     let exits : List Exit = c.args.pair.now.exits in
-    let none : slice_get exits c.exits.k ≡ None = rw c.in_default.is at (sym c.delivery.ensures) in
+    let none : slice_get exits c.exits.k ≡ None = rw c.in_default.is at (sym c.delivery.ensures.told) in
     subst (λ l. Holding c.args.self.now.names (bytes ++ flat_map exit_record l) c.exits.self.held (g.S.Shelf.files c.exits.shelf))
     (no_exit_more exits c.exits.k none) (c.exits.invariant.grown bytes holding)

@@ -1,4 +1,4 @@
-use Rattle.std.proofs.Common.{◌≡◌, Ok, true, false, ◌∙◌, subst, arith}
+use Rattle.std.proofs.Common.{◌≡◌, Ok, true, false, ◌∙◌, ap, subst, arith, length}
 use Rattle.std.proofs.lemmas.Result.{err_from_is_err_and}
 use Rattle.mn_option_a.specs.Moves.{ArrivesIn}
 use Rattle.mn_option_a.proofs.Coursing.{comes_first, comes_end, comes_next, comes_wrong, stops_wrong, comes_out, pair_still, pair_on}
@@ -8,6 +8,7 @@ pub loop-turn-init : goal.loop-turn-init
 loop-turn-init c = record {
   comes = λ pairing both stands. comes_first pairing c.args.which c.args.arrivals both c.args.most c.args.self.now stands c.requires.fresh;
   goes = pair_still c.args.self.now;
+  exits = omega (arith, ap length c.requires.fresh);
   stopped = c.requires.goes;
 }
 
@@ -66,6 +67,7 @@ loop-turn-preserved c =
           comes_next pairing c.args.which c.args.arrivals both c.args.most l._turn l.self mid c.hand_on.new.self h c.loop-turn-test.true c.arrive.ensures.exits
           arrives.0 arrives.1 arrives.2 (c.in_ok-hand_on.ensures.takes pairing _ arrives.3);
       goes = pair_on c.args.self.now mid c.hand_on.new.self (pair_on c.args.self.now l.self mid l.invariant.goes c.arrive.ensures.goes) c.hand_on.ensures.goes;
+      exits = omega (arith, c.hand_on.ensures.one_more, ap length c.arrive.ensures.exits, l.invariant.exits);
       stopped = c.hand_on.ensures.stopped ∙ c.in_ok-arrive.ensures.stopped;
     }
 

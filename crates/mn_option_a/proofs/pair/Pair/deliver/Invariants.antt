@@ -1,4 +1,4 @@
-use Rattle.std.proofs.Common.{◌≡◌, None}
+use Rattle.std.proofs.Common.{◌≡◌, ◌≤◌, None, length}
 use Rattle.mn_legs.specs.Pairing.{Pairing, Both}
 use Rattle.mn_option_a.specs.Pairs.{PairStands}
 use Rattle.mn_option_a.specs.Moves.{PairGoesOn}
@@ -9,5 +9,6 @@ abbrev pub invariant-loop-turn : goal.invariant-loop-turn
 invariant-loop-turn l = record {
   comes : (pairing : Pairing) (both : Both) → PairStands pairing l.fn.self both → ComesOn pairing l.which l.arrivals both l.most l._turn l.self;
   goes : PairGoesOn l.fn.self l.self;
+  exits : length l.self.exits ≤ l._turn;
   stopped : l.self.stopped ≡ None;
 }

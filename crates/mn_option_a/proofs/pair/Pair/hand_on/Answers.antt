@@ -8,6 +8,7 @@ pub loop-entry-init : goal.loop-entry-init
 loop-entry-init c = record {
   over = λ pairing both stands. goes_first pairing c.args.which both c.args.self.now stands;
   goes = pair_still c.args.self.now;
+  exits = refl;
   stopped = refl;
 }
 
@@ -23,6 +24,7 @@ loop-entry-preserved c =
           (goes_next pairing c.args.which both l._entry l.which c.args.self.now l.self new h c.loop-entry-test.true
           (subst (λ b. Crosses pairing l.which h.later l.self new (Ok b)) entered (c.in_ok-cross.ensures.crosses pairing h.later h.stands)));
       goes = pair_on c.args.self.now l.self new l.invariant.goes c.cross.ensures.goes;
+      exits = c.in_ok-cross.ensures.entered entered ∙ l.invariant.exits;
       stopped = c.cross.ensures.stopped ∙ l.invariant.stopped;
     }
 

@@ -9,5 +9,6 @@ abbrev pub invariant-loop-entry : goal.invariant-loop-entry
 invariant-loop-entry l = record {
   over : (pairing : Pairing) (both : Both) → PairStands pairing l.fn.self both → GoesOver pairing l.fn.which both l._entry l.which l.fn.self l.self;
   goes : PairGoesOn l.fn.self l.self;
+  exits : l.self.exits ≡ l.fn.self.exits;
   stopped : l.self.stopped ≡ l.fn.self.stopped;
 }

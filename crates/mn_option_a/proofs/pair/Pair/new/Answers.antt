@@ -20,6 +20,7 @@ invariant_of-result c = record {
       (c.in_ok-there.ensures.below (length c.args.first.sites) (λ k d below. (c.requires.sites k d below).0));
   numbers = none_of (λ packet. 1 ≤ packet.number) c.new-5.result.items c.new-5.ensures.items;
   few = omega (arith, ap length c.new-5.ensures.items);
+  few_exits = omega (arith, ap length c.new-6.ensures.items);
   first_clock = λ goes. paced_first c.in_ok-new.field-0 c.in_ok-new.ensures.tick;
   second_clock = λ goes. paced_first c.in_ok-new-2.field-0 c.in_ok-new-2.ensures.tick;
 }
