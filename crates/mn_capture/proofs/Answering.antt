@@ -1,5 +1,5 @@
 -- From a scan of the whole file to what the file is.
-use Rattle.std.proofs.Common.{◌≡◌, ◌≤◌, ℕ, false, List, length, map, Some, Ok, Err, ap, subst, arith}
+use Rattle.std.proofs.Common.{◌≡◌, ◌≤◌, ℕ, false, List, length, map, Some, Ok, Err, Option, refl, sym, ◌∙◌, ap, subst, arith}
 use Rattle.mn_pcap.specs.declared.message.Form.{Form}
 use Rattle.mn_pcap.specs.declared.message.Place.{Place}
 use Rattle.mn_pcap.specs.declared.refusal.PcapBad.{PcapBad}
@@ -50,3 +50,14 @@ few_places most_bytes most_records count scan form places t counts few found =
     let all = places_counted t.0 form places f.0 f.1 in
     let size = counted_few most_records count t.0 scan counts few t.2 in
     omega arith
+
+-- the places and the kind of link are the file's
+pub form_whole : (most_bytes most_records count : ℕ) (scan : Scan) (form : Form) (places : List Place) (input : Option (List ℕ)) (bytes : List ℕ)
+    → (whole : List ℕ) × (input ≡ Some whole) × IsTaken most_bytes most_records whole (Some scan) → Counts count scan → count ≤ most_records
+    → Found scan (λ bytes. (header_of bytes ≡ Ok form) × (records_of bytes ≡ Ok places)) → input ≡ Some bytes
+    → (records_of bytes ≡ Ok places) × ((f : Form) × (header_of bytes ≡ Ok f) × (form.link ≡ f.link))
+form_whole most_bytes most_records count scan form places input bytes t counts few found there =
+    let both : ◌≡◌ {A = Option (List ℕ)} (Some t.0) (Some bytes) = sym t.1 ∙ there in
+    let same : t.0 ≡ bytes = cc in
+    let f = found_of most_records count t.0 scan (λ bytes. (header_of bytes ≡ Ok form) × (records_of bytes ≡ Ok places)) counts few t.2.1 found in
+    (subst (λ (b : List ℕ). records_of b ≡ Ok places) same f.1, (form, subst (λ (b : List ℕ). header_of b ≡ Ok form) same f.0, refl))

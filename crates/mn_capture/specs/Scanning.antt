@@ -1,6 +1,7 @@
 -- What scanning a file tells of it.
 use Rattle.std.specs.Prelude.{ℕ, ◌≡◌, ◌≤◌, ◌<◌, List, length, Ok, Err, ⊤}
-use Rattle.mn_pcap.specs.Reading.{count_of, packets_of}
+use Rattle.mn_pcap.specs.Reading.{count_of, header_of, packets_of, records_of}
+use Rattle.mn_pcap.specs.declared.message.Form.{Form}
 use Rattle.mn_pcap.specs.declared.refusal.PcapBad.TheVariants as bad
 use Rattle.mn_capture.specs.Packets.{packets_in}
 use Rattle.mn_capture.specs.declared.read.Scanned.{Scanned}
@@ -21,3 +22,11 @@ IsOf name most_records TooLong = ⊤
 IsOf name most_records TooMany = ⊤
 IsOf name most_records (Refused rule place) = ⊤
 IsOf name most_records (Read capture) = (capture.name ≡ name) × (length capture.places ≤ most_records)
+
+-- also where a record has no packet: a capture's records lie where the file has them, and begin with what its header says
+abbrev pub HasForm : List ℕ → Scanned → Type 0
+HasForm bytes TooLong = ⊤
+HasForm bytes TooMany = ⊤
+HasForm bytes (Refused rule place) = ⊤
+HasForm bytes (Read capture) =
+    (records_of bytes ≡ Ok capture.places) × ((form : Form) × (header_of bytes ≡ Ok form) × (capture.link ≡ form.link))

@@ -3,7 +3,7 @@ ghost use Rattle.std.specs.Prelude.{◌≡◌, ℕ, List, [], Some, OnOk, IfOk, 
 ghost use Rattle.std.specs.Option.{ForSome};
 ghost use Rattle.mn_edge.specs.Faults.{Counted};
 ghost use Rattle.mn_edge.specs.Files.{file};
-ghost use Rattle.mn_capture.specs.Scanning.{IsOf, IsScanned};
+ghost use Rattle.mn_capture.specs.Scanning.{HasForm, IsOf, IsScanned};
 ghost use Rattle.mn_capture.specs.Taking.{HasSome, HasTaken, IsTaken};
 
 use crate::capture::Capture;
@@ -39,6 +39,8 @@ pub fn scan<S: Shelf>(
 ) -> Result<Scanned, DeviceBad>
     ensures answer { IfOk result (λ s. ForSome (S.files shelf.old) (λ files.
         (bytes : List ℕ) × (file files name.now ≡ Some bytes) × IsScanned bytes most_bytes most_records s)) }
+    ensures form { IfOk result (λ s. ForSome (S.files shelf.old) (λ files.
+        ForSome (file files name.now) (λ bytes. HasForm bytes s))) }
     ensures of { IfOk result (IsOf name.now most_records) }
     ensures same { S.files shelf.new ≡ S.files shelf.old }
     ensures reads { Counted (S.read_faults shelf.old) (S.read_faults shelf.new) result }

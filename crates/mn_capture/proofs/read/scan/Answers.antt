@@ -1,7 +1,7 @@
 use Rattle.std.proofs.Common.{◌≡◌, Some}
 use Rattle.mn_edge.specs.Files.{file}
 use Rattle.mn_capture.proofs.Feeds.{too_many}
-use Rattle.mn_capture.proofs.Answering.{read_whole}
+use Rattle.mn_capture.proofs.Answering.{form_whole, read_whole}
 use Rattle.mn_capture.proofs.read.scan.Goals as goal
 
 pub returns-then-count-most_records-clause-answer : goal.returns-then-count-most_records-clause-answer
@@ -14,3 +14,8 @@ returns-in-Ok-clause-answer g c = λ m is.
     read_whole (λ bytes. file m c.args.name.now ≡ Some bytes) c.args.most_bytes c.args.most_records c.count.result c.in-Some.scan c.in-Ok.form
     c.in-Ok.places.items
     (rw c.in-Some.is at (c.in_ok-scan.ensures.told m is)) c.count.ensures c.if-count-most_records.false c.in-Ok.ensures.found
+
+pub returns-in-Ok-clause-form : goal.returns-in-Ok-clause-form
+returns-in-Ok-clause-form g c = λ m is bytes there.
+    form_whole c.args.most_bytes c.args.most_records c.count.result c.in-Some.scan c.in-Ok.form c.in-Ok.places.items (file m c.args.name.now) bytes
+    (rw c.in-Some.is at (c.in_ok-scan.ensures.told m is)) c.count.ensures c.if-count-most_records.false c.in-Ok.ensures.found there
