@@ -1,15 +1,20 @@
 //! The real outside: files by name, and a stream of bytes as standard output.
 //!
-//! Both are the devices of `mn_edge` over what the system gives. They tell no content, so a program over them is
-//! promised causes and not bytes: each failure of a call rises its count of faults, and want of memory is
-//! answered as such, and is no fault. The last failure is kept, to be told to who runs the program. A program with thousands of files needs few descriptors: at most 64 files
-//! are open at a time, those that were used last, so that an append in the common case opens nothing.
+//! Both are the devices of `mn_edge` over what the system gives. Real files tell no content, nor does standard
+//! output, so a program over them is promised causes and not bytes: each failure of a call rises its count of
+//! faults, and want of memory is answered as such, and is no fault. The last failure is kept, to be told to who
+//! runs the program. The sink is over any stream: where that tells its bytes, so does the sink.
+//!
+//! A program with thousands of files needs few descriptors: at most 64 files are open at a time, those that were
+//! used last, so that an append in the common case opens nothing. How far each file was told of is kept, so that
+//! one that was cut meanwhile isn't taken for one that ends there.
 #![tactic(auto)]
 
 mod fault; // which failures count, and what is kept of the last one
 mod open_files; // the files that are open
 mod shelf;
 mod sink;
+mod told; // how far files were told of
 
 pub use fault::{Call, Failure};
 pub use shelf::HostShelf;

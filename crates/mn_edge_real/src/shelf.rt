@@ -1,15 +1,23 @@
 //! Files by name.
-ghost use Rattle.std.specs.Prelude.{◌≤◌, None};
+ghost use Rattle.std.specs.Prelude.{◌≡◌, ◌+◌, ◌^◌, ◌-◌, ◌≤◌, ◌<◌, [], None, Some, max, min, length, IfOk, OnOk, OnErr};
+ghost use Rattle.std.specs.Option.{ForSome};
+ghost use Rattle.mn_edge.specs.Faults.{Counted};
+ghost use Rattle.mn_edge.specs.Files.{Fetched, MayBegin, with_file};
+ghost use Rattle.mn_edge_real.specs.Ends.{end_of, untold};
 
 use crate::fault::{Call, Failure, counted};
 use crate::open_files::OpenFiles;
+use crate::told::Told;
 use mn_edge::{DeviceBad, Shelf};
+use std::io;
+use std::io::{Error, ErrorKind};
 
 /// Files by name, at most 64 of them open at a time. It tells nothing of them.
 #[derive(Drop)]
 pub struct HostShelf<'a> {
     rt: &'a HostRuntime,
     files: OpenFiles<'a>,
+    told: Told,
     failure: Option<Failure>,
     read_faults: u64,
     write_faults: u64,
@@ -20,6 +28,7 @@ impl<'a> HostShelf<'a> {
         HostShelf {
             rt,
             files: OpenFiles::new(rt),
+            told: Told::new(rt.alloc()),
             failure: None,
             read_faults: 0,
             write_faults: 0,
@@ -37,6 +46,22 @@ impl<'a> HostShelf<'a> {
     pub fn failure(&self) -> Option<&Failure> {
         self.failure.as_ref()
     }
+
+    /// Reads, and keeps how far the file was told of. One that ends before that has lost bytes, which is an error.
+    fn read(&mut self, name: &str, at: u64, buf: &mut [u8]) -> io::Result<usize>
+        ensures told { IfOk result (λ n. end_of self.new name.now
+            ≡ max (end_of self.old name.now) (min (at + n) (2 ^ 64 - 1))) }
+        ensures cut { IfOk result (λ n. n ≡ 0 → 0 < length buf.new → end_of self.old name.now ≤ at) }
+        ensures reads { self.new.read_faults ≡ self.old.read_faults }
+        ensures writes { self.new.write_faults ≡ self.old.write_faults }
+    {
+        let count = self.files.read_at(name, at, buf)?;
+        if count == 0 && !buf.is_empty() && at < self.told.end(name) {
+            return Err(Error::from(ErrorKind::UnexpectedEof));
+        }
+        self.told.reach(name, at.saturating_add(count as u64))?;
+        Ok(count)
+    }
 }
 
 impl<'a> Shelf for HostShelf<'a> {
@@ -46,9 +71,22 @@ impl<'a> Shelf for HostShelf<'a> {
 
     ghost write_faults = { λ s. s.write_faults };
 
-    fn fetch(&mut self, name: &str, at: u64, buf: &mut [u8]) -> Result<usize, DeviceBad> {
+    fn fetch(&mut self, name: &str, at: u64, buf: &mut [u8]) -> Result<usize, DeviceBad>
+        ensures room { IfOk result (λ n. n ≤ length buf.new) }
+        ensures content { IfOk result (λ n.
+            ForSome untold (λ m. Fetched m name.now at n buf.new)) }
+        ensures same { untold ≡ untold }
+        ensures silent { untold ≡ None → untold ≡ None }
+        ensures reads { Counted self.old.read_faults self.new.read_faults result }
+        ensures writes { self.new.write_faults ≡ self.old.write_faults }
+
+        // What this shelf says besides: a file that was told of further than this isn't at its end here.
+        ensures told { IfOk result (λ n. end_of self.new name.now
+            ≡ max (end_of self.old name.now) (min (at + n) (2 ^ 64 - 1))) }
+        ensures cut { IfOk result (λ n. n ≡ 0 → 0 < length buf.new → end_of self.old name.now ≤ at) }
+    {
         let room = buf.len();
-        match self.files.read_at(name, at, buf) {
+        match self.read(name, at, buf) {
             Ok(count) if count <= room => Ok(count),
             Ok(_) => {
                 self.read_faults = self.read_faults.saturating_add(1);
@@ -62,7 +100,19 @@ impl<'a> Shelf for HostShelf<'a> {
         }
     }
 
-    fn begin(&mut self, name: &str) -> Result<(), DeviceBad> {
+    fn begin(&mut self, name: &str) -> Result<(), DeviceBad>
+        ensures made { OnOk result (
+            ForSome untold (λ m. untold ≡ Some (with_file m name.now []))) }
+        ensures refused { OnErr result (
+            ForSome untold (λ m. MayBegin m name.now untold)) }
+        ensures silent { untold ≡ None → untold ≡ None }
+        ensures writes { Counted self.old.write_faults self.new.write_faults result }
+        ensures reads { self.new.read_faults ≡ self.old.read_faults }
+
+        // What this shelf says besides: the file's end is wherever it now is.
+        ensures told { end_of self.new name.now ≡ 0 }
+    {
+        self.told.forget(name);
         match self.files.begin(name) {
             Ok(()) => Ok(()),
             Err(error) => {

@@ -1,31 +1,45 @@
 //! A stream of bytes.
-ghost use Rattle.std.specs.Prelude.{◌≡◌, None};
+ghost use Rattle.std.specs.Prelude.{◌≡◌, ◌++◌, ℕ, [], Some, take, OnOk, OnErr};
+ghost use Rattle.std.specs.Option.{ForSome};
+ghost use Rattle.std.specs.Io.KnownBytes.{Keeps};
+ghost use Rattle.std.specs.Io.Buffered.{writer_buffer, writer_contents};
 ghost use Rattle.mn_edge.specs.Faults.{Counted};
 
 use crate::fault::counted;
 use mn_edge::{DeviceBad, Sink};
-use std::io::{Error, Write};
+use std::io;
+use std::io::{BufWriter, Error, ErrorKind, Write};
 use std::marker::Model;
 
-/// A stream of bytes, as standard output. It tells nothing of them. Contracts see it as its count of faults.
+/// A stream of bytes, as standard output, behind a buffer. It tells of the bytes what the stream tells: standard
+/// output nothing.
 #[derive(Drop)]
-pub struct HostSink<W> {
-    inner: W,
+pub struct HostSink<W: Write + Drop> {
+    inner: BufWriter<W>,
     faults: u64,
     failure: Option<Error>,
 }
 
-impl<W> Model for HostSink<W> {
-    ghost use Rattle.std.specs.Prelude.{ℕ};
+impl<W: Write + Drop> Model for HostSink<W> {
+    ghost use Rattle.std.specs.Io.Buffered.{writer_buffer, writer_contents};
+    ghost use Rattle.mn_edge_real.specs.Sinks.{SinkView};
 
-    ghost Value = { ℕ };
+    ghost Value = { SinkView };
 
-    ghost view = { λ s. s.faults };
+    ghost view = { λ s. record {
+      written = writer_contents W.contents s.inner;
+      waiting = writer_buffer s.inner;
+      faults = s.faults;
+    } };
 }
 
-impl<W: Write> HostSink<W> {
-    pub fn new(inner: W) -> HostSink<W>
-        ensures { result ≡ 0 }
+impl<W: Write + Drop> HostSink<W> {
+    pub fn new(inner: BufWriter<W>) -> HostSink<W>
+        ensures { result ≡ record {
+          written = writer_contents W.contents inner;
+          waiting = writer_buffer inner;
+          faults = 0;
+        } }
     {
         HostSink {
             inner,
@@ -39,9 +53,11 @@ impl<W: Write> HostSink<W> {
         self.failure.as_ref()
     }
 
-    /// Hands on what the stream itself holds back. A failure counts as one of a put.
+    /// Hands on all that waits in the buffer, and what the stream itself holds back. A failure counts as one of a put.
     pub fn flush(&mut self) -> Result<(), DeviceBad>
-        ensures { Counted self.old self.new result }
+        ensures flushed { OnOk result (self.new.waiting ≡ []) }
+        ensures kept { Keeps self.old.written self.new.written }
+        ensures cause { Counted self.old.faults self.new.faults result }
     {
         match self.inner.flush() {
             Ok(()) => Ok(()),
@@ -54,13 +70,13 @@ impl<W: Write> HostSink<W> {
     }
 }
 
-impl<W: Write> Sink for HostSink<W> {
-    ghost written = { λ s. None };
+impl<W: Write + Drop> Sink for HostSink<W> {
+    ghost written = { λ s. s.written };
 
-    ghost faults = { λ s. s };
+    ghost faults = { λ s. s.faults };
 
     fn put(&mut self, piece: &[u8]) -> Result<(), DeviceBad> {
-        match self.inner.write_all(piece) {
+        match write_whole(&mut self.inner, piece) {
             Ok(()) => Ok(()),
             Err(error) => {
                 let bad = counted(&mut self.faults, &error);
@@ -69,4 +85,26 @@ impl<W: Write> Sink for HostSink<W> {
             }
         }
     }
+}
+
+/// Writes the piece, again where a signal came in between. After an error a first part of it is written.
+fn write_whole<W: Write>(writer: &mut W, piece: &[u8]) -> io::Result<()>
+    ensures whole { OnOk result (ForSome (W.contents writer.old) (λ before.
+        W.contents writer.new ≡ Some (before ++ piece.now))) }
+    ensures part { OnErr result (ForSome (W.contents writer.old) (λ before.
+        (n : ℕ) × (W.contents writer.new ≡ Some (before ++ take n piece.now)))) }
+{
+    let mut done = 0;
+    'tries: for _ in 0..u64::MAX {
+        if done == piece.len() {
+            return Ok(());
+        }
+        match writer.write(&piece[done..]) {
+            Ok(0) => return Err(Error::from(ErrorKind::WriteZero)),
+            Ok(count) => done += count,
+            Err(error) if error.kind() == ErrorKind::Interrupted => {}
+            Err(error) => return Err(error),
+        }
+    }
+    Err(Error::from(ErrorKind::TimedOut))
 }

@@ -2,7 +2,7 @@
 //!
 //! Each file is begun, and grows by a piece in each of three rounds over all files, so that each append of a later round
 //! opens its file anew. Then all are fetched, one of them a second time and from within, and one is begun anew. A file
-//! that isn't there and a folder are faults.
+//! that isn't there, a folder, and a file that another shelf cuts after it was read are faults.
 #![tactic(auto)]
 
 use mn_edge::{Content, DeviceBad, Shelf, Sink, read_all};
@@ -138,11 +138,48 @@ fn show_further(
     )
 }
 
+/// Another shelf empties the file.
+fn cut(rt: &HostRuntime, name: &str) -> Result<(), DeviceBad> {
+    let mut other = HostShelf::new(rt);
+    other.begin(name)
+}
+
+/// Puts the call that failed last, and why.
+fn show_failure(
+    alloc: Global,
+    shelf: &HostShelf<'_>,
+    out: &mut impl Sink,
+) -> Result<(), DeviceBad> {
+    match shelf.failure() {
+        Some(failure) => put(out, format!(in alloc; "{failure}\n")?.as_str()),
+        None => Ok(()),
+    }
+}
+
+/// A file that was cut can't be read, until it is begun anew.
+fn show_cut(
+    alloc: Global,
+    shelf: &mut HostShelf<'_>,
+    out: &mut impl Sink,
+    name: &str,
+) -> Result<(), DeviceBad> {
+    let read = contents(alloc, shelf, name).err();
+    put(
+        out,
+        format!(in alloc; "{name} cut, read: {read:?}\n")?.as_str(),
+    )?;
+    show_failure(alloc, shelf, out)?;
+    shelf.begin(name)?;
+    show(alloc, shelf, out, name)
+}
+
 fn main(rt: HostRuntime) -> io::Result<()> {
     let mut shelf = HostShelf::new(&rt);
     let mut out = HostSink::new(BufWriter::new(rt.alloc(), io::writer(&rt))?);
     let first = write_and_show(rt.alloc(), &mut shelf, &mut out);
     let then = show_further(rt.alloc(), &mut shelf, &mut out);
+    let cut = cut(&rt, "file-8");
+    let last = show_cut(rt.alloc(), &mut shelf, &mut out, "file-8");
     let flushed = out.flush();
-    println!(rt; "{first:?} {then:?} {flushed:?}")
+    println!(rt; "{first:?} {then:?} {cut:?} {last:?} {flushed:?}")
 }

@@ -140,7 +140,7 @@ fn tell_of_shelf(rt: &HostRuntime, shelf: &HostShelf) -> io::Result<()> {
 }
 
 /// A put that failed, or else a file that couldn't be made or written.
-fn tell_of_write<W: Write>(
+fn tell_of_write<W: Write + Drop>(
     rt: &HostRuntime,
     shelf: &HostShelf,
     out: &HostSink<W>,
@@ -156,7 +156,7 @@ fn tell_of_memory(rt: &HostRuntime) -> io::Result<()> {
 }
 
 /// Puts a line on standard error that says what failed, or which limit was passed.
-fn tell<W: Write>(
+fn tell<W: Write + Drop>(
     rt: &HostRuntime,
     words: &[String],
     shelf: &HostShelf,
