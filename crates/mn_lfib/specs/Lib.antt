@@ -1,3 +1,4 @@
 pub mod Forwarding
 pub mod Hop
+pub mod Kept
 pub mod Uses

@@ -1,4 +1,4 @@
-ghost use Rattle.std.specs.Prelude.{◌≡◌, ◌≢◌, ◌<◌, ◌^◌, ◌==◌, ℕ, [], length, None, Some, OnOk, OnErr, IsOk, IsSome};
+ghost use Rattle.std.specs.Prelude.{◌≡◌, ◌≢◌, ◌<◌, ◌≤◌, ◌^◌, ◌==◌, ℕ, [], length, slice_index_or, None, Some, OnOk, OnErr, IsOk, IsSome};
 ghost use Rattle.mn_lfib.specs.Uses.{use_of, fec_use, site_use, IsNotSite, IsNotFec, IsNextHop, Fits};
 ghost use Rattle.mn_lfib.specs.Forwarding.{by_use, forwarded};
 ghost use Rattle.mn_lfib.specs.Hop.{LeavesWith, IsOneHop};
@@ -8,7 +8,6 @@ use mn_base::{NodeNo, SiteNo};
 use mn_drops::Rule;
 use mn_stack::Frame;
 use std::alloc::{AllocError, Global};
-use std::collections::BTreeMap;
 use std::marker::Model;
 
 /// As a next label it says that the entry is popped: RFC 3032, section 2.1.
@@ -19,19 +18,22 @@ const IMPLICIT_NULL: u32 = 3;
 /// Contracts see the labels that have a use, and their uses.
 #[derive(Drop)]
 pub struct Lfib {
-    uses: BTreeMap<u32, Use>,
+    /// At the place of each label its use, as far as the greatest that was set. A node gives its labels one after another,
+    /// so few places are empty.
+    uses: Vec<Option<Use>>,
 }
 
 impl Model for Lfib {
     ghost use Rattle.std.specs.Prelude.{List, ℕ};
     ghost use Rattle.mn_lfib.specs.declared.answer.Use.{Use};
+    ghost use Rattle.mn_lfib.specs.Kept.{used_from};
     ghost use Rattle.mn_lfib.specs.Uses.{AllFit};
 
     ghost Value = { List (ℕ × Use) };
 
-    ghost view = { λ l. l.uses.entries };
+    ghost view = { λ l. used_from 0 l.uses.items };
 
-    ghost invariant = { λ l. AllFit l.uses.entries };
+    ghost invariant = { λ l. AllFit (used_from 0 l.uses.items) };
 }
 
 impl Lfib {
@@ -40,7 +42,7 @@ impl Lfib {
         ensures { result ≡ [] }
     {
         Lfib {
-            uses: BTreeMap::new(alloc),
+            uses: Vec::new(alloc),
         }
     }
 
@@ -58,14 +60,12 @@ impl Lfib {
         ensures unchanged { OnErr result (self.new ≡ self.old) }
     {
         match to {
-            Some((next_hop, next_label)) => {
-                self.uses.insert(label, Use::Fec(next_hop, next_label))?;
-            }
+            Some((next_hop, next_label)) => self.set(label, Use::Fec(next_hop, next_label)),
             None => {
-                self.uses.remove(&label);
+                self.clear(label);
+                Ok(())
             }
         }
-        Ok(())
     }
 
     /// Sets an attachment's label to its site, or ends the attachment. To end what never began does nothing.
@@ -80,17 +80,36 @@ impl Lfib {
         ensures known { IsSome (use_of self.old label) → IsOk result }
         ensures unchanged { OnErr result (self.new ≡ self.old) }
     {
-        match site {
-            Some(site) => {
-                self.uses.insert(label, Use::Site(site))?;
-            }
-            None => {
-                if let Some(used) = self.uses.get_mut(&label) {
-                    *used = Use::Ended;
-                }
-            }
+        match (site, self.use_of(label)) {
+            (Some(site), _) => self.set(label, Use::Site(site)),
+            (None, Some(_)) => self.set(label, Use::Ended),
+            (None, None) => Ok(()),
         }
+    }
+
+    /// Sets a label's use. Memory is taken only where the label has no place.
+    fn set(&mut self, label: u32, used: Use) -> Result<(), AllocError>
+        requires { Fits (Some used) }
+        ensures set { OnOk result (use_of self.new label ≡ Some used) }
+        ensures others { (other : ℕ) → other ≢ label → use_of self.new other ≡ use_of self.old other }
+        ensures known { IsSome (use_of self.old label) → IsOk result }
+        ensures unchanged { OnErr result (self.new ≡ self.old) }
+    {
+        reach(&mut self.uses, label)?;
+        self.uses[label as usize] = Some(used);
         Ok(())
+    }
+
+    /// Takes a label's use back, if it has one.
+    fn clear(&mut self, label: u32)
+        ensures cleared { use_of self.new label ≡ None }
+        ensures others { (other : ℕ) → other ≢ label → use_of self.new other ≡ use_of self.old other }
+    {
+        let place = label as usize;
+        if place >= self.uses.len() {
+            return;
+        }
+        self.uses[place] = None;
     }
 
     /// What a label is used for, if it has a use.
@@ -98,7 +117,7 @@ impl Lfib {
         ensures used { result ≡ use_of self.now label }
         ensures fits { Fits result }
     {
-        self.uses.get(&label).copied()
+        self.uses.get(label as usize).copied().flatten()
     }
 
     /// Forwards a frame, whoever made it. A dropped one is unchanged. It takes no memory.
@@ -120,6 +139,20 @@ impl Lfib {
             Some(Use::Site(site)) => to_site(frame, site, ttl),
         }
     }
+}
+
+/// Makes the place of a label, and those before it, without a use where they aren't there.
+fn reach(uses: &mut Vec<Option<Use>>, label: u32) -> Result<(), AllocError>
+    ensures there { OnOk result (label < length uses.new.items) }
+    ensures kept { (other : ℕ) → slice_index_or uses.new.items other None ≡ slice_index_or uses.old.items other None }
+    ensures missing { OnErr result (length uses.old.items ≤ label) }
+    ensures unchanged { OnErr result (uses.new.items ≡ uses.old.items) }
+{
+    let place = label as usize;
+    if place < uses.len() {
+        return Ok(());
+    }
+    uses.resize(place + 1, None)
 }
 
 /// Sends a frame on with the next label, or without one.

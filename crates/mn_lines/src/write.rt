@@ -23,6 +23,15 @@ pub fn put_pieces(line: &mut Vec<u8>, pieces: &[&[u8]]) -> Result<(), AllocError
     Ok(())
 }
 
+/// Appends a space and a word, by an `Err` a first part of them.
+fn put_word(line: &mut Vec<u8>, word: &[u8]) -> Result<(), AllocError>
+    ensures ok { OnOk result (line.new.items ≡ line.old.items ++ (32 ∷ word.now)) }
+    ensures begins { IsPrefix line.old.items line.new.items }
+{
+    line.push(b' ')?;
+    line.extend_from_slice(word)
+}
+
 /// Takes back what a failed call appended to a line that had so many bytes.
 fn or_nothing(
     line: &mut Vec<u8>,
@@ -127,7 +136,7 @@ fn put_path(line: &mut Vec<u8>, topology: &Topology, path: &[NodeNo]) -> Result<
     ensures begins { IsPrefix line.old.items line.new.items }
 {
     for node in path {
-        put_pieces(line, &[b" ", node_name(topology, *node)])?;
+        put_word(line, node_name(topology, *node))?;
     }
     Ok(())
 }

@@ -1,11 +1,12 @@
 -- What follows of files to which something is added.
-use Rattle.std.proofs.Common.{◌≡◌, ℕ, ◌<◌, ◌≤◌, ◌==◌, Bool, true, false, if◌then◌else◌, arith, List, [], ◌++◌, length, Option, Result, Ok, Err, OnOk}
-use Rattle.std.proofs.Common.{OnErr, refl, subst, sym, ◌∙◌, ap, append_assoc}
+use Rattle.std.proofs.Common.{◌≡◌, ℕ, ◌<◌, ◌≤◌, ◌==◌, ◌+◌, Bool, true, false, cond, is_ok, if◌then◌else◌, arith, List, [], ◌++◌, length, Option, Result, Ok, Err, OnOk}
+use Rattle.std.proofs.Common.{OnErr, refl, subst, sym, ◌∙◌, ap, append_assoc, length-append}
 use Rattle.std.proofs.lemmas.List.{append-nil}
 use Rattle.mn_base.proofs.Bools.{other_test}
 use Rattle.mn_edge.specs.Files.{Files}
 use Rattle.mn_edge.specs.Kept.{HoldsOn, BeginsOn, Framed}
 use Rattle.mn_edge.specs.KeptLaws.{begins_on, begins_on_more, framed_both}
+use Rattle.mn_pcap.specs.Format.{record_header, record_of}
 use Rattle.mn_topo.specs.Network.{Network}
 use Rattle.mn_record.specs.Recorded.{BooksNow, IsFor}
 use Rattle.mn_record.specs.Adding.{Adds, MayAdd, with_part, only_in}
@@ -134,6 +135,26 @@ nothing_in file k = by (file == k)
 pub more_in : (file k : ℕ) (fewer more : List ℕ) → (rest : List ℕ) × (fewer ++ rest ≡ more) →
     (rest : List ℕ) × (only_in file fewer k ++ rest ≡ only_in file more k)
 more_in file k fewer more goes_on = (only_in file goes_on.0 k, joined_in file k fewer goes_on.0 ∙ ap (λ l. only_in file l k) goes_on.1)
+
+-- a record of a capture in three pieces
+pub three_in : (file k tick : ℕ) (head front packet : List ℕ) → head ≡ record_header tick (length front + length packet) →
+    only_in file head k ++ (only_in file front k ++ only_in file packet k) ≡ only_in file (record_of tick (front ++ packet)) k
+three_in file k tick head front packet is =
+    ap (λ l. only_in file head k ++ l) (joined_in file k front packet)
+    ∙ joined_in file k head (front ++ packet)
+    ∙ ap (λ l. only_in file (l ++ (front ++ packet)) k) (is ∙ ap (record_header tick) (sym (length-append front packet)))
+
+-- the same three behind bytes, the last of them as far as the result tells
+pub record_put : {E : Type 0} (put : Result (Unit {0}) E) (tick : ℕ) (old head front packet a b new : List ℕ) →
+    head ≡ record_header tick (length front + length packet) → a ≡ old ++ head → b ≡ a ++ front → new ≡ cond (is_ok put) (b ++ packet) b →
+    OnOk put (new ≡ old ++ record_of tick (front ++ packet))
+record_put (Err e) tick old head front packet a b new is one two three = tt
+record_put (Ok done) tick old head front packet a b new is one two three =
+    three
+    ∙ ap (λ l. l ++ packet) (two ∙ ap (λ l. l ++ front) one)
+    ∙ append_assoc (old ++ head) front packet
+    ∙ append_assoc old head (front ++ packet)
+    ∙ ap (λ l. old ++ (l ++ (front ++ packet))) (is ∙ ap (record_header tick) (sym (length-append front packet)))
 
 pub framed_then : (a b : List (List ℕ)) (f g h : Option Files) → b ≡ a → Framed a f g → Framed b g h → Framed a f h
 framed_then a b f g h same one other = framed_both a f g h one (subst (λ n. Framed n g h) same other)

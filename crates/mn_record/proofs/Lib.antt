@@ -12,4 +12,3 @@ pub mod Few
 pub use Rattle.mn_sched.proofs.Delivering
 pub use Rattle.mn_sched.proofs.Growing
 pub use Rattle.mn_sched.proofs.Telling
-pub mod Records

@@ -1,5 +1,5 @@
-//! Records of a capture.
-ghost use Rattle.std.specs.Prelude.{◌≡◌, ◌++◌, OnOk};
+//! A record of a capture, and its header.
+ghost use Rattle.std.specs.Prelude.{◌≡◌, ◌<◌, ◌^◌, ◌++◌, OnOk};
 ghost use Rattle.byteorder.specs.Endian.{little_bytes};
 ghost use Rattle.mn_pcap.specs.Format.{record_header, record_of};
 
@@ -30,14 +30,14 @@ pub fn record_header(tick: u64, length: usize) -> [u8; RECORD_HEADER]
     fields
 }
 
-/// Appends the record of a packet of two parts that was seen at this tick, in milliseconds from the start.
-pub(crate) fn append_record(
+/// Appends the record of a packet of two parts that was seen at this tick, by an `Err` a first part of it.
+pub(crate) fn put_record(
     out: &mut Vec<u8>,
     tick: u64,
     front: &[u8],
     packet: &[u8],
 ) -> Result<(), AllocError>
-    ensures { OnOk result (out.new.items ≡ out.old.items ++ record_of tick (front.now ++ packet.now)) }
+    ensures written { OnOk result (out.new.items ≡ out.old.items ++ record_of tick (front.now ++ packet.now)) }
 {
     out.extend_from_slice(&record_header(tick, front.len() + packet.len()))?;
     out.extend_from_slice(front)?;

@@ -13,7 +13,7 @@ ghost use Rattle.mn_record.specs.Labels.{label_line};
 ghost use Rattle.mn_record.specs.Adding.{Adds, MayAdd, only_in};
 ghost use Rattle.mn_record.specs.Parts.{file_for, IsFileOf};
 
-use crate::capture_record::append_record;
+use crate::capture_record::{put_record, record_header};
 use crate::labels::put_label;
 use mn_base::NodeNo;
 use mn_edge::{DeviceBad, Gather, Shelf};
@@ -25,6 +25,9 @@ use mn_sched::Channel;
 use mn_topo::{JournalEntry, Topology};
 use std::alloc::{AllocError, Global};
 use std::marker::Model;
+
+/// A packet of more bytes isn't copied on its way into its file.
+const MOST_JOINED: usize = 2_048;
 
 /// The files of a run.
 #[derive(Drop)]
@@ -205,7 +208,7 @@ impl Output {
         )
     }
 
-    /// A capture grows by the record of a packet of two parts, as one piece.
+    /// A capture grows by the record of a packet of two parts.
     pub(crate) fn put_record<S: Shelf>(
         &mut self,
         shelf: &mut S,
@@ -222,9 +225,59 @@ impl Output {
         ensures writes { Counted (S.write_faults shelf.old) (S.write_faults shelf.new) result }
         ensures reads { S.read_faults shelf.new ≡ S.read_faults shelf.old }
     {
+        if packet.len() > MOST_JOINED {
+            self.put_parts(shelf, file, tick, front, packet)
+        } else {
+            self.put_joined(shelf, file, tick, front, packet)
+        }
+    }
+
+    /// The same, as one piece.
+    fn put_joined<S: Shelf>(
+        &mut self,
+        shelf: &mut S,
+        file: u32,
+        tick: u64,
+        front: &[u8],
+        packet: &[u8],
+    ) -> Result<(), DeviceBad>
+        ensures adds { OnOk result (Adds (only_in file (record_of tick (front.now ++ packet.now))) self.old self.new (S.files shelf.old) (S.files shelf.new)) }
+        ensures may { OnErr result (MayAdd (only_in file (record_of tick (front.now ++ packet.now))) self.old self.new (S.files shelf.old) (S.files shelf.new)) }
+        ensures names { self.new.names ≡ self.old.names }
+        ensures places { self.new.places ≡ self.old.places }
+        ensures framed { Framed self.old.names (S.files shelf.old) (S.files shelf.new) }
+        ensures writes { Counted (S.write_faults shelf.old) (S.write_faults shelf.new) result }
+        ensures reads { S.read_faults shelf.new ≡ S.read_faults shelf.old }
+    {
         self.line.clear();
-        append_record(&mut self.line, tick, front, packet)?;
+        put_record(&mut self.line, tick, front, packet)?;
         put_piece(&mut self.gather, shelf, &self.names, file, &self.line)
+    }
+
+    /// The same, in three pieces, none of which is copied on its way.
+    fn put_parts<S: Shelf>(
+        &mut self,
+        shelf: &mut S,
+        file: u32,
+        tick: u64,
+        front: &[u8],
+        packet: &[u8],
+    ) -> Result<(), DeviceBad>
+        ensures adds { OnOk result (Adds (only_in file (record_of tick (front.now ++ packet.now))) self.old self.new (S.files shelf.old) (S.files shelf.new)) }
+        ensures may { OnErr result (MayAdd (only_in file (record_of tick (front.now ++ packet.now))) self.old self.new (S.files shelf.old) (S.files shelf.new)) }
+        ensures names { self.new.names ≡ self.old.names }
+        ensures places { self.new.places ≡ self.old.places }
+        ensures framed { Framed self.old.names (S.files shelf.old) (S.files shelf.new) }
+        ensures writes { Counted (S.write_faults shelf.old) (S.write_faults shelf.new) result }
+        ensures reads { S.read_faults shelf.new ≡ S.read_faults shelf.old }
+    {
+        self.put(
+            shelf,
+            file,
+            &record_header(tick, front.len() + packet.len()),
+        )?;
+        self.put(shelf, file, front)?;
+        self.put(shelf, file, packet)
     }
 
     /// Appends all that waits.

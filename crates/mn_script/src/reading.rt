@@ -1,11 +1,11 @@
 //! The lines of a file, in any language of lines.
 ghost use Rattle.std.specs.Prelude.{◌≡◌, ◌≤◌, ◌++◌, ℕ, Bool, true, List, All, length, take, IfOk, IfSome, OnOk};
 ghost use Rattle.std.specs.Str.Lines.{lines};
-ghost use Rattle.mn_script.specs.Words.{texts};
+ghost use Rattle.mn_script.specs.Words.{texts, line_words};
 ghost use Rattle.mn_script.specs.Rules.{Reads};
 ghost use Rattle.mn_script.specs.Reading.{Says, line_of, lines_of};
 
-use crate::words::line_words;
+use crate::words::first_words;
 use crate::{ScriptBad, ScriptRule};
 use mn_text::first_line;
 use std::alloc::{AllocError, Global};
@@ -42,10 +42,24 @@ fn put<L: Drop>(script: &mut Vec<L>, said: Option<L>) -> Result<(), AllocError>
     Ok(())
 }
 
+/// What a line asks for, by its number and its bytes.
+fn line_says<L: Language>(
+    language: &L,
+    number: u32,
+    line: &[u8],
+) -> Result<Option<L::Line>, ScriptRule>
+    ensures value { result ≡ L.says language.now number (line_words line.now) }
+    ensures fits { IfOk result (λ said. IfSome said (λ line. L.fits language.now line ≡ true)) }
+{
+    language.by_six();
+    let (words, count) = first_words(line);
+    language.says(number, &words[..count])
+}
+
 /// The lines of a file in a language, of which the first has the number; lines past 4,294,967,295 have this number
 /// too.
 ///
-/// The first refused line is answered, with its rule. Each line takes at most six words besides what it asks for.
+/// The first refused line is answered, with its rule. A line takes no memory besides what it asks for.
 pub fn read_lines<L: Language>(
     alloc: Global,
     language: &L,
@@ -56,13 +70,11 @@ pub fn read_lines<L: Language>(
     ensures fits { IfOk result (λ script. All (λ line. L.fits language.now line ≡ true) script.items) }
     ensures few { IfOk result (λ script. length script.items ≤ length (lines bytes.now)) }
 {
-    language.by_six();
     let mut script = Vec::new(alloc);
     let mut rest = bytes;
     let mut number = first;
     'lines: while let Some((line, next)) = first_line(rest) {
-        let words = line_words(alloc, line)?;
-        match language.says(number, &words) {
+        match line_says(language, number, line) {
             Ok(said) => put(&mut script, said)?,
             Err(rule) => return Err(ScriptBad::Refused { rule, line: number }),
         }

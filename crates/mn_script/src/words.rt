@@ -1,5 +1,5 @@
 //! The words of a line, and how many there are.
-ghost use Rattle.std.specs.Prelude.{◌≡◌, ◌∷◌, [], OnOk, length, take, take_while, IfOk};
+ghost use Rattle.std.specs.Prelude.{◌≡◌, ◌≤◌, ◌∷◌, [], OnOk, length, take, take_while, IfOk};
 ghost use Rattle.mn_script.specs.Words.{texts, is_comment, line_words, word_at, is_word, choice, counted};
 
 use crate::ScriptRule;
@@ -15,21 +15,33 @@ fn is_comment(word: &[u8]) -> bool
 /// Words of a line that are looked at: no form of any language of lines has more than five.
 const MOST_WORDS: usize = 6;
 
+/// The first words of a line, before one that begins with `#`, and how many they are. They are six at most: what the
+/// line says is S2 by then, or S1 of its first words.
+pub(crate) fn first_words(line: &[u8]) -> ([&[u8]; MOST_WORDS], usize)
+    ensures words { texts (take result.1 result.0) ≡ take 6 (line_words line.now) }
+    ensures few { result.1 ≤ 6 }
+{
+    let mut found: [&[u8]; MOST_WORDS] = [&[]; MOST_WORDS];
+    let mut count = 0;
+    let mut rest = line;
+    'words: while let Some((word, next)) = first_word(rest) {
+        if is_comment(word) || count == MOST_WORDS {
+            return (found, count);
+        }
+        found[count] = word;
+        count += 1;
+        rest = next;
+    }
+    (found, count)
+}
+
 /// The first words of a line, before one that begins with `#`. They are six at most, so that a line of millions of
 /// words takes no more memory than a command: what it says is S2 by then, or S1 of its first words.
 pub fn line_words(alloc: Global, line: &[u8]) -> Result<Vec<&[u8]>, AllocError>
     ensures { IfOk result (λ found. texts found.items ≡ take 6 (line_words line.now)) }
 {
-    let mut found = Vec::new(alloc);
-    let mut rest = line;
-    'words: while let Some((word, next)) = first_word(rest) {
-        if is_comment(word) || found.len() == MOST_WORDS {
-            return Ok(found);
-        }
-        found.push(word)?;
-        rest = next;
-    }
-    Ok(found)
+    let (words, count) = first_words(line);
+    Vec::from_slice(alloc, &words[..count])
 }
 
 /// The word at `k`, from 0, and the empty text where there is none.

@@ -1,13 +1,11 @@
-use Rattle.std.proofs.Common.{ap, ◌∙◌, arith, length}
+use Rattle.std.proofs.Common.{ap, arith, length}
 use Rattle.std.proofs.lemmas.Grind.{common_steps}
-use Rattle.mn_script.specs.Words.{line_words}
 use Rattle.mn_script.proofs.Gathering.{before_both, holds_more, few_more}
 use Rattle.mn_script.proofs.reading.read_lines.Goals as goal
 
 pub lines-preserved : goal.lines-preserved
 lines-preserved g c =
-    let says = g.L.Language.says c.args.language.now c.lines.number in
-    let said = ap says c.in_ok-words.ensures ∙ c.by_six.ensures c.lines.number (line_words c.in-Some.line.now) in
+    let said = c.in-Ok.ensures.value in
     record {
       same = grind (arith, common_steps, before_both, said);
       fits = holds_more _ c.lines.script.items _ c.in-Ok.said c.in_ok-put-in-Ok.ensures c.lines.invariant.fits c.in-Ok.ensures.fits;
@@ -21,7 +19,4 @@ lines-preserved g c =
     }
 
 pub returns-in-Err-clause-value : goal.returns-in-Err-clause-value
-returns-in-Err-clause-value g c =
-    let says = g.L.Language.says c.args.language.now c.lines.number in
-    let said = ap says c.in_ok-words.ensures ∙ c.by_six.ensures c.lines.number (line_words c.in-Some.line.now) in
-    grind (arith, common_steps, said)
+returns-in-Err-clause-value g c = grind (arith, common_steps, c.in-Err.ensures.value)
