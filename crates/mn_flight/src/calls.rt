@@ -22,10 +22,14 @@ pub trait Flight<T> {
     /// How many channels there are. No call changes it.
     ghost channels: { Self → ℕ };
 
+    /// Memory is taken only where there is none to spare.
+    ghost exact: { Self → Type 0 };
+
     /// Makes room for so many more items, so that the next so many pushes need no memory.
     fn reserve(&mut self, more: u32) -> Result<(), AllocError>
         ensures room { OnOk result (more ≤ spare self.new) }
         ensures spare { spare self.old ≤ spare self.new }
+        ensures enough { exact self.old → more ≤ spare self.old → spare self.new ≡ spare self.old }
         ensures items { items self.new ≡ items self.old }
         ensures channels { channels self.new ≡ channels self.old }
         ensures flight { IsFlight (channels self.new) (items self.new) };
@@ -41,6 +45,7 @@ pub trait Flight<T> {
         ensures back_unchanged { OnErr result (items self.new ≡ items self.old) }
         ensures room { 0 < spare self.old → IsOk result }
         ensures spare { spare self.old ≤ spare self.new + 1 }
+        ensures used { exact self.old → 0 < spare self.old → spare self.new + 1 ≡ spare self.old }
         ensures channels { channels self.new ≡ channels self.old }
         ensures flight { IsFlight (channels self.new) (items self.new) };
 

@@ -91,6 +91,8 @@ impl<T: Drop> Flight<T> for ListFlight<T> {
 
     ghost channels = { λ f. f.channels };
 
+    ghost exact = { λ f. ⊥ };
+
     fn reserve(&mut self, more: u32) -> Result<(), AllocError> {
         self.items.reserve(more as usize)
     }

@@ -1,5 +1,5 @@
 //! The flight in a pool.
-ghost use Rattle.std.specs.Prelude.{◌≡◌, ◌<◌, ◌≤◌, [], IfOk, OnOk, OnErr};
+ghost use Rattle.std.specs.Prelude.{⊤, ◌≡◌, ◌<◌, ◌≤◌, [], IfOk, OnOk, OnErr};
 
 use crate::pool::Pool;
 use mn_flight::{Back, Flight, Item};
@@ -43,6 +43,8 @@ impl<T: Drop> Flight<T> for PoolFlight<T> {
     ghost spare = { λ f. f.spare };
 
     ghost channels = { λ f. f.channels };
+
+    ghost exact = { λ f. ⊤ };
 
     fn reserve(&mut self, more: u32) -> Result<(), AllocError> {
         while self.pool.free.len() < more as usize {

@@ -8,6 +8,7 @@ invariant-loop-self g l = record {
   items : items_of l.self-inside.pool ≡ l.fn.self.items;
   channels : vec_len l.self-inside.pool.heads ≡ l.fn.self.channels;
   spare : l.fn.self.spare ≤ vec_len l.self-inside.pool.free;
+  enough : l.more ≤ l.fn.self.spare → vec_len l.self-inside.pool.free ≡ l.fn.self.spare;
 }
 
 abbrev pub decreases-loop-self : goal.decreases-loop-self
