@@ -4,7 +4,6 @@ use Rattle.std.proofs.Common.{length-append, get_or, get_or-set_same, get_or-set
 use Rattle.std.specs.Prelude.{◌==◌, slice_get, slice_set}
 use Rattle.std.proofs.lemmas.Bool.{eqb-true}
 use Rattle.mn_base.proofs.Bools.{other_numbers}
-use denote.RawPtr.{Ptr}
 use Rattle.mn_flight.specs.declared.Item.{Item}
 use Rattle.mn_flight_pool.specs.Rings.{item_at}
 use Rattle.mn_flight_pool.specs.Pool.{nodes_on, IsLinked, entered, left}
@@ -16,7 +15,7 @@ use Rattle.mn_flight_pool.proofs.PastDue.{Alike, nodes_alike}
 
 module _ {T : Type 0} where
   -- one count is another number, and so is that of the nodes
-  recount : (counts : List ℕ) (channels k v : ℕ) (old new : List Ptr) (before after : List (Ptr × Node T)) → IsCounted counts channels old before →
+  recount : (counts : List ℕ) (channels k v : ℕ) (old new : List ℕ) (before after : List (Node T)) → IsCounted counts channels old before →
       k < channels → v ≡ length (nodes_on after k new)
       → ((c : ℕ) → (k == c) ≡ false → length (nodes_on after c new) ≡ length (nodes_on before c old)) → IsCounted (slice_set counts k v) channels new after
   recount counts channels k v old new before after counted below here others = record {
@@ -31,15 +30,15 @@ module _ {T : Type 0} where
           subst (λ n. get_or (slice_set counts k v) n 0 ≡ length (nodes_on after n new)) same (get_or-set_same counts k v 0 there ∙ here)
       by c false e h = get_or-set_other counts k c v 0 (λ s. other_numbers k c e (sym s)) ∙ counted.each c h ∙ sym (others c e)
 
-  pub counted_alike : (counts : List ℕ) (channels : ℕ) (order : List Ptr) (old new : List (Ptr × Node T)) → Alike old new →
+  pub counted_alike : (counts : List ℕ) (channels : ℕ) (order : List ℕ) (old new : List (Node T)) → Alike old new →
       IsCounted counts channels order old → IsCounted counts channels order new
   counted_alike counts channels order old new alike counted = record {
     many = counted.many;
     each = λ c h. counted.each c h ∙ ap length (sym (nodes_alike old new alike c order));
   }
 
-  module _ (head : Ptr) (heads free order : List Ptr) (p : Ptr) (cells : List (Ptr × Node T)) (linked : IsLinked head heads (free ++ p ∷ []) order cells)
-      (x : Item T) (first : Ptr) (at : slice_get heads x.channel ≡ Some first)
+  module _ (head : ℕ) (heads free order : List ℕ) (p : ℕ) (cells : List (Node T)) (linked : IsLinked head heads (free ++ p ∷ []) order cells)
+      (x : Item T) (first : ℕ) (at : slice_get heads x.channel ≡ Some first)
       (counts : List ℕ) (channels : ℕ) (counted : IsCounted counts channels order cells) (below : x.channel < channels) where
     lengths : (c : ℕ) (b : Bool) →
         (x.channel == c) ≡ b → length (nodes_on (entered head first p x cells) c (order ++ p ∷ [])) ≡ length (nodes_on cells c order) + cond b 1 0
@@ -56,8 +55,8 @@ module _ {T : Type 0} where
         (ap (λ n. n + 1) (counted.each x.channel below) ∙ sym (lengths x.channel true (eq-eqb x.channel x.channel refl)))
         (λ c e. omega (arith, lengths c false e))
 
-  module _ (head : Ptr) (heads free us : List Ptr) (p : Ptr) (vs : List Ptr) (cells : List (Ptr × Node T))
-      (linked : IsLinked head heads free (us ++ p ∷ vs) cells) (x : Item T) (first : Ptr) (holds : item_at cells p ≡ Some x)
+  module _ (head : ℕ) (heads free us : List ℕ) (p : ℕ) (vs : List ℕ) (cells : List (Node T))
+      (linked : IsLinked head heads free (us ++ p ∷ vs) cells) (x : Item T) (first : ℕ) (holds : item_at cells p ≡ Some x)
       (at : slice_get heads x.channel ≡ Some first)
       (counts : List ℕ) (channels : ℕ) (counted : IsCounted counts channels (us ++ p ∷ vs) cells) (below : x.channel < channels) where
     shorter : (c : ℕ) (b : Bool) → (x.channel == c) ≡ b → length (nodes_on (left p cells) c (us ++ vs)) + cond b 1 0 ≡ length (nodes_on cells c (us ++ p ∷ vs))

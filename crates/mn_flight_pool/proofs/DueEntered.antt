@@ -4,7 +4,6 @@ use Rattle.std.proofs.Common.{subst, arith, append_assoc, length-append}
 use Rattle.std.specs.Prelude.{nat_lt, slice_get}
 use Rattle.std.proofs.lemmas.Option.{same_Some}
 use Rattle.std.proofs.lemmas.Bool.Decides.{nat_tests}
-use denote.RawPtr.{Ptr}
 use Rattle.mn_flight.specs.declared.Item.{Item}
 use Rattle.mn_flight_pool.specs.Cells.{value_at}
 use Rattle.mn_flight_pool.specs.Rings.{IsFree, IsIn, IsRing, item_at, with_item, prev_of, link_behind}
@@ -14,7 +13,7 @@ use Rattle.mn_flight_pool.specs.Pool.{IsLinked, entered}
 use Rattle.mn_flight_pool.specs.declared.tick.Tick.{Tick}
 use Rattle.mn_flight_pool.specs.declared.node.Pair.TheVariants.{Number, Channel, Due}
 use Rattle.mn_flight_pool.specs.declared.node.Node.{Node}
-use Rattle.mn_flight_pool.proofs.Found.{some_value}
+use Rattle.mn_flight_pool.proofs.Changed.{some_value}
 use Rattle.mn_flight_pool.proofs.Neighbours.{free_from, free_at}
 use Rattle.mn_flight_pool.proofs.Rings.{ring_front, ring_behind, ring_past_link, ring_past_item, item_past_link, item_else}
 use Rattle.mn_flight_pool.proofs.Entered.{old_item, new_item, alone_heads, alone_order, p_there, three_there}
@@ -36,20 +35,20 @@ strictly a b n = by (nat_lt a b) refl
     by false f = absurd (n (grind (arith, nat_tests, f)))
 
 -- the last of a list with s in front
-abbrev pub IsEnd : Ptr → List Ptr → Ptr → Type 0
-IsEnd s us a = ((us ≡ []) × (a ≡ s)) ⊎ ((ws : List Ptr) × (us ≡ ws ++ a ∷ []))
+abbrev pub IsEnd : ℕ → List ℕ → ℕ → Type 0
+IsEnd s us a = ((us ≡ []) × (a ≡ s)) ⊎ ((ws : List ℕ) × (us ≡ ws ++ a ∷ []))
 
 module _ {T : Type 0} where
   -- where an item of a due tick comes to stand
-  pub record Stand (head : Ptr) (dues : List Ptr) (due : ℕ) (a : Ptr) (cells : List (Ptr × Node T)) : Type 0 where
-    pub front : List Ptr
-    pub behind : List Ptr
+  pub record Stand (head : ℕ) (dues : List ℕ) (due : ℕ) (a : ℕ) (cells : List (Node T)) : Type 0 where
+    pub front : List ℕ
+    pub behind : List ℕ
     pub cut : dues ≡ front ++ behind
     pub end : IsEnd head front a
-    pub by_then : (q : Ptr) (y : Item T) → IsIn q front → item_at cells q ≡ Some y → y.due ≤ due
-    pub later : (q : Ptr) (y : Item T) → IsIn q behind → item_at cells q ≡ Some y → due < y.due
+    pub by_then : (q : ℕ) (y : Item T) → IsIn q front → item_at cells q ≡ Some y → y.due ≤ due
+    pub later : (q : ℕ) (y : Item T) → IsIn q behind → item_at cells q ≡ Some y → due < y.due
 
-  module _ (head : Ptr) (order dues : List Ptr) (ticks : List Tick) (cells : List (Ptr × Node T)) (due : IsByDue head order dues ticks cells) (at : ℕ) where
+  module _ (head : ℕ) (order dues : List ℕ) (ticks : List Tick) (cells : List (Node T)) (due : IsByDue head order dues ticks cells) (at : ℕ) where
     pub place : Stand head dues at (last_by at head ticks) cells
     place = elim (last_by_is (IsTick cells order) at head ticks due.ascending due.lasts) [
       | inl none ↦ record {
@@ -63,10 +62,10 @@ module _ {T : Type 0} where
       | inr some ↦ some_place some.0 some.1 some.2 some.3 some.4
     ]
       where
-        some_place : (t : Tick) → IsTick cells order t → t.due ≤ at → last_by at head ticks ≡ t.last.ptr →
+        some_place : (t : Tick) → IsTick cells order t → t.due ≤ at → last_by at head ticks ≡ t.last.index →
             ((e : ℕ) → HasTick e ticks → e ≤ at → e ≤ t.due) → Stand head dues at (last_by at head ticks) cells
         some_place t is below a_is greatest =
-            let a = t.last.ptr in
+            let a = t.last.index in
             let c = in_cut a dues (due.stands a is.there) in
             let us = c.0 in let vs = c.1 in
             let sooner = subst (λ l. AreSooner cells l) c.2 due.sooner in
@@ -100,8 +99,8 @@ module _ {T : Type 0} where
             })
 
   -- linking in at the end of a front part
-  linked_at : (p s a : Ptr) (cells : List (Ptr × Node T)) → IsSome (value_at p cells) →
-      (us vs : List Ptr) → IsEnd s us a → IsRing Due cells s (us ++ vs) → IsFree p (s ∷ (us ++ vs)) →
+  linked_at : (p s a : ℕ) (cells : List (Node T)) → IsSome (value_at p cells) →
+      (us vs : List ℕ) → IsEnd s us a → IsRing Due cells s (us ++ vs) → IsFree p (s ∷ (us ++ vs)) →
       IsRing Due (link_behind Due p a cells) s (us ++ p ∷ vs)
   linked_at p s a cells there us vs (inl e) ring free =
       subst (λ b. IsRing Due (link_behind Due p b cells) s (us ++ p ∷ vs)) (sym e.1)
@@ -113,26 +112,26 @@ module _ {T : Type 0} where
       subst (λ l. IsRing Due (link_behind Due p a cells) s l) (sym new)
       (ring_behind Due p s cells there e.0 a vs (subst (λ l. IsRing Due cells s l) old ring) (subst (λ l. IsFree p (s ∷ l)) old free))
 
-  module _ (head : Ptr) (heads free order : List Ptr) (p : Ptr) (cells : List (Ptr × Node T)) (linked : IsLinked head heads (free ++ p ∷ []) order cells)
-      (x : Item T) (first : Ptr) (at : slice_get heads x.channel ≡ Some first)
-      (dues : List Ptr) (ticks : List Tick) (due : IsByDue head order dues ticks cells) (greatest : (q : Ptr) (y : Item T) → IsIn q order →
+  module _ (head : ℕ) (heads free order : List ℕ) (p : ℕ) (cells : List (Node T)) (linked : IsLinked head heads (free ++ p ∷ []) order cells)
+      (x : Item T) (first : ℕ) (at : slice_get heads x.channel ≡ Some first)
+      (dues : List ℕ) (ticks : List Tick) (due : IsByDue head order dues ticks cells) (greatest : (q : ℕ) (y : Item T) → IsIn q order →
       item_at cells q ≡ Some y → y.number < x.number) where
-    abbrev pub three : List (Ptr × Node T)
+    abbrev pub three : List (Node T)
     three = entered head first p x cells
 
-    abbrev pub a : Ptr
+    abbrev pub a : ℕ
     a = last_by x.due head ticks
 
-    abbrev pub four : List (Ptr × Node T)
+    abbrev pub four : List (Node T)
     four = link_behind Due p a three
 
     pub stand : Stand head dues x.due a cells
     stand = place head order dues ticks cells due x.due
 
-    abbrev pub then : List Ptr
+    abbrev pub then : List ℕ
     then = stand.front ++ p ∷ stand.behind
 
-    old_four : (q : Ptr) → IsIn q order → item_at four q ≡ item_at cells q
+    old_four : (q : ℕ) → IsIn q order → item_at four q ≡ item_at cells q
     old_four q i = item_past_link Due p a q three ∙ old_item head heads free order p cells linked x first at q i
 
     new_four : item_at four p ≡ Some x
@@ -151,11 +150,11 @@ module _ {T : Type 0} where
       free_from p dues (λ q i. free_at p order q (alone_order head heads free order p cells linked x first at) (due.flies q i)),
     )
 
-    in_dues : (q : Ptr) → IsIn q (stand.front ++ stand.behind) → IsIn q order
+    in_dues : (q : ℕ) → IsIn q (stand.front ++ stand.behind) → IsIn q order
     in_dues q i = due.flies q (subst (λ l. IsIn q l) (sym stand.cut) i)
 
     -- what the two tests of a ring's order ask of the new node
-    before_it : (u : Ptr) → IsIn u stand.front → IsSooner (item_at four u) (item_at four p)
+    before_it : (u : ℕ) → IsIn u stand.front → IsSooner (item_at four u) (item_at four p)
     before_it u i =
         let flies = in_dues u (in_front u stand.front stand.behind i) in
         let y = some_value (item_at cells u) (all_in (λ q. IsSome (item_at cells q)) order u linked.held flies) in
@@ -167,7 +166,7 @@ module _ {T : Type 0} where
         by y true t le lt = inl (grind (arith, nat_tests, t))
         by y false f le lt = inr (grind (arith, nat_tests, f, le), lt)
 
-    behind_it : (v : Ptr) → IsIn v stand.behind → IsSooner (item_at four p) (item_at four v)
+    behind_it : (v : ℕ) → IsIn v stand.behind → IsSooner (item_at four p) (item_at four v)
     behind_it v i =
         let flies = in_dues v (in_back v stand.front stand.behind i) in
         let y = some_value (item_at cells v) (all_in (λ q. IsSome (item_at cells q)) order v linked.held flies) in
@@ -176,10 +175,10 @@ module _ {T : Type 0} where
     -- ticks of other due ticks stay
     kept : (t : Tick) → (t.due ≡ x.due → ⊥) → IsTick cells order t → IsTick four (order ++ p ∷ []) t
     kept t other is =
-        let last = tick_item cells order t.due (item_at cells t.last.ptr) is.last in
+        let last = tick_item cells order t.due (item_at cells t.last.index) is.last in
         record {
-          there = in_front t.last.ptr order (p ∷ []) is.there;
-          last = item_tick four (order ++ p ∷ []) t.due (item_at four t.last.ptr) last.0 (old_four t.last.ptr is.there ∙ last.1) last.2
+          there = in_front t.last.index order (p ∷ []) is.there;
+          last = item_tick four (order ++ p ∷ []) t.due (item_at four t.last.index) last.0 (old_four t.last.index is.there ∙ last.1) last.2
               (λ q y i e f. elim (in_either q order (p ∷ []) i) [
                 | inl k ↦ last.3 q y k (sym (old_four q k) ∙ e) f
                 | inr k ↦ elim k [

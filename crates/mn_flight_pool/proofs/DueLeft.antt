@@ -5,9 +5,8 @@ use Rattle.std.specs.List.{AllByRecursion, IsDistinct}
 use Rattle.std.proofs.lemmas.Bool.{eqb-true}
 use Rattle.std.proofs.lemmas.Option.{same_Some}
 use Rattle.mn_base.proofs.Bools.{not_both_ways}
-use denote.RawPtr.{Ptr}
 use Rattle.mn_flight.specs.declared.Item.{Item}
-use Rattle.mn_flight_pool.specs.Cells.{same_ptr}
+use Rattle.mn_flight_pool.specs.Cells.{same_place}
 use Rattle.mn_flight_pool.specs.Rings.{AreNeighbours, IsIn, IsRing, item_at, next_of, prev_of, unlink}
 use Rattle.mn_flight_pool.specs.Ticks.{AreAscending, set_tick, drop_tick}
 use Rattle.mn_flight_pool.specs.ByDue.{is_due, IsSooner, AreSooner, IsTick, HasTick, IsByDue, ticks_left}
@@ -16,7 +15,7 @@ use Rattle.mn_flight_pool.specs.declared.tick.Tick.{Tick}
 use Rattle.mn_flight_pool.specs.declared.node.Pair.{Pair}
 use Rattle.mn_flight_pool.specs.declared.node.Pair.TheVariants.{Number, Channel, Due}
 use Rattle.mn_flight_pool.specs.declared.node.Node.{Node}
-use Rattle.mn_flight_pool.proofs.Found.{some_value, same_ptr_eq, same_ptr_refl}
+use Rattle.mn_flight_pool.proofs.Changed.{some_value, same_place_eq, same_place_refl}
 use Rattle.mn_flight_pool.proofs.Neighbours.{neighbour, last_of_cons, free_at, others_free}
 use Rattle.mn_flight_pool.proofs.Rings.{ring_unlinked, ring_past_unlink, ring_past_item, item_past_unlink, item_else}
 use Rattle.mn_flight_pool.proofs.Sooner.{in_cut, in_front, in_back, in_either, in_with, in_without, in_middle, all_in, sooner_same, sooner_without}
@@ -24,16 +23,16 @@ use Rattle.mn_flight_pool.proofs.Sooner.{sooner_before, sooner_after, as_items, 
 use Rattle.mn_flight_pool.proofs.Sooner.{asc_drop, all_set, all_drop, all_kept, has_set, has_drop}
 use Rattle.mn_flight_pool.proofs.DueEntered.{IsEnd, number_due, channel_due}
 
-abbrev IsStart : Ptr → List Ptr → Ptr → Type 0
-IsStart s vs b = ((vs ≡ []) × (b ≡ s)) ⊎ ((ws : List Ptr) × (vs ≡ b ∷ ws))
+abbrev IsStart : ℕ → List ℕ → ℕ → Type 0
+IsStart s vs b = ((vs ≡ []) × (b ≡ s)) ⊎ ((ws : List ℕ) × (vs ≡ b ∷ ws))
 
-tail_apart : (s : Ptr) (ps : List Ptr) → IsDistinct same_ptr (s ∷ ps) → IsDistinct same_ptr ps
+tail_apart : (s : ℕ) (ps : List ℕ) → IsDistinct same_place (s ∷ ps) → IsDistinct same_place ps
 unfolding IsDistinct
 tail_apart s ps d = d.1
 
 module _ {T : Type 0} where
   -- what stands before and after a node of a ring
-  ring_before : (pair : Pair) (cells : List (Ptr × Node T)) (s : Ptr) (us : List Ptr) (p : Ptr) (vs : List Ptr) → IsRing pair cells s (us ++ p ∷ vs) →
+  ring_before : (pair : Pair) (cells : List (Node T)) (s : ℕ) (us : List ℕ) (p : ℕ) (vs : List ℕ) → IsRing pair cells s (us ++ p ∷ vs) →
       IsEnd s us (prev_of pair cells p)
   ring_before pair cells s [] p vs ring = inl (refl, ring.round.1)
   ring_before pair cells s (u ∷ us) p vs ring =
@@ -51,7 +50,7 @@ module _ {T : Type 0} where
       let prev_is : P p ≡ b = (neighbour N P (s ∷ ws) b (p ∷ vs) (ws ++ b ∷ []) p (vs ++ s ∷ []) e round).1 in
       inr (ws, subst (λ c. u ∷ us ≡ ws ++ c ∷ []) (sym prev_is) last.2)
 
-  ring_after : (pair : Pair) (cells : List (Ptr × Node T)) (s : Ptr) (us : List Ptr) (p : Ptr) (vs : List Ptr) → IsRing pair cells s (us ++ p ∷ vs) →
+  ring_after : (pair : Pair) (cells : List (Node T)) (s : ℕ) (us : List ℕ) (p : ℕ) (vs : List ℕ) → IsRing pair cells s (us ++ p ∷ vs) →
       IsStart s vs (next_of pair cells p)
   ring_after pair cells s us p [] ring =
       let e : length (s ∷ us) ≡ length (us ++ p ∷ []) = omega (arith, length-append us (p ∷ [])) in
@@ -74,31 +73,31 @@ module _ {T : Type 0} where
   no_item : (o : Option (Item T)) (y : Item T) → o ≡ None → o ≡ Some y → ⊥
   no_item o y e f = cc
 
-  module _ (head : Ptr) (heads free us₀ : List Ptr) (p : Ptr) (vs₀ : List Ptr) (cells : List (Ptr × Node T))
+  module _ (head : ℕ) (heads free us₀ : List ℕ) (p : ℕ) (vs₀ : List ℕ) (cells : List (Node T))
       (linked : IsLinked head heads free (us₀ ++ p ∷ vs₀) cells) (x : Item T) (holds : item_at cells p ≡ Some x)
-      (dues : List Ptr) (ticks : List Tick) (due : IsByDue head (us₀ ++ p ∷ vs₀) dues ticks cells) where
-    abbrev pub order : List Ptr
+      (dues : List ℕ) (ticks : List Tick) (due : IsByDue head (us₀ ++ p ∷ vs₀) dues ticks cells) where
+    abbrev pub order : List ℕ
     order = us₀ ++ p ∷ vs₀
 
-    abbrev pub rest : List Ptr
+    abbrev pub rest : List ℕ
     rest = us₀ ++ vs₀
 
-    abbrev pub one : List (Ptr × Node T)
+    abbrev pub one : List (Node T)
     one = unlink Due p cells
 
-    abbrev pub three : List (Ptr × Node T)
+    abbrev pub three : List (Node T)
     three = left p one
 
-    pub cut : (us : List Ptr) × (vs : List Ptr) × (dues ≡ us ++ p ∷ vs)
+    pub cut : (us : List ℕ) × (vs : List ℕ) × (dues ≡ us ++ p ∷ vs)
     cut = in_cut p dues (due.stands p (in_middle us₀ p vs₀))
 
-    abbrev pub us : List Ptr
+    abbrev pub us : List ℕ
     us = cut.0
 
-    abbrev pub vs : List Ptr
+    abbrev pub vs : List ℕ
     vs = cut.1
 
-    abbrev pub then : List Ptr
+    abbrev pub then : List ℕ
     then = us ++ vs
 
     ring : IsRing Due cells head (us ++ p ∷ vs)
@@ -108,38 +107,38 @@ module _ {T : Type 0} where
     sooner = subst (λ l. AreSooner cells l) cut.2 due.sooner
 
     -- 1. The node is none of the others
-    other_rest : (q : Ptr) → IsIn q rest → q ≡ p → ⊥
+    other_rest : (q : ℕ) → IsIn q rest → q ≡ p → ⊥
     other_rest q i e =
-        not_both_ways (same_ptr p q) (subst (λ r. same_ptr p r ≡ true) (sym e) (same_ptr_refl p))
+        not_both_ways (same_place p q) (subst (λ r. same_place p r ≡ true) (sym e) (same_place_refl p))
         (free_at p rest q (others_free us₀ p vs₀ (tail_apart head order linked.number.apart)) i)
 
-    other_then : (q : Ptr) → IsIn q then → q ≡ p → ⊥
+    other_then : (q : ℕ) → IsIn q then → q ≡ p → ⊥
     other_then q i e =
-        not_both_ways (same_ptr p q) (subst (λ r. same_ptr p r ≡ true) (sym e) (same_ptr_refl p))
+        not_both_ways (same_place p q) (subst (λ r. same_place p r ≡ true) (sym e) (same_place_refl p))
         (free_at p then q (others_free us p vs (tail_apart head (us ++ p ∷ vs) ring.apart)) i)
 
-    flies : (q : Ptr) → IsIn q then → IsIn q order
+    flies : (q : ℕ) → IsIn q then → IsIn q order
     flies q i = due.flies q (subst (λ l. IsIn q l) (sym cut.2) (in_with q us p vs i))
 
-    rests : (q : Ptr) → IsIn q then → IsIn q rest
+    rests : (q : ℕ) → IsIn q then → IsIn q rest
     rests q i = in_without q us₀ p vs₀ (flies q i) (other_then q i)
 
-    stands : (q : Ptr) → IsIn q rest → IsIn q then
+    stands : (q : ℕ) → IsIn q rest → IsIn q then
     stands q i = in_without q us p vs (subst (λ l. IsIn q l) cut.2 (due.stands q (in_with q us₀ p vs₀ i))) (other_rest q i)
 
-    item_kept : (q : Ptr) → (q ≡ p → ⊥) → item_at three q ≡ item_at cells q
+    item_kept : (q : ℕ) → (q ≡ p → ⊥) → item_at three q ≡ item_at cells q
     item_kept q n =
-        item_else p q None (unlink Channel p (unlink Number p one)) (apart (same_ptr p q) refl) ∙ item_past_unlink Channel p q (unlink Number p one)
+        item_else p q None (unlink Channel p (unlink Number p one)) (apart (same_place p q) refl) ∙ item_past_unlink Channel p q (unlink Number p one)
         ∙ item_past_unlink Number p q one ∙ item_past_unlink Due p q cells
       where
-        apart : (b : Bool) → same_ptr p q ≡ b → same_ptr p q ≡ false
-        apart true t = absurd (n (sym (same_ptr_eq p q t)))
+        apart : (b : Bool) → same_place p q ≡ b → same_place p q ≡ false
+        apart true t = absurd (n (sym (same_place_eq p q t)))
         apart false t = t
 
-    item_rest : (q : Ptr) → IsIn q rest → item_at three q ≡ item_at cells q
+    item_rest : (q : ℕ) → IsIn q rest → item_at three q ≡ item_at cells q
     item_rest q i = item_kept q (other_rest q i)
 
-    item_then : (q : Ptr) → IsIn q then → item_at three q ≡ item_at cells q
+    item_then : (q : ℕ) → IsIn q then → item_at three q ≡ item_at cells q
     item_then q i = item_kept q (other_then q i)
 
     -- 2. The ring, and the order in it
@@ -159,40 +158,40 @@ module _ {T : Type 0} where
     many_then = omega (arith, due.many, ap length cut.2, length-append us vs, length-append us (p ∷ vs), length-append us₀ vs₀, length-append us₀ (p ∷ vs₀))
 
     -- 3. Ticks
-    before_x : (u : Ptr) (y : Item T) → IsIn u us → item_at cells u ≡ Some y → (y.due < x.due) ⊎ ((y.due ≡ x.due) × (y.number < x.number))
+    before_x : (u : ℕ) (y : Item T) → IsIn u us → item_at cells u ≡ Some y → (y.due < x.due) ⊎ ((y.due ≡ x.due) × (y.number < x.number))
     before_x u y i e = as_items (item_at cells u) (item_at cells p) y x e holds (sooner_before cells us p vs sooner u i)
 
-    after_x : (v : Ptr) (y : Item T) → IsIn v vs → item_at cells v ≡ Some y → (x.due < y.due) ⊎ ((x.due ≡ y.due) × (x.number < y.number))
+    after_x : (v : ℕ) (y : Item T) → IsIn v vs → item_at cells v ≡ Some y → (x.due < y.due) ⊎ ((x.due ≡ y.due) × (x.number < y.number))
     after_x v y i e = as_items (item_at cells p) (item_at cells v) x y holds e (sooner_after cells us p vs sooner v i)
 
     -- a tick whose last node is another keeps it
-    keep : (t : Tick) → (t.last.ptr ≡ p → ⊥) → IsTick cells order t → IsTick three rest t
+    keep : (t : Tick) → (t.last.index ≡ p → ⊥) → IsTick cells order t → IsTick three rest t
     keep t n is =
-        let last = tick_item cells order t.due (item_at cells t.last.ptr) is.last in
+        let last = tick_item cells order t.due (item_at cells t.last.index) is.last in
         record {
-          there = in_without t.last.ptr us₀ p vs₀ is.there n;
-          last = item_tick three rest t.due (item_at three t.last.ptr) last.0 (item_kept t.last.ptr n ∙ last.1) last.2
+          there = in_without t.last.index us₀ p vs₀ is.there n;
+          last = item_tick three rest t.due (item_at three t.last.index) last.0 (item_kept t.last.index n ∙ last.1) last.2
               (λ q y i e f. last.3 q y (in_with q us₀ p vs₀ i) (sym (item_rest q i) ∙ e) f);
         }
 
     keep_other : (t : Tick) → (t.due ≡ x.due → ⊥) → IsTick cells order t → IsTick three rest t
     keep_other t n is =
-        let last = tick_item cells order t.due (item_at cells t.last.ptr) is.last in
+        let last = tick_item cells order t.due (item_at cells t.last.index) is.last in
         keep t (λ e. n (sym last.2 ∙ ap (λ (z : Item T). z.due) (same_Some last.0 x (sym last.1 ∙ ap (item_at cells) e ∙ holds)))) is
 
-    has_each : (q : Ptr) (y : Item T) → IsIn q rest → item_at three q ≡ Some y → HasTick y.due ticks
+    has_each : (q : ℕ) (y : Item T) → IsIn q rest → item_at three q ≡ Some y → HasTick y.due ticks
     has_each q y i e = due.each q y (in_with q us₀ p vs₀ i) (sym (item_rest q i) ∙ e)
 
     -- the parts that depend on the ticks
     record Ticked (new : List Tick) : Type 0 where
       pub ascending : AreAscending new
       pub lasts : AllByRecursion (IsTick three rest) new
-      pub each : (q : Ptr) (y : Item T) → IsIn q rest → item_at three q ≡ Some y → HasTick y.due new
+      pub each : (q : ℕ) (y : Item T) → IsIn q rest → item_at three q ≡ Some y → HasTick y.due new
 
-    abbrev pub before : Ptr
+    abbrev pub before : ℕ
     before = prev_of Due cells p
 
-    abbrev pub after : Ptr
+    abbrev pub after : ℕ
     after = next_of Due cells p
 
     -- one of its tick follows
@@ -206,7 +205,7 @@ module _ {T : Type 0} where
         record {
           ascending = due.ascending;
           lasts = all_kept (IsTick cells order) (IsTick three rest) ticks (λ t is.
-              let last = tick_item cells order t.due (item_at cells t.last.ptr) is.last in
+              let last = tick_item cells order t.due (item_at cells t.last.index) is.last in
               keep t (λ e.
               let same : last.0 ≡ x = same_Some last.0 x (sym last.1 ∙ ap (item_at cells) e ∙ holds) in
               let dues_same : x.due ≡ t.due = ap (λ (z : Item T). z.due) (sym same) ∙ last.2 in
@@ -216,20 +215,20 @@ module _ {T : Type 0} where
         }
 
     -- those that follow are due later
-    all_later : is_due x.due (item_at cells after) ≡ false → (v : Ptr) (y : Item T) → IsIn v vs → item_at cells v ≡ Some y → x.due < y.due
+    all_later : is_due x.due (item_at cells after) ≡ false → (v : ℕ) (y : Item T) → IsIn v vs → item_at cells v ≡ Some y → x.due < y.due
     all_later h v y i e = elim (ring_after Due cells head us p vs ring) [
       | inl s ↦ absurd (subst (λ l. IsIn v l) s.0 i)
       | inr s ↦ started s.0 s.1
     ]
       where
-        later : (w : Ptr) (z : Item T) → w ≡ after → IsIn w vs → item_at cells w ≡ Some z → x.due < z.due
+        later : (w : ℕ) (z : Item T) → w ≡ after → IsIn w vs → item_at cells w ≡ Some z → x.due < z.due
         later w z s j f = elim (after_x w z j f) [
           | inl k ↦ k
           | inr k ↦ absurd
               (not_both_ways (is_due x.due (item_at cells after)) (item_due x.due (item_at cells after) z (ap (item_at cells) (sym s) ∙ f) (sym k.0)) h)
         ]
 
-        started : (ws : List Ptr) → vs ≡ after ∷ ws → x.due < y.due
+        started : (ws : List ℕ) → vs ≡ after ∷ ws → x.due < y.due
         started ws s = elim (subst (λ l. IsIn v l) s i) [
           | inl same ↦ later v y same i e
           | inr j ↦
@@ -243,7 +242,7 @@ module _ {T : Type 0} where
               omega (arith, later after z.0 refl first_in z.1, no_later z.0 y follows)
         ]
           where
-            sooner_tail : (fs bs : List Ptr) → AreSooner cells (fs ++ p ∷ bs) → AreSooner cells bs
+            sooner_tail : (fs bs : List ℕ) → AreSooner cells (fs ++ p ∷ bs) → AreSooner cells bs
             sooner_tail [] bs k = k.1
             sooner_tail (g ∷ fs) bs k = sooner_tail fs bs k.1
 
@@ -256,7 +255,7 @@ module _ {T : Type 0} where
           | inr s ↦ ended s.0 s.1
         ]
       where
-        ended : (ws : List Ptr) → us ≡ ws ++ before ∷ [] → Ticked (set_tick x.due before ticks)
+        ended : (ws : List ℕ) → us ≡ ws ++ before ∷ [] → Ticked (set_tick x.due before ticks)
         ended ws s =
             let z = due_item x.due (item_at cells before) k in
             let at : IsIn before us = subst (λ l. IsIn before l) (sym s) (in_middle ws before []) in
@@ -286,20 +285,20 @@ module _ {T : Type 0} where
             }
 
     -- those in front are due before
-    all_sooner : is_due x.due (item_at cells before) ≡ false → (u : Ptr) (y : Item T) → IsIn u us → item_at cells u ≡ Some y → y.due < x.due
+    all_sooner : is_due x.due (item_at cells before) ≡ false → (u : ℕ) (y : Item T) → IsIn u us → item_at cells u ≡ Some y → y.due < x.due
     all_sooner h u y i e = elim (ring_before Due cells head us p vs ring) [
       | inl s ↦ absurd (subst (λ l. IsIn u l) s.0 i)
       | inr s ↦ ended s.0 s.1
     ]
       where
-        earlier : (w : Ptr) (z : Item T) → w ≡ before → IsIn w us → item_at cells w ≡ Some z → z.due < x.due
+        earlier : (w : ℕ) (z : Item T) → w ≡ before → IsIn w us → item_at cells w ≡ Some z → z.due < x.due
         earlier w z s j f = elim (before_x w z j f) [
           | inl k ↦ k
           | inr k ↦ absurd
               (not_both_ways (is_due x.due (item_at cells before)) (item_due x.due (item_at cells before) z (ap (item_at cells) (sym s) ∙ f) k.0) h)
         ]
 
-        ended : (ws : List Ptr) → us ≡ ws ++ before ∷ [] → y.due < x.due
+        ended : (ws : List ℕ) → us ≡ ws ++ before ∷ [] → y.due < x.due
         ended ws s = elim (in_either u ws (before ∷ []) (subst (λ l. IsIn u l) s i)) [
           | inl m ↦
               let at : IsIn before us = subst (λ l. IsIn before l) (sym s) (in_middle ws before []) in

@@ -6,24 +6,23 @@ use Rattle.std.specs.List.{AllByRecursion, IsDistinct, cons_option}
 use Rattle.std.proofs.lemmas.Bool.{eqb-true}
 use Rattle.std.proofs.lemmas.Option.{same_Some}
 use Rattle.std.proofs.lemmas.List.Elements.{filter-append, filter_map-append}
-use denote.RawPtr.{Ptr}
 use Rattle.mn_flight.specs.declared.Item.{Item}
-use Rattle.mn_flight_pool.specs.Cells.{same_ptr, value_at}
+use Rattle.mn_flight_pool.specs.Cells.{same_place, value_at}
 use Rattle.mn_flight_pool.specs.Rings.{IsFree, IsRing, item_at, with_item, prev_of, link_behind, IsIn}
 use Rattle.mn_flight_pool.specs.Pool.{is_on, items_in, nodes_on, IsLinked, entered}
 use Rattle.mn_flight_pool.specs.declared.node.Pair.TheVariants.{Number, Channel}
 use Rattle.mn_flight_pool.specs.declared.node.Node.{Node}
-use Rattle.mn_flight_pool.proofs.Found.{same_ptr_eq}
-use Rattle.mn_flight_pool.proofs.Changed.{same_ptr_symm, stays}
+use Rattle.mn_flight_pool.proofs.Changed.{same_place_eq}
+use Rattle.mn_flight_pool.proofs.Changed.{same_place_symm, stays}
 use Rattle.mn_flight_pool.proofs.Neighbours.{in_left, in_at, free_left, free_right, free_from, free_at, others_free, distinct_with, distinct_without}
 use Rattle.mn_flight_pool.proofs.Neighbours.{apart_parts, at_places}
 use Rattle.mn_flight_pool.proofs.Rings.{ring_back, ring_last, ring_past_link, ring_past_item, ring_aside_link, link_stays, item_past_link, item_put, item_else}
 
-pub in_right : (xs ys : List Ptr) (x : Ptr) → IsIn x ys → IsIn x (xs ++ ys)
+pub in_right : (xs ys : List ℕ) (x : ℕ) → IsIn x ys → IsIn x (xs ++ ys)
 in_right [] ys x i = i
 in_right (z ∷ zs) ys x i = inr (in_right zs ys x i)
 
-pub from_filter : (test : Ptr → Bool) (x : Ptr) (xs : List Ptr) → IsIn x (filter test xs) → (test x ≡ true) × IsIn x xs
+pub from_filter : (test : ℕ → Bool) (x : ℕ) (xs : List ℕ) → IsIn x (filter test xs) → (test x ≡ true) × IsIn x xs
 from_filter test x [] i = absurd i
 from_filter test x (y ∷ ys) i = split (test y) refl (from_filter test x ys) i
   where
@@ -32,7 +31,7 @@ from_filter test x (y ∷ ys) i = split (test y) refl (from_filter test x ys) i
     split true t f k = elim k [ inl e ↦ (ap test e ∙ t, inl e) | inr j ↦ ((f j).0, inr (f j).1) ]
     split false t f k = ((f k).0, inr (f k).1)
 
-pub free_filter : (p : Ptr) (test : Ptr → Bool) (xs : List Ptr) → IsFree p xs → IsFree p (filter test xs)
+pub free_filter : (p : ℕ) (test : ℕ → Bool) (xs : List ℕ) → IsFree p xs → IsFree p (filter test xs)
 free_filter p test xs f = free_from p (filter test xs) (λ x i. free_at p xs x f (from_filter test x xs i).1)
 
 pub unlike : Number ≡ Channel → ⊥
@@ -47,42 +46,42 @@ module _ {T : Type 0} where
   one_channel c d (Some x) p q = sym (eqb-true x.channel c p) ∙ eqb-true x.channel d q
 
   -- lists whose nodes hold the same items
-  pub same_nodes_on : (old new : List (Ptr × Node T)) (c : ℕ) (ps : List Ptr) →
-      ((x : Ptr) → IsIn x ps → item_at new x ≡ item_at old x) → nodes_on new c ps ≡ nodes_on old c ps
+  pub same_nodes_on : (old new : List (Node T)) (c : ℕ) (ps : List ℕ) →
+      ((x : ℕ) → IsIn x ps → item_at new x ≡ item_at old x) → nodes_on new c ps ≡ nodes_on old c ps
   same_nodes_on old new c [] h = refl
   same_nodes_on old new c (p ∷ ps) h =
       (λ i. cond (is_on c (h p (inl refl) i)) (p ∷ nodes_on new c ps) (nodes_on new c ps))
       ∙ ap (λ l. cond (is_on c (item_at old p)) (p ∷ l) l) (same_nodes_on old new c ps (λ x i. h x (inr i)))
 
-  pub same_items : (old new : List (Ptr × Node T)) (ps : List Ptr) → ((x : Ptr) → IsIn x ps → item_at new x ≡ item_at old x) → items_in new ps ≡ items_in old ps
+  pub same_items : (old new : List (Node T)) (ps : List ℕ) → ((x : ℕ) → IsIn x ps → item_at new x ≡ item_at old x) → items_in new ps ≡ items_in old ps
   same_items old new [] h = refl
   same_items old new (p ∷ ps) h =
       (λ i. cons_option (h p (inl refl) i) (items_in new ps)) ∙ ap (λ l. cons_option (item_at old p) l) (same_items old new ps (λ x i. h x (inr i)))
 
-  module _ (head : Ptr) (heads free order : List Ptr) (p : Ptr) (cells : List (Ptr × Node T)) (linked : IsLinked head heads (free ++ p ∷ []) order cells)
-      (x : Item T) (first : Ptr) (at : slice_get heads x.channel ≡ Some first) where
-    abbrev one : List (Ptr × Node T)
+  module _ (head : ℕ) (heads free order : List ℕ) (p : ℕ) (cells : List (Node T)) (linked : IsLinked head heads (free ++ p ∷ []) order cells)
+      (x : Item T) (first : ℕ) (at : slice_get heads x.channel ≡ Some first) where
+    abbrev one : List (Node T)
     one = with_item p (Some x) cells
 
-    abbrev two : List (Ptr × Node T)
+    abbrev two : List (Node T)
     two = link_behind Number p (prev_of Number one head) one
 
-    abbrev three : List (Ptr × Node T)
+    abbrev three : List (Node T)
     three = entered head first p x cells
 
     -- 1. The node is none of the others
-    abbrev others : List Ptr
+    abbrev others : List ℕ
     others = (head ∷ heads) ++ (order ++ free)
 
     all_nodes : (head ∷ heads) ++ (order ++ (free ++ p ∷ [])) ≡ others ++ p ∷ []
     all_nodes = ap (λ l. (head ∷ heads) ++ l) (sym (append_assoc order free (p ∷ []))) ∙ sym (append_assoc (head ∷ heads) (order ++ free) (p ∷ []))
 
     pub alone : IsFree p others
-    alone = subst (λ l. IsFree p l) (append-nil others) (others_free others p [] (subst (λ l. IsDistinct same_ptr l) all_nodes linked.apart))
+    alone = subst (λ l. IsFree p l) (append-nil others) (others_free others p [] (subst (λ l. IsDistinct same_place l) all_nodes linked.apart))
 
-    pub rest_apart : IsDistinct same_ptr others
+    pub rest_apart : IsDistinct same_place others
     rest_apart =
-        subst (λ l. IsDistinct same_ptr l) (append-nil others) (distinct_without others p [] (subst (λ l. IsDistinct same_ptr l) all_nodes linked.apart))
+        subst (λ l. IsDistinct same_place l) (append-nil others) (distinct_without others p [] (subst (λ l. IsDistinct same_place l) all_nodes linked.apart))
 
     pub alone_heads : IsFree p (head ∷ heads)
     alone_heads = free_left p (head ∷ heads) (order ++ free) alone
@@ -93,12 +92,12 @@ module _ {T : Type 0} where
     pub p_there : IsSome (value_at p cells)
     p_there = last_there free linked.there
       where
-        last_there : (fs : List Ptr) → AllByRecursion (λ q. IsSome (value_at q cells)) (fs ++ p ∷ []) → IsSome (value_at p cells)
+        last_there : (fs : List ℕ) → AllByRecursion (λ q. IsSome (value_at q cells)) (fs ++ p ∷ []) → IsSome (value_at p cells)
         last_there [] h = h.0
         last_there (f ∷ fs) h = last_there fs h.1
 
     -- 2. What holds of the others' items, and of its own
-    pub old_item : (q : Ptr) → IsIn q order → item_at three q ≡ item_at cells q
+    pub old_item : (q : ℕ) → IsIn q order → item_at three q ≡ item_at cells q
     old_item q i =
         item_past_link Channel p (prev_of Channel two first) q two ∙ item_past_link Number p (prev_of Number one head) q one
         ∙ item_else p q (Some x) cells (free_at p order q alone_order i)
@@ -121,42 +120,42 @@ module _ {T : Type 0} where
         (ring_back Number p head one one_there order (ring_past_item Number p (Some x) cells head order linked.number) (alone_heads.0, alone_order))
 
     -- 4. The channels' rings
-    ring_two : (c : ℕ) (f : Ptr) → slice_get heads c ≡ Some f → IsRing Channel two f (nodes_on cells c order)
+    ring_two : (c : ℕ) (f : ℕ) → slice_get heads c ≡ Some f → IsRing Channel two f (nodes_on cells c order)
     ring_two c f e =
         ring_past_link Number Channel unlike p (prev_of Number one head) one f (nodes_on cells c order)
         (ring_past_item Channel p (Some x) cells f (nodes_on cells c order) (linked.channel c f e))
 
-    alone_ring : (c : ℕ) (f : Ptr) → slice_get heads c ≡ Some f → IsFree p (f ∷ nodes_on cells c order)
+    alone_ring : (c : ℕ) (f : ℕ) → slice_get heads c ≡ Some f → IsFree p (f ∷ nodes_on cells c order)
     alone_ring c f e = (free_at p heads f alone_heads.1 (in_at heads c f e), free_filter p (λ q. is_on c (item_at cells q)) order alone_order)
 
-    in_order : (c : ℕ) (q : Ptr) → IsIn q (nodes_on cells c order) → (is_on c (item_at cells q) ≡ true) × IsIn q order
+    in_order : (c : ℕ) (q : ℕ) → IsIn q (nodes_on cells c order) → (is_on c (item_at cells q) ≡ true) × IsIn q order
     in_order c q i = from_filter (λ r. is_on c (item_at cells r)) q order i
 
-    head_node : (f q : Ptr) → IsIn f heads → IsIn q order → same_ptr f q ≡ false
+    head_node : (f q : ℕ) → IsIn f heads → IsIn q order → same_place f q ≡ false
     head_node f q i j = apart_parts (head ∷ heads) (order ++ free) f q rest_apart (inr i) (in_left order free q j)
 
     -- a node of one channel's ring is none of another's
-    strangers : (c d : ℕ) (f g : Ptr) → slice_get heads c ≡ Some f → slice_get heads d ≡ Some g → (c ≡ d → ⊥) →
-        (a : Ptr) → IsIn a (f ∷ nodes_on cells c order) → IsFree a (g ∷ nodes_on cells d order)
+    strangers : (c d : ℕ) (f g : ℕ) → slice_get heads c ≡ Some f → slice_get heads d ≡ Some g → (c ≡ d → ⊥) →
+        (a : ℕ) → IsIn a (f ∷ nodes_on cells c order) → IsFree a (g ∷ nodes_on cells d order)
     unfolding IsDistinct
     strangers c d f g ef eg ne a i = free_from a (g ∷ nodes_on cells d order) (λ q j. elim i [
-      | inl e ↦ subst (λ r. same_ptr r q ≡ false) (sym e) (elim j [
-        | inl k ↦ subst (λ r. same_ptr f r ≡ false) (sym k) (at_places heads (order ++ free) c d f g rest_apart.1 ef eg ne)
+      | inl e ↦ subst (λ r. same_place r q ≡ false) (sym e) (elim j [
+        | inl k ↦ subst (λ r. same_place f r ≡ false) (sym k) (at_places heads (order ++ free) c d f g rest_apart.1 ef eg ne)
         | inr k ↦ head_node f q (in_at heads c f ef) (in_order d q k).1
       ])
       | inr e ↦ elim j [
-        | inl k ↦ subst (λ r. same_ptr a r ≡ false) (sym k) (same_ptr_symm a g ∙ head_node g a (in_at heads d g eg) (in_order c a e).1)
+        | inl k ↦ subst (λ r. same_place a r ≡ false) (sym k) (same_place_symm a g ∙ head_node g a (in_at heads d g eg) (in_order c a e).1)
         | inr k ↦ differ a q
             (λ same. ne
             (one_channel c d (item_at cells a) (in_order c a e).0 (subst (λ r. is_on d (item_at cells r) ≡ true) (sym same) (in_order d q k).0)))
       ]
     ])
       where
-        differ : (a q : Ptr) → (a ≡ q → ⊥) → same_ptr a q ≡ false
-        differ a q n = by (same_ptr a q) refl
+        differ : (a q : ℕ) → (a ≡ q → ⊥) → same_place a q ≡ false
+        differ a q n = by (same_place a q) refl
           where
-            by : (b : Bool) → same_ptr a q ≡ b → same_ptr a q ≡ false
-            by true t = absurd (n (same_ptr_eq a q t))
+            by : (b : Bool) → same_place a q ≡ b → same_place a q ≡ false
+            by true t = absurd (n (same_place_eq a q t))
             by false t = t
 
     pub nodes_then : (c : ℕ) → nodes_on three c (order ++ p ∷ []) ≡ nodes_on cells c order ++ cond (x.channel == c) (p ∷ []) []
@@ -165,7 +164,7 @@ module _ {T : Type 0} where
         ∙ ap (λ l. l ++ filter (λ q. is_on c (item_at three q)) (p ∷ [])) (same_nodes_on cells three c order old_item)
         ∙ ap (λ o. nodes_on cells c order ++ cond (is_on c o) (p ∷ []) []) new_item
 
-    pub channel_entered : (c : ℕ) (f : Ptr) → slice_get heads c ≡ Some f → IsRing Channel three f (nodes_on three c (order ++ p ∷ []))
+    pub channel_entered : (c : ℕ) (f : ℕ) → slice_get heads c ≡ Some f → IsRing Channel three f (nodes_on three c (order ++ p ∷ []))
     channel_entered c f e = subst (λ l. IsRing Channel three f l) (sym (nodes_then c)) (by (x.channel == c) refl)
       where
         by : (b : Bool) → (x.channel == c) ≡ b → IsRing Channel three f (nodes_on cells c order ++ cond b (p ∷ []) [])
@@ -189,23 +188,23 @@ module _ {T : Type 0} where
             clash false q r = cc
 
     -- 5. All together
-    all_old : (P : Ptr → Type 0) (xs : List Ptr) → ((q : Ptr) → IsIn q xs → P q) → AllByRecursion P xs
+    all_old : (P : ℕ → Type 0) (xs : List ℕ) → ((q : ℕ) → IsIn q xs → P q) → AllByRecursion P xs
     all_old P [] h = tt
     all_old P (q ∷ qs) h = (h q (inl refl), all_old P qs (λ r i. h r (inr i)))
 
-    all_at : (P : Ptr → Type 0) (xs : List Ptr) (q : Ptr) → AllByRecursion P xs → IsIn q xs → P q
+    all_at : (P : ℕ → Type 0) (xs : List ℕ) (q : ℕ) → AllByRecursion P xs → IsIn q xs → P q
     all_at P [] q h i = absurd i
     all_at P (y ∷ ys) q h i = elim i [ inl e ↦ subst P (sym e) h.0 | inr j ↦ all_at P ys q h.1 j ]
 
-    all_push : (P : Ptr → Type 0) (xs : List Ptr) → AllByRecursion P xs → P p → AllByRecursion P (xs ++ p ∷ [])
+    all_push : (P : ℕ → Type 0) (xs : List ℕ) → AllByRecursion P xs → P p → AllByRecursion P (xs ++ p ∷ [])
     all_push P [] h k = (k, tt)
     all_push P (y ∷ ys) h k = (h.0, all_push P ys h.1 k)
 
-    all_front : (P : Ptr → Type 0) (xs : List Ptr) → AllByRecursion P (xs ++ p ∷ []) → AllByRecursion P xs
+    all_front : (P : ℕ → Type 0) (xs : List ℕ) → AllByRecursion P (xs ++ p ∷ []) → AllByRecursion P xs
     all_front P [] h = tt
     all_front P (y ∷ ys) h = (h.0, all_front P ys h.1)
 
-    pub three_there : (q : Ptr) → IsSome (value_at q cells) → IsSome (value_at q three)
+    pub three_there : (q : ℕ) → IsSome (value_at q cells) → IsSome (value_at q three)
     three_there q h =
         link_stays Channel p (prev_of Channel two first) q two
         (link_stays Number p (prev_of Number one head) q one (stays p q (λ (node : Node T). record node { item = Some x }) cells h))
@@ -218,8 +217,8 @@ module _ {T : Type 0} where
           let moved : ((head ∷ heads) ++ order) ++ p ∷ free ≡ (head ∷ heads) ++ ((order ++ p ∷ []) ++ free) =
           append_assoc (head ∷ heads) order (p ∷ free) ∙ ap (λ l. (head ∷ heads) ++ l) (sym (append_assoc order (p ∷ []) free)) in
           let split : (head ∷ heads) ++ (order ++ free) ≡ ((head ∷ heads) ++ order) ++ free = sym (append_assoc (head ∷ heads) order free) in
-          subst (λ l. IsDistinct same_ptr l) moved
-          (distinct_with ((head ∷ heads) ++ order) p free (subst (λ l. IsFree p l) split alone) (subst (λ l. IsDistinct same_ptr l) split rest_apart));
+          subst (λ l. IsDistinct same_place l) moved
+          (distinct_with ((head ∷ heads) ++ order) p free (subst (λ l. IsFree p l) split alone) (subst (λ l. IsDistinct same_place l) split rest_apart));
       held =
           all_push (λ q. IsSome (item_at three q)) order
           (all_old (λ q. IsSome (item_at three q)) order (λ q i. rw (old_item q i) (all_at (λ r. IsSome (item_at cells r)) order q linked.held i)))

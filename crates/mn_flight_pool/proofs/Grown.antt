@@ -4,22 +4,21 @@ use Rattle.std.proofs.Common.{append_assoc, length-append, get_or}
 use Rattle.std.specs.Prelude.{slice_get}
 use Rattle.std.specs.List.{AllByRecursion, IsDistinct}
 use Rattle.std.proofs.lemmas.Option.{same_Some}
-use denote.RawPtr.{Ptr}
 use Rattle.mn_flight.proofs.Kept.{none_flies}
-use Rattle.mn_flight_pool.specs.Cells.{same_ptr, value_at}
-use Rattle.mn_flight_pool.specs.Rings.{IsFree, IsIn, IsRing, IsVacantFirst, item_in, item_at, next_in, prev_in, next_of, link_of, with_link, set_next, lone}
+use Rattle.mn_flight_pool.specs.Cells.{same_place, value_at}
+use Rattle.mn_flight_pool.specs.Rings.{IsFree, IsIn, IsRing, IsVacantLast, item_in, item_at, next_in, prev_in, next_of, link_of, with_link, set_next, lone}
 use Rattle.mn_flight_pool.specs.ByDue.{IsByDue, IsTick}
 use Rattle.mn_flight_pool.specs.Pool.{items_in, nodes_on, order_of, trace, IsHeld, IsLinked}
 use Rattle.mn_flight_pool.specs.Whole.{AreLast, ptrs, dues_of, order_in, items_of, IsWhole, IsCounted}
 use Rattle.mn_flight_pool.specs.declared.pool.Pool.{Pool}
-use Rattle.mn_flight_pool.specs.declared.arena.Place.{Place}
+use Rattle.mn_flight_pool.specs.declared.node.Place.{Place}
 use Rattle.mn_flight_pool.specs.declared.tick.Tick.{Tick}
 use Rattle.mn_flight_pool.specs.declared.node.Pair.{Pair}
 use Rattle.mn_flight_pool.specs.declared.node.Pair.TheVariants.{Number, Channel, Due}
 use Rattle.mn_flight_pool.specs.declared.node.Link.{Link}
 use Rattle.mn_flight_pool.specs.declared.node.Node.{Node}
-use Rattle.mn_flight_pool.proofs.Found.{same_ptr_refl}
-use Rattle.mn_flight_pool.proofs.Changed.{value_other, next_stays, prev_stays, same_ptr_symm}
+use Rattle.mn_flight_pool.proofs.Changed.{same_place_refl}
+use Rattle.mn_flight_pool.proofs.Changed.{value_other, next_stays, prev_stays, same_place_symm}
 use Rattle.mn_flight_pool.proofs.Neighbours.{distinct_with}
 use Rattle.mn_flight_pool.proofs.Rings.{Unlike, next_at, prev_at, next_past, set_next_leaves, set_prev_leaves, link_unlike, item_kept, ring_same}
 use Rattle.mn_flight_pool.proofs.Entered.{same_nodes_on}
@@ -30,17 +29,17 @@ use Rattle.mn_flight_pool.proofs.Whole.{order_length}
 use Rattle.mn_flight_pool.proofs.Put.{ptrs_push}
 use Rattle.mn_flight_pool.proofs.PastDue.{due_number}
 
-one_apart : (p : Ptr) → IsDistinct same_ptr (p ∷ [])
+one_apart : (p : ℕ) → IsDistinct same_place (p ∷ [])
 unfolding IsDistinct
 one_apart p = (tt, tt)
 
 module _ {T : Type 0} where
   -- 1. A ring of one node
-  lone_stays : (pair : Pair) (p x : Ptr) (cells : List (Ptr × Node T)) → IsSome (value_at x cells) → IsSome (value_at x (lone pair p cells))
+  lone_stays : (pair : Pair) (p x : ℕ) (cells : List (Node T)) → IsSome (value_at x cells) → IsSome (value_at x (lone pair p cells))
   lone_stays pair p x cells h =
       prev_stays pair p p x (set_next pair p p cells) (lone pair p cells) refl (next_stays pair p p x cells (set_next pair p p cells) refl h)
 
-  ring_lone : (pair : Pair) (p : Ptr) (cells : List (Ptr × Node T)) → IsSome (value_at p cells) → IsRing pair (lone pair p cells) p []
+  ring_lone : (pair : Pair) (p : ℕ) (cells : List (Node T)) → IsSome (value_at p cells) → IsRing pair (lone pair p cells) p []
   ring_lone pair p cells there = record {
     apart = one_apart p;
     there = (lone_stays pair p p cells there, tt);
@@ -51,41 +50,35 @@ module _ {T : Type 0} where
     );
   }
 
-  ring_past_lone : (pair other : Pair) → Unlike pair other → (p : Ptr) (cells : List (Ptr × Node T)) (s : Ptr) (ps : List Ptr) → IsRing other cells s ps →
+  ring_past_lone : (pair other : Pair) → Unlike pair other → (p : ℕ) (cells : List (Node T)) (s : ℕ) (ps : List ℕ) → IsRing other cells s ps →
       IsRing other (lone pair p cells) s ps
   ring_past_lone pair other u p cells =
       ring_same cells (lone pair p cells) (λ x h. lone_stays pair p x cells h) other
-      (λ x h. set_prev_leaves pair (next_in other) (λ link node. ap (λ (l : Link). l.next.ptr) (link_unlike pair other u link node)) p p x
+      (λ x h. set_prev_leaves pair (next_in other) (λ link node. ap (λ (l : Link). l.next.index) (link_unlike pair other u link node)) p p x
       (set_next pair p p cells)
-      ∙ set_next_leaves pair (next_in other) (λ link node. ap (λ (l : Link). l.next.ptr) (link_unlike pair other u link node)) p p x cells)
-      (λ x h. set_prev_leaves pair (prev_in other) (λ link node. ap (λ (l : Link). l.prev.ptr) (link_unlike pair other u link node)) p p x
+      ∙ set_next_leaves pair (next_in other) (λ link node. ap (λ (l : Link). l.next.index) (link_unlike pair other u link node)) p p x cells)
+      (λ x h. set_prev_leaves pair (prev_in other) (λ link node. ap (λ (l : Link). l.prev.index) (link_unlike pair other u link node)) p p x
       (set_next pair p p cells)
-      ∙ set_next_leaves pair (prev_in other) (λ link node. ap (λ (l : Link). l.prev.ptr) (link_unlike pair other u link node)) p p x cells)
+      ∙ set_next_leaves pair (prev_in other) (λ link node. ap (λ (l : Link). l.prev.index) (link_unlike pair other u link node)) p p x cells)
 
-  item_lone : (pair : Pair) (p x : Ptr) (cells : List (Ptr × Node T)) → item_at (lone pair p cells) x ≡ item_at cells x
+  item_lone : (pair : Pair) (p x : ℕ) (cells : List (Node T)) → item_at (lone pair p cells) x ≡ item_at cells x
   item_lone pair p x cells =
       set_prev_leaves pair item_in (item_kept pair) p p x (set_next pair p p cells) ∙ set_next_leaves pair item_in (item_kept pair) p p x cells
 
-  value_lone : (pair : Pair) (p x : Ptr) (cells : List (Ptr × Node T)) → same_ptr p x ≡ false → value_at x (lone pair p cells) ≡ value_at x cells
+  value_lone : (pair : Pair) (p x : ℕ) (cells : List (Node T)) → same_place p x ≡ false → value_at x (lone pair p cells) ≡ value_at x cells
   value_lone pair p x cells h =
-      value_other p x (λ node. with_link pair (record (link_of pair node) { prev = record { ptr = p } }) node) (set_next pair p p cells) h
-      ∙ value_other p x (λ node. with_link pair (record (link_of pair node) { next = record { ptr = p } }) node) cells h
+      value_other p x (λ node. with_link pair (record (link_of pair node) { prev = record { index = p } }) node) (set_next pair p p cells) h
+      ∙ value_other p x (λ node. with_link pair (record (link_of pair node) { next = record { index = p } }) node) cells h
 
-  first_there : (p : Ptr) (old new : List (Ptr × Node T)) → IsVacantFirst p old new → IsSome (value_at p new)
-  first_there p old new added = rw added.1 here
-    where
-      here : IsSome (value_at p ((p, added.0) ∷ old))
-      here = rw same_ptr_refl refl
+  first_there : (p : ℕ) (old new : List (Node T)) → IsVacantLast p old new → IsSome (value_at p new)
+  first_there p old new added = subst (λ o. IsSome o) (sym (held.value_added p old new added)) refl
 
-  first_vacant : (p : Ptr) (old new : List (Ptr × Node T)) → IsVacantFirst p old new → item_at new p ≡ None
-  first_vacant p old new added = ap (λ c. item_at c p) added.1 ∙ here
-    where
-      here : item_at ((p, added.0) ∷ old) p ≡ None
-      here = rw same_ptr_refl added.2
+  first_vacant : (p : ℕ) (old new : List (Node T)) → IsVacantLast p old new → item_at new p ≡ None
+  first_vacant p old new added = ap item_in (held.value_added p old new added) ∙ added.2
 
   -- 2. The ring by due tick where the items stay
-  by_due_same : (head : Ptr) (order dues : List Ptr) (ticks : List Tick) (old new : List (Ptr × Node T)) → IsByDue head order dues ticks old →
-      IsRing Due new head dues → item_at new head ≡ None → ((q : Ptr) → IsIn q order → item_at new q ≡ item_at old q)
+  by_due_same : (head : ℕ) (order dues : List ℕ) (ticks : List Tick) (old new : List (Node T)) → IsByDue head order dues ticks old →
+      IsRing Due new head dues → item_at new head ≡ None → ((q : ℕ) → IsIn q order → item_at new q ≡ item_at old q)
       → IsByDue head order dues ticks new
   by_due_same head order dues ticks old new due ring vacant same = record {
     ring = ring;
@@ -96,44 +89,44 @@ module _ {T : Type 0} where
     many = due.many;
     ascending = due.ascending;
     lasts = all_kept (IsTick old order) (IsTick new order) ticks (λ t is.
-        let last = tick_item old order t.due (item_at old t.last.ptr) is.last in
+        let last = tick_item old order t.due (item_at old t.last.index) is.last in
         record {
           there = is.there;
           last =
-              item_tick new order t.due (item_at new t.last.ptr) last.0 (same t.last.ptr is.there ∙ last.1) last.2
+              item_tick new order t.due (item_at new t.last.index) last.0 (same t.last.index is.there ∙ last.1) last.2
               (λ q y i e f. last.3 q y i (sym (same q i) ∙ e) f);
         }) due.lasts;
     each = λ q y i e. due.each q y i (sym (same q i) ∙ e);
   }
 
   -- 3. One more node
-  module _ (pool : Pool T) (whole : IsWhole pool) (node : Place) (new : List (Ptr × Node T)) (added : IsVacantFirst node.ptr pool.store new)
-      (fresh : value_at node.ptr pool.store ≡ None) where
+  module _ (pool : Pool T) (whole : IsWhole pool) (node : Place) (new : List (Node T)) (added : IsVacantLast node.index pool.store new)
+      (fresh : value_at node.index pool.store ≡ None) where
     heads_there : AllByRecursion (λ q. IsSome (value_at q pool.store)) (ptrs pool.heads.items)
-    heads_there = held.heads_there pool.head.ptr (ptrs pool.heads.items) (ptrs pool.free.items) (order_in pool) pool.store whole.held.linked
+    heads_there = held.heads_there pool.head.index (ptrs pool.heads.items) (ptrs pool.free.items) (order_in pool) pool.store whole.held.linked
 
-    same_order : order_of pool.head.ptr pool.count new ≡ order_in pool
+    same_order : order_of pool.head.index pool.count new ≡ order_in pool
     same_order =
-        held.order_kept node.ptr pool.store new added fresh pool.head.ptr (ptrs pool.heads.items) (ptrs pool.free.items) pool.count whole.held heads_there
+        held.order_kept node.index pool.store new added fresh pool.head.index (ptrs pool.heads.items) (ptrs pool.free.items) pool.count whole.held heads_there
 
-    same_item : (q : Ptr) → IsIn q (order_in pool) → item_at new q ≡ item_at pool.store q
+    same_item : (q : ℕ) → IsIn q (order_in pool) → item_at new q ≡ item_at pool.store q
     same_item q i =
-        held.item_kept node.ptr pool.store new added fresh pool.head.ptr (ptrs pool.heads.items)
+        held.item_kept node.index pool.store new added fresh pool.head.index (ptrs pool.heads.items)
         (ptrs pool.free.items) pool.count whole.held heads_there q i
 
-    pub grown_held : (then : List Place) → then ≡ pool.free.items ++ node ∷ [] → IsHeld pool.head.ptr (ptrs pool.heads.items) (ptrs then) pool.count new
+    pub grown_held : (then : List Place) → then ≡ pool.free.items ++ node ∷ [] → IsHeld pool.head.index (ptrs pool.heads.items) (ptrs then) pool.count new
     grown_held then e =
-        subst (λ l. IsHeld pool.head.ptr (ptrs pool.heads.items) l pool.count new) (sym (ap (λ l. ptrs l) e ∙ ptrs_push pool.free.items node))
-        (held.held_added node.ptr pool.store new added fresh pool.head.ptr (ptrs pool.heads.items) (ptrs pool.free.items) pool.count whole.held heads_there)
+        subst (λ l. IsHeld pool.head.index (ptrs pool.heads.items) l pool.count new) (sym (ap (λ l. ptrs l) e ∙ ptrs_push pool.free.items node))
+        (held.held_added node.index pool.store new added fresh pool.head.index (ptrs pool.heads.items) (ptrs pool.free.items) pool.count whole.held heads_there)
 
-    pub grown_items : items_in new (order_of pool.head.ptr pool.count new) ≡ items_of pool
+    pub grown_items : items_in new (order_of pool.head.index pool.count new) ≡ items_of pool
     grown_items =
-        held.items_added node.ptr pool.store new added fresh pool.head.ptr (ptrs pool.heads.items) (ptrs pool.free.items) pool.count whole.held heads_there
+        held.items_added node.index pool.store new added fresh pool.head.index (ptrs pool.heads.items) (ptrs pool.free.items) pool.count whole.held heads_there
 
-    pub grown_recent : AreLast (order_of pool.head.ptr pool.count new) (ptrs pool.recent.items)
+    pub grown_recent : AreLast (order_of pool.head.index pool.count new) (ptrs pool.recent.items)
     grown_recent = record { front = whole.recent.front; cut = same_order ∙ whole.recent.cut }
 
-    pub grown_counted : IsCounted pool.counts.items (length pool.heads.items) (order_of pool.head.ptr pool.count new) new
+    pub grown_counted : IsCounted pool.counts.items (length pool.heads.items) (order_of pool.head.index pool.count new) new
     grown_counted =
         subst (λ o. IsCounted pool.counts.items (length pool.heads.items) o new) (sym same_order)
         (record {
@@ -142,71 +135,71 @@ module _ {T : Type 0} where
               λ c h. whole.counted.each c h ∙ ap length (sym (same_nodes_on pool.store new c (order_in pool) same_item));
         })
 
-    abbrev dues : List Ptr
-    dues = dues_of pool.head.ptr pool.count pool.store
+    abbrev dues : List ℕ
+    dues = dues_of pool.head.index pool.count pool.store
 
-    new_due_ring : IsRing Due new pool.head.ptr dues
-    new_due_ring = held.ring_kept node.ptr pool.store new added fresh Due pool.head.ptr dues whole.by_due.ring
+    new_due_ring : IsRing Due new pool.head.index dues
+    new_due_ring = held.ring_kept node.index pool.store new added fresh Due pool.head.index dues whole.by_due.ring
 
-    same_dues : dues_of pool.head.ptr pool.count new ≡ dues
+    same_dues : dues_of pool.head.index pool.count new ≡ dues
     same_dues =
         let many : length dues ≡ pool.count = whole.by_due.many ∙ order_length pool whole in
-        ap (λ n. trace (next_of Due new) pool.head.ptr n) (sym many) ∙ trace_ring Due new pool.head.ptr dues new_due_ring
+        ap (λ n. trace (next_of Due new) pool.head.index n) (sym many) ∙ trace_ring Due new pool.head.index dues new_due_ring
 
-    head_vacant : item_at new pool.head.ptr ≡ None
-    head_vacant = ap item_in (held.value_kept node.ptr pool.store new added fresh pool.head.ptr whole.held.linked.number.there.0) ∙ whole.by_due.vacant
+    head_vacant : item_at new pool.head.index ≡ None
+    head_vacant = ap item_in (held.value_kept node.index pool.store new added fresh pool.head.index whole.held.linked.number.there.0) ∙ whole.by_due.vacant
 
-    pub grown_by_due : IsByDue pool.head.ptr (order_of pool.head.ptr pool.count new) (dues_of pool.head.ptr pool.count new) pool.ticks.items new
+    pub grown_by_due : IsByDue pool.head.index (order_of pool.head.index pool.count new) (dues_of pool.head.index pool.count new) pool.ticks.items new
     grown_by_due =
-        subst (λ o. IsByDue pool.head.ptr o (dues_of pool.head.ptr pool.count new) pool.ticks.items new) (sym same_order)
-        (subst (λ d. IsByDue pool.head.ptr (order_in pool) d pool.ticks.items new) (sym same_dues)
-        (by_due_same pool.head.ptr (order_in pool) dues pool.ticks.items pool.store new whole.by_due new_due_ring head_vacant same_item))
+        subst (λ o. IsByDue pool.head.index o (dues_of pool.head.index pool.count new) pool.ticks.items new) (sym same_order)
+        (subst (λ d. IsByDue pool.head.index (order_in pool) d pool.ticks.items new) (sym same_dues)
+        (by_due_same pool.head.index (order_in pool) dues pool.ticks.items pool.store new whole.by_due new_due_ring head_vacant same_item))
 
     -- 4. One more channel, while no item flies
-    module _ (none : pool.count ≡ 0) (two : List (Ptr × Node T)) (two_is : two ≡ lone Channel node.ptr new) where
-      abbrev p : Ptr
-      p = node.ptr
+    module _ (none : pool.count ≡ 0) (two : List (Node T)) (two_is : two ≡ lone Channel node.index new) where
+      abbrev p : ℕ
+      p = node.index
 
-      abbrev head : Ptr
-      head = pool.head.ptr
+      abbrev head : ℕ
+      head = pool.head.index
 
-      abbrev heads : List Ptr
+      abbrev heads : List ℕ
       heads = ptrs pool.heads.items
 
-      abbrev free : List Ptr
+      abbrev free : List ℕ
       free = ptrs pool.free.items
 
-      abbrev last : List (Ptr × Node T)
+      abbrev last : List (Node T)
       last = lone Channel p new
 
       held_none : IsHeld head heads free 0 pool.store
       held_none = subst (λ n. IsHeld head heads free n pool.store) none whole.held
 
-      stays : (x : Ptr) → IsSome (value_at x pool.store) → IsSome (value_at x last)
+      stays : (x : ℕ) → IsSome (value_at x pool.store) → IsSome (value_at x last)
       stays x h = lone_stays Channel p x new (subst (λ o. IsSome o) (sym (held.value_kept p pool.store new added fresh x h)) h)
 
-      value_same : (x : Ptr) → IsSome (value_at x pool.store) → value_at x last ≡ value_at x pool.store
+      value_same : (x : ℕ) → IsSome (value_at x pool.store) → value_at x last ≡ value_at x pool.store
       value_same x h =
-          value_lone Channel p x new (same_ptr_symm p x ∙ held.not_p p pool.store new added fresh x h) ∙ held.value_kept p pool.store new added fresh x h
+          value_lone Channel p x new (same_place_symm p x ∙ held.not_p p pool.store new added fresh x h) ∙ held.value_kept p pool.store new added fresh x h
 
-      ring_last : (pair : Pair) (s : Ptr) (ps : List Ptr) → IsRing pair pool.store s ps → IsRing pair last s ps
+      ring_last : (pair : Pair) (s : ℕ) (ps : List ℕ) → IsRing pair pool.store s ps → IsRing pair last s ps
       ring_last pair = ring_same pool.store last stays pair (λ x h. ap (next_in pair) (value_same x h)) (λ x h. ap (prev_in pair) (value_same x h))
 
-      channels : (c : ℕ) (f : Ptr) → slice_get (heads ++ p ∷ []) c ≡ Some f → IsRing Channel last f []
+      channels : (c : ℕ) (f : ℕ) → slice_get (heads ++ p ∷ []) c ≡ Some f → IsRing Channel last f []
       channels c f e = by heads c (λ k g h. ring_last Channel g [] (held_none.linked.channel k g h)) e
         where
-          by : (hs : List Ptr) (k : ℕ) → ((m : ℕ) (g : Ptr) → slice_get hs m ≡ Some g → IsRing Channel last g []) → slice_get (hs ++ p ∷ []) k ≡ Some f →
+          by : (hs : List ℕ) (k : ℕ) → ((m : ℕ) (g : ℕ) → slice_get hs m ≡ Some g → IsRing Channel last g []) → slice_get (hs ++ p ∷ []) k ≡ Some f →
               IsRing Channel last f []
           by [] zero old h = subst (λ g. IsRing Channel last g []) (same_Some p f h) (ring_lone Channel p new (first_there p pool.store new added))
           by [] (suc k) old h = cc
           by (h₀ ∷ hs) zero old h = old 0 f h
           by (h₀ ∷ hs) (suc k) old h = by hs k (λ m g j. old (suc m) g j) h
 
-      apart : IsDistinct same_ptr ((head ∷ (heads ++ p ∷ [])) ++ free)
+      apart : IsDistinct same_place ((head ∷ (heads ++ p ∷ [])) ++ free)
       apart =
           let moved : (head ∷ heads) ++ p ∷ free ≡ (head ∷ (heads ++ p ∷ [])) ++ free = ap (λ l. head ∷ l) (sym (append_assoc heads (p ∷ []) free)) in
           let alone : IsFree p ((head ∷ heads) ++ free) = held.alone p pool.store new added fresh head heads free 0 held_none heads_there in
-          subst (λ l. IsDistinct same_ptr l) moved (distinct_with (head ∷ heads) p free alone held_none.linked.apart)
+          subst (λ l. IsDistinct same_place l) moved (distinct_with (head ∷ heads) p free alone held_none.linked.apart)
 
       linked_last : IsLinked head (heads ++ p ∷ []) free [] last
       linked_last = record {
@@ -266,9 +259,9 @@ module _ {T : Type 0} where
           vacant = ap item_in (value_same head held_none.linked.number.there.0) ∙ whole.by_due.vacant
 
   -- 5. The pool that holds nothing, on no channel
-  module _ (head : Ptr) (one two three : List (Ptr × Node T)) (added : IsVacantFirst head [] one) (two_is : two ≡ lone Number head one)
+  module _ (head : ℕ) (one two three : List (Node T)) (added : IsVacantLast head [] one) (two_is : two ≡ lone Number head one)
       (three_is : three ≡ lone Due head two) where
-    abbrev alone_head : List (Ptr × Node T)
+    abbrev alone_head : List (Node T)
     alone_head = lone Due head (lone Number head one)
 
     is : three ≡ alone_head
@@ -291,7 +284,7 @@ module _ {T : Type 0} where
           flight = none_flies 0;
         })))
       where
-        no_place : (c : ℕ) (first : Ptr) → slice_get [] c ≡ Some first → IsRing Channel alone_head first (nodes_on alone_head c [])
+        no_place : (c : ℕ) (first : ℕ) → slice_get [] c ≡ Some first → IsRing Channel alone_head first (nodes_on alone_head c [])
         no_place c first h = cc
 
     pub empty_counted : (counts : List ℕ) (heads : List Place) → counts ≡ [] → heads ≡ [] → IsCounted counts (length heads) [] three

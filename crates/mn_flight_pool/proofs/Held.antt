@@ -7,41 +7,40 @@ use Rattle.mn_flight.proofs.Taken.{removed, removed_flies}
 use Rattle.mn_flight.proofs.Kept.{flight_push}
 use Rattle.mn_flight_pool.proofs.Left.{linked_left, items_before, items_left}
 use Rattle.std.specs.List.{AllByRecursion, IsDistinct, All}
-use denote.RawPtr.{Ptr}
 use Rattle.mn_flight.specs.declared.Item.{Item}
 use Rattle.mn_flight.specs.Flying.{IsFlight}
-use Rattle.mn_flight_pool.specs.Cells.{same_ptr, value_at}
-use Rattle.mn_flight_pool.specs.Rings.{IsFree, IsRing, IsVacantFirst, item_in, item_at, next_in, prev_in, next_of, IsIn}
+use Rattle.mn_flight_pool.specs.Cells.{same_place, value_at}
+use Rattle.mn_flight_pool.specs.Rings.{IsFree, IsRing, IsVacantLast, item_in, item_at, next_in, prev_in, next_of, IsIn}
 use Rattle.mn_flight_pool.specs.Pool.{trace, items_in, nodes_on, order_of, IsLinked, IsHeld, entered, left}
 use Rattle.mn_flight_pool.specs.declared.node.Pair.{Pair}
 use Rattle.mn_flight_pool.specs.declared.node.Pair.TheVariants.{Number, Channel}
 use Rattle.mn_flight_pool.specs.declared.node.Node.{Node}
-use Rattle.mn_flight_pool.proofs.Found.{same_ptr_eq, same_ptr_refl}
-use Rattle.mn_flight_pool.proofs.Changed.{same_ptr_symm}
+use Rattle.mn_flight_pool.proofs.Changed.{same_place_eq, value_before, value_last}
+use Rattle.mn_flight_pool.proofs.Changed.{same_place_symm}
 use Rattle.mn_flight_pool.proofs.Neighbours.{free_from, free_both, distinct_with}
 use Rattle.mn_flight_pool.proofs.Rings.{ring_same}
 use Rattle.mn_flight_pool.proofs.Traces.{trace_ring}
 use Rattle.mn_flight_pool.proofs.Entered.{linked_entered, items_entered, same_items, same_nodes_on}
 
-pub length-trace : (next : Ptr → Ptr) (s : Ptr) (n : ℕ) → length (trace next s n) ≡ n
+pub length-trace : (next : ℕ → ℕ) (s : ℕ) (n : ℕ) → length (trace next s n) ≡ n
 length-trace next s zero = refl
 length-trace next s (suc n) = ap suc (length-trace next (next s) n)
 
-pub place_of : (q : Ptr) (xs : List Ptr) → IsIn q xs → (c : ℕ) × (slice_get xs c ≡ Some q)
+pub place_of : (q : ℕ) (xs : List ℕ) → IsIn q xs → (c : ℕ) × (slice_get xs c ≡ Some q)
 place_of q [] i = absurd i
 place_of q (y ∷ ys) i = elim i [ inl e ↦ (0, ap (λ z. Some z) (sym e)) | inr j ↦ let on = place_of q ys j in (suc on.0, on.1) ]
 
 module _ {T : Type 0} where
   -- the order is that of any ring of all
-  pub order_is : (head : Ptr) (n : ℕ) (cells : List (Ptr × Node T)) (ps : List Ptr) → IsRing Number cells head ps → length ps ≡ n → order_of head n cells ≡ ps
+  pub order_is : (head : ℕ) (n : ℕ) (cells : List (Node T)) (ps : List ℕ) → IsRing Number cells head ps → length ps ≡ n → order_of head n cells ≡ ps
   order_is head n cells ps ring e = ap (λ k. trace (next_of Number cells) head k) (sym e) ∙ trace_ring Number cells head ps ring
 
-  module _ (head : Ptr) (heads free : List Ptr) (n : ℕ) (p : Ptr) (cells : List (Ptr × Node T)) (held : IsHeld head heads (free ++ p ∷ []) n cells)
-      (x : Item T) (first : Ptr) (at : slice_get heads x.channel ≡ Some first) where
-    abbrev pub order : List Ptr
+  module _ (head : ℕ) (heads free : List ℕ) (n : ℕ) (p : ℕ) (cells : List (Node T)) (held : IsHeld head heads (free ++ p ∷ []) n cells)
+      (x : Item T) (first : ℕ) (at : slice_get heads x.channel ≡ Some first) where
+    abbrev pub order : List ℕ
     order = order_of head n cells
 
-    abbrev pub new : List (Ptr × Node T)
+    abbrev pub new : List (Node T)
     new = entered head first p x cells
 
     now_linked : IsLinked head heads free (order ++ p ∷ []) new
@@ -62,54 +61,53 @@ module _ {T : Type 0} where
       flight = subst (λ xs. IsFlight (length heads) xs) (sym items_pushed) (flight_push (length heads) (items_in cells order) x held.flight above on);
     }
 
+  -- the node that is added
+  pub value_added : (p : ℕ) (old new : List (Node T)) (added : IsVacantLast p old new) → value_at p new ≡ Some added.0
+  value_added p old _ added =
+      ap (λ c. value_at p c) added.1 ∙ ap (λ q. value_at q (old ++ added.0 ∷ [])) added.3 ∙ value_last old added.0
+
   -- a node is added
-  module _ (p : Ptr) (old new : List (Ptr × Node T)) (added : IsVacantFirst p old new) (fresh : value_at p old ≡ None) where
-    pub not_p : (x : Ptr) → IsSome (value_at x old) → same_ptr x p ≡ false
-    not_p x h = by (same_ptr x p) refl
+  module _ (p : ℕ) (old new : List (Node T)) (added : IsVacantLast p old new) (fresh : value_at p old ≡ None) where
+    pub not_p : (x : ℕ) → IsSome (value_at x old) → same_place x p ≡ false
+    not_p x h = by (same_place x p) refl
       where
-        by : (b : Bool) → same_ptr x p ≡ b → same_ptr x p ≡ false
-        by true t = absurd (none (value_at p old) fresh (subst (λ q. IsSome (value_at q old)) (same_ptr_eq x p t) h))
+        by : (b : Bool) → same_place x p ≡ b → same_place x p ≡ false
+        by true t = absurd (none (value_at p old) fresh (subst (λ q. IsSome (value_at q old)) (same_place_eq x p t) h))
           where
             none : (o : Option (Node T)) → o ≡ None → IsSome o → ⊥
             none None e s = cc
             none (Some y) e s = cc
         by false t = t
 
-    pub value_kept : (x : Ptr) → IsSome (value_at x old) → value_at x new ≡ value_at x old
-    value_kept x h = ap (λ c. value_at x c) added.1 ∙ else_ (not_p x h)
-      where
-        else_ : same_ptr x p ≡ false → value_at x ((p, added.0) ∷ old) ≡ value_at x old
-        else_ e = rw e refl
+    pub value_kept : (x : ℕ) → IsSome (value_at x old) → value_at x new ≡ value_at x old
+    value_kept x h = ap (λ c. value_at x c) added.1 ∙ value_before x old added.0 h
 
-    pub ring_kept : (pair : Pair) (s : Ptr) (ps : List Ptr) → IsRing pair old s ps → IsRing pair new s ps
+    pub ring_kept : (pair : Pair) (s : ℕ) (ps : List ℕ) → IsRing pair old s ps → IsRing pair new s ps
     ring_kept pair =
         ring_same old new (λ x h. subst (λ o. IsSome o) (sym (value_kept x h)) h) pair (λ x h. ap (next_in pair) (value_kept x h))
         (λ x h. ap (prev_in pair) (value_kept x h))
 
-    all_in : (P : Ptr → Type 0) (xs : List Ptr) (q : Ptr) → AllByRecursion P xs → IsIn q xs → P q
+    all_in : (P : ℕ → Type 0) (xs : List ℕ) (q : ℕ) → AllByRecursion P xs → IsIn q xs → P q
     all_in P [] q h i = absurd i
     all_in P (y ∷ ys) q h i = elim i [ inl e ↦ subst P (sym e) h.0 | inr j ↦ all_in P ys q h.1 j ]
 
-    all_old : (P : Ptr → Type 0) (xs : List Ptr) → ((q : Ptr) → IsIn q xs → P q) → AllByRecursion P xs
+    all_old : (P : ℕ → Type 0) (xs : List ℕ) → ((q : ℕ) → IsIn q xs → P q) → AllByRecursion P xs
     all_old P [] h = tt
     all_old P (q ∷ qs) h = (h q (inl refl), all_old P qs (λ r i. h r (inr i)))
 
-    all_push : (P : Ptr → Type 0) (xs : List Ptr) → AllByRecursion P xs → P p → AllByRecursion P (xs ++ p ∷ [])
+    all_push : (P : ℕ → Type 0) (xs : List ℕ) → AllByRecursion P xs → P p → AllByRecursion P (xs ++ p ∷ [])
     all_push P [] h k = (k, tt)
     all_push P (y ∷ ys) h k = (h.0, all_push P ys h.1 k)
 
     pub there_p : IsSome (value_at p new)
-    there_p = rw added.1 here
-      where
-        here : IsSome (value_at p ((p, added.0) ∷ old))
-        here = rw same_ptr_refl refl
+    there_p = subst (λ o. IsSome o) (sym (value_added p old new added)) refl
 
-    module _ (head : Ptr) (heads free : List Ptr) (n : ℕ) (held : IsHeld head heads free n old)
+    module _ (head : ℕ) (heads free : List ℕ) (n : ℕ) (held : IsHeld head heads free n old)
         (heads_there : AllByRecursion (λ q. IsSome (value_at q old)) heads) where
-      abbrev pub ring_order : List Ptr
+      abbrev pub ring_order : List ℕ
       ring_order = order_of head n old
 
-      pub item_kept : (q : Ptr) → IsIn q ring_order → item_at new q ≡ item_at old q
+      pub item_kept : (q : ℕ) → IsIn q ring_order → item_at new q ≡ item_at old q
       item_kept q i = ap item_in (value_kept q (all_in (λ r. IsSome (value_at r old)) (head ∷ ring_order) q held.linked.number.there (inr i)))
 
       pub order_kept : order_of head n new ≡ ring_order
@@ -126,8 +124,8 @@ module _ {T : Type 0} where
           (free_from p ring_order (λ q i. apart q (all_in (λ r. IsSome (value_at r old)) ring_order q held.linked.number.there.1 i)))
           (free_from p free (λ q i. apart q (all_in (λ r. IsSome (value_at r old)) free q held.linked.there i))))
         where
-          apart : (q : Ptr) → IsSome (value_at q old) → same_ptr p q ≡ false
-          apart q h = same_ptr_symm p q ∙ not_p q h
+          apart : (q : ℕ) → IsSome (value_at q old) → same_place p q ≡ false
+          apart q h = same_place_symm p q ∙ not_p q h
 
       pub held_added : IsHeld head heads (free ++ p ∷ []) n new
       held_added = record {
@@ -139,9 +137,9 @@ module _ {T : Type 0} where
           apart =
               let whole : ((head ∷ heads) ++ (ring_order ++ free)) ++ p ∷ [] ≡ (head ∷ heads) ++ (ring_order ++ (free ++ p ∷ [])) =
               append_assoc (head ∷ heads) (ring_order ++ free) (p ∷ []) ∙ ap (λ l. (head ∷ heads) ++ l) (append_assoc ring_order free (p ∷ [])) in
-              subst (λ l. IsDistinct same_ptr l) whole
+              subst (λ l. IsDistinct same_place l) whole
               (distinct_with ((head ∷ heads) ++ (ring_order ++ free)) p [] (free_both p ((head ∷ heads) ++ (ring_order ++ free)) [] alone tt)
-              (subst (λ l. IsDistinct same_ptr l) (sym (append-nil ((head ∷ heads) ++ (ring_order ++ free)))) held.linked.apart));
+              (subst (λ l. IsDistinct same_place l) (sym (append-nil ((head ∷ heads) ++ (ring_order ++ free)))) held.linked.apart));
           held = all_old (λ q. IsSome (item_at new q)) ring_order
               (λ q i. subst (λ o. IsSome o) (sym (item_kept q i)) (all_in (λ r. IsSome (item_at old r)) ring_order q held.linked.held i));
           there = all_push (λ q. IsSome (value_at q new)) free
@@ -153,17 +151,17 @@ module _ {T : Type 0} where
       }
 
   -- the channels' first nodes are there
-  pub heads_there : (head : Ptr) (heads free order : List Ptr) (cells : List (Ptr × Node T)) → IsLinked head heads free order cells →
+  pub heads_there : (head : ℕ) (heads free order : List ℕ) (cells : List (Node T)) → IsLinked head heads free order cells →
       AllByRecursion (λ q. IsSome (value_at q cells)) heads
   heads_there head heads free ps cells linked = all heads (λ q i. let on = place_of q heads i in (linked.channel on.0 q on.1).there.0)
     where
-      all : (xs : List Ptr) → ((q : Ptr) → IsIn q xs → IsSome (value_at q cells)) → AllByRecursion (λ q. IsSome (value_at q cells)) xs
+      all : (xs : List ℕ) → ((q : ℕ) → IsIn q xs → IsSome (value_at q cells)) → AllByRecursion (λ q. IsSome (value_at q cells)) xs
       all [] h = tt
       all (q ∷ qs) h = (h q (inl refl), all qs (λ r i. h r (inr i)))
 
   -- an item leaves
-  module _ (head : Ptr) (heads free us : List Ptr) (p : Ptr) (vs : List Ptr) (n : ℕ) (cells : List (Ptr × Node T))
-      (held : IsHeld head heads free (suc n) cells) (cut : order_of head (suc n) cells ≡ us ++ p ∷ vs) (x : Item T) (first : Ptr)
+  module _ (head : ℕ) (heads free us : List ℕ) (p : ℕ) (vs : List ℕ) (n : ℕ) (cells : List (Node T))
+      (held : IsHeld head heads free (suc n) cells) (cut : order_of head (suc n) cells ≡ us ++ p ∷ vs) (x : Item T) (first : ℕ)
       (holds : item_at cells p ≡ Some x) (at : slice_get heads x.channel ≡ Some first) where
     before_linked : IsLinked head heads free (us ++ p ∷ vs) cells
     before_linked = subst (λ ps. IsLinked head heads free ps cells) cut held.linked

@@ -5,7 +5,6 @@ use Rattle.std.specs.Prelude.{◌==◌, filter, find, slice_get}
 use Rattle.std.specs.List.{AllByRecursion, AllPairs, cons_option}
 use Rattle.std.proofs.lemmas.Bool.Decides.{nat_tests}
 use Rattle.std.proofs.lemmas.Option.{same_Some}
-use denote.RawPtr.{Ptr}
 use Rattle.mn_flight.specs.declared.Item.{Item}
 use Rattle.mn_flight.specs.Flying.{IsFlight, on_channel}
 use Rattle.mn_flight.proofs.Members as members
@@ -14,16 +13,16 @@ use Rattle.mn_flight_pool.specs.Pool.{is_on, items_in, nodes_on}
 use Rattle.mn_flight_pool.specs.declared.node.Node.{Node}
 
 -- 1. Places
-pub place_cut : (n : ℕ) (xs : List Ptr) → n < length xs → (us : List Ptr) × (p : Ptr) × (vs : List Ptr) × (xs ≡ us ++ p ∷ vs) × (length us ≡ n)
+pub place_cut : (n : ℕ) (xs : List ℕ) → n < length xs → (us : List ℕ) × (p : ℕ) × (vs : List ℕ) × (xs ≡ us ++ p ∷ vs) × (length us ≡ n)
 place_cut n [] h = absurd (omega (arith, h))
 place_cut zero (x ∷ xs) h = ([], x, xs, refl, refl)
 place_cut (suc n) (x ∷ xs) h = let on = place_cut n xs (omega (arith, h)) in (x ∷ on.0, on.1, on.2, ap (λ l. x ∷ l) on.3, ap suc on.4)
 
-pub at_cut : (us : List Ptr) (p : Ptr) (vs : List Ptr) → slice_get (us ++ p ∷ vs) (length us) ≡ Some p
+pub at_cut : (us : List ℕ) (p : ℕ) (vs : List ℕ) → slice_get (us ++ p ∷ vs) (length us) ≡ Some p
 at_cut [] p vs = refl
 at_cut (u ∷ us) p vs = at_cut us p vs
 
-pub fewer_kept : (test : Ptr → Bool) (xs : List Ptr) → length (filter test xs) ≤ length xs
+pub fewer_kept : (test : ℕ → Bool) (xs : List ℕ) → length (filter test xs) ≤ length xs
 fewer_kept test [] = omega arith
 fewer_kept test (x ∷ xs) = by (test x) (fewer_kept test xs)
   where
@@ -32,12 +31,12 @@ fewer_kept test (x ∷ xs) = by (test x) (fewer_kept test xs)
     by false h = omega (arith, h)
 
 module _ {T : Type 0} where
-  module _ (cells : List (Ptr × Node T)) where
-    abbrev Held : List Ptr → Type 0
+  module _ (cells : List (Node T)) where
+    abbrev Held : List ℕ → Type 0
     Held ps = AllByRecursion (λ p. IsSome (item_at cells p)) ps
 
     -- 2. The items of a channel's nodes are the channel's
-    pub items_on : (c : ℕ) (ps : List Ptr) → items_in cells (nodes_on cells c ps) ≡ on_channel c (items_in cells ps)
+    pub items_on : (c : ℕ) (ps : List ℕ) → items_in cells (nodes_on cells c ps) ≡ on_channel c (items_in cells ps)
     items_on c [] = refl
     items_on c (p ∷ ps) = by (item_at cells p) refl (items_on c ps)
       where
@@ -52,7 +51,7 @@ module _ {T : Type 0} where
             split true = rw e (ap (λ l. x ∷ l) rest)
             split false = rest
 
-    pub items_length : (ps : List Ptr) → Held ps → length (items_in cells ps) ≡ length ps
+    pub items_length : (ps : List ℕ) → Held ps → length (items_in cells ps) ≡ length ps
     items_length [] h = refl
     items_length (p ∷ ps) h = by (item_at cells p) h.0 (items_length ps h.1)
       where
@@ -60,7 +59,7 @@ module _ {T : Type 0} where
         by None s rest = cc
         by (Some x) s rest = ap suc rest
 
-    pub item_placed : (ps : List Ptr) (n : ℕ) (p : Ptr) → Held ps → slice_get ps n ≡ Some p → slice_get (items_in cells ps) n ≡ item_at cells p
+    pub item_placed : (ps : List ℕ) (n : ℕ) (p : ℕ) → Held ps → slice_get ps n ≡ Some p → slice_get (items_in cells ps) n ≡ item_at cells p
     item_placed [] n p h e = cc
     item_placed (q ∷ ps) n p h e = by (item_at cells q) refl h.0 n e (λ m. item_placed ps m p h.1)
       where
@@ -71,7 +70,7 @@ module _ {T : Type 0} where
         by (Some x) f s zero g rest = sym f ∙ ap (item_at cells) (same_Some q p g)
         by (Some x) f s (suc m) g rest = rest m g
 
-    pub held_on : (c : ℕ) (ps : List Ptr) → Held ps → Held (nodes_on cells c ps)
+    pub held_on : (c : ℕ) (ps : List ℕ) → Held ps → Held (nodes_on cells c ps)
     held_on c [] h = tt
     held_on c (p ∷ ps) h = by (is_on c (item_at cells p)) (held_on c ps h.1)
       where
@@ -80,7 +79,7 @@ module _ {T : Type 0} where
         by false rest = rest
 
     -- 3. Members
-    pub item_member : (ps : List Ptr) (q : Ptr) (y : Item T) → IsIn q ps → item_at cells q ≡ Some y → members.IsIn y (items_in cells ps)
+    pub item_member : (ps : List ℕ) (q : ℕ) (y : Item T) → IsIn q ps → item_at cells q ≡ Some y → members.IsIn y (items_in cells ps)
     item_member [] q y i e = absurd i
     item_member (p ∷ ps) q y i e = by (item_at cells p) refl i (item_member ps q y)
       where
@@ -94,13 +93,13 @@ module _ {T : Type 0} where
         by None f (inr j) rest = rest j e
         by (Some x) f (inr j) rest = inr (rest j e)
 
-    pub member_node : (ps : List Ptr) (y : Item T) → members.IsIn y (items_in cells ps) → (q : Ptr) × IsIn q ps × (item_at cells q ≡ Some y)
+    pub member_node : (ps : List ℕ) (y : Item T) → members.IsIn y (items_in cells ps) → (q : ℕ) × IsIn q ps × (item_at cells q ≡ Some y)
     member_node [] y i = absurd i
     member_node (p ∷ ps) y i = by (item_at cells p) refl i (member_node ps y)
       where
         by : (o : Option (Item T)) → item_at cells p ≡ o → members.IsIn y (cons_option o (items_in cells ps)) →
-            (members.IsIn y (items_in cells ps) → (q : Ptr) × IsIn q ps × (item_at cells q ≡ Some y)) →
-            (q : Ptr) × IsIn q (p ∷ ps) × (item_at cells q ≡ Some y)
+            (members.IsIn y (items_in cells ps) → (q : ℕ) × IsIn q ps × (item_at cells q ≡ Some y)) →
+            (q : ℕ) × IsIn q (p ∷ ps) × (item_at cells q ≡ Some y)
         by None f j rest = let on = rest j in (on.0, inr on.1, on.2)
         by (Some x) f (inl s) rest = (p, inl refl, f ∙ ap (λ z. Some z) (sym s))
         by (Some x) f (inr j) rest = let on = rest j in (on.0, inr on.1, on.2)

@@ -4,73 +4,72 @@ use Rattle.std.proofs.Common.{append-nil, eq-eqb}
 use Rattle.std.specs.Prelude.{◌==◌, slice_get}
 use Rattle.std.specs.List.{AllByRecursion, IsDistinct, cons_option}
 use Rattle.std.proofs.lemmas.List.Elements.{filter-append, filter_map-append}
-use denote.RawPtr.{Ptr}
 use Rattle.mn_flight.specs.declared.Item.{Item}
-use Rattle.mn_flight_pool.specs.Cells.{same_ptr, value_at}
+use Rattle.mn_flight_pool.specs.Cells.{same_place, value_at}
 use Rattle.mn_flight_pool.specs.Rings.{IsFree, IsRing, item_at, next_of, prev_of, unlink, IsIn}
 use Rattle.mn_flight_pool.specs.Pool.{is_on, items_in, nodes_on, IsLinked, left}
 use Rattle.mn_flight_pool.specs.declared.node.Pair.TheVariants.{Number, Channel}
 use Rattle.mn_flight_pool.specs.declared.node.Node.{Node}
-use Rattle.mn_flight_pool.proofs.Found.{same_ptr_eq}
-use Rattle.mn_flight_pool.proofs.Changed.{same_ptr_symm, stays}
+use Rattle.mn_flight_pool.proofs.Changed.{same_place_eq}
+use Rattle.mn_flight_pool.proofs.Changed.{same_place_symm, stays}
 use Rattle.mn_flight_pool.proofs.Neighbours.{in_left, in_at, free_left, free_right, free_both, free_from, free_at, others_free, distinct_with}
 use Rattle.mn_flight_pool.proofs.Neighbours.{distinct_without, apart_parts, at_places, all_without}
 use Rattle.mn_flight_pool.proofs.Rings.{ring_unlinked, ring_past_unlink, ring_past_item, ring_aside_unlink, ring_sides, unlink_stays, item_past_unlink}
 use Rattle.mn_flight_pool.proofs.Rings.{item_put, item_else}
 use Rattle.mn_flight_pool.proofs.Entered.{from_filter, unlike, unlike', one_channel, same_nodes_on, same_items}
 
-module _ {T : Type 0} (head : Ptr) (heads free us : List Ptr) (p : Ptr) (vs : List Ptr) (cells : List (Ptr × Node T))
-    (linked : IsLinked head heads free (us ++ p ∷ vs) cells) (x : Item T) (first : Ptr) (holds : item_at cells p ≡ Some x)
+module _ {T : Type 0} (head : ℕ) (heads free us : List ℕ) (p : ℕ) (vs : List ℕ) (cells : List (Node T))
+    (linked : IsLinked head heads free (us ++ p ∷ vs) cells) (x : Item T) (first : ℕ) (holds : item_at cells p ≡ Some x)
     (at : slice_get heads x.channel ≡ Some first) where
-  abbrev order : List Ptr
+  abbrev order : List ℕ
   order = us ++ p ∷ vs
 
-  abbrev one : List (Ptr × Node T)
+  abbrev one : List (Node T)
   one = unlink Number p cells
 
-  abbrev two : List (Ptr × Node T)
+  abbrev two : List (Node T)
   two = unlink Channel p one
 
-  abbrev three : List (Ptr × Node T)
+  abbrev three : List (Node T)
   three = left p cells
 
   -- 1. The node is none of the others
   cut : ((head ∷ heads) ++ us) ++ p ∷ (vs ++ free) ≡ (head ∷ heads) ++ (order ++ free)
   cut = append_assoc (head ∷ heads) us (p ∷ (vs ++ free)) ∙ ap (λ l. (head ∷ heads) ++ l) (sym (append_assoc us (p ∷ vs) free))
 
-  abbrev others : List Ptr
+  abbrev others : List ℕ
   others = ((head ∷ heads) ++ us) ++ (vs ++ free)
 
   pub alone : IsFree p others
-  alone = others_free ((head ∷ heads) ++ us) p (vs ++ free) (subst (λ l. IsDistinct same_ptr l) (sym cut) linked.apart)
+  alone = others_free ((head ∷ heads) ++ us) p (vs ++ free) (subst (λ l. IsDistinct same_place l) (sym cut) linked.apart)
 
-  rest_apart : IsDistinct same_ptr others
-  rest_apart = distinct_without ((head ∷ heads) ++ us) p (vs ++ free) (subst (λ l. IsDistinct same_ptr l) (sym cut) linked.apart)
+  rest_apart : IsDistinct same_place others
+  rest_apart = distinct_without ((head ∷ heads) ++ us) p (vs ++ free) (subst (λ l. IsDistinct same_place l) (sym cut) linked.apart)
 
   pub alone_order : IsFree p (us ++ vs)
   alone_order =
       free_both p us vs (free_right p (head ∷ heads) us (free_left p ((head ∷ heads) ++ us) (vs ++ free) alone))
       (free_left p vs free (free_right p ((head ∷ heads) ++ us) (vs ++ free) alone))
 
-  here : (xs : List Ptr) → IsIn p (xs ++ p ∷ vs)
+  here : (xs : List ℕ) → IsIn p (xs ++ p ∷ vs)
   here [] = inl refl
   here (z ∷ zs) = inr (here zs)
 
   pub p_there : IsSome (value_at p cells)
   p_there = all_at us linked.number.there.1
     where
-      all_at : (xs : List Ptr) → AllByRecursion (λ q. IsSome (value_at q cells)) (xs ++ p ∷ vs) → IsSome (value_at p cells)
+      all_at : (xs : List ℕ) → AllByRecursion (λ q. IsSome (value_at q cells)) (xs ++ p ∷ vs) → IsSome (value_at p cells)
       all_at [] h = h.0
       all_at (z ∷ zs) h = all_at zs h.1
 
   -- 2. Items
-  pub old_item : (q : Ptr) → IsIn q (us ++ vs) → item_at three q ≡ item_at cells q
+  pub old_item : (q : ℕ) → IsIn q (us ++ vs) → item_at three q ≡ item_at cells q
   old_item q i = item_else p q None two (free_at p (us ++ vs) q alone_order i) ∙ item_past_unlink Channel p q one ∙ item_past_unlink Number p q cells
 
-  two_there : (q : Ptr) → IsSome (value_at q cells) → IsSome (value_at q two)
+  two_there : (q : ℕ) → IsSome (value_at q cells) → IsSome (value_at q two)
   two_there q h = unlink_stays Channel p q one (unlink_stays Number p q cells h)
 
-  pub three_there : (q : Ptr) → IsSome (value_at q cells) → IsSome (value_at q three)
+  pub three_there : (q : ℕ) → IsSome (value_at q cells) → IsSome (value_at q three)
   three_there q h = stays p q (λ (node : Node T). record node { item = None }) two (two_there q h)
 
   pub empty_left : item_at three p ≡ None
@@ -83,32 +82,32 @@ module _ {T : Type 0} (head : Ptr) (heads free us : List Ptr) (p : Ptr) (vs : Li
       (ring_past_unlink Channel Number unlike' p one head (us ++ vs) (ring_unlinked Number head cells us p vs linked.number))
 
   -- 4. The channels' rings
-  in_order : (c : ℕ) (q : Ptr) → IsIn q (nodes_on cells c order) → (is_on c (item_at cells q) ≡ true) × IsIn q order
+  in_order : (c : ℕ) (q : ℕ) → IsIn q (nodes_on cells c order) → (is_on c (item_at cells q) ≡ true) × IsIn q order
   in_order c q i = from_filter (λ r. is_on c (item_at cells r)) q order i
 
-  head_node : (f q : Ptr) → IsIn f heads → IsIn q order → same_ptr f q ≡ false
+  head_node : (f q : ℕ) → IsIn f heads → IsIn q order → same_place f q ≡ false
   head_node f q i j = apart_parts (head ∷ heads) (order ++ free) f q linked.apart (inr i) (in_left order free q j)
 
-  strangers : (c d : ℕ) (f g : Ptr) → slice_get heads c ≡ Some f → slice_get heads d ≡ Some g → (c ≡ d → ⊥) →
-      (a : Ptr) → IsIn a (f ∷ nodes_on cells c order) → IsFree a (g ∷ nodes_on cells d order)
+  strangers : (c d : ℕ) (f g : ℕ) → slice_get heads c ≡ Some f → slice_get heads d ≡ Some g → (c ≡ d → ⊥) →
+      (a : ℕ) → IsIn a (f ∷ nodes_on cells c order) → IsFree a (g ∷ nodes_on cells d order)
   unfolding IsDistinct
   strangers c d f g ef eg ne a i = free_from a (g ∷ nodes_on cells d order) (λ q j. elim i [
-    | inl e ↦ subst (λ r. same_ptr r q ≡ false) (sym e) (elim j [
-      | inl k ↦ subst (λ r. same_ptr f r ≡ false) (sym k) (at_places heads (order ++ free) c d f g linked.apart.1 ef eg ne)
+    | inl e ↦ subst (λ r. same_place r q ≡ false) (sym e) (elim j [
+      | inl k ↦ subst (λ r. same_place f r ≡ false) (sym k) (at_places heads (order ++ free) c d f g linked.apart.1 ef eg ne)
       | inr k ↦ head_node f q (in_at heads c f ef) (in_order d q k).1
     ])
     | inr e ↦ elim j [
-      | inl k ↦ subst (λ r. same_ptr a r ≡ false) (sym k) (same_ptr_symm a g ∙ head_node g a (in_at heads d g eg) (in_order c a e).1)
+      | inl k ↦ subst (λ r. same_place a r ≡ false) (sym k) (same_place_symm a g ∙ head_node g a (in_at heads d g eg) (in_order c a e).1)
       | inr k ↦ differ a q
           (λ same. ne (one_channel c d (item_at cells a) (in_order c a e).0 (subst (λ r. is_on d (item_at cells r) ≡ true) (sym same) (in_order d q k).0)))
     ]
   ])
     where
-      differ : (a q : Ptr) → (a ≡ q → ⊥) → same_ptr a q ≡ false
-      differ a q n = by (same_ptr a q) refl
+      differ : (a q : ℕ) → (a ≡ q → ⊥) → same_place a q ≡ false
+      differ a q n = by (same_place a q) refl
         where
-          by : (b : Bool) → same_ptr a q ≡ b → same_ptr a q ≡ false
-          by true t = absurd (n (same_ptr_eq a q t))
+          by : (b : Bool) → same_place a q ≡ b → same_place a q ≡ false
+          by true t = absurd (n (same_place_eq a q t))
           by false t = t
 
   pub nodes_before : (c : ℕ) → nodes_on cells c order ≡ nodes_on cells c us ++ cond (x.channel == c) (p ∷ nodes_on cells c vs) (nodes_on cells c vs)
@@ -119,7 +118,7 @@ module _ {T : Type 0} (head : Ptr) (heads free us : List Ptr) (p : Ptr) (vs : Li
   pub nodes_then : (c : ℕ) → nodes_on three c (us ++ vs) ≡ nodes_on cells c us ++ nodes_on cells c vs
   nodes_then c = same_nodes_on cells three c (us ++ vs) old_item ∙ filter-append (λ q. is_on c (item_at cells q)) us vs
 
-  ring_one : (c : ℕ) (f : Ptr) → slice_get heads c ≡ Some f → IsRing Channel one f (nodes_on cells c order)
+  ring_one : (c : ℕ) (f : ℕ) → slice_get heads c ≡ Some f → IsRing Channel one f (nodes_on cells c order)
   ring_one c f e = ring_past_unlink Number Channel unlike p cells f (nodes_on cells c order) (linked.channel c f e)
 
   own_ring : IsRing Channel one first (nodes_on cells x.channel us ++ p ∷ nodes_on cells x.channel vs)
@@ -136,7 +135,7 @@ module _ {T : Type 0} (head : Ptr) (heads free us : List Ptr) (p : Ptr) (vs : Li
       let both = ring_sides Channel one first (nodes_on cells x.channel us) p (nodes_on cells x.channel vs) own_ring in
       (subst (λ l. IsIn (prev_of Channel one p) (first ∷ l)) back both.0, subst (λ l. IsIn (next_of Channel one p) (first ∷ l)) back both.1)
 
-  pub channel_left : (c : ℕ) (f : Ptr) → slice_get heads c ≡ Some f → IsRing Channel three f (nodes_on three c (us ++ vs))
+  pub channel_left : (c : ℕ) (f : ℕ) → slice_get heads c ≡ Some f → IsRing Channel three f (nodes_on three c (us ++ vs))
   channel_left c f e =
       subst (λ l. IsRing Channel three f l) (sym (nodes_then c))
       (ring_past_item Channel p None two f (nodes_on cells c us ++ nodes_on cells c vs) (by (x.channel == c) refl))
@@ -158,15 +157,15 @@ module _ {T : Type 0} (head : Ptr) (heads free us : List Ptr) (p : Ptr) (vs : Li
           clash false q r = cc
 
   -- 5. All together
-  all_old : (P : Ptr → Type 0) (xs : List Ptr) → ((q : Ptr) → IsIn q xs → P q) → AllByRecursion P xs
+  all_old : (P : ℕ → Type 0) (xs : List ℕ) → ((q : ℕ) → IsIn q xs → P q) → AllByRecursion P xs
   all_old P [] h = tt
   all_old P (q ∷ qs) h = (h q (inl refl), all_old P qs (λ r i. h r (inr i)))
 
-  all_in : (P : Ptr → Type 0) (xs : List Ptr) (q : Ptr) → AllByRecursion P xs → IsIn q xs → P q
+  all_in : (P : ℕ → Type 0) (xs : List ℕ) (q : ℕ) → AllByRecursion P xs → IsIn q xs → P q
   all_in P [] q h i = absurd i
   all_in P (y ∷ ys) q h i = elim i [ inl e ↦ subst P (sym e) h.0 | inr j ↦ all_in P ys q h.1 j ]
 
-  all_push : (P : Ptr → Type 0) (xs : List Ptr) → AllByRecursion P xs → P p → AllByRecursion P (xs ++ p ∷ [])
+  all_push : (P : ℕ → Type 0) (xs : List ℕ) → AllByRecursion P xs → P p → AllByRecursion P (xs ++ p ∷ [])
   all_push P [] h k = (k, tt)
   all_push P (y ∷ ys) h k = (h.0, all_push P ys h.1 k)
 
@@ -178,9 +177,9 @@ module _ {T : Type 0} (head : Ptr) (heads free us : List Ptr) (p : Ptr) (vs : Li
         let whole : others ++ p ∷ [] ≡ (head ∷ heads) ++ ((us ++ vs) ++ (free ++ p ∷ [])) =
         append_assoc ((head ∷ heads) ++ us) (vs ++ free) (p ∷ []) ∙ append_assoc (head ∷ heads) us ((vs ++ free) ++ p ∷ [])
         ∙ ap (λ l. (head ∷ heads) ++ (us ++ l)) (append_assoc vs free (p ∷ [])) ∙ ap (λ l. (head ∷ heads) ++ l) (sym (append_assoc us vs (free ++ p ∷ []))) in
-        subst (λ l. IsDistinct same_ptr l) whole
+        subst (λ l. IsDistinct same_place l) whole
         (distinct_with others p [] (subst (λ l. IsFree p l) (sym (append-nil others)) alone)
-        (subst (λ l. IsDistinct same_ptr l) (sym (append-nil others)) rest_apart));
+        (subst (λ l. IsDistinct same_place l) (sym (append-nil others)) rest_apart));
     held = all_old (λ q. IsSome (item_at three q)) (us ++ vs)
         (λ q i. rw (old_item q i)
         (all_in (λ r. IsSome (item_at cells r)) (us ++ vs) q (all_without (λ r. IsSome (item_at cells r)) us p vs linked.held) i));

@@ -1,11 +1,6 @@
-pub mod Sharing
-pub mod Found
-pub mod Memory
-pub mod Values
 pub mod Changed
 pub mod Neighbours
 pub mod Rings
-pub mod Freed
 pub mod Traces
 pub mod Entered
 pub mod Left

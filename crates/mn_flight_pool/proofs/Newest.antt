@@ -6,7 +6,6 @@ use Rattle.std.specs.List.{AllPairs, cons_option}
 use Rattle.std.proofs.lemmas.List.Elements.{filter_map-append}
 use Rattle.std.proofs.lemmas.Bool.Decides.{nat_tests}
 use Rattle.std.proofs.lemmas.Option.{same_Some}
-use denote.RawPtr.{Ptr}
 use Rattle.mn_flight.specs.declared.Item.{Item}
 use Rattle.mn_flight.proofs.Members as members
 use Rattle.mn_flight_pool.specs.Cells.{value_at}
@@ -23,11 +22,11 @@ use Rattle.mn_flight_pool.proofs.Walks.{back_at}
 use Rattle.mn_flight_pool.proofs.Whole.{flight, order_length, node_there, node_holds}
 
 module _ {T : Type 0} (pool : Pool T) (whole : IsWhole pool) (number : ℕ) where
-  pub none_passed : IsPassed pool number 0 pool.head.ptr
+  pub none_passed : IsPassed pool number 0 pool.head.index
   none_passed = record { front = order_in pool; passed = []; cut = sym (append-nil (order_in pool)); count = refl; node = refl; greater = λ q y i e. absurd i }
 
   -- a node of the order whose item has the number
-  pub found_at : (node : Ptr) → IsIn node (order_in pool) → (x : Item T) → Some x ≡ item_at pool.store node → x.number ≡ number →
+  pub found_at : (node : ℕ) → IsIn node (order_in pool) → (x : Item T) → Some x ≡ item_at pool.store node → x.number ≡ number →
       IsIn node (order_in pool) × (item_at pool.store node ≡ find (λ (item : Item T). item.number == number) (items_of pool))
   found_at node on x holds h =
       let member = item_member pool.store (order_in pool) node x on (sym holds) in (
@@ -38,24 +37,24 @@ module _ {T : Type 0} (pool : Pool T) (whole : IsWhole pool) (number : ℕ) wher
       )
 
   -- one more node back
-  pub record Next (k : ℕ) (node : Ptr) : Type 0 where
-    pub front : List Ptr
-    pub passed : List Ptr
+  pub record Next (k : ℕ) (node : ℕ) : Type 0 where
+    pub front : List ℕ
+    pub passed : List ℕ
     pub cut : order_in pool ≡ front ++ node ∷ passed
     pub count : length passed ≡ k
-    pub greater : (q : Ptr) (y : Item T) → IsIn q passed → item_at pool.store q ≡ Some y → number < y.number
+    pub greater : (q : ℕ) (y : Item T) → IsIn q passed → item_at pool.store q ≡ Some y → number < y.number
 
-  pub next : (k : ℕ) (at node : Ptr) → IsPassed pool number k at → k < pool.count → node ≡ prev_of Number pool.store at → Next k node
+  pub next : (k : ℕ) (at node : ℕ) → IsPassed pool number k at → k < pool.count → node ≡ prev_of Number pool.store at → Next k node
   next k at node is below e = by is.front is.cut
     where
-      by : (us : List Ptr) → order_in pool ≡ us ++ is.passed → Next k node
+      by : (us : List ℕ) → order_in pool ≡ us ++ is.passed → Next k node
       by [] cut = absurd (omega (arith, below, is.count, order_length pool whole, ap length cut))
       by (u ∷ us) cut =
           let last = last_of_cons u us in let ws = last.0 in let p = last.1 in
           let new : order_in pool ≡ ws ++ p ∷ is.passed = cut ∙ ap (λ l. l ++ is.passed) last.2 ∙ append_assoc ws (p ∷ []) is.passed in
-          let steps : steps_of (prev_of Number pool.store) pool.head.ptr (suc k) ≡ p =
-          ap (λ n. steps_of (prev_of Number pool.store) pool.head.ptr (suc n)) (sym is.count)
-          ∙ back_at Number pool.store pool.head.ptr is.passed ws p (subst (λ l. IsRing Number pool.store pool.head.ptr l) new whole.held.linked.number)
+          let steps : steps_of (prev_of Number pool.store) pool.head.index (suc k) ≡ p =
+          ap (λ n. steps_of (prev_of Number pool.store) pool.head.index (suc n)) (sym is.count)
+          ∙ back_at Number pool.store pool.head.index is.passed ws p (subst (λ l. IsRing Number pool.store pool.head.index l) new whole.held.linked.number)
           in
           let here : node ≡ p = e ∙ ap (prev_of Number pool.store) is.node ∙ steps in
           record {
@@ -67,22 +66,22 @@ module _ {T : Type 0} (pool : Pool T) (whole : IsWhole pool) (number : ℕ) wher
                 is.greater;
           }
 
-  pub at_there : (k : ℕ) (at : Ptr) → IsPassed pool number k at → k < pool.count → IsSome (value_at at pool.store)
+  pub at_there : (k : ℕ) (at : ℕ) → IsPassed pool number k at → k < pool.count → IsSome (value_at at pool.store)
   at_there k at is below = by is.passed is.cut is.count is.node
     where
-      by : (vs : List Ptr) → order_in pool ≡ is.front ++ vs → length vs ≡ k → at ≡ steps_of (prev_of Number pool.store) pool.head.ptr k →
+      by : (vs : List ℕ) → order_in pool ≡ is.front ++ vs → length vs ≡ k → at ≡ steps_of (prev_of Number pool.store) pool.head.index k →
           IsSome (value_at at pool.store)
       by [] cut count node =
-          subst (λ p. IsSome (value_at p pool.store)) (sym (node ∙ ap (steps_of (prev_of Number pool.store) pool.head.ptr) (sym count)))
+          subst (λ p. IsSome (value_at p pool.store)) (sym (node ∙ ap (steps_of (prev_of Number pool.store) pool.head.index) (sym count)))
           whole.held.linked.number.there.0
       by (v ∷ vs) cut count node =
-          let steps : steps_of (prev_of Number pool.store) pool.head.ptr k ≡ v =
-          ap (steps_of (prev_of Number pool.store) pool.head.ptr) (sym count)
-          ∙ back_at Number pool.store pool.head.ptr vs is.front v (subst (λ l. IsRing Number pool.store pool.head.ptr l) cut whole.held.linked.number)
+          let steps : steps_of (prev_of Number pool.store) pool.head.index k ≡ v =
+          ap (steps_of (prev_of Number pool.store) pool.head.index) (sym count)
+          ∙ back_at Number pool.store pool.head.index vs is.front v (subst (λ l. IsRing Number pool.store pool.head.index l) cut whole.held.linked.number)
           in
           subst (λ p. IsSome (value_at p pool.store)) (sym (node ∙ steps)) (node_there pool whole v (subst (λ l. IsIn v l) (sym cut) (in_middle is.front v vs)))
 
-  module _ (k : ℕ) (node : Ptr) (n : Next k node) where
+  module _ (k : ℕ) (node : ℕ) (n : Next k node) where
     pub in_order : IsIn node (order_in pool)
     in_order = subst (λ l. IsIn node l) (sym n.cut) (in_middle n.front node n.passed)
 
@@ -106,10 +105,10 @@ module _ {T : Type 0} (pool : Pool T) (whole : IsWhole pool) (number : ℕ) wher
             passed = node ∷ n.passed;
             cut = n.cut;
             count = ap suc n.count ∙ sym steps;
-            node = sym (ap (steps_of (prev_of Number pool.store) pool.head.ptr) steps
-                ∙ ap (λ m. steps_of (prev_of Number pool.store) pool.head.ptr (suc m)) (sym n.count)
-                ∙ back_at Number pool.store pool.head.ptr n.passed n.front node
-                (subst (λ l. IsRing Number pool.store pool.head.ptr l) n.cut whole.held.linked.number));
+            node = sym (ap (steps_of (prev_of Number pool.store) pool.head.index) steps
+                ∙ ap (λ m. steps_of (prev_of Number pool.store) pool.head.index (suc m)) (sym n.count)
+                ∙ back_at Number pool.store pool.head.index n.passed n.front node
+                (subst (λ l. IsRing Number pool.store pool.head.index l) n.cut whole.held.linked.number));
             greater = λ q y i e. elim i [
               | inl s ↦ let same : x ≡ y = same_Some x y (holds ∙ ap (item_at pool.store) (sym s) ∙ e) in subst (λ (z : Item T). number < z.number) same h
               | inr j ↦ n.greater q y j e
@@ -150,7 +149,7 @@ module _ {T : Type 0} (pool : Pool T) (whole : IsWhole pool) (number : ℕ) wher
               (subst (λ l. AllPairs (λ (a : Item T) (b : Item T). a.number < b.number) l) parts (flight pool whole).ascending) y i
 
   -- all were greater
-  pub all_greater : (at : Ptr) → IsPassed pool number pool.count at → find (λ (item : Item T). item.number == number) (items_of pool) ≡ None
+  pub all_greater : (at : ℕ) → IsPassed pool number pool.count at → find (λ (item : Item T). item.number == number) (items_of pool) ≡ None
   all_greater at is = find_none (λ (item : Item T). item.number == number) (items_of pool) (λ y i.
       let on = member_node pool.store (order_in pool) y i in
       by y.number (λ f. omega (arith, f, is.greater on.0 y (all_in_passed on.0 on.1) on.2)))
@@ -162,9 +161,9 @@ module _ {T : Type 0} (pool : Pool T) (whole : IsWhole pool) (number : ℕ) wher
           split true t = absurd (u (grind (arith, nat_tests, t)))
           split false t = t
 
-      all_in_passed : (q : Ptr) → IsIn q (order_in pool) → IsIn q is.passed
+      all_in_passed : (q : ℕ) → IsIn q (order_in pool) → IsIn q is.passed
       all_in_passed q i = empty is.front is.cut
         where
-          empty : (us : List Ptr) → order_in pool ≡ us ++ is.passed → IsIn q is.passed
+          empty : (us : List ℕ) → order_in pool ≡ us ++ is.passed → IsIn q is.passed
           empty [] cut = subst (λ l. IsIn q l) cut i
           empty (u ∷ us) cut = absurd (omega (arith, is.count, order_length pool whole, ap length cut, length-append us is.passed))

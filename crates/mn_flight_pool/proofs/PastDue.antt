@@ -1,7 +1,6 @@
 -- What links of the ring by due tick leave as it is.
 use Rattle.std.proofs.Common.{◌≡◌, ℕ, List, [], ◌∷◌, length, IsSome, sym, ap, ◌∙◌, subst}
 use Rattle.std.specs.List.{AllByRecursion}
-use denote.RawPtr.{Ptr}
 use Rattle.mn_flight.specs.Flying.{IsFlight}
 use Rattle.mn_flight_pool.specs.Cells.{value_at}
 use Rattle.mn_flight_pool.specs.Rings.{IsRing, item_at, next_of, link_behind, unlink}
@@ -18,26 +17,26 @@ due_number e = cc
 due_channel : Due ≡ Channel → ⊥
 due_channel e = cc
 
-module _ {T : Type 0} (old new : List (Ptr × Node T)) where
+module _ {T : Type 0} (old new : List (Node T)) where
   -- nodes with the same items in the same rings by number and channel
   pub record Alike : Type 0 where
-    pub stay : (q : Ptr) → IsSome (value_at q old) → IsSome (value_at q new)
-    pub items : (q : Ptr) → item_at new q ≡ item_at old q
-    pub number : (s : Ptr) (ps : List Ptr) → IsRing Number old s ps → IsRing Number new s ps
-    pub channel : (s : Ptr) (ps : List Ptr) → IsRing Channel old s ps → IsRing Channel new s ps
+    pub stay : (q : ℕ) → IsSome (value_at q old) → IsSome (value_at q new)
+    pub items : (q : ℕ) → item_at new q ≡ item_at old q
+    pub number : (s : ℕ) (ps : List ℕ) → IsRing Number old s ps → IsRing Number new s ps
+    pub channel : (s : ℕ) (ps : List ℕ) → IsRing Channel old s ps → IsRing Channel new s ps
 
   module _ (alike : Alike) where
-    pub nodes_alike : (c : ℕ) (ps : List Ptr) → nodes_on new c ps ≡ nodes_on old c ps
+    pub nodes_alike : (c : ℕ) (ps : List ℕ) → nodes_on new c ps ≡ nodes_on old c ps
     nodes_alike c ps = same_nodes_on old new c ps (λ q i. alike.items q)
 
-    pub items_alike : (ps : List Ptr) → items_in new ps ≡ items_in old ps
+    pub items_alike : (ps : List ℕ) → items_in new ps ≡ items_in old ps
     items_alike ps = same_items old new ps (λ q i. alike.items q)
 
-    all_alike : (P Q : Ptr → Type 0) (ps : List Ptr) → ((q : Ptr) → P q → Q q) → AllByRecursion P ps → AllByRecursion Q ps
+    all_alike : (P Q : ℕ → Type 0) (ps : List ℕ) → ((q : ℕ) → P q → Q q) → AllByRecursion P ps → AllByRecursion Q ps
     all_alike P Q [] f h = tt
     all_alike P Q (p ∷ ps) f h = (f p h.0, all_alike P Q ps f h.1)
 
-    linked_alike : (head : Ptr) (heads free order : List Ptr) → IsLinked head heads free order old → IsLinked head heads free order new
+    linked_alike : (head : ℕ) (heads free order : List ℕ) → IsLinked head heads free order old → IsLinked head heads free order new
     linked_alike head heads free order linked = record {
       number = alike.number head order linked.number;
       channel =
@@ -48,7 +47,7 @@ module _ {T : Type 0} (old new : List (Ptr × Node T)) where
       there = all_alike (λ q. IsSome (value_at q old)) (λ q. IsSome (value_at q new)) free alike.stay linked.there;
     }
 
-    module _ (head : Ptr) (heads free : List Ptr) (n : ℕ) (held : IsHeld head heads free n old) where
+    module _ (head : ℕ) (heads free : List ℕ) (n : ℕ) (held : IsHeld head heads free n old) where
       pub order_alike : order_of head n new ≡ order_of head n old
       order_alike =
           order_is head n new (order_of head n old) (alike.number head (order_of head n old) held.linked.number) (length-trace (next_of Number old) head n)
@@ -63,7 +62,7 @@ module _ {T : Type 0} (old new : List (Ptr × Node T)) where
       items_kept = ap (λ ps. items_in new ps) order_alike ∙ items_alike (order_of head n old)
 
 module _ {T : Type 0} where
-  pub alike_link : (p a : Ptr) (cells : List (Ptr × Node T)) → Alike cells (link_behind Due p a cells)
+  pub alike_link : (p a : ℕ) (cells : List (Node T)) → Alike cells (link_behind Due p a cells)
   alike_link p a cells = record {
     stay = λ q h. link_stays Due p a q cells h;
     items = λ q. item_past_link Due p a q cells;
@@ -71,7 +70,7 @@ module _ {T : Type 0} where
     channel = λ s ps r. ring_past_link Due Channel due_channel p a cells s ps r;
   }
 
-  pub alike_unlink : (p : Ptr) (cells : List (Ptr × Node T)) → Alike cells (unlink Due p cells)
+  pub alike_unlink : (p : ℕ) (cells : List (Node T)) → Alike cells (unlink Due p cells)
   alike_unlink p cells = record {
     stay = λ q h. unlink_stays Due p q cells h;
     items = λ q. item_past_unlink Due p q cells;

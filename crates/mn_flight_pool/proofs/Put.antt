@@ -4,7 +4,6 @@ use Rattle.std.proofs.Common.{subst, arith, append_assoc, length-append, get_or}
 use Rattle.std.specs.Prelude.{slice_get, slice_index_or, slice_set}
 use Rattle.std.specs.List.{All, AllByRecursion}
 use Rattle.std.proofs.lemmas.List.{map-append}
-use denote.RawPtr.{Ptr}
 use Rattle.mn_flight.specs.declared.Item.{Item}
 use Rattle.mn_flight.proofs.Members as members
 use Rattle.mn_flight_pool.specs.Cells.{value_at}
@@ -14,7 +13,7 @@ use Rattle.mn_flight_pool.specs.ByDue.{IsByDue, IsTick}
 use Rattle.mn_flight_pool.specs.Pool.{is_on, items_in, nodes_on, order_of, trace, entered, IsHeld}
 use Rattle.mn_flight_pool.specs.Whole.{AreLast, ptrs, dues_of, order_in, items_of, IsWhole, IsCounted}
 use Rattle.mn_flight_pool.specs.declared.pool.Pool.{Pool}
-use Rattle.mn_flight_pool.specs.declared.arena.Place.{Place}
+use Rattle.mn_flight_pool.specs.declared.node.Place.{Place}
 use Rattle.mn_flight_pool.specs.declared.tick.Tick.{Tick}
 use Rattle.mn_flight_pool.specs.declared.node.Node.{Node}
 use Rattle.mn_flight_pool.specs.declared.node.Pair.TheVariants.{Channel, Due}
@@ -29,8 +28,8 @@ use Rattle.mn_flight_pool.proofs.Traces.{trace_ring}
 use Rattle.mn_flight_pool.proofs.Walks.{ring_next}
 use Rattle.mn_flight_pool.proofs.Whole.{ptrs_length, head_at, order_length}
 
-pub ptrs_push : (ps : List Place) (p : Place) → ptrs (ps ++ p ∷ []) ≡ ptrs ps ++ p.ptr ∷ []
-ptrs_push ps p = map-append (λ (q : Place). q.ptr) ps (p ∷ [])
+pub ptrs_push : (ps : List Place) (p : Place) → ptrs (ps ++ p ∷ []) ≡ ptrs ps ++ p.index ∷ []
+ptrs_push ps p = map-append (λ (q : Place). q.index) ps (p ∷ [])
 
 module _ {T : Type 0} (pool : Pool T) (whole : IsWhole pool) where
   -- there are no more ticks than items
@@ -38,8 +37,8 @@ module _ {T : Type 0} (pool : Pool T) (whole : IsWhole pool) where
   ticks_count =
       let few =
       fewer due_at pool.ticks.items (order_in pool) whole.by_due.ascending
-      (all_kept (IsTick pool.store (order_in pool)) (λ t. IsIn t.last.ptr (order_in pool) × (due_at t.last.ptr ≡ t.due)) pool.ticks.items
-      (λ t is. let last = tick_item pool.store (order_in pool) t.due (item_at pool.store t.last.ptr) is.last in
+      (all_kept (IsTick pool.store (order_in pool)) (λ t. IsIn t.last.index (order_in pool) × (due_at t.last.index ≡ t.due)) pool.ticks.items
+      (λ t is. let last = tick_item pool.store (order_in pool) t.due (item_at pool.store t.last.index) is.last in
       (is.there, ap due_of last.1 ∙ last.2)) whole.by_due.lasts) in
       omega (arith, few, order_length pool whole)
     where
@@ -47,7 +46,7 @@ module _ {T : Type 0} (pool : Pool T) (whole : IsWhole pool) where
       due_of None = 0
       due_of (Some x) = x.due
 
-      due_at : Ptr → ℕ
+      due_at : ℕ → ℕ
       due_at p = due_of (item_at pool.store p)
 
   -- a count is no more than all
@@ -64,137 +63,137 @@ module _ {T : Type 0} (pool : Pool T) (whole : IsWhole pool) where
       same (n ∷ ns) (suc k) b = same ns k (omega (arith, b))
 
   module _ (node : Place) (front : List Place) (cut : pool.free.items ≡ front ++ node ∷ []) where
-    held_cut : IsHeld pool.head.ptr (ptrs pool.heads.items) (ptrs front ++ node.ptr ∷ []) pool.count pool.store
-    held_cut = subst (λ l. IsHeld pool.head.ptr (ptrs pool.heads.items) l pool.count pool.store) (ap (λ l. ptrs l) cut ∙ ptrs_push front node) whole.held
+    held_cut : IsHeld pool.head.index (ptrs pool.heads.items) (ptrs front ++ node.index ∷ []) pool.count pool.store
+    held_cut = subst (λ l. IsHeld pool.head.index (ptrs pool.heads.items) l pool.count pool.store) (ap (λ l. ptrs l) cut ∙ ptrs_push front node) whole.held
 
-    pub free_there : IsSome (value_at node.ptr pool.store)
+    pub free_there : IsSome (value_at node.index pool.store)
     free_there = last (ptrs front) held_cut.linked.there
       where
-        last : (fs : List Ptr) → AllByRecursion (λ q. IsSome (value_at q pool.store)) (fs ++ node.ptr ∷ []) → IsSome (value_at node.ptr pool.store)
+        last : (fs : List ℕ) → AllByRecursion (λ q. IsSome (value_at q pool.store)) (fs ++ node.index ∷ []) → IsSome (value_at node.index pool.store)
         last [] h = h.0
         last (f ∷ fs) h = last fs h.1
 
     module _ (x : Item T) (first : Place) (below : x.channel < length pool.heads.items) (read : first ≡ slice_index_or pool.heads.items x.channel first) where
-      at : slice_get (ptrs pool.heads.items) x.channel ≡ Some first.ptr
+      at : slice_get (ptrs pool.heads.items) x.channel ≡ Some first.index
       at = head_at pool.heads.items x.channel first below read
 
-      pub first_ring : (order : List Ptr) × IsRing Channel pool.store first.ptr order
-      first_ring = (nodes_on pool.store x.channel (order_in pool), whole.held.linked.channel x.channel first.ptr at)
+      pub first_ring : (order : List ℕ) × IsRing Channel pool.store first.index order
+      first_ring = (nodes_on pool.store x.channel (order_in pool), whole.held.linked.channel x.channel first.index at)
 
-      abbrev pub three : List (Ptr × Node T)
-      three = entered pool.head.ptr first.ptr node.ptr x pool.store
+      abbrev pub three : List (Node T)
+      three = entered pool.head.index first.index node.index x pool.store
 
-      abbrev pub last : Ptr
-      last = last_by x.due pool.head.ptr pool.ticks.items
+      abbrev pub last : ℕ
+      last = last_by x.due pool.head.index pool.ticks.items
 
-      abbrev dues : List Ptr
-      dues = dues_of pool.head.ptr pool.count pool.store
+      abbrev dues : List ℕ
+      dues = dues_of pool.head.index pool.count pool.store
 
       module _ (above : All (λ (e : Item T). e.number < x.number) (items_of pool)) where
-        greatest : (q : Ptr) (y : Item T) → IsIn q (order_in pool) → item_at pool.store q ≡ Some y → y.number < x.number
+        greatest : (q : ℕ) (y : Item T) → IsIn q (order_in pool) → item_at pool.store q ≡ Some y → y.number < x.number
         greatest q y i e =
             let at = members.contains_of_in (items_of pool) y (item_member pool.store (order_in pool) q y i e) in
             subst (λ (z : Item T). z.number < x.number) at.2 (above at.0 y at.1)
 
-        abbrev dues_then : List Ptr
+        abbrev dues_then : List ℕ
         dues_then =
-            then pool.head.ptr (ptrs pool.heads.items) (ptrs front) (order_in pool) node.ptr pool.store held_cut.linked x first.ptr at dues pool.ticks.items
+            then pool.head.index (ptrs pool.heads.items) (ptrs front) (order_in pool) node.index pool.store held_cut.linked x first.index at dues pool.ticks.items
             whole.by_due greatest
 
-        entered_dues : IsByDue pool.head.ptr (order_in pool ++ node.ptr ∷ []) dues_then (put_tick x.due node.ptr pool.ticks.items)
-            (link_behind Due node.ptr last three)
+        entered_dues : IsByDue pool.head.index (order_in pool ++ node.index ∷ []) dues_then (put_tick x.due node.index pool.ticks.items)
+            (link_behind Due node.index last three)
         entered_dues =
-            due_entered pool.head.ptr (ptrs pool.heads.items) (ptrs front)
-            (order_in pool) node.ptr pool.store held_cut.linked x first.ptr at dues pool.ticks.items whole.by_due greatest
+            due_entered pool.head.index (ptrs pool.heads.items) (ptrs front)
+            (order_in pool) node.index pool.store held_cut.linked x first.index at dues pool.ticks.items whole.by_due greatest
 
-        three_ring : IsRing Due three pool.head.ptr dues
+        three_ring : IsRing Due three pool.head.index dues
         three_ring =
-            due_three pool.head.ptr (ptrs pool.heads.items) (ptrs front)
-            (order_in pool) node.ptr pool.store held_cut.linked x first.ptr at dues pool.ticks.items whole.by_due greatest
+            due_three pool.head.index (ptrs pool.heads.items) (ptrs front)
+            (order_in pool) node.index pool.store held_cut.linked x first.index at dues pool.ticks.items whole.by_due greatest
 
-        last_in : IsIn last (pool.head.ptr ∷ dues)
+        last_in : IsIn last (pool.head.index ∷ dues)
         last_in =
-            let s = stand pool.head.ptr (ptrs pool.heads.items) (ptrs front)
-            (order_in pool) node.ptr pool.store held_cut.linked x first.ptr at dues pool.ticks.items whole.by_due greatest in
+            let s = stand pool.head.index (ptrs pool.heads.items) (ptrs front)
+            (order_in pool) node.index pool.store held_cut.linked x first.index at dues pool.ticks.items whole.by_due greatest in
             elim s.end [
               | inl e ↦ inl e.1
               | inr e ↦ inr (subst (λ l. IsIn last l) (sym s.cut) (in_front last s.front s.behind (subst (λ l. IsIn last l) (sym e.1) (in_middle e.0 last []))))
             ]
 
-        module _ (one : List (Ptr × Node T)) (one_is : one ≡ three) where
-          pub node_in_one : IsSome (value_at node.ptr one)
+        module _ (one : List (Node T)) (one_is : one ≡ three) where
+          pub node_in_one : IsSome (value_at node.index one)
           node_in_one =
-              subst (λ c. IsSome (value_at node.ptr c)) (sym one_is)
-              (three_there pool.head.ptr (ptrs pool.heads.items) (ptrs front) (order_in pool) node.ptr pool.store held_cut.linked x first.ptr at node.ptr
-              (p_there pool.head.ptr (ptrs pool.heads.items) (ptrs front) (order_in pool) node.ptr pool.store held_cut.linked x first.ptr at))
+              subst (λ c. IsSome (value_at node.index c)) (sym one_is)
+              (three_there pool.head.index (ptrs pool.heads.items) (ptrs front) (order_in pool) node.index pool.store held_cut.linked x first.index at node.index
+              (p_there pool.head.index (ptrs pool.heads.items) (ptrs front) (order_in pool) node.index pool.store held_cut.linked x first.index at))
 
           pub last_in_one : IsSome (value_at last one)
           last_in_one =
               subst (λ c. IsSome (value_at last c)) (sym one_is)
-              (all_in (λ q. IsSome (value_at q three)) (pool.head.ptr ∷ dues) last three_ring.there last_in)
+              (all_in (λ q. IsSome (value_at q three)) (pool.head.index ∷ dues) last three_ring.there last_in)
 
           pub next_in_one : IsSome (value_at (next_of Due one last) one)
           next_in_one =
               subst (λ c. IsSome (value_at (next_of Due c last) c)) (sym one_is)
-              (all_in (λ q. IsSome (value_at q three)) (pool.head.ptr ∷ dues) (next_of Due three last) three_ring.there
-              (ring_next Due three pool.head.ptr dues three_ring last last_in))
+              (all_in (λ q. IsSome (value_at q three)) (pool.head.index ∷ dues) (next_of Due three last) three_ring.there
+              (ring_next Due three pool.head.index dues three_ring last last_in))
 
-          module _ (two : List (Ptr × Node T)) (two_is : two ≡ link_behind Due node.ptr last one) where
-            abbrev four : List (Ptr × Node T)
-            four = link_behind Due node.ptr last three
+          module _ (two : List (Node T)) (two_is : two ≡ link_behind Due node.index last one) where
+            abbrev four : List (Node T)
+            four = link_behind Due node.index last three
 
             is : two ≡ four
-            is = two_is ∙ ap (λ c. link_behind Due node.ptr last c) one_is
+            is = two_is ∙ ap (λ c. link_behind Due node.index last c) one_is
 
-            held_three : IsHeld pool.head.ptr (ptrs pool.heads.items) (ptrs front) (pool.count + 1) three
+            held_three : IsHeld pool.head.index (ptrs pool.heads.items) (ptrs front) (pool.count + 1) three
             held_three =
-                held_pushed pool.head.ptr (ptrs pool.heads.items) (ptrs front) pool.count node.ptr pool.store held_cut x first.ptr at above
+                held_pushed pool.head.index (ptrs pool.heads.items) (ptrs front) pool.count node.index pool.store held_cut x first.index at above
                 (omega (arith, below, ptrs_length pool.heads.items))
 
-            order_four : order_of pool.head.ptr (pool.count + 1) four ≡ order_in pool ++ node.ptr ∷ []
+            order_four : order_of pool.head.index (pool.count + 1) four ≡ order_in pool ++ node.index ∷ []
             order_four =
-                order_alike three four (alike_link node.ptr last three) pool.head.ptr (ptrs pool.heads.items) (ptrs front) (pool.count + 1) held_three
-                ∙ order_then pool.head.ptr (ptrs pool.heads.items) (ptrs front) pool.count node.ptr pool.store held_cut x first.ptr at
+                order_alike three four (alike_link node.index last three) pool.head.index (ptrs pool.heads.items) (ptrs front) (pool.count + 1) held_three
+                ∙ order_then pool.head.index (ptrs pool.heads.items) (ptrs front) pool.count node.index pool.store held_cut x first.index at
 
-            dues_four : dues_of pool.head.ptr (pool.count + 1) four ≡ dues_then
+            dues_four : dues_of pool.head.index (pool.count + 1) four ≡ dues_then
             dues_four =
                 let many : length dues_then ≡ pool.count + 1 =
-                omega (arith, entered_dues.many, length-append (order_in pool) (node.ptr ∷ []), order_length pool whole) in
-                ap (λ n. trace (next_of Due four) pool.head.ptr n) (sym many) ∙ trace_ring Due four pool.head.ptr dues_then entered_dues.ring
+                omega (arith, entered_dues.many, length-append (order_in pool) (node.index ∷ []), order_length pool whole) in
+                ap (λ n. trace (next_of Due four) pool.head.index n) (sym many) ∙ trace_ring Due four pool.head.index dues_then entered_dues.ring
 
-            pub put_held : IsHeld pool.head.ptr (ptrs pool.heads.items) (ptrs front) (pool.count + 1) two
+            pub put_held : IsHeld pool.head.index (ptrs pool.heads.items) (ptrs front) (pool.count + 1) two
             put_held =
-                subst (λ c. IsHeld pool.head.ptr (ptrs pool.heads.items) (ptrs front) (pool.count + 1) c) (sym is)
-                (held_alike three four (alike_link node.ptr last three) pool.head.ptr (ptrs pool.heads.items) (ptrs front) (pool.count + 1) held_three)
+                subst (λ c. IsHeld pool.head.index (ptrs pool.heads.items) (ptrs front) (pool.count + 1) c) (sym is)
+                (held_alike three four (alike_link node.index last three) pool.head.index (ptrs pool.heads.items) (ptrs front) (pool.count + 1) held_three)
 
-            pub put_items : items_in two (order_of pool.head.ptr (pool.count + 1) two) ≡ items_of pool ++ x ∷ []
+            pub put_items : items_in two (order_of pool.head.index (pool.count + 1) two) ≡ items_of pool ++ x ∷ []
             put_items =
-                subst (λ c. items_in c (order_of pool.head.ptr (pool.count + 1) c) ≡ items_of pool ++ x ∷ []) (sym is)
-                (items_kept three four (alike_link node.ptr last three) pool.head.ptr (ptrs pool.heads.items) (ptrs front) (pool.count + 1) held_three
-                ∙ items_pushed pool.head.ptr (ptrs pool.heads.items) (ptrs front) pool.count node.ptr pool.store held_cut x first.ptr at)
+                subst (λ c. items_in c (order_of pool.head.index (pool.count + 1) c) ≡ items_of pool ++ x ∷ []) (sym is)
+                (items_kept three four (alike_link node.index last three) pool.head.index (ptrs pool.heads.items) (ptrs front) (pool.count + 1) held_three
+                ∙ items_pushed pool.head.index (ptrs pool.heads.items) (ptrs front) pool.count node.index pool.store held_cut x first.index at)
 
-            pub put_recent : (late : List Place) → late ≡ pool.recent.items ++ node ∷ [] → AreLast (order_of pool.head.ptr (pool.count + 1) two) (ptrs late)
+            pub put_recent : (late : List Place) → late ≡ pool.recent.items ++ node ∷ [] → AreLast (order_of pool.head.index (pool.count + 1) two) (ptrs late)
             put_recent late e = record {
               front = whole.recent.front;
-              cut = ap (λ c. order_of pool.head.ptr (pool.count + 1) c) is ∙ order_four ∙ ap (λ o. o ++ node.ptr ∷ []) whole.recent.cut
-                  ∙ append_assoc whole.recent.front (ptrs pool.recent.items) (node.ptr ∷ [])
+              cut = ap (λ c. order_of pool.head.index (pool.count + 1) c) is ∙ order_four ∙ ap (λ o. o ++ node.index ∷ []) whole.recent.cut
+                  ∙ append_assoc whole.recent.front (ptrs pool.recent.items) (node.index ∷ [])
                   ∙ ap (λ l. whole.recent.front ++ l) (sym (ap (λ l. ptrs l) e ∙ ptrs_push pool.recent.items node));
             }
 
             pub put_counted : (counts : List ℕ) → counts ≡ slice_set pool.counts.items x.channel (get_or pool.counts.items x.channel 0 + 1) →
-                IsCounted counts (length pool.heads.items) (order_of pool.head.ptr (pool.count + 1) two) two
+                IsCounted counts (length pool.heads.items) (order_of pool.head.index (pool.count + 1) two) two
             put_counted counts e =
-                subst (λ c. IsCounted counts (length pool.heads.items) (order_of pool.head.ptr (pool.count + 1) c) c) (sym is)
+                subst (λ c. IsCounted counts (length pool.heads.items) (order_of pool.head.index (pool.count + 1) c) c) (sym is)
                 (subst (λ o. IsCounted counts (length pool.heads.items) o four) (sym order_four)
-                (subst (λ l. IsCounted l (length pool.heads.items) (order_in pool ++ node.ptr ∷ []) four) (sym e)
-                (counted_alike _ (length pool.heads.items) (order_in pool ++ node.ptr ∷ []) three four (alike_link node.ptr last three)
-                (counted_entered pool.head.ptr (ptrs pool.heads.items) (ptrs front)
-                (order_in pool) node.ptr pool.store held_cut.linked x first.ptr at pool.counts.items (length pool.heads.items) whole.counted below))))
+                (subst (λ l. IsCounted l (length pool.heads.items) (order_in pool ++ node.index ∷ []) four) (sym e)
+                (counted_alike _ (length pool.heads.items) (order_in pool ++ node.index ∷ []) three four (alike_link node.index last three)
+                (counted_entered pool.head.index (ptrs pool.heads.items) (ptrs front)
+                (order_in pool) node.index pool.store held_cut.linked x first.index at pool.counts.items (length pool.heads.items) whole.counted below))))
 
-            pub put_by_due : (ticks : List Tick) → ticks ≡ put_tick x.due node.ptr pool.ticks.items →
-                IsByDue pool.head.ptr (order_of pool.head.ptr (pool.count + 1) two) (dues_of pool.head.ptr (pool.count + 1) two) ticks two
+            pub put_by_due : (ticks : List Tick) → ticks ≡ put_tick x.due node.index pool.ticks.items →
+                IsByDue pool.head.index (order_of pool.head.index (pool.count + 1) two) (dues_of pool.head.index (pool.count + 1) two) ticks two
             put_by_due ticks e =
-                subst (λ c. IsByDue pool.head.ptr (order_of pool.head.ptr (pool.count + 1) c) (dues_of pool.head.ptr (pool.count + 1) c) ticks c) (sym is)
-                (subst (λ o. IsByDue pool.head.ptr o (dues_of pool.head.ptr (pool.count + 1) four) ticks four) (sym order_four)
-                (subst (λ d. IsByDue pool.head.ptr (order_in pool ++ node.ptr ∷ []) d ticks four) (sym dues_four)
-                (subst (λ l. IsByDue pool.head.ptr (order_in pool ++ node.ptr ∷ []) dues_then l four) (sym e) entered_dues)))
+                subst (λ c. IsByDue pool.head.index (order_of pool.head.index (pool.count + 1) c) (dues_of pool.head.index (pool.count + 1) c) ticks c) (sym is)
+                (subst (λ o. IsByDue pool.head.index o (dues_of pool.head.index (pool.count + 1) four) ticks four) (sym order_four)
+                (subst (λ d. IsByDue pool.head.index (order_in pool ++ node.index ∷ []) d ticks four) (sym dues_four)
+                (subst (λ l. IsByDue pool.head.index (order_in pool ++ node.index ∷ []) dues_then l four) (sym e) entered_dues)))

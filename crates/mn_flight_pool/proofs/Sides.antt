@@ -1,7 +1,6 @@
 -- What a ring says of the nodes that linking and unlinking reach.
-use Rattle.std.proofs.Common.{◌≡◌, List, [], ◌∷◌, ◌++◌, Some, IsSome, sym, ap, ◌∙◌, subst}
+use Rattle.std.proofs.Common.{ℕ, ◌≡◌, List, [], ◌∷◌, ◌++◌, Some, IsSome, sym, ap, ◌∙◌, subst}
 use Rattle.std.specs.List.{AllByRecursion}
-use denote.RawPtr.{Ptr}
 use Rattle.mn_flight.specs.declared.Item.{Item}
 use Rattle.mn_flight_pool.specs.Cells.{value_at}
 use Rattle.mn_flight_pool.specs.Rings.{IsRing, item_at, with_item, next_of, prev_of, link_behind, unlink}
@@ -16,61 +15,61 @@ use Rattle.mn_flight_pool.proofs.Sooner.{all_in}
 
 module _ {T : Type 0} where
   -- a ring's first node, what leads to it, and where that leads
-  pub first_there : (pair : Pair) (cells : List (Ptr × Node T)) (s : Ptr) (ps : List Ptr) → IsRing pair cells s ps → IsSome (value_at s cells)
+  pub first_there : (pair : Pair) (cells : List (Node T)) (s : ℕ) (ps : List ℕ) → IsRing pair cells s ps → IsSome (value_at s cells)
   first_there pair cells s ps ring = ring.there.0
 
-  pub last_there : (pair : Pair) (cells : List (Ptr × Node T)) (s : Ptr) (ps : List Ptr) → IsRing pair cells s ps →
+  pub last_there : (pair : Pair) (cells : List (Node T)) (s : ℕ) (ps : List ℕ) → IsRing pair cells s ps →
       IsSome (value_at (prev_of pair cells s) cells)
   last_there pair cells s ps ring = all_in (λ q. IsSome (value_at q cells)) (s ∷ ps) (prev_of pair cells s) ring.there (ring_last pair cells s ps ring).0
 
-  pub after_last_there : (pair : Pair) (cells : List (Ptr × Node T)) (s : Ptr) (ps : List Ptr) → IsRing pair cells s ps →
+  pub after_last_there : (pair : Pair) (cells : List (Node T)) (s : ℕ) (ps : List ℕ) → IsRing pair cells s ps →
       IsSome (value_at (next_of pair cells (prev_of pair cells s)) cells)
   after_last_there pair cells s ps ring = subst (λ q. IsSome (value_at q cells)) (sym (ring_last pair cells s ps ring).1) ring.there.0
 
   -- a node in a ring, and its neighbours
-  pub node_there : (pair : Pair) (cells : List (Ptr × Node T)) (s : Ptr) (us : List Ptr) (p : Ptr) (vs : List Ptr) → IsRing pair cells s (us ++ p ∷ vs) →
+  pub node_there : (pair : Pair) (cells : List (Node T)) (s : ℕ) (us : List ℕ) (p : ℕ) (vs : List ℕ) → IsRing pair cells s (us ++ p ∷ vs) →
       IsSome (value_at p cells)
   node_there pair cells s us p vs ring = at us ring.there.1
     where
-      at : (xs : List Ptr) → AllByRecursion (λ q. IsSome (value_at q cells)) (xs ++ p ∷ vs) → IsSome (value_at p cells)
+      at : (xs : List ℕ) → AllByRecursion (λ q. IsSome (value_at q cells)) (xs ++ p ∷ vs) → IsSome (value_at p cells)
       at [] h = h.0
       at (z ∷ zs) h = at zs h.1
 
-  pub prev_there : (pair : Pair) (cells : List (Ptr × Node T)) (s : Ptr) (us : List Ptr) (p : Ptr) (vs : List Ptr) → IsRing pair cells s (us ++ p ∷ vs) →
+  pub prev_there : (pair : Pair) (cells : List (Node T)) (s : ℕ) (us : List ℕ) (p : ℕ) (vs : List ℕ) → IsRing pair cells s (us ++ p ∷ vs) →
       IsSome (value_at (prev_of pair cells p) cells)
   prev_there pair cells s us p vs ring =
       all_in (λ q. IsSome (value_at q cells)) (s ∷ (us ++ p ∷ vs)) (prev_of pair cells p) ring.there (ring_sides pair cells s us p vs ring).0
 
-  pub next_there : (pair : Pair) (cells : List (Ptr × Node T)) (s : Ptr) (us : List Ptr) (p : Ptr) (vs : List Ptr) → IsRing pair cells s (us ++ p ∷ vs) →
+  pub next_there : (pair : Pair) (cells : List (Node T)) (s : ℕ) (us : List ℕ) (p : ℕ) (vs : List ℕ) → IsRing pair cells s (us ++ p ∷ vs) →
       IsSome (value_at (next_of pair cells p) cells)
   next_there pair cells s us p vs ring =
       all_in (λ q. IsSome (value_at q cells)) (s ∷ (us ++ p ∷ vs)) (next_of pair cells p) ring.there (ring_sides pair cells s us p vs ring).1
 
   -- as `enter` and `leave` come upon them
-  pub ring_put : (pair : Pair) (p : Ptr) (item : Item T) (old new : List (Ptr × Node T)) (s : Ptr) (ps : List Ptr) → new ≡ with_item p (Some item) old →
+  pub ring_put : (pair : Pair) (p : ℕ) (item : Item T) (old new : List (Node T)) (s : ℕ) (ps : List ℕ) → new ≡ with_item p (Some item) old →
       IsRing pair old s ps → IsRing pair new s ps
   ring_put pair p item old new s ps e ring = subst (λ c. IsRing pair c s ps) (sym e) (ring_past_item pair p (Some item) old s ps ring)
 
-  pub ring_linked : (p a : Ptr) (old new : List (Ptr × Node T)) (s : Ptr) (ps : List Ptr) → new ≡ link_behind Number p a old → IsRing Channel old s ps →
+  pub ring_linked : (p a : ℕ) (old new : List (Node T)) (s : ℕ) (ps : List ℕ) → new ≡ link_behind Number p a old → IsRing Channel old s ps →
       IsRing Channel new s ps
   ring_linked p a old new s ps e ring = subst (λ c. IsRing Channel c s ps) (sym e) (ring_past_link Number Channel unlike p a old s ps ring)
 
-  pub ring_left : (p : Ptr) (old new : List (Ptr × Node T)) (s : Ptr) (ps : List Ptr) → new ≡ unlink Number p old → IsRing Channel old s ps →
+  pub ring_left : (p : ℕ) (old new : List (Node T)) (s : ℕ) (ps : List ℕ) → new ≡ unlink Number p old → IsRing Channel old s ps →
       IsRing Channel new s ps
   ring_left p old new s ps e ring = subst (λ c. IsRing Channel c s ps) (sym e) (ring_past_unlink Number Channel unlike p old s ps ring)
 
-  pub put_there : (p : Ptr) (item : Item T) (old new : List (Ptr × Node T)) → new ≡ with_item p (Some item) old → IsSome (value_at p old) →
+  pub put_there : (p : ℕ) (item : Item T) (old new : List (Node T)) → new ≡ with_item p (Some item) old → IsSome (value_at p old) →
       IsSome (value_at p new)
   put_there p item old new e h = subst (λ c. IsSome (value_at p c)) (sym e) (stays p p (λ (node : Node T). record node { item = Some item }) old h)
 
-  pub linked_there : (pair : Pair) (p a q : Ptr) (old new : List (Ptr × Node T)) → new ≡ link_behind pair p a old → IsSome (value_at q old) →
+  pub linked_there : (pair : Pair) (p a q : ℕ) (old new : List (Node T)) → new ≡ link_behind pair p a old → IsSome (value_at q old) →
       IsSome (value_at q new)
   linked_there pair p a q old new e h = subst (λ c. IsSome (value_at q c)) (sym e) (link_stays pair p a q old h)
 
-  pub unlinked_there : (pair : Pair) (p q : Ptr) (old new : List (Ptr × Node T)) → new ≡ unlink pair p old → IsSome (value_at q old) → IsSome (value_at q new)
+  pub unlinked_there : (pair : Pair) (p q : ℕ) (old new : List (Node T)) → new ≡ unlink pair p old → IsSome (value_at q old) → IsSome (value_at q new)
   unlinked_there pair p q old new e h = subst (λ c. IsSome (value_at q c)) (sym e) (unlink_stays pair p q old h)
 
-  pub entered_is : (head first p a b : Ptr) (item : Item T) (old one two three : List (Ptr × Node T)) → one ≡ with_item p (Some item) old →
+  pub entered_is : (head first p a b : ℕ) (item : Item T) (old one two three : List (Node T)) → one ≡ with_item p (Some item) old →
       a ≡ prev_of Number one head → two ≡ link_behind Number p a one → b ≡ prev_of Channel two first → three ≡ link_behind Channel p b two →
       three ≡ entered head first p item old
   entered_is head first p a b item old one two three e1 ea e2 eb e3 =
@@ -79,5 +78,5 @@ module _ {T : Type 0} where
       e2 ∙ ap (λ c. link_behind Number p c one) ea ∙ ap (λ o. link_behind Number p (prev_of Number o head) o) e1 in
       e3 ∙ ap (λ c. link_behind Channel p c two) eb ∙ ap (λ t. link_behind Channel p (prev_of Channel t first) t) two_is
 
-  pub left_item : (p : Ptr) (old one two : List (Ptr × Node T)) → one ≡ unlink Number p old → two ≡ unlink Channel p one → item_at two p ≡ item_at old p
+  pub left_item : (p : ℕ) (old one two : List (Node T)) → one ≡ unlink Number p old → two ≡ unlink Channel p one → item_at two p ≡ item_at old p
   left_item p old one two e1 e2 = ap (λ c. item_at c p) e2 ∙ item_past_unlink Channel p p one ∙ ap (λ c. item_at c p) e1 ∙ item_past_unlink Number p p old

@@ -3,7 +3,6 @@ use Rattle.std.proofs.Common.{◌≡◌, ◌<◌, ◌≤◌, ◌⊎◌, inl, inr
 use Rattle.std.specs.Prelude.{◌==◌, ◌&&◌, ◌||◌, slice_index_or}
 use Rattle.std.proofs.lemmas.Bool.Decides.{nat_tests}
 use Rattle.std.proofs.lemmas.Option.{same_Some}
-use denote.RawPtr.{Ptr}
 use Rattle.mn_flight.specs.declared.Item.{Item}
 use Rattle.mn_flight.specs.Flying.{IsFlight}
 use Rattle.mn_flight.specs.Earliest.{earliest, goes_before}
@@ -25,14 +24,14 @@ goes_of d n e m (inr h) = let p : d ≡ e = h.0 in let q : n < m = h.1 in grind 
 goes_self : (d n : ℕ) → (nat_lt d d || ((d == d) && nat_le n n)) ≡ true
 goes_self d n = grind (arith, nat_tests)
 
-module _ {T : Type 0} (head : Ptr) (order : List Ptr) (channels : ℕ) (ticks : List Tick) (cells : List (Ptr × Node T))
+module _ {T : Type 0} (head : ℕ) (order : List ℕ) (channels : ℕ) (ticks : List Tick) (cells : List (Node T))
     (flight : IsFlight channels (items_in cells order)) where
   abbrev items : List (Item T)
   items = items_in cells order
 
   -- while there is one, the first of the ring is sooner than any other
-  pub soonest : (dues : List Ptr) → IsByDue head order dues ticks cells → 0 < length order →
-      (IsIn (next_of Due cells head) order) × ((x y : Item T) (q : Ptr) → item_at cells (next_of Due cells head) ≡ Some x → IsIn q order →
+  pub soonest : (dues : List ℕ) → IsByDue head order dues ticks cells → 0 < length order →
+      (IsIn (next_of Due cells head) order) × ((x y : Item T) (q : ℕ) → item_at cells (next_of Due cells head) ≡ Some x → IsIn q order →
       item_at cells q ≡ Some y → (q ≡ next_of Due cells head) ⊎ ((x.due < y.due) ⊎ ((x.due ≡ y.due) × (x.number < y.number))))
   soonest [] due some = absurd (omega (arith, some, due.many))
   soonest (p ∷ ps) due some =
@@ -44,9 +43,9 @@ module _ {T : Type 0} (head : Ptr) (order : List Ptr) (channels : ℕ) (ticks : 
         ],
       )
 
-  module _ (dues : List Ptr) (due : IsByDue head order dues ticks cells) (some : 0 < length order) (limit : ℕ) (x : Item T)
+  module _ (dues : List ℕ) (due : IsByDue head order dues ticks cells) (some : 0 < length order) (limit : ℕ) (x : Item T)
       (holds : item_at cells (next_of Due cells head) ≡ Some x) where
-    abbrev p : Ptr
+    abbrev p : ℕ
     p = next_of Due cells head
 
     pub p_in : IsIn p order

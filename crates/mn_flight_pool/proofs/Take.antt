@@ -3,7 +3,6 @@ use Rattle.std.proofs.Common.{◌≡◌, ◌<◌, ◌-◌, ℕ, zero, suc, cond,
 use Rattle.std.proofs.Common.{length-append, get_or, eq-eqb}
 use Rattle.std.specs.Prelude.{slice_get, slice_set}
 use Rattle.std.proofs.lemmas.Option.{same_Some}
-use denote.RawPtr.{Ptr}
 use Rattle.mn_flight.specs.declared.Item.{Item}
 use Rattle.mn_flight.specs.Flying.{without}
 use Rattle.mn_flight.proofs.Members as members
@@ -27,19 +26,19 @@ use Rattle.mn_flight_pool.proofs.Sooner.{in_cut}
 use Rattle.mn_flight_pool.proofs.Traces.{trace_ring}
 use Rattle.mn_flight_pool.proofs.Whole.{ptrs_length, order_length, flight}
 
-some_at : (xs : List Ptr) (c : ℕ) → c < length xs → (f : Ptr) × (slice_get xs c ≡ Some f)
+some_at : (xs : List ℕ) (c : ℕ) → c < length xs → (f : ℕ) × (slice_get xs c ≡ Some f)
 some_at [] c h = absurd (omega (arith, h))
 some_at (x ∷ xs) zero h = (x, refl)
 some_at (x ∷ xs) (suc c) h = some_at xs c (omega (arith, h))
 
-module _ {T : Type 0} (pool : Pool T) (whole : IsWhole pool) (p : Ptr) (i : IsIn p (order_in pool)) where
-  abbrev head : Ptr
-  head = pool.head.ptr
+module _ {T : Type 0} (pool : Pool T) (whole : IsWhole pool) (p : ℕ) (i : IsIn p (order_in pool)) where
+  abbrev head : ℕ
+  head = pool.head.index
 
-  abbrev heads : List Ptr
+  abbrev heads : List ℕ
   heads = ptrs pool.heads.items
 
-  abbrev free : List Ptr
+  abbrev free : List ℕ
   free = ptrs pool.free.items
 
   abbrev n : ℕ
@@ -48,32 +47,32 @@ module _ {T : Type 0} (pool : Pool T) (whole : IsWhole pool) (p : Ptr) (i : IsIn
   pub some_count : 0 < pool.count
   some_count = omega (arith, order_length pool whole, many (order_in pool) i)
     where
-      many : (ps : List Ptr) → IsIn p ps → 0 < length ps
+      many : (ps : List ℕ) → IsIn p ps → 0 < length ps
       many [] j = absurd j
       many (q ∷ qs) j = omega arith
 
   count_is : pool.count ≡ suc n
   count_is = omega (arith, some_count)
 
-  cut : (us : List Ptr) × (vs : List Ptr) × (order_in pool ≡ us ++ p ∷ vs)
+  cut : (us : List ℕ) × (vs : List ℕ) × (order_in pool ≡ us ++ p ∷ vs)
   cut = in_cut p (order_in pool) i
 
-  abbrev us : List Ptr
+  abbrev us : List ℕ
   us = cut.0
 
-  abbrev vs : List Ptr
+  abbrev vs : List ℕ
   vs = cut.1
 
   linked : IsLinked head heads free (us ++ p ∷ vs) pool.store
   linked = subst (λ l. IsLinked head heads free l pool.store) cut.2 whole.held.linked
 
-  abbrev old_dues : List Ptr
+  abbrev old_dues : List ℕ
   old_dues = dues_of head pool.count pool.store
 
   due : IsByDue head (us ++ p ∷ vs) old_dues pool.ticks.items pool.store
   due = subst (λ l. IsByDue head l old_dues pool.ticks.items pool.store) cut.2 whole.by_due
 
-  due_ring : (fs : List Ptr) × (bs : List Ptr) × IsRing Due pool.store head (fs ++ p ∷ bs)
+  due_ring : (fs : List ℕ) × (bs : List ℕ) × IsRing Due pool.store head (fs ++ p ∷ bs)
   due_ring = let c = in_cut p old_dues (whole.by_due.stands p i) in (c.0, c.1, subst (λ l. IsRing Due pool.store head l) c.2 whole.by_due.ring)
 
   pub next_there : IsSome (value_at (next_of Due pool.store p) pool.store)
@@ -87,7 +86,7 @@ module _ {T : Type 0} (pool : Pool T) (whole : IsWhole pool) (p : Ptr) (i : IsIn
   no_item (Some y) e h = cc
 
   -- the item that is read and the one that is taken are one
-  pub same_item : (one : List (Ptr × Node T)) → one ≡ unlink Due p pool.store → (x y : Item T) → Some x ≡ item_at pool.store p → Some y ≡ item_at one p →
+  pub same_item : (one : List (Node T)) → one ≡ unlink Due p pool.store → (x y : Item T) → Some x ≡ item_at pool.store p → Some y ≡ item_at one p →
       (item_at pool.store p ≡ Some y) × (x ≡ y)
   same_item one e x y f h =
       let there : item_at pool.store p ≡ Some y = sym (h ∙ ap (λ c. item_at c p) e ∙ (alike_unlink p pool.store).items p) in
@@ -99,13 +98,13 @@ module _ {T : Type 0} (pool : Pool T) (whole : IsWhole pool) (p : Ptr) (i : IsIn
         let at = members.contains_of_in (items_of pool) x (item_member pool.store (order_in pool) p x i holds) in
         subst (λ (z : Item T). z.channel < length pool.heads.items) at.2 ((flight pool whole).on_channels at.0 x at.1)
 
-    first_at : (f : Ptr) × (slice_get heads x.channel ≡ Some f)
+    first_at : (f : ℕ) × (slice_get heads x.channel ≡ Some f)
     first_at = some_at heads x.channel (omega (arith, below, ptrs_length pool.heads.items))
 
-    abbrev first : Ptr
+    abbrev first : ℕ
     first = first_at.0
 
-    abbrev mid : List (Ptr × Node T)
+    abbrev mid : List (Node T)
     mid = unlink Due p pool.store
 
     held_mid : IsHeld head heads free (suc n) mid
@@ -136,11 +135,11 @@ module _ {T : Type 0} (pool : Pool T) (whole : IsWhole pool) (p : Ptr) (i : IsIn
         nodes_before head heads free us p vs mid linked_mid x first holds_mid first_at.1 x.channel
         ∙ ap (λ b. nodes_on mid x.channel us ++ cond b (p ∷ nodes_on mid x.channel vs) (nodes_on mid x.channel vs)) (eq-eqb x.channel x.channel refl)
 
-    module _ (one : List (Ptr × Node T)) (one_is : one ≡ mid) where
-      pub number_ring : (s : Ptr) × (fs : List Ptr) × (bs : List Ptr) × IsRing Number one s (fs ++ p ∷ bs)
+    module _ (one : List (Node T)) (one_is : one ≡ mid) where
+      pub number_ring : (s : ℕ) × (fs : List ℕ) × (bs : List ℕ) × IsRing Number one s (fs ++ p ∷ bs)
       number_ring = (head, us, vs, subst (λ c. IsRing Number c head (us ++ p ∷ vs)) (sym one_is) linked_mid.number)
 
-      pub channel_ring : (s : Ptr) × (fs : List Ptr) × (bs : List Ptr) × IsRing Channel one s (fs ++ p ∷ bs)
+      pub channel_ring : (s : ℕ) × (fs : List ℕ) × (bs : List ℕ) × IsRing Channel one s (fs ++ p ∷ bs)
       channel_ring = (
         first,
         nodes_on mid x.channel us,
@@ -152,14 +151,14 @@ module _ {T : Type 0} (pool : Pool T) (whole : IsWhole pool) (p : Ptr) (i : IsIn
       pub item_one : item_at one p ≡ Some x
       item_one = ap (λ c. item_at c p) one_is ∙ holds_mid
 
-      module _ (two : List (Ptr × Node T)) (two_is : two ≡ left p one) where
+      module _ (two : List (Node T)) (two_is : two ≡ left p one) where
         is : two ≡ left p mid
         is = two_is ∙ ap (λ c. left p c) one_is
 
         order_two : order_of head n (left p mid) ≡ us ++ vs
         order_two = order_after head heads free us p vs n mid held_mid order_mid x first holds_mid first_at.1
 
-        pub take_held : (frees : List Ptr) → frees ≡ free ++ p ∷ [] → IsHeld head heads frees n two
+        pub take_held : (frees : List ℕ) → frees ≡ free ++ p ∷ [] → IsHeld head heads frees n two
         take_held frees e =
             subst (λ l. IsHeld head heads l n two) (sym e)
             (subst (λ c. IsHeld head heads (free ++ p ∷ []) n c) (sym is)
@@ -182,7 +181,7 @@ module _ {T : Type 0} (pool : Pool T) (whole : IsWhole pool) (p : Ptr) (i : IsIn
             (subst (λ l. IsCounted l (length pool.heads.items) (us ++ vs) (left p mid)) (sym e)
             (counted_left head heads free us p vs mid linked_mid x first holds_mid first_at.1 pool.counts.items (length pool.heads.items) counted_mid below)))
 
-        abbrev dues_then : List Ptr
+        abbrev dues_then : List ℕ
         dues_then = dues.then head heads free us p vs pool.store linked x holds old_dues pool.ticks.items due
 
         abbrev ticks_then : List Tick

@@ -4,7 +4,6 @@ use Rattle.std.proofs.Common.{arith}
 use Rattle.std.specs.Prelude.{◌==◌, slice_index_or, slice_set, insert, remove}
 use Rattle.std.specs.List.{AllByRecursion}
 use Rattle.mn_base.proofs.Bools.{at_most_is, less_is, less_tells, not_at_most, not_less, not_less_tells, other_test, test_same}
-use denote.RawPtr.{Ptr}
 use Rattle.mn_flight_pool.specs.Ticks.{tick_at, AreAscending, earlier, last_by, put_tick, set_tick, drop_tick, IsFound, IsMissing}
 use Rattle.mn_flight_pool.specs.declared.tick.Tick.{Tick}
 
@@ -57,53 +56,53 @@ not_earlier due (t ∷ ts) d h = by (nat_lt t.due due) refl h (not_earlier due t
     by false e k rest = not_less_tells t.due due e
 
 -- 2. The last node by a tick
-none_by : (due : ℕ) (s : Ptr) (ts : List Tick) → AllByRecursion (λ later. due < later.due) ts → last_by due s ts ≡ s
+none_by : (due : ℕ) (s : ℕ) (ts : List Tick) → AllByRecursion (λ later. due < later.due) ts → last_by due s ts ≡ s
 none_by due s [] h = refl
 none_by due s (t ∷ ts) h = rw (not_at_most t.due due h.0) refl
 
-found_last : (due : ℕ) (s : Ptr) (ts : List Tick) (d : Tick) → AreAscending ts → earlier due ts < length ts →
-    (slice_index_or ts (earlier due ts) d).due ≡ due → (slice_index_or ts (earlier due ts) d).last.ptr ≡ last_by due s ts
+found_last : (due : ℕ) (s : ℕ) (ts : List Tick) (d : Tick) → AreAscending ts → earlier due ts < length ts →
+    (slice_index_or ts (earlier due ts) d).due ≡ due → (slice_index_or ts (earlier due ts) d).last.index ≡ last_by due s ts
 found_last due s [] d up h e = absurd (omega (arith, h))
-found_last due s (t ∷ ts) d up h e = by (nat_lt t.due due) refl h e (found_last due t.last.ptr ts d up.1)
+found_last due s (t ∷ ts) d up h e = by (nat_lt t.due due) refl h e (found_last due t.last.index ts d up.1)
   where
     by : (b : Bool) → nat_lt t.due due ≡ b → cond b (suc (earlier due ts)) 0 < suc (length ts) →
         (slice_index_or (t ∷ ts) (cond b (suc (earlier due ts)) 0) d).due ≡ due
         → (earlier due ts < length ts → (slice_index_or ts (earlier due ts) d).due ≡ due →
-        (slice_index_or ts (earlier due ts) d).last.ptr ≡ last_by due t.last.ptr ts)
-        → (slice_index_or (t ∷ ts) (cond b (suc (earlier due ts)) 0) d).last.ptr ≡ cond (nat_le t.due due) (last_by due t.last.ptr ts) s
+        (slice_index_or ts (earlier due ts) d).last.index ≡ last_by due t.last.index ts)
+        → (slice_index_or (t ∷ ts) (cond b (suc (earlier due ts)) 0) d).last.index ≡ cond (nat_le t.due due) (last_by due t.last.index ts) s
     by true l k q rest = rw (at_most_is t.due due (omega (arith, less_tells t.due due l))) (rest (omega (arith, k)) q)
     by false l k q rest =
         rw (at_most_is t.due due (omega (arith, q)))
-        (sym (none_by due t.last.ptr ts (subst (λ n. AllByRecursion (λ (later : Tick). n < later.due) ts) q up.0)))
+        (sym (none_by due t.last.index ts (subst (λ n. AllByRecursion (λ (later : Tick). n < later.due) ts) q up.0)))
 
-first_last : (due : ℕ) (s : Ptr) (ts : List Tick) (d : Tick) → earlier due ts ≡ 0 → (0 < length ts → due < (slice_index_or ts 0 d).due) → s ≡ last_by due s ts
+first_last : (due : ℕ) (s : ℕ) (ts : List Tick) (d : Tick) → earlier due ts ≡ 0 → (0 < length ts → due < (slice_index_or ts 0 d).due) → s ≡ last_by due s ts
 first_last due s [] d e h = refl
 first_last due s (t ∷ ts) d e h = rw (not_at_most t.due due (h (omega arith))) refl
 
-missing_last : (due : ℕ) (s : Ptr) (ts : List Tick) (d : Tick) → (earlier due ts < length ts → due < (slice_index_or ts (earlier due ts) d).due) →
-    0 < earlier due ts → (slice_index_or ts (earlier due ts - 1) d).last.ptr ≡ last_by due s ts
+missing_last : (due : ℕ) (s : ℕ) (ts : List Tick) (d : Tick) → (earlier due ts < length ts → due < (slice_index_or ts (earlier due ts) d).due) →
+    0 < earlier due ts → (slice_index_or ts (earlier due ts - 1) d).last.index ≡ last_by due s ts
 missing_last due s [] d h pos = absurd (omega (arith, pos))
-missing_last due s (t ∷ ts) d h pos = by (nat_lt t.due due) refl h pos (missing_last due t.last.ptr ts d)
+missing_last due s (t ∷ ts) d h pos = by (nat_lt t.due due) refl h pos (missing_last due t.last.index ts d)
   where
     by : (b : Bool) → nat_lt t.due due ≡ b →
         (cond b (suc (earlier due ts)) 0 < suc (length ts) → due < (slice_index_or (t ∷ ts) (cond b (suc (earlier due ts)) 0) d).due) →
         0 < cond b (suc (earlier due ts)) 0
         → ((earlier due ts < length ts → due < (slice_index_or ts (earlier due ts) d).due) → 0 < earlier due ts →
-        (slice_index_or ts (earlier due ts - 1) d).last.ptr ≡ last_by due t.last.ptr ts)
-        → (slice_index_or (t ∷ ts) (cond b (suc (earlier due ts)) 0 - 1) d).last.ptr ≡ cond (nat_le t.due due) (last_by due t.last.ptr ts) s
+        (slice_index_or ts (earlier due ts - 1) d).last.index ≡ last_by due t.last.index ts)
+        → (slice_index_or (t ∷ ts) (cond b (suc (earlier due ts)) 0 - 1) d).last.index ≡ cond (nat_le t.due due) (last_by due t.last.index ts) s
     by true l k q rest = rw (at_most_is t.due due (omega (arith, less_tells t.due due l))) (at_place (earlier due ts) refl)
       where
-        at_place : (n : ℕ) → earlier due ts ≡ n → (slice_index_or (t ∷ ts) (suc (earlier due ts) - 1) d).last.ptr ≡ last_by due t.last.ptr ts
+        at_place : (n : ℕ) → earlier due ts ≡ n → (slice_index_or (t ∷ ts) (suc (earlier due ts) - 1) d).last.index ≡ last_by due t.last.index ts
         at_place zero e =
             let here : suc (earlier due ts) - 1 ≡ 0 = omega (arith, e) in
-            rw here (first_last due t.last.ptr ts d e (λ p. subst (λ n. due < (slice_index_or ts n d).due) e (k (omega (arith, p, e)))))
+            rw here (first_last due t.last.index ts d e (λ p. subst (λ n. due < (slice_index_or ts n d).due) e (k (omega (arith, p, e)))))
         at_place (suc n) e =
             let here : suc (earlier due ts) - 1 ≡ suc (earlier due ts - 1) = omega (arith, e) in
             rw here (rest (λ p. k (omega (arith, p))) (omega (arith, e)))
     by false l k q rest = absurd (omega (arith, q))
 
 -- 3. A change at the place
-found_put : (due : ℕ) (p : Ptr) (ts : List Tick) (d : Tick) → earlier due ts < length ts →
+found_put : (due : ℕ) (p : ℕ) (ts : List Tick) (d : Tick) → earlier due ts < length ts →
     (slice_index_or ts (earlier due ts) d).due ≡ due → slice_set ts (earlier due ts) (tick_at due p) ≡ put_tick due p ts
 found_put due p [] d h e = absurd (omega (arith, h))
 found_put due p (t ∷ ts) d h e = by (nat_lt t.due due) refl h e (found_put due p ts d)
@@ -116,7 +115,7 @@ found_put due p (t ∷ ts) d h e = by (nat_lt t.due due) refl h e (found_put due
     by true l k q rest = ap (λ r. t ∷ r) (rest (omega (arith, k)) q)
     by false l k q rest = rw (test_same t.due due q) refl
 
-missing_put : (due : ℕ) (p : Ptr) (ts : List Tick) (d : Tick) → (earlier due ts < length ts → due < (slice_index_or ts (earlier due ts) d).due) →
+missing_put : (due : ℕ) (p : ℕ) (ts : List Tick) (d : Tick) → (earlier due ts < length ts → due < (slice_index_or ts (earlier due ts) d).due) →
     insert ts (earlier due ts) (tick_at due p) ≡ put_tick due p ts
 missing_put due p [] d h = refl
 missing_put due p (t ∷ ts) d h = by (nat_lt t.due due) refl h (missing_put due p ts d)
@@ -128,7 +127,7 @@ missing_put due p (t ∷ ts) d h = by (nat_lt t.due due) refl h (missing_put due
     by true l k rest = ap (λ r. t ∷ r) (rest (λ b. k (omega (arith, b))))
     by false l k rest = let later : due < t.due = k (omega arith) in rw (other_test t.due due (λ e. omega (arith, later, e))) refl
 
-found_set : (due : ℕ) (p : Ptr) (ts : List Tick) (d : Tick) → earlier due ts < length ts →
+found_set : (due : ℕ) (p : ℕ) (ts : List Tick) (d : Tick) → earlier due ts < length ts →
     (slice_index_or ts (earlier due ts) d).due ≡ due → slice_set ts (earlier due ts) (tick_at due p) ≡ set_tick due p ts
 found_set due p [] d h e = absurd (omega (arith, h))
 found_set due p (t ∷ ts) d h e = by (nat_lt t.due due) refl h e (found_set due p ts d)
@@ -155,7 +154,7 @@ found_drop due (t ∷ ts) d h e = by (nat_lt t.due due) refl h e (found_drop due
     by false l k q rest = rw (test_same t.due due q) refl
 
 -- where it isn't there, nothing is changed
-later_set : (due : ℕ) (p : Ptr) (ts : List Tick) → AllByRecursion (λ later. due < later.due) ts → set_tick due p ts ≡ ts
+later_set : (due : ℕ) (p : ℕ) (ts : List Tick) → AllByRecursion (λ later. due < later.due) ts → set_tick due p ts ≡ ts
 later_set due p [] h = refl
 later_set due p (t ∷ ts) h = let after : due < t.due = h.0 in
     rw (other_test t.due due (λ e. omega (arith, after, e))) (ap (λ r. t ∷ r) (later_set due p ts h.1))
@@ -168,7 +167,7 @@ further : (m n : ℕ) (ts : List Tick) → m < n → AllByRecursion (λ later. n
 further m n [] l h = tt
 further m n (t ∷ ts) l h = (omega (arith, l, h.0), further m n ts l h.1)
 
-missing_set : (due : ℕ) (p : Ptr) (ts : List Tick) (d : Tick) → AreAscending ts →
+missing_set : (due : ℕ) (p : ℕ) (ts : List Tick) (d : Tick) → AreAscending ts →
     (earlier due ts < length ts → due < (slice_index_or ts (earlier due ts) d).due) → ts ≡ set_tick due p ts
 missing_set due p [] d up h = refl
 missing_set due p (t ∷ ts) d up h = by (nat_lt t.due due) refl h (missing_set due p ts d up.1)
@@ -208,13 +207,13 @@ module _ (due : ℕ) (ts : List Tick) (i : ℕ) (d : Tick) where
     equal : (slice_index_or ts (earlier due ts) d).due ≡ due
     equal = subst (λ n. (slice_index_or ts n d).due ≡ due) found.place (found.same d)
 
-    pub last_found : (s : Ptr) → AreAscending ts → (slice_index_or ts i d).last.ptr ≡ last_by due s ts
-    last_found s up = here (λ n. (slice_index_or ts n d).last.ptr ≡ last_by due s ts) (found_last due s ts d up there equal)
+    pub last_found : (s : ℕ) → AreAscending ts → (slice_index_or ts i d).last.index ≡ last_by due s ts
+    last_found s up = here (λ n. (slice_index_or ts n d).last.index ≡ last_by due s ts) (found_last due s ts d up there equal)
 
-    pub put_found : (p : Ptr) → slice_set ts i (tick_at due p) ≡ put_tick due p ts
+    pub put_found : (p : ℕ) → slice_set ts i (tick_at due p) ≡ put_tick due p ts
     put_found p = here (λ n. slice_set ts n (tick_at due p) ≡ put_tick due p ts) (found_put due p ts d there equal)
 
-    pub set_found : (p : Ptr) → slice_set ts i (tick_at due p) ≡ set_tick due p ts
+    pub set_found : (p : ℕ) → slice_set ts i (tick_at due p) ≡ set_tick due p ts
     set_found p = here (λ n. slice_set ts n (tick_at due p) ≡ set_tick due p ts) (found_set due p ts d there equal)
 
     pub drop_found : remove ts i ≡ drop_tick due ts
@@ -227,17 +226,17 @@ module _ (due : ℕ) (ts : List Tick) (i : ℕ) (d : Tick) where
     later : earlier due ts < length ts → due < (slice_index_or ts (earlier due ts) d).due
     later = subst (λ n. n < length ts → due < (slice_index_or ts n d).due) missing.place (missing.later d)
 
-    pub last_first : (s : Ptr) → i ≡ 0 → s ≡ last_by due s ts
+    pub last_first : (s : ℕ) → i ≡ 0 → s ≡ last_by due s ts
     last_first s e = first_last due s ts d (sym missing.place ∙ e) (subst (λ n. n < length ts → due < (slice_index_or ts n d).due) e (missing.later d))
 
-    pub last_missing : (s : Ptr) → 0 < i → (slice_index_or ts (i - 1) d).last.ptr ≡ last_by due s ts
+    pub last_missing : (s : ℕ) → 0 < i → (slice_index_or ts (i - 1) d).last.index ≡ last_by due s ts
     last_missing s pos =
-        at (λ n. (slice_index_or ts (n - 1) d).last.ptr ≡ last_by due s ts) (missing_last due s ts d later (subst (λ n. 0 < n) missing.place pos))
+        at (λ n. (slice_index_or ts (n - 1) d).last.index ≡ last_by due s ts) (missing_last due s ts d later (subst (λ n. 0 < n) missing.place pos))
 
-    pub put_missing : (p : Ptr) → insert ts i (tick_at due p) ≡ put_tick due p ts
+    pub put_missing : (p : ℕ) → insert ts i (tick_at due p) ≡ put_tick due p ts
     put_missing p = at (λ n. insert ts n (tick_at due p) ≡ put_tick due p ts) (missing_put due p ts d later)
 
-    pub set_missing : (p : Ptr) → AreAscending ts → ts ≡ set_tick due p ts
+    pub set_missing : (p : ℕ) → AreAscending ts → ts ≡ set_tick due p ts
     set_missing p up = missing_set due p ts d up later
 
     pub drop_missing : AreAscending ts → ts ≡ drop_tick due ts

@@ -4,7 +4,6 @@ use Rattle.std.proofs.Common.{subst, arith, length-append, append-nil, get_or}
 use Rattle.std.specs.Prelude.{slice_get, slice_index_or}
 use Rattle.std.specs.List.{AllByRecursion}
 use Rattle.std.proofs.lemmas.Option.{same_Some}
-use denote.RawPtr.{Ptr}
 use Rattle.mn_flight.specs.declared.Item.{Item}
 use Rattle.mn_flight.specs.Flying.{IsFlight, on_channel}
 use Rattle.mn_flight.specs.Earliest.{earliest}
@@ -13,7 +12,7 @@ use Rattle.mn_flight_pool.specs.Rings.{IsIn, IsRing, item_at, next_of, prev_of}
 use Rattle.mn_flight_pool.specs.Pool.{nodes_on, steps_of}
 use Rattle.mn_flight_pool.specs.Whole.{AreLast, ptrs, dues_of, order_in, items_of, IsWhole}
 use Rattle.mn_flight_pool.specs.declared.pool.Pool.{Pool}
-use Rattle.mn_flight_pool.specs.declared.arena.Place.{Place}
+use Rattle.mn_flight_pool.specs.declared.node.Place.{Place}
 use Rattle.mn_flight_pool.specs.declared.node.Pair.TheVariants.{Number, Channel, Due}
 use Rattle.mn_flight_pool.proofs.Neighbours.{in_at}
 use Rattle.mn_flight_pool.proofs.Entered.{from_filter}
@@ -28,18 +27,18 @@ ptrs_length [] = refl
 ptrs_length (p ∷ ps) = ap suc (ptrs_length ps)
 
 -- where a channel's first node lies
-pub head_at : (ps : List Place) (c : ℕ) (f : Place) → c < length ps → f ≡ slice_index_or ps c f → slice_get (ptrs ps) c ≡ Some f.ptr
+pub head_at : (ps : List Place) (c : ℕ) (f : Place) → c < length ps → f ≡ slice_index_or ps c f → slice_get (ptrs ps) c ≡ Some f.index
 head_at [] c f h e = absurd (omega (arith, h))
-head_at (p ∷ ps) zero f h e = ap (λ (q : Place). Some q.ptr) (sym e)
+head_at (p ∷ ps) zero f h e = ap (λ (q : Place). Some q.index) (sym e)
 head_at (p ∷ ps) (suc c) f h e = head_at ps c f (omega (arith, h)) e
 
 -- no node is the last of any order
-pub none_last : (order : List Ptr) (late : List Place) → late ≡ [] → AreLast order (ptrs late)
+pub none_last : (order : List ℕ) (late : List Place) → late ≡ [] → AreLast order (ptrs late)
 none_last order late e = record { front = order; cut = sym (ap (λ l. order ++ ptrs l) e ∙ append-nil order) }
 
 module _ {T : Type 0} (pool : Pool T) (whole : IsWhole pool) where
   pub order_length : length (order_in pool) ≡ pool.count
-  order_length = length-trace (next_of Number pool.store) pool.head.ptr pool.count
+  order_length = length-trace (next_of Number pool.store) pool.head.index pool.count
 
   pub held_order : AllByRecursion (λ p. IsSome (item_at pool.store p)) (order_in pool)
   held_order = whole.held.linked.held
@@ -50,10 +49,10 @@ module _ {T : Type 0} (pool : Pool T) (whole : IsWhole pool) where
   pub items_count : length (items_of pool) ≡ pool.count
   items_count = items_length pool.store (order_in pool) held_order ∙ order_length
 
-  pub node_there : (p : Ptr) → IsIn p (order_in pool) → IsSome (value_at p pool.store)
-  node_there p i = all_in (λ q. IsSome (value_at q pool.store)) (pool.head.ptr ∷ order_in pool) p whole.held.linked.number.there (inr i)
+  pub node_there : (p : ℕ) → IsIn p (order_in pool) → IsSome (value_at p pool.store)
+  node_there p i = all_in (λ q. IsSome (value_at q pool.store)) (pool.head.index ∷ order_in pool) p whole.held.linked.number.there (inr i)
 
-  pub node_holds : (p : Ptr) → IsIn p (order_in pool) → IsSome (item_at pool.store p)
+  pub node_holds : (p : ℕ) → IsIn p (order_in pool) → IsSome (item_at pool.store p)
   node_holds p i = all_in (λ q. IsSome (item_at pool.store q)) (order_in pool) p held_order i
 
   -- 1. Channels
@@ -69,7 +68,7 @@ module _ {T : Type 0} (pool : Pool T) (whole : IsWhole pool) where
   count_none c h = sym (none_on (length pool.heads.items) c (items_of pool) flight (omega (arith, h, whole.counted.many)))
 
   -- the node at a place of its channel
-  placed : (c n : ℕ) (p : Ptr) → slice_get (nodes_on pool.store c (order_in pool)) n ≡ Some p →
+  placed : (c n : ℕ) (p : ℕ) → slice_get (nodes_on pool.store c (order_in pool)) n ≡ Some p →
       IsIn p (order_in pool) × (item_at pool.store p ≡ slice_get (on_channel c (items_of pool)) n)
   placed c n p e =
       let nodes = nodes_on pool.store c (order_in pool) in (
@@ -79,18 +78,18 @@ module _ {T : Type 0} (pool : Pool T) (whole : IsWhole pool) where
       )
 
   module _ (c : ℕ) (f : Place) (below : c < length pool.heads.items) (read : f ≡ slice_index_or pool.heads.items c f) where
-    pub channel_ring : IsRing Channel pool.store f.ptr (nodes_on pool.store c (order_in pool))
-    channel_ring = whole.held.linked.channel c f.ptr (head_at pool.heads.items c f below read)
+    pub channel_ring : IsRing Channel pool.store f.index (nodes_on pool.store c (order_in pool))
+    channel_ring = whole.held.linked.channel c f.index (head_at pool.heads.items c f below read)
 
-    pub forth_placed : (n : ℕ) (p : Ptr) → p ≡ steps_of (next_of Channel pool.store) f.ptr (n + 1) → n < length (on_channel c (items_of pool)) →
+    pub forth_placed : (n : ℕ) (p : ℕ) → p ≡ steps_of (next_of Channel pool.store) f.index (n + 1) → n < length (on_channel c (items_of pool)) →
         IsIn p (order_in pool) × (item_at pool.store p ≡ slice_get (on_channel c (items_of pool)) n)
     forth_placed n p e h =
         let below : n < length (nodes_on pool.store c (order_in pool)) = omega (arith, h, on_length c) in
         let steps : n + 1 ≡ suc n = omega arith in
-        placed c n p (forth_at Channel pool.store f.ptr (nodes_on pool.store c (order_in pool)) channel_ring n below
-        ∙ ap (λ q. Some q) (sym (e ∙ ap (steps_of (next_of Channel pool.store) f.ptr) steps)))
+        placed c n p (forth_at Channel pool.store f.index (nodes_on pool.store c (order_in pool)) channel_ring n below
+        ∙ ap (λ q. Some q) (sym (e ∙ ap (steps_of (next_of Channel pool.store) f.index) steps)))
 
-    pub back_placed : (n count : ℕ) (p : Ptr) → p ≡ steps_of (prev_of Channel pool.store) f.ptr (count - n) →
+    pub back_placed : (n count : ℕ) (p : ℕ) → p ≡ steps_of (prev_of Channel pool.store) f.index (count - n) →
         count ≡ length (on_channel c (items_of pool)) → n < count →
         IsIn p (order_in pool) × (item_at pool.store p ≡ slice_get (on_channel c (items_of pool)) n)
     back_placed n count p e m h =
@@ -99,8 +98,8 @@ module _ {T : Type 0} (pool : Pool T) (whole : IsWhole pool) where
         let us = cut.0 in let q = cut.1 in let vs = cut.2 in
         let steps : count - n ≡ suc (length vs) = omega (arith, m, on_length c, cut.4, ap length cut.3, length-append us (q ∷ vs)) in
         let same : p ≡ q =
-        e ∙ ap (steps_of (prev_of Channel pool.store) f.ptr) steps
-        ∙ back_at Channel pool.store f.ptr vs us q (subst (λ l. IsRing Channel pool.store f.ptr l) cut.3 channel_ring) in
+        e ∙ ap (steps_of (prev_of Channel pool.store) f.index) steps
+        ∙ back_at Channel pool.store f.index vs us q (subst (λ l. IsRing Channel pool.store f.index l) cut.3 channel_ring) in
         placed c n p (ap (λ l. slice_get l n) cut.3 ∙ ap (λ k. slice_get (us ++ q ∷ vs) k) (sym cut.4) ∙ at_cut us q vs ∙ ap (λ r. Some r) (sym same))
 
   -- past the end of its channel there is none
@@ -116,39 +115,39 @@ module _ {T : Type 0} (pool : Pool T) (whole : IsWhole pool) where
   no_channel c n h = past_end c n (omega (arith, none_on (length pool.heads.items) c (items_of pool) flight h))
 
   -- 2. The earliest
-  module _ (some : 0 < pool.count) (limit : ℕ) (node : Ptr) (is : node ≡ next_of Due pool.store pool.head.ptr) where
+  module _ (some : 0 < pool.count) (limit : ℕ) (node : ℕ) (is : node ≡ next_of Due pool.store pool.head.index) where
     many : 0 < length (order_in pool)
     many = omega (arith, some, order_length)
 
     pub first_there : IsSome (value_at node pool.store)
-    first_there = subst (λ p. IsSome (value_at p pool.store)) (sym is) (at (dues_of pool.head.ptr pool.count pool.store) whole.by_due.ring)
+    first_there = subst (λ p. IsSome (value_at p pool.store)) (sym is) (at (dues_of pool.head.index pool.count pool.store) whole.by_due.ring)
       where
-        at : (ps : List Ptr) → IsRing Due pool.store pool.head.ptr ps → IsSome (value_at (next_of Due pool.store pool.head.ptr) pool.store)
+        at : (ps : List ℕ) → IsRing Due pool.store pool.head.index ps → IsSome (value_at (next_of Due pool.store pool.head.index) pool.store)
         at [] r = subst (λ p. IsSome (value_at p pool.store)) (sym r.round.0) r.there.0
         at (p ∷ ps) r = subst (λ q. IsSome (value_at q pool.store)) (sym r.round.0) r.there.1.0
 
     pub first_due : (x : Item T) → Some x ≡ item_at pool.store node → x.due ≤ limit →
         IsIn node (order_in pool) × (item_at pool.store node ≡ earliest limit (items_of pool))
     first_due x e h =
-        let holds : item_at pool.store (next_of Due pool.store pool.head.ptr) ≡ Some x = ap (item_at pool.store) (sym is) ∙ sym e in
-        let dues = dues_of pool.head.ptr pool.count pool.store in (
+        let holds : item_at pool.store (next_of Due pool.store pool.head.index) ≡ Some x = ap (item_at pool.store) (sym is) ∙ sym e in
+        let dues = dues_of pool.head.index pool.count pool.store in (
           subst (λ p. IsIn p (order_in pool)) (sym is)
-              (p_in pool.head.ptr (order_in pool) (length pool.heads.items) pool.ticks.items pool.store flight dues whole.by_due many limit x holds),
+              (p_in pool.head.index (order_in pool) (length pool.heads.items) pool.ticks.items pool.store flight dues whole.by_due many limit x holds),
           sym e ∙ sym
-              (earliest_first pool.head.ptr (order_in pool) (length pool.heads.items) pool.ticks.items pool.store flight dues whole.by_due many limit x
+              (earliest_first pool.head.index (order_in pool) (length pool.heads.items) pool.ticks.items pool.store flight dues whole.by_due many limit x
               holds h),
         )
 
     pub later_due : (x : Item T) → Some x ≡ item_at pool.store node → limit < x.due → earliest limit (items_of pool) ≡ None
     later_due x e h =
-        let holds : item_at pool.store (next_of Due pool.store pool.head.ptr) ≡ Some x = ap (item_at pool.store) (sym is) ∙ sym e in
-        earliest_none pool.head.ptr (order_in pool) (length pool.heads.items) pool.ticks.items pool.store flight
-        (dues_of pool.head.ptr pool.count pool.store) whole.by_due many limit x holds h
+        let holds : item_at pool.store (next_of Due pool.store pool.head.index) ≡ Some x = ap (item_at pool.store) (sym is) ∙ sym e in
+        earliest_none pool.head.index (order_in pool) (length pool.heads.items) pool.ticks.items pool.store flight
+        (dues_of pool.head.index pool.count pool.store) whole.by_due many limit x holds h
 
     pub first_holds : None ≡ item_at pool.store node → ⊥
-    first_holds e = at (dues_of pool.head.ptr pool.count pool.store) whole.by_due.ring whole.by_due.flies (omega (arith, many, whole.by_due.many))
+    first_holds e = at (dues_of pool.head.index pool.count pool.store) whole.by_due.ring whole.by_due.flies (omega (arith, many, whole.by_due.many))
       where
-        at : (ps : List Ptr) → IsRing Due pool.store pool.head.ptr ps → ((q : Ptr) → IsIn q ps → IsIn q (order_in pool)) → 0 < length ps → ⊥
+        at : (ps : List ℕ) → IsRing Due pool.store pool.head.index ps → ((q : ℕ) → IsIn q ps → IsIn q (order_in pool)) → 0 < length ps → ⊥
         at [] r f h = omega (arith, h)
         at (p ∷ ps) r f h = none (item_at pool.store p) (sym (e ∙ ap (item_at pool.store) (is ∙ r.round.0))) (node_holds p (f p (inl refl)))
           where
@@ -157,24 +156,24 @@ module _ {T : Type 0} (pool : Pool T) (whole : IsWhole pool) where
             none (Some y) k s = cc
 
   -- 3. The nodes put last
-  last_of_order : (k : ℕ) (p : Ptr) → slice_get (ptrs pool.recent.items) k ≡ Some p → IsIn p (order_in pool)
+  last_of_order : (k : ℕ) (p : ℕ) → slice_get (ptrs pool.recent.items) k ≡ Some p → IsIn p (order_in pool)
   last_of_order k p e =
       subst (λ l. IsIn p l) (sym whole.recent.cut)
       (in_behind whole.recent.front (ptrs pool.recent.items) (in_at (ptrs pool.recent.items) k p e))
     where
-      in_behind : (us vs : List Ptr) → IsIn p vs → IsIn p (us ++ vs)
+      in_behind : (us vs : List ℕ) → IsIn p vs → IsIn p (us ++ vs)
       in_behind [] vs i = i
       in_behind (u ∷ us) vs i = inr (in_behind us vs i)
 
-  pub recent_at : (k : ℕ) (p : Place) → k < length pool.recent.items → p ≡ slice_index_or pool.recent.items k p → IsIn p.ptr (order_in pool)
-  recent_at k p h e = last_of_order k p.ptr (head_at pool.recent.items k p h e)
+  pub recent_at : (k : ℕ) (p : Place) → k < length pool.recent.items → p ≡ slice_index_or pool.recent.items k p → IsIn p.index (order_in pool)
+  recent_at k p h e = last_of_order k p.index (head_at pool.recent.items k p h e)
 
-  pub recent_get : (k : ℕ) (p : Place) → Some p ≡ slice_get pool.recent.items k → IsIn p.ptr (order_in pool)
-  recent_get k p e = last_of_order k p.ptr (by pool.recent.items k e)
+  pub recent_get : (k : ℕ) (p : Place) → Some p ≡ slice_get pool.recent.items k → IsIn p.index (order_in pool)
+  recent_get k p e = last_of_order k p.index (by pool.recent.items k e)
     where
-      by : (ps : List Place) (n : ℕ) → Some p ≡ slice_get ps n → slice_get (ptrs ps) n ≡ Some p.ptr
+      by : (ps : List Place) (n : ℕ) → Some p ≡ slice_get ps n → slice_get (ptrs ps) n ≡ Some p.index
       by [] n h = cc
-      by (q ∷ ps) zero h = ap (λ (r : Place). Some r.ptr) (sym (same_Some p q h))
+      by (q ∷ ps) zero h = ap (λ (r : Place). Some r.index) (sym (same_Some p q h))
       by (q ∷ ps) (suc n) h = by ps n h
 
   -- they are no more than all

@@ -1,11 +1,10 @@
 -- Due ticks, ascending, each with the last node that is due then.
 use Rattle.std.specs.Prelude.{◌≡◌, ◌<◌, ◌≤◌, ◌==◌, ℕ, suc, nat_lt, nat_le, cond, List, [], ◌∷◌, length, slice_index_or}
 use Rattle.std.specs.List.{AllByRecursion}
-use denote.RawPtr.{Ptr}
 use Rattle.mn_flight_pool.specs.declared.tick.Tick.{Tick}
 
-abbrev pub tick_at : ℕ → Ptr → Tick
-tick_at due p = record { due = due; last = record { ptr = p } }
+abbrev pub tick_at : ℕ → ℕ → Tick
+tick_at due p = record { due = due; last = record { index = p } }
 
 -- each tick is before those after it
 abbrev pub AreAscending : List Tick → Type 0
@@ -18,17 +17,17 @@ earlier due [] = 0
 earlier due (tick ∷ ticks) = cond (nat_lt tick.due due) (suc (earlier due ticks)) 0
 
 -- the node of the last tick that is not after one, or s where there is none
-abbrev pub last_by : ℕ → Ptr → List Tick → Ptr
+abbrev pub last_by : ℕ → ℕ → List Tick → ℕ
 last_by due s [] = s
-last_by due s (tick ∷ ticks) = cond (nat_le tick.due due) (last_by due tick.last.ptr ticks) s
+last_by due s (tick ∷ ticks) = cond (nat_le tick.due due) (last_by due tick.last.index ticks) s
 
 -- p is the last node of a tick, which may be new
-abbrev pub put_tick : ℕ → Ptr → List Tick → List Tick
+abbrev pub put_tick : ℕ → ℕ → List Tick → List Tick
 put_tick due p [] = tick_at due p ∷ []
 put_tick due p (tick ∷ ticks) = cond (nat_lt tick.due due) (tick ∷ put_tick due p ticks) (tick_at due p ∷ cond (tick.due == due) ticks (tick ∷ ticks))
 
 -- p is the last node of a tick that is there
-abbrev pub set_tick : ℕ → Ptr → List Tick → List Tick
+abbrev pub set_tick : ℕ → ℕ → List Tick → List Tick
 set_tick due p [] = []
 set_tick due p (tick ∷ ticks) = cond (tick.due == due) (tick_at due p ∷ ticks) (tick ∷ set_tick due p ticks)
 

@@ -1,46 +1,45 @@
 -- What a pool keeps between two calls, and the items that it holds.
 use Rattle.std.specs.Prelude.{◌≡◌, ◌≤◌, ◌<◌, ◌+◌, ◌++◌, ℕ, List, length, map, slice_index, vec_len}
 use Rattle.std.specs.Vec.{vec_capacity}
-use denote.RawPtr.{Ptr}
 use Rattle.mn_flight.specs.declared.Item.{Item}
 use Rattle.mn_flight_pool.specs.Rings.{next_of}
 use Rattle.mn_flight_pool.specs.Pool.{trace, order_of, items_in, nodes_on, IsHeld}
 use Rattle.mn_flight_pool.specs.ByDue.{IsByDue}
-use Rattle.mn_flight_pool.specs.declared.arena.Place.{Place}
+use Rattle.mn_flight_pool.specs.declared.node.Place.{Place}
 use Rattle.mn_flight_pool.specs.declared.node.Node.{Node}
 use Rattle.mn_flight_pool.specs.declared.node.Pair.TheVariants.{Due}
 use Rattle.mn_flight_pool.specs.declared.pool.Pool.{Pool}
 
 -- these are the last of the order
-pub record AreLast (order late : List Ptr) : Type 0 where
-  pub front : List Ptr
+pub record AreLast (order late : List ℕ) : Type 0 where
+  pub front : List ℕ
   pub cut : order ≡ front ++ late
 
-abbrev pub ptrs : List Place → List Ptr
-ptrs ps = map (λ p. p.ptr) ps
+abbrev pub ptrs : List Place → List ℕ
+ptrs ps = map (λ p. p.index) ps
 
 module _ {T : Type 0} where
   -- for each channel the number of its nodes is kept
-  pub record IsCounted (counts : List ℕ) (channels : ℕ) (order : List Ptr) (cells : List (Ptr × Node T)) : Type 0 where
+  pub record IsCounted (counts : List ℕ) (channels : ℕ) (order : List ℕ) (cells : List (Node T)) : Type 0 where
     pub many : length counts ≡ channels
     pub each : (c : ℕ) → c < channels → slice_index counts c ≡ length (nodes_on cells c order)
 
   -- the nodes that hold items, the soonest first
-  abbrev pub dues_of : Ptr → ℕ → List (Ptr × Node T) → List Ptr
+  abbrev pub dues_of : ℕ → ℕ → List (Node T) → List ℕ
   dues_of head count cells = trace (next_of Due cells) head count
 
   -- the nodes that hold items, in the order of the items' numbers
-  abbrev pub order_in : Pool T → List Ptr
-  order_in pool = order_of pool.head.ptr pool.count pool.store
+  abbrev pub order_in : Pool T → List ℕ
+  order_in pool = order_of pool.head.index pool.count pool.store
 
   -- the items, in the order of their numbers
   abbrev pub items_of : Pool T → List (Item T)
   items_of pool = items_in pool.store (order_in pool)
 
   pub record IsWhole (pool : Pool T) : Type 0 where
-    pub held : IsHeld pool.head.ptr (ptrs pool.heads.items) (ptrs pool.free.items) pool.count pool.store
+    pub held : IsHeld pool.head.index (ptrs pool.heads.items) (ptrs pool.free.items) pool.count pool.store
     pub counted : IsCounted pool.counts.items (length pool.heads.items) (order_in pool) pool.store
-    pub by_due : IsByDue pool.head.ptr (order_in pool) (dues_of pool.head.ptr pool.count pool.store) pool.ticks.items pool.store
+    pub by_due : IsByDue pool.head.index (order_in pool) (dues_of pool.head.index pool.count pool.store) pool.ticks.items pool.store
     pub room : pool.count + vec_len pool.free ≤ vec_capacity pool.free
     pub ticks_room : pool.count + vec_len pool.free ≤ vec_capacity pool.ticks
     pub recent : AreLast (order_in pool) (ptrs pool.recent.items)

@@ -7,15 +7,14 @@ ghost use Rattle.mn_flight_pool.specs.Ticks.{AreAscending, last_by, put_tick};
 ghost use Rattle.mn_flight_pool.specs.ByDue.{is_due, ticks_left};
 ghost use Rattle.mn_flight_pool.specs.declared.node.Pair.TheVariants.{Due};
 
-use crate::arena::Place;
-use crate::node::Pair;
+use crate::node::{Pair, Place};
 use crate::store::Store;
 use crate::tick::{self, Tick};
 
 /// Whether a node has an item that is due at a tick.
 fn is_due_at<T: Drop>(store: &Store<T>, node: Place, due: u64) -> bool
-    requires { IsSome (value_at node.ptr store.now) }
-    ensures { result ≡ is_due due (item_at store.now node.ptr) }
+    requires { IsSome (value_at node.index store.now) }
+    ensures { result ≡ is_due due (item_at store.now node.index) }
 {
     match store.item(node) {
         Some(item) => item.due == due,
@@ -33,11 +32,11 @@ pub fn link_due<T: Drop>(
 )
     requires ascending { AreAscending ticks.old.items }
     requires room { vec_len ticks.old < vec_capacity ticks.old }
-    requires node { IsSome (value_at node.ptr store.old) }
-    requires at { IsSome (value_at (last_by due head.ptr ticks.old.items) store.old) }
-    requires next { IsSome (value_at (next_of Due store.old (last_by due head.ptr ticks.old.items)) store.old) }
-    ensures store { store.new ≡ linked_behind Due node.ptr (last_by due head.ptr ticks.old.items) store.old }
-    ensures ticks { ticks.new.items ≡ put_tick due node.ptr ticks.old.items }
+    requires node { IsSome (value_at node.index store.old) }
+    requires at { IsSome (value_at (last_by due head.index ticks.old.items) store.old) }
+    requires next { IsSome (value_at (next_of Due store.old (last_by due head.index ticks.old.items)) store.old) }
+    ensures store { store.new ≡ linked_behind Due node.index (last_by due head.index ticks.old.items) store.old }
+    ensures ticks { ticks.new.items ≡ put_tick due node.index ticks.old.items }
     ensures capacity { vec_capacity ticks.old ≤ vec_capacity ticks.new }
 {
     let at = tick::last_due_by(ticks, head, due);
@@ -48,11 +47,11 @@ pub fn link_due<T: Drop>(
 /// Takes a node out that is due at a tick.
 pub fn unlink_due<T: Drop>(store: &mut Store<T>, ticks: &mut Vec<Tick>, node: Place, due: u64)
     requires ascending { AreAscending ticks.old.items }
-    requires node { IsSome (value_at node.ptr store.old) }
-    requires next { IsSome (value_at (next_of Due store.old node.ptr) store.old) }
-    requires prev { IsSome (value_at (prev_of Due store.old node.ptr) store.old) }
-    ensures store { store.new ≡ unlinked Due node.ptr store.old }
-    ensures ticks { ticks.new.items ≡ ticks_left due (prev_of Due store.old node.ptr) (item_at store.old (prev_of Due store.old node.ptr)) (item_at store.old (next_of Due store.old node.ptr)) ticks.old.items }
+    requires node { IsSome (value_at node.index store.old) }
+    requires next { IsSome (value_at (next_of Due store.old node.index) store.old) }
+    requires prev { IsSome (value_at (prev_of Due store.old node.index) store.old) }
+    ensures store { store.new ≡ unlinked Due node.index store.old }
+    ensures ticks { ticks.new.items ≡ ticks_left due (prev_of Due store.old node.index) (item_at store.old (prev_of Due store.old node.index)) (item_at store.old (next_of Due store.old node.index)) ticks.old.items }
     ensures capacity { vec_capacity ticks.new ≡ vec_capacity ticks.old }
 {
     let before = store.prev(Pair::Due, node);

@@ -24,7 +24,6 @@
 //! - `flight`: `PoolFlight`
 #![tactic(auto)]
 
-mod arena;
 mod due;
 mod flight;
 mod moves;

@@ -3,7 +3,7 @@ ghost use Rattle.std.specs.Prelude.{◌≡◌, ◌<◌, ◌≤◌, length, vec_l
 ghost use Rattle.std.specs.Vec.{vec_capacity};
 ghost use Rattle.mn_flight_pool.specs.Ticks.{AreAscending, earlier, last_by, put_tick, drop_tick, set_tick, IsFound, IsMissing};
 
-use crate::arena::Place;
+use crate::node::Place;
 
 /// A due tick, and the last node of the ring by due tick that is due then.
 #[derive(Clone, Copy)]
@@ -48,7 +48,7 @@ fn find(ticks: &[Tick], due: u64) -> Result<usize, usize>
 /// The last node that is due by a tick, or the first of the ring where none is.
 pub fn last_due_by(ticks: &[Tick], head: Place, due: u64) -> Place
     requires { AreAscending ticks.now }
-    ensures { result.ptr ≡ last_by due head.ptr ticks.now }
+    ensures { result.index ≡ last_by due head.index ticks.now }
 {
     match find(ticks, due) {
         Ok(i) => ticks[i].last,
@@ -61,7 +61,7 @@ pub fn last_due_by(ticks: &[Tick], head: Place, due: u64) -> Place
 pub fn put(ticks: &mut Vec<Tick>, due: u64, node: Place)
     requires ascending { AreAscending ticks.old.items }
     requires room { vec_len ticks.old < vec_capacity ticks.old }
-    ensures ticks { ticks.new.items ≡ put_tick due node.ptr ticks.old.items }
+    ensures ticks { ticks.new.items ≡ put_tick due node.index ticks.old.items }
     ensures capacity { vec_capacity ticks.old ≤ vec_capacity ticks.new }
 {
     match find(ticks, due) {
@@ -75,7 +75,7 @@ pub fn put(ticks: &mut Vec<Tick>, due: u64, node: Place)
 /// The last node that is due at a tick is another now.
 pub fn renew(ticks: &mut Vec<Tick>, due: u64, node: Place)
     requires { AreAscending ticks.old.items }
-    ensures ticks { ticks.new.items ≡ set_tick due node.ptr ticks.old.items }
+    ensures ticks { ticks.new.items ≡ set_tick due node.index ticks.old.items }
     ensures capacity { vec_capacity ticks.new ≡ vec_capacity ticks.old }
 {
     if let Ok(i) = find(ticks, due) {

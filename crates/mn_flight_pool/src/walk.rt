@@ -1,17 +1,15 @@
 //! Walks along a ring.
-ghost use Rattle.std.specs.Prelude.{◌≡◌, List};
-ghost use denote.RawPtr.{Ptr};
+ghost use Rattle.std.specs.Prelude.{ℕ, ◌≡◌, List};
 ghost use Rattle.mn_flight_pool.specs.Rings.{IsRing, next_of, prev_of};
 ghost use Rattle.mn_flight_pool.specs.Pool.{steps_of};
 
-use crate::arena::Place;
-use crate::node::Pair;
+use crate::node::{Pair, Place};
 use crate::store::Store;
 
 /// The node so many steps behind one.
 pub fn forth<T: Drop>(store: &Store<T>, pair: Pair, first: Place, steps: u64) -> Place
-    requires { (order : List Ptr) × IsRing pair store.now first.ptr order }
-    ensures { result.ptr ≡ steps_of (next_of pair store.now) first.ptr steps }
+    requires { (order : List ℕ) × IsRing pair store.now first.index order }
+    ensures { result.index ≡ steps_of (next_of pair store.now) first.index steps }
 {
     let mut at = first;
     for _ in 0..steps {
@@ -22,8 +20,8 @@ pub fn forth<T: Drop>(store: &Store<T>, pair: Pair, first: Place, steps: u64) ->
 
 /// The node so many steps before one.
 pub fn back<T: Drop>(store: &Store<T>, pair: Pair, first: Place, steps: u64) -> Place
-    requires { (order : List Ptr) × IsRing pair store.now first.ptr order }
-    ensures { result.ptr ≡ steps_of (prev_of pair store.now) first.ptr steps }
+    requires { (order : List ℕ) × IsRing pair store.now first.index order }
+    ensures { result.index ≡ steps_of (prev_of pair store.now) first.index steps }
 {
     let mut at = first;
     for _ in 0..steps {

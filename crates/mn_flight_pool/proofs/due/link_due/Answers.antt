@@ -1,5 +1,4 @@
-use Rattle.std.proofs.Common.{IsSome, sym, ap, ◌∙◌, subst}
-use denote.RawPtr.{Ptr}
+use Rattle.std.proofs.Common.{ℕ, IsSome, sym, ap, ◌∙◌, subst}
 use Rattle.mn_flight_pool.specs.Cells.{value_at}
 use Rattle.mn_flight_pool.specs.Rings.{next_of}
 use Rattle.mn_flight_pool.specs.Ticks.{last_by}
@@ -8,5 +7,5 @@ use Rattle.mn_flight_pool.proofs.due.link_due.Goals as goal
 
 pub link_behind-requires-clause-next : goal.link_behind-requires-clause-next
 link_behind-requires-clause-next g c =
-    subst (λ (p : Ptr). IsSome (value_at (next_of Due c.args.store.now p) c.args.store.now))
-    (sym (c.last_due_by-at.ensures ∙ ap (λ ts. last_by c.args.due c.args.head.ptr ts) c.deref.ensures.value)) c.requires.next
+    subst (λ (p : ℕ). IsSome (value_at (next_of Due c.args.store.now p) c.args.store.now))
+    (sym (c.last_due_by-at.ensures ∙ ap (λ ts. last_by c.args.due c.args.head.index ts) c.deref.ensures.value)) c.requires.next

@@ -1,5 +1,4 @@
 use Rattle.std.proofs.Common.{◌∙◌}
-use denote.RawPtr.{null_ptr}
 use Rattle.mn_flight_pool.proofs.Ticks.{drop_found, drop_missing}
 use Rattle.mn_flight_pool.specs.Ticks.{tick_at, IsFound, IsMissing}
 use Rattle.mn_flight_pool.proofs.tick.end.Goals as goal
@@ -12,4 +11,4 @@ returns-in-Ok-clause-ticks c =
 pub returns-in_default-clause-ticks : goal.returns-in_default-clause-ticks
 returns-in_default-clause-ticks c =
     let missing : IsMissing c.args.due c.args.ticks.now.items c.in_default.field-0 = rw c.deref.ensures.value at c.in_default.ensures in
-    drop_missing c.args.due c.args.ticks.now.items c.in_default.field-0 (tick_at 0 null_ptr) missing c.requires
+    drop_missing c.args.due c.args.ticks.now.items c.in_default.field-0 (tick_at 0 0) missing c.requires

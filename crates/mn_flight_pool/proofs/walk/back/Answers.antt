@@ -2,4 +2,4 @@ use Rattle.mn_flight_pool.proofs.Walks.{back_there}
 use Rattle.mn_flight_pool.proofs.walk.back.Goals as goal
 
 pub prev-at-requires : goal.prev-at-requires
-prev-at-requires g c = back_there c.args.pair c.args.store.now c.args.first.ptr c.requires.0 c.requires.1 c.loop.counter c.loop.at.ptr c.loop.invariant
+prev-at-requires g c = back_there c.args.pair c.args.store.now c.args.first.index c.requires.0 c.requires.1 c.loop.counter c.loop.at.index c.loop.invariant

@@ -4,4 +4,4 @@ use Rattle.mn_flight_pool.specs.Pool.{steps_of}
 use Rattle.mn_flight_pool.proofs.walk.forth.Given as goal
 
 abbrev pub invariant-loop : goal.invariant-loop
-invariant-loop g l = l.at.ptr ≡ steps_of (next_of l.pair l.store) l.fn.first.ptr l.counter
+invariant-loop g l = l.at.index ≡ steps_of (next_of l.pair l.store) l.fn.first.index l.counter

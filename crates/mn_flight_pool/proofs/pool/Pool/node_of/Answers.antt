@@ -7,41 +7,41 @@ pub loop-init : goal.loop-init
 loop-init g c = none_passed c.args.self.now c.requires c.args.number
 
 pub prev-node-requires : goal.prev-node-requires
-prev-node-requires g c = at_there c.args.self.now c.requires c.args.number c.loop.counter c.loop.node.ptr c.loop.invariant c.loop-test.true
+prev-node-requires g c = at_there c.args.self.now c.requires c.args.number c.loop.counter c.loop.node.index c.loop.invariant c.loop-test.true
 
 pub item-requires : goal.item-requires
 item-requires g c =
-    next_there c.args.self.now c.requires c.args.number c.loop.counter c.prev-node.result.ptr
-    (next c.args.self.now c.requires c.args.number c.loop.counter c.loop.node.ptr c.prev-node.result.ptr c.loop.invariant c.loop-test.true
+    next_there c.args.self.now c.requires c.args.number c.loop.counter c.prev-node.result.index
+    (next c.args.self.now c.requires c.args.number c.loop.counter c.loop.node.index c.prev-node.result.index c.loop.invariant c.loop-test.true
     c.prev-node.ensures)
 
 pub returns-in_err-item : goal.returns-in_err-item
 returns-in_err-item g c =
-    absurd (next_holds c.args.self.now c.requires c.args.number c.loop.counter c.prev-node.result.ptr
-    (next c.args.self.now c.requires c.args.number c.loop.counter c.loop.node.ptr c.prev-node.result.ptr c.loop.invariant c.loop-test.true
+    absurd (next_holds c.args.self.now c.requires c.args.number c.loop.counter c.prev-node.result.index
+    (next c.args.self.now c.requires c.args.number c.loop.counter c.loop.node.index c.prev-node.result.index c.loop.invariant c.loop-test.true
     c.prev-node.ensures) c.in_err-item.ensures)
 
 pub returns-then-item-number-2 : goal.returns-then-item-number-2
 returns-then-item-number-2 g c =
-    found c.args.self.now c.requires c.args.number c.loop.counter c.prev-node.result.ptr
-    (next c.args.self.now c.requires c.args.number c.loop.counter c.loop.node.ptr c.prev-node.result.ptr c.loop.invariant c.loop-test.true
+    found c.args.self.now c.requires c.args.number c.loop.counter c.prev-node.result.index
+    (next c.args.self.now c.requires c.args.number c.loop.counter c.loop.node.index c.prev-node.result.index c.loop.invariant c.loop-test.true
     c.prev-node.ensures) c.in_ok-item.item.now c.in_ok-item.ensures c.if-item-number-2.true
 
 pub returns-else-item-number-2 : goal.returns-else-item-number-2
 returns-else-item-number-2 g c =
     let less : c.in_ok-item.item.now.number < c.args.number = omega (arith, c.if-item-number.true, c.if-item-number-2.false) in
-    missing c.args.self.now c.requires c.args.number c.loop.counter c.prev-node.result.ptr
-    (next c.args.self.now c.requires c.args.number c.loop.counter c.loop.node.ptr c.prev-node.result.ptr c.loop.invariant c.loop-test.true
+    missing c.args.self.now c.requires c.args.number c.loop.counter c.prev-node.result.index
+    (next c.args.self.now c.requires c.args.number c.loop.counter c.loop.node.index c.prev-node.result.index c.loop.invariant c.loop-test.true
     c.prev-node.ensures) c.in_ok-item.item.now c.in_ok-item.ensures less
 
 pub loop-preserved : goal.loop-preserved
 loop-preserved g c =
-    passes c.args.self.now c.requires c.args.number c.loop.counter c.prev-node.result.ptr
-    (next c.args.self.now c.requires c.args.number c.loop.counter c.loop.node.ptr c.prev-node.result.ptr c.loop.invariant c.loop-test.true
+    passes c.args.self.now c.requires c.args.number c.loop.counter c.prev-node.result.index
+    (next c.args.self.now c.requires c.args.number c.loop.counter c.loop.node.index c.prev-node.result.index c.loop.invariant c.loop-test.true
     c.prev-node.ensures) c.in_ok-item.item.now c.in_ok-item.ensures c.if-item-number.false
 
 pub returns : goal.returns
 returns g c =
     let end : c.loop.counter ≡ c.args.self.now.count = omega (arith, c.loop-test.false, c.loop.auto.counter-end) in
-    all_greater c.args.self.now c.requires c.args.number c.loop.node.ptr
-    (subst (λ n. IsPassed c.args.self.now c.args.number n c.loop.node.ptr) end c.loop.invariant)
+    all_greater c.args.self.now c.requires c.args.number c.loop.node.index
+    (subst (λ n. IsPassed c.args.self.now c.args.number n c.loop.node.index) end c.loop.invariant)

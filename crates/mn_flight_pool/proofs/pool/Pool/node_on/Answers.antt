@@ -4,7 +4,7 @@ use Rattle.mn_flight.specs.Flying.{on_channel}
 use Rattle.mn_flight_pool.specs.Rings.{next_of, prev_of}
 use Rattle.mn_flight_pool.specs.Pool.{nodes_on, steps_of}
 use Rattle.mn_flight_pool.specs.Whole.{order_in, items_of}
-use Rattle.mn_flight_pool.specs.declared.arena.Place.{Place}
+use Rattle.mn_flight_pool.specs.declared.node.Place.{Place}
 use Rattle.mn_flight_pool.specs.declared.node.Pair.TheVariants.{Channel}
 use Rattle.mn_flight_pool.proofs.Whole.{channel_ring, forth_placed, back_placed, past_end, no_channel}
 use Rattle.mn_flight_pool.proofs.pool.Pool.node_on.Goals as goal
@@ -36,8 +36,8 @@ returns-then-place-count-2 g c =
     let read = at.1 c.in_ok-first.field-0.now ∙ ap (λ (l : List Place). slice_index_or l c.args.channel c.in_ok-first.field-0.now) c.deref.ensures.value in
     let there : c.args.place < length (on_channel c.args.channel (items_of c.args.self.now)) =
     omega (arith, c.if-place-count.false, c.from-place.ensures, c.count_on-count.ensures) in
-    forth_placed c.args.self.now c.requires c.args.channel c.in_ok-first.field-0.now below read c.args.place c.forth.result.ptr
-    (c.forth.ensures ∙ ap (λ n. steps_of (next_of Channel c.args.self.now.store) c.in_ok-first.field-0.now.ptr (n + 1)) c.from-place.ensures) there
+    forth_placed c.args.self.now c.requires c.args.channel c.in_ok-first.field-0.now below read c.args.place c.forth.result.index
+    (c.forth.ensures ∙ ap (λ n. steps_of (next_of Channel c.args.self.now.store) c.in_ok-first.field-0.now.index (n + 1)) c.from-place.ensures) there
 
 pub back-requires : goal.back-requires
 back-requires g c =
@@ -55,7 +55,7 @@ returns g c =
     let below : c.args.channel < length c.args.self.now.heads.items = subst (λ (l : List Place). c.args.channel < length l) c.deref.ensures.value at.0 in
     let read = at.1 c.in_ok-first.field-0.now ∙ ap (λ (l : List Place). slice_index_or l c.args.channel c.in_ok-first.field-0.now) c.deref.ensures.value in
     let there : c.args.place < c.count_on-count.result = omega (arith, c.if-place-count.false, c.from-place.ensures) in
-    back_placed c.args.self.now c.requires c.args.channel c.in_ok-first.field-0.now below read c.args.place c.count_on-count.result c.back.result.ptr
+    back_placed c.args.self.now c.requires c.args.channel c.in_ok-first.field-0.now below read c.args.place c.count_on-count.result c.back.result.index
     (c.back.ensures
-    ∙ ap (λ n. steps_of (prev_of Channel c.args.self.now.store) c.in_ok-first.field-0.now.ptr (c.count_on-count.result - n)) c.from-place.ensures)
+    ∙ ap (λ n. steps_of (prev_of Channel c.args.self.now.store) c.in_ok-first.field-0.now.index (c.count_on-count.result - n)) c.from-place.ensures)
     c.count_on-count.ensures there

@@ -13,91 +13,91 @@ use Rattle.mn_flight_pool.proofs.pool.Pool.take.Goals as goal
 
 pub returns-in_err-due : goal.returns-in_err-due
 returns-in_err-due g c =
-    absurd (no_item c.args.self.now c.requires.whole c.args.node.ptr c.requires.node
-    (item_at c.args.self.now.store c.args.node.ptr) c.in_err-due.ensures.value
-    (node_holds c.args.self.now c.requires.whole c.args.node.ptr c.requires.node))
+    absurd (no_item c.args.self.now c.requires.whole c.args.node.index c.requires.node
+    (item_at c.args.self.now.store c.args.node.index) c.in_err-due.ensures.value
+    (node_holds c.args.self.now c.requires.whole c.args.node.index c.requires.node))
 
 pub unlink_due-requires-clause-next : goal.unlink_due-requires-clause-next
-unlink_due-requires-clause-next g c = next_there c.args.self.now c.requires.whole c.args.node.ptr c.requires.node
+unlink_due-requires-clause-next g c = next_there c.args.self.now c.requires.whole c.args.node.index c.requires.node
 
 pub unlink_due-requires-clause-prev : goal.unlink_due-requires-clause-prev
-unlink_due-requires-clause-prev g c = prev_there c.args.self.now c.requires.whole c.args.node.ptr c.requires.node
+unlink_due-requires-clause-prev g c = prev_there c.args.self.now c.requires.whole c.args.node.index c.requires.node
 
 pub leave-requires-clause-number : goal.leave-requires-clause-number
 leave-requires-clause-number g c =
-    number_ring c.args.self.now c.requires.whole c.args.node.ptr c.requires.node c.in_ok-due.field-0.now
+    number_ring c.args.self.now c.requires.whole c.args.node.index c.requires.node c.in_ok-due.field-0.now
     (sym c.in_ok-due.ensures.value) c.unlink_due.new.store c.unlink_due.ensures.store
 
 pub leave-requires-clause-channel : goal.leave-requires-clause-channel
 leave-requires-clause-channel g c =
-    channel_ring c.args.self.now c.requires.whole c.args.node.ptr c.requires.node c.in_ok-due.field-0.now
+    channel_ring c.args.self.now c.requires.whole c.args.node.index c.requires.node c.in_ok-due.field-0.now
     (sym c.in_ok-due.ensures.value) c.unlink_due.new.store c.unlink_due.ensures.store
 
 pub returns-in_err-item : goal.returns-in_err-item
 returns-in_err-item g c =
-    absurd (no_item c.args.self.now c.requires.whole c.args.node.ptr c.requires.node
-    (item_at c.unlink_due.new.store c.args.node.ptr) c.in_err-item.ensures.value
-    (rw (item_one c.args.self.now c.requires.whole c.args.node.ptr c.requires.node c.in_ok-due.field-0.now
+    absurd (no_item c.args.self.now c.requires.whole c.args.node.index c.requires.node
+    (item_at c.unlink_due.new.store c.args.node.index) c.in_err-item.ensures.value
+    (rw (item_one c.args.self.now c.requires.whole c.args.node.index c.requires.node c.in_ok-due.field-0.now
     (sym c.in_ok-due.ensures.value) c.unlink_due.new.store c.unlink_due.ensures.store) refl))
 
 pub index_mut-requires : goal.index_mut-requires
 index_mut-requires g c =
     let same =
-    same_item c.args.self.now c.requires.whole c.args.node.ptr c.requires.node c.unlink_due.new.store c.unlink_due.ensures.store c.in_ok-due.field-0.now
+    same_item c.args.self.now c.requires.whole c.args.node.index c.requires.node c.unlink_due.new.store c.unlink_due.ensures.store c.in_ok-due.field-0.now
     c.in_ok-item.item c.in_ok-due.ensures.value c.in_ok-item.ensures.value in
     let within : c.in_ok-item.item.channel < length c.args.self.now.heads.items =
-    below c.args.self.now c.requires.whole c.args.node.ptr c.requires.node c.in_ok-item.item same.0 in
+    below c.args.self.now c.requires.whole c.args.node.index c.requires.node c.in_ok-item.item same.0 in
     omega (arith, within, c.args.self.now.counts.ok.0, c.requires.whole.counted.many)
 
 pub overflow_sub-index_mut : goal.overflow_sub-index_mut
 overflow_sub-index_mut g c =
     let same =
-    same_item c.args.self.now c.requires.whole c.args.node.ptr c.requires.node c.unlink_due.new.store c.unlink_due.ensures.store c.in_ok-due.field-0.now
+    same_item c.args.self.now c.requires.whole c.args.node.index c.requires.node c.unlink_due.new.store c.unlink_due.ensures.store c.in_ok-due.field-0.now
     c.in_ok-item.item c.in_ok-due.ensures.value c.in_ok-item.ensures.value in
     let within : c.in_ok-item.item.channel < length c.args.self.now.heads.items =
-    below c.args.self.now c.requires.whole c.args.node.ptr c.requires.node c.in_ok-item.item same.0 in
+    below c.args.self.now c.requires.whole c.args.node.index c.requires.node c.in_ok-item.item same.0 in
     let read : c.index_mut.result.now ≡ get_or c.args.self.now.counts.items c.in_ok-item.item.channel 0 =
     count_read c.args.self.now c.requires.whole c.in_ok-item.item.channel c.index_mut.result.now within c.index_mut.ensures.value in
     let some : 0 < get_or c.args.self.now.counts.items c.in_ok-item.item.channel 0 =
-    some_on c.args.self.now c.requires.whole c.args.node.ptr c.requires.node c.in_ok-item.item same.0 in
+    some_on c.args.self.now c.requires.whole c.args.node.index c.requires.node c.in_ok-item.item same.0 in
     omega (arith, read, some)
 
 pub returns-clause-whole : goal.returns-clause-whole
 returns-clause-whole g c =
     let same =
-    same_item c.args.self.now c.requires.whole c.args.node.ptr c.requires.node c.unlink_due.new.store c.unlink_due.ensures.store c.in_ok-due.field-0.now
+    same_item c.args.self.now c.requires.whole c.args.node.index c.requires.node c.unlink_due.new.store c.unlink_due.ensures.store c.in_ok-due.field-0.now
     c.in_ok-item.item c.in_ok-due.ensures.value c.in_ok-item.ensures.value in
     let within : c.in_ok-item.item.channel < length c.args.self.now.heads.items =
-    below c.args.self.now c.requires.whole c.args.node.ptr c.requires.node c.in_ok-item.item same.0 in
+    below c.args.self.now c.requires.whole c.args.node.index c.requires.node c.in_ok-item.item same.0 in
     let ok : is_ok c.push.result ≡ true =
-    c.push.ensures.succeeds (omega (arith, c.requires.whole.room, some_count c.args.self.now c.requires.whole c.args.node.ptr c.requires.node)) in
+    c.push.ensures.succeeds (omega (arith, c.requires.whole.room, some_count c.args.self.now c.requires.whole c.args.node.index c.requires.node)) in
     let pushed : c.push.new.self.items ≡ c.args.self.now.free.items ++ c.args.node ∷ [] =
     c.push.ensures.items ∙ ap (λ b. cond b (c.args.self.now.free.items ++ c.args.node ∷ []) c.args.self.now.free.items) ok in
     record {
       held =
-          take_held c.args.self.now c.requires.whole c.args.node.ptr c.requires.node c.in_ok-item.item same.0 c.unlink_due.new.store
+          take_held c.args.self.now c.requires.whole c.args.node.index c.requires.node c.in_ok-item.item same.0 c.unlink_due.new.store
           c.unlink_due.ensures.store c.leave.new.store c.leave.ensures.left
           (ptrs c.push.new.self.items) (ap (λ l. ptrs l) pushed ∙ ptrs_push c.args.self.now.free.items c.args.node);
       counted =
-          take_counted c.args.self.now c.requires.whole c.args.node.ptr c.requires.node c.in_ok-item.item same.0 c.unlink_due.new.store
+          take_counted c.args.self.now c.requires.whole c.args.node.index c.requires.node c.in_ok-item.item same.0 c.unlink_due.new.store
           c.unlink_due.ensures.store c.leave.new.store c.leave.ensures.left
           (slice_set c.args.self.now.counts.items c.in_ok-item.item.channel (c.index_mut.result.now - 1))
           (ap (λ m. slice_set c.args.self.now.counts.items c.in_ok-item.item.channel (m - 1))
           (count_read c.args.self.now c.requires.whole c.in_ok-item.item.channel c.index_mut.result.now within c.index_mut.ensures.value));
       by_due =
-          take_by_due c.args.self.now c.requires.whole c.args.node.ptr c.requires.node c.in_ok-item.item same.0 c.unlink_due.new.store
+          take_by_due c.args.self.now c.requires.whole c.args.node.index c.requires.node c.in_ok-item.item same.0 c.unlink_due.new.store
           c.unlink_due.ensures.store c.leave.new.store c.leave.ensures.left
           c.unlink_due.new.ticks.items
           (c.unlink_due.ensures.ticks
-          ∙ ap (λ (z : Item g.row.T.Denot). ticks_left z.due (prev_of Due c.args.self.now.store c.args.node.ptr)
-          (item_at c.args.self.now.store (prev_of Due c.args.self.now.store c.args.node.ptr))
-          (item_at c.args.self.now.store (next_of Due c.args.self.now.store c.args.node.ptr)) c.args.self.now.ticks.items) same.1);
+          ∙ ap (λ (z : Item g.row.T.Denot). ticks_left z.due (prev_of Due c.args.self.now.store c.args.node.index)
+          (item_at c.args.self.now.store (prev_of Due c.args.self.now.store c.args.node.index))
+          (item_at c.args.self.now.store (next_of Due c.args.self.now.store c.args.node.index)) c.args.self.now.ticks.items) same.1);
       room = omega (
         arith,
         c.requires.whole.room,
         c.push.ensures.upper_bound,
         c.push.ensures.capacity,
-        some_count c.args.self.now c.requires.whole c.args.node.ptr
+        some_count c.args.self.now c.requires.whole c.args.node.index
             c.requires.node,
       );
       ticks_room =
@@ -107,7 +107,7 @@ returns-clause-whole g c =
             c.push.ensures.upper_bound,
             c.unlink_due.ensures.capacity,
             some_count c.args.self.now c.requires.whole
-                c.args.node.ptr c.requires.node,
+                c.args.node.index c.requires.node,
           );
       recent = none_last _ c.clear.new.self.items c.clear.ensures.items;
       recent_room =
@@ -117,23 +117,23 @@ returns-clause-whole g c =
             c.push.ensures.upper_bound,
             c.clear.ensures.capacity,
             some_count c.args.self.now c.requires.whole
-                c.args.node.ptr c.requires.node,
+                c.args.node.index c.requires.node,
           );
     }
 
 pub returns-clause-value : goal.returns-clause-value
 returns-clause-value g c =
     let same =
-    same_item c.args.self.now c.requires.whole c.args.node.ptr c.requires.node c.unlink_due.new.store c.unlink_due.ensures.store c.in_ok-due.field-0.now
+    same_item c.args.self.now c.requires.whole c.args.node.index c.requires.node c.unlink_due.new.store c.unlink_due.ensures.store c.in_ok-due.field-0.now
     c.in_ok-item.item c.in_ok-due.ensures.value c.in_ok-item.ensures.value in
     sym same.0
 
 pub returns-clause-items : goal.returns-clause-items
 returns-clause-items g c =
     let same =
-    same_item c.args.self.now c.requires.whole c.args.node.ptr c.requires.node c.unlink_due.new.store c.unlink_due.ensures.store c.in_ok-due.field-0.now
+    same_item c.args.self.now c.requires.whole c.args.node.index c.requires.node c.unlink_due.new.store c.unlink_due.ensures.store c.in_ok-due.field-0.now
     c.in_ok-item.item c.in_ok-due.ensures.value c.in_ok-item.ensures.value in
-    take_items c.args.self.now c.requires.whole c.args.node.ptr c.requires.node c.in_ok-item.item same.0 c.unlink_due.new.store c.unlink_due.ensures.store
+    take_items c.args.self.now c.requires.whole c.args.node.index c.requires.node c.in_ok-item.item same.0 c.unlink_due.new.store c.unlink_due.ensures.store
     c.leave.new.store c.leave.ensures.left
 
 pub returns-clause-length : goal.returns-clause-length
@@ -143,5 +143,5 @@ returns-clause-length g c =
       items_count _ (returns-clause-whole g c),
       items_count c.args.self.now c.requires.whole,
       some_count c.args.self.now c.requires.whole
-          c.args.node.ptr c.requires.node,
+          c.args.node.index c.requires.node,
     )
