@@ -138,7 +138,6 @@ impl Run {
     fn injects(
         &mut self,
         rt: &impl Abort,
-        alloc: Global,
         entered: Entered,
         outer: Option<(NodeNo, Option<u32>)>,
     ) -> Result<bool, Fail>
@@ -154,7 +153,7 @@ impl Run {
         };
         let flies = self
             .transit
-            .inject(alloc, &self.topology, PE1, entered, outer, clock)?;
+            .inject(&self.topology, PE1, entered, outer, clock)?;
         self.number += 1;
         Ok(flies)
     }
@@ -163,7 +162,7 @@ impl Run {
     fn injects_for_b(&mut self, rt: &impl Abort, alloc: Global) -> Result<bool, Fail> {
         let frame = frame_for_b(alloc)?;
         let entered = Entered::Tunnel { edge: PE2, frame };
-        self.injects(rt, alloc, entered, Some((P, Some(17))))
+        self.injects(rt, entered, Some((P, Some(17))))
     }
 
     /// The first frame on a link comes to its end.
@@ -328,7 +327,7 @@ fn the_next_takes_the_place_of_a_lost_one(rt: HostRuntime) -> Result<(), Fail> {
 #[test]
 fn a_packet_is_dropped_as_it_enters(rt: HostRuntime) -> Result<(), Fail> {
     let mut run = Run::begins(rt.alloc())?;
-    assert!(rt; !run.injects(&rt, rt.alloc(), Entered::Drop(Rule::NoRoute), None)?);
+    assert!(rt; !run.injects(&rt, Entered::Drop(Rule::NoRoute), None)?);
     let no_route = Verdict::Dropped {
         rule: Rule::NoRoute,
         node: PE1,
@@ -341,7 +340,7 @@ fn a_packet_is_dropped_as_it_enters(rt: HostRuntime) -> Result<(), Fail> {
 fn a_packet_for_a_site_of_its_edge_is_delivered_at_once(rt: HostRuntime) -> Result<(), Fail> {
     let mut run = Run::begins(rt.alloc())?;
     let entered = Entered::Local(SITE_B, packet_alone(rt.alloc())?);
-    assert!(rt; !run.injects(&rt, rt.alloc(), entered, None)?);
+    assert!(rt; !run.injects(&rt, entered, None)?);
     let delivered = Verdict::Delivered {
         site: SITE_B,
         ttl: 63,
@@ -357,7 +356,7 @@ fn a_packet_with_no_way_out_is_dropped_at_its_edge(rt: HostRuntime) -> Result<()
     let mut run = Run::begins(rt.alloc())?;
     let frame = frame_for_b(rt.alloc())?;
     let entered = Entered::Tunnel { edge: PE2, frame };
-    assert!(rt; !run.injects(&rt, rt.alloc(), entered, None)?);
+    assert!(rt; !run.injects(&rt, entered, None)?);
     let no_way = Verdict::Dropped {
         rule: Rule::NoLsp,
         node: PE1,

@@ -153,7 +153,7 @@ impl Net {
         let outer = way_out(&self.transport, &self.topology, node, &entered);
         let flies = self
             .transit
-            .inject(self.alloc, &self.topology, node, entered, outer, clock)?;
+            .inject(&self.topology, node, entered, outer, clock)?;
         self.transit.laws();
         count_frame(&mut self.tally, &self.topology, &self.transit, self.made);
         self.made += u64::from(flies);

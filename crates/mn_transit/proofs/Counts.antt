@@ -6,7 +6,7 @@ use Rattle.mn_flight.specs.declared.Item.{Item}
 use Rattle.mn_flight.specs.Flying.{on_channel, without, IsFlight}
 use Rattle.mn_ledger.specs.declared.verdict.Verdict.{Verdict}
 use Rattle.mn_transit.specs.declared.flown.Flown.{Flown}
-use Rattle.mn_transit.specs.Visits.{Visits}
+use Rattle.mn_paths.specs.Visits.{Visits}
 use Rattle.mn_transit.specs.Moving.{Moving, bytes_in, CountsOn}
 use Rattle.mn_transit.proofs.Bytes.{bytes_left, bytes_more}
 

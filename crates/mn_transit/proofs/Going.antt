@@ -25,7 +25,7 @@ use Rattle.mn_ledger.specs.Packets.{before_step, packets_after}
 use Rattle.mn_frames.specs.Given.{Labelling}
 use Rattle.mn_frames.specs.Tables.{TableStands}
 use Rattle.mn_transit.specs.declared.flown.Flown.{Flown}
-use Rattle.mn_transit.specs.Visits.{path_of, further}
+use Rattle.mn_paths.specs.Visits.{path_of, further}
 use Rattle.mn_transit.specs.Moving.{Moving}
 use Rattle.mn_transit.specs.Stands.{IsFlown, AreFlown, StandsFor}
 use Rattle.mn_transit.proofs.Standing.{flown_at, stands_begun, stands_taken, stands_visited, stands_judged}

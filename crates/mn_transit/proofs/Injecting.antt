@@ -18,7 +18,7 @@ use Rattle.mn_ledger.specs.Packets.{Packets, entry_rules, bound, hop_on, one_mor
 use Rattle.mn_frames.specs.Given.{Labelling}
 use Rattle.mn_frames.specs.Entries.{Fate, Falls, Stays, Leaves, fate_of, fate, entered, IsAged}
 use Rattle.mn_frames.proofs.Entering.{by_fate}
-use Rattle.mn_transit.specs.Visits.{Visits}
+use Rattle.mn_paths.specs.Visits.{Visits}
 use Rattle.mn_transit.specs.Moving.{Moving}
 use Rattle.mn_transit.specs.Stands.{StandsFor}
 use Rattle.mn_transit.proofs.Standing.{numbers, stands_begun}

@@ -9,7 +9,7 @@ use Rattle.mn_flight.specs.declared.Item.{Item}
 use Rattle.mn_flight.specs.Flying.{on_channel, without}
 use Rattle.mn_flight.proofs.Members.{IsIn, in_of_place, contains_of_in, from_filter}
 use Rattle.mn_transit.specs.declared.flown.Flown.{Flown}
-use Rattle.mn_transit.specs.Visits.{Visits, path_of}
+use Rattle.mn_paths.specs.Visits.{Visits, path_of}
 use Rattle.mn_transit.specs.Moving.{HoldsHops}
 use Rattle.mn_flight.proofs.OnChannels.{on_it, others, same_gone}
 

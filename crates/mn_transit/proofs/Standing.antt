@@ -14,7 +14,7 @@ use Rattle.mn_ledger.specs.Packets.{Token, Packets, channel, flying_on, judged, 
 use Rattle.mn_frames.specs.Given.{Labelling}
 use Rattle.mn_frames.specs.Arrivals.{sent}
 use Rattle.mn_transit.specs.declared.flown.Flown.{Flown}
-use Rattle.mn_transit.specs.Visits.{Visits, path_of, further}
+use Rattle.mn_paths.specs.Visits.{Visits, path_of, further}
 use Rattle.mn_transit.specs.Moving.{Moving}
 use Rattle.mn_transit.specs.Stands.{IsFlown, AreFlown, StandsFor}
 use Rattle.mn_flight.proofs.OnChannels.{without_at, left_on, left_off, one_more_on, one_more_off}

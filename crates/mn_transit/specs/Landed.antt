@@ -1,5 +1,5 @@
 -- Which packet the last step delivered: the one whose verdict is the newest copy.
-use Rattle.std.specs.Prelude.{◌≡◌, ◌==◌, cond, ℕ, List, slice_get, IsSome, Option, Some, None}
+use Rattle.std.specs.Prelude.{◌≡◌, ◌==◌, cond, ℕ, List, slice_get, Option, Some, None}
 use Rattle.mn_base.specs.declared.numbers.SiteNo.{SiteNo}
 use Rattle.mn_ledger.specs.declared.verdict.Verdict.{Verdict}
 use Rattle.mn_ledger.specs.declared.verdict.Verdict.TheVariants.{Delivered}

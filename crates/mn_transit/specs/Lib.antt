@@ -1,7 +1,7 @@
-pub mod Visits
 pub mod Moving
 pub mod Stands
 pub mod Entering
 pub mod Aging
 pub mod Landed
 pub use Rattle.mn_frames.specs.Given
+pub use Rattle.mn_paths.specs.Visits

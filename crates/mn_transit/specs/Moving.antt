@@ -7,7 +7,7 @@ use Rattle.mn_lfib.specs.Hop.{carried_ttl}
 use Rattle.mn_stack.specs.Labelled.{Labelled}
 use Rattle.mn_ledger.specs.declared.verdict.Verdict.{Verdict}
 use Rattle.mn_transit.specs.declared.flown.Flown.{Flown}
-use Rattle.mn_transit.specs.Visits.{Visits, path_of}
+use Rattle.mn_paths.specs.Visits.{Visits, path_of}
 
 pub record Moving : Type 0 where
   pub verdicts : List Verdict  -- by packet

@@ -15,7 +15,7 @@ ghost use Rattle.mn_frames.specs.Given.{Labelling};
 ghost use Rattle.mn_frames.specs.Tables.{TableStands};
 ghost use Rattle.mn_transit.specs.Moving.{bytes_in, HoldsHops, CountsOn};
 ghost use Rattle.mn_transit.specs.Stands.{IsFlown, StandsFor, Makes};
-ghost use Rattle.mn_transit.specs.Visits.{path_of};
+ghost use Rattle.mn_paths.specs.Visits.{path_of};
 
 use crate::flown::Flown;
 use crate::transit::Transit;

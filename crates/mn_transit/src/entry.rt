@@ -18,7 +18,7 @@ ghost use Rattle.mn_pe.specs.Entries.{IsItsFate};
 ghost use Rattle.mn_transit.specs.Entering.{IsWayOut, HasRoom, IsLabel, OuterFits, IfTunnel, size_of};
 ghost use Rattle.mn_transit.specs.Moving.{bytes_in, HoldsHops, CountsOn};
 ghost use Rattle.mn_transit.specs.Stands.{StandsFor, Makes};
-ghost use Rattle.mn_transit.specs.Visits.{path_of};
+ghost use Rattle.mn_paths.specs.Visits.{path_of};
 
 use crate::flown::Flown;
 use crate::transit::Transit;
@@ -30,7 +30,7 @@ use mn_ledger::Verdict;
 use mn_pe::Entered;
 use mn_stack::Frame;
 use mn_topo::Topology;
-use std::alloc::{AllocError, Global};
+use std::alloc::AllocError;
 
 /// Pushes the label of the way out, if there is one, with the TTL of the entry below it.
 fn push_outer(frame: &mut Frame, label: Option<u32>)
@@ -117,7 +117,6 @@ impl Transit {
     /// True where the packet flies, with the clock's number.
     pub fn inject(
         &mut self,
-        alloc: Global,
         topology: &Topology,
         node: NodeNo,
         entered: Entered,
@@ -146,7 +145,7 @@ impl Transit {
             return Err(AllocError);
         }
         let room = nodes_ahead(&entered);
-        let Ok(packet) = self.one_more(alloc, node, room) else {
+        let Ok(packet) = self.one_more(node, room) else {
             self.fail();
             return Err(AllocError);
         };

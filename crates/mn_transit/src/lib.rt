@@ -16,7 +16,7 @@
 //! A packet takes all its memory as it enters: a node of the flight, its verdict, and a path with room for each node that its
 //! TTL lets it come to. So nothing but `inject` can want memory.
 //!
-//! - `flown`, `path`: a frame in flight, and where a packet was
+//! - `flown`: a frame in flight; where a packet was is in `mn_paths`
 //! - `transit`: what is kept, and one call for each thing that may become of a packet
 //! - `entry`, `arrival`, `loss`: the steps that move packets; `life`: what ends as time goes on; `tell`: what became of them
 //! - `laws`: as labels are given
@@ -30,7 +30,6 @@ mod flown;
 mod laws;
 mod life;
 mod loss;
-mod path;
 mod tell;
 mod transit;
 

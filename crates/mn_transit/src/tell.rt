@@ -11,7 +11,7 @@ ghost use Rattle.mn_frames.specs.Given.{Labelling};
 ghost use Rattle.mn_transit.specs.Moving.{bytes_in};
 ghost use Rattle.mn_transit.specs.Landed.{site_as, IsLast, HasLanded};
 ghost use Rattle.mn_transit.specs.Stands.{StandsFor};
-ghost use Rattle.mn_transit.specs.Visits.{path_of};
+ghost use Rattle.mn_paths.specs.Visits.{path_of};
 
 use crate::flown::Flown;
 use crate::transit::Transit;
@@ -53,7 +53,7 @@ impl Transit {
             map (λ node. node.0) result.now ≡ slice_index_or packets.paths packet [] }
         ensures kept { (path_of self.now.paths packet).nodes ≡ result.now }
     {
-        self.paths[packet as usize].nodes()
+        self.paths.nodes(packet)
     }
 
     /// The packet that the last step delivered.

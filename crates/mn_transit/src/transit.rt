@@ -15,15 +15,15 @@ ghost use Rattle.mn_ledger.specs.World.{World};
 ghost use Rattle.mn_frames.specs.Given.{Labelling};
 ghost use Rattle.mn_transit.specs.Moving.{bytes_in, HoldsHops};
 ghost use Rattle.mn_transit.specs.Stands.{StandsFor};
-ghost use Rattle.mn_transit.specs.Visits.{path_of, further};
+ghost use Rattle.mn_paths.specs.Visits.{path_of, further};
 
 use crate::flown::Flown;
-use crate::path::Path;
 use mn_base::{LinkNo, NodeNo, SiteNo};
 use mn_drops::Rule;
 use mn_flight::{Clock, Flight, Item};
 use mn_flight_pool::PoolFlight;
 use mn_ledger::Verdict;
+use mn_paths::Paths;
 use mn_stack::Frame;
 use mn_topo::Topology;
 use mn_wiring::{Dir, channel_of};
@@ -41,7 +41,7 @@ type Frames = PoolFlight<Flown>;
 pub struct Transit {
     pub(crate) frames: Frames,
     pub(crate) verdicts: Vec<Verdict>,
-    pub(crate) paths: Vec<Path>,
+    pub(crate) paths: Paths,
     pub(crate) copies: u32,
     // What the last step delivered.
     pub(crate) delivered: Option<Flown>,
@@ -58,7 +58,7 @@ impl Model for Transit {
 
     ghost view = { λ t. record {
       verdicts = t.verdicts.items;
-      paths = t.paths.items;
+      paths = t.paths;
       copies = t.copies;
       delivered = option_map (λ flown. flown.frame.packet) t.delivered;
       flying = t.frames.items;
@@ -69,7 +69,7 @@ impl Model for Transit {
 
     ghost invariant = { λ t. IsMoving (record {
       verdicts = t.verdicts.items;
-      paths = t.paths.items;
+      paths = t.paths;
       copies = t.copies;
       delivered = option_map (λ flown. flown.frame.packet) t.delivered;
       flying = t.frames.items;
@@ -100,7 +100,7 @@ impl Transit {
         Ok(Transit {
             frames,
             verdicts: Vec::new(alloc),
-            paths: Vec::new(alloc),
+            paths: Paths::new(alloc),
             copies: 0,
             delivered: None,
             bytes: 0,
@@ -144,7 +144,7 @@ impl Transit {
         requires apart { All (λ other. other.item.packet ≢ packet) self.old.flying }
         ensures { self.new ≡ record self.old { paths = slice_set self.old.paths packet (further (path_of self.old.paths packet) node) } }
     {
-        self.paths[packet as usize].visit(node);
+        self.paths.visit(packet, node);
     }
 
     /// What becomes of a packet.
@@ -208,12 +208,7 @@ impl Transit {
 
     /// One more packet, at the node where it enters, with room for a frame that flies and for so many more nodes. Its verdict
     /// is replaced in the same step. It answers the packet's number.
-    pub(crate) fn one_more(
-        &mut self,
-        alloc: Global,
-        node: NodeNo,
-        room: u8,
-    ) -> Result<u32, AllocError>
+    pub(crate) fn one_more(&mut self, node: NodeNo, room: u8) -> Result<u32, AllocError>
         requires { length self.old.verdicts < most_steps }
         ensures number { IfOk result (λ packet. packet ≡ length self.old.verdicts) }
         ensures more { OnOk result (self.new ≡ record self.old {
@@ -228,11 +223,9 @@ impl Transit {
     {
         self.frames.reserve(1)?;
         self.verdicts.reserve(1)?;
-        self.paths.reserve(1)?;
-        let path = Path::starting(alloc, node, room)?;
+        self.paths.start(node, room)?;
         let packet = self.verdicts.len() as u32;
         let rule = Rule::Lost;
-        self.paths.push_reserved(path);
         self.verdicts.push_reserved(Verdict::Dropped { rule, node });
         Ok(packet)
     }

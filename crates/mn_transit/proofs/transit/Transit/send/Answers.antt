@@ -20,7 +20,7 @@ invariant_of-self c =
           (All-push (λ (item : Item Flown). item.item.packet < length c.self.inside.verdicts.items) _ _ c.self.invariant.injected
           (rw (← c.self.view_is) at c.requires.packet));
       once = rw pushed (all_pairs_push Apart _ _ c.self.invariant.once (rw (← c.self.view_is) at c.requires.apart));
-      room = rw pushed (All-push (HasWay c.self.inside.paths.items) _ _ c.self.invariant.room (rw (← c.self.view_is) at c.requires.hops));
+      room = rw pushed (All-push (HasWay c.self.inside.paths) _ _ c.self.invariant.room (rw (← c.self.view_is) at c.requires.hops));
       paths = c.self.invariant.paths;
       bytes =
           let more = ap bytes_in pushed ∙ bytes_more c.self.inside.frames.items _ in

@@ -20,7 +20,7 @@ invariant_of-self-2 c = record {
       rw c.in-Some.ensures.items
       (holds_left (λ (item : Item Flown). item.item.packet < length c.self.inside.verdicts.items) _ (Some c.in-Some.taken) c.self.invariant.injected);
   once = rw c.in-Some.ensures.items (once_left _ (Some c.in-Some.taken) c.self.invariant.once);
-  room = rw c.in-Some.ensures.items (holds_left (HasWay c.self.inside.paths.items) _ (Some c.in-Some.taken) c.self.invariant.room);
+  room = rw c.in-Some.ensures.items (holds_left (HasWay c.self.inside.paths) _ (Some c.in-Some.taken) c.self.invariant.room);
   paths = c.self.invariant.paths;
   bytes =
       let less = bytes_left c.args.at c.args.place c.self.inside.frames.items c.in-Some.taken c.self.invariant.flight.ascending c.in-Some.ensures.value in
@@ -44,4 +44,4 @@ pub returns-clause-apart : goal.returns-clause-apart
 returns-clause-apart c = rw c.in-Some.ensures.items (apart_left _ _ _ c.in-Some.taken c.self.invariant.once c.in-Some.ensures.value)
 
 pub returns-clause-hops : goal.returns-clause-hops
-returns-clause-hops c = holds_taken (HasWay c.self.inside.paths.items) _ _ _ (Some c.in-Some.taken) c.in-Some.ensures.value c.self.invariant.room
+returns-clause-hops c = holds_taken (HasWay c.self.inside.paths) _ _ _ (Some c.in-Some.taken) c.in-Some.ensures.value c.self.invariant.room
