@@ -1,7 +1,7 @@
 -- A whole pool with one more node or one more channel, and the one that holds nothing.
 use Rattle.std.proofs.Common.{◌≡◌, ◌<◌, ◌+◌, ℕ, zero, suc, false, List, [], ◌∷◌, ◌++◌, length, Some, None, IsSome, refl, sym, ap, ◌∙◌, subst, arith}
 use Rattle.std.proofs.Common.{append_assoc, length-append, get_or}
-use Rattle.std.specs.Prelude.{slice_get}
+use Rattle.std.specs.Prelude.{MatchOption, ⊤, slice_get}
 use Rattle.std.specs.List.{AllByRecursion, IsDistinct}
 use Rattle.std.proofs.lemmas.Option.{same_Some}
 use Rattle.mn_flight.proofs.Kept.{none_flies}
@@ -17,11 +17,11 @@ use Rattle.mn_flight_pool.specs.declared.node.Pair.{Pair}
 use Rattle.mn_flight_pool.specs.declared.node.Pair.TheVariants.{Number, Channel, Due}
 use Rattle.mn_flight_pool.specs.declared.node.Link.{Link}
 use Rattle.mn_flight_pool.specs.declared.node.Node.{Node}
-use Rattle.mn_flight_pool.proofs.Changed.{same_place_refl}
 use Rattle.mn_flight_pool.proofs.Changed.{value_other, next_stays, prev_stays, same_place_symm}
 use Rattle.mn_flight_pool.proofs.Neighbours.{distinct_with}
 use Rattle.mn_flight_pool.proofs.Rings.{Unlike, next_at, prev_at, next_past, set_next_leaves, set_prev_leaves, link_unlike, item_kept, ring_same}
 use Rattle.mn_flight_pool.proofs.Entered.{same_nodes_on}
+use Rattle.mn_flight_pool.proofs.Finger.{finger_kept}
 use Rattle.mn_flight_pool.proofs.Held as held
 use Rattle.mn_flight_pool.proofs.Sooner.{all_in, all_from, sooner_same, tick_item, item_tick, all_kept}
 use Rattle.mn_flight_pool.proofs.Traces.{trace_ring}
@@ -125,6 +125,12 @@ module _ {T : Type 0} where
 
     pub grown_recent : AreLast (order_of pool.head.index pool.count new) (ptrs pool.recent.items)
     grown_recent = record { front = whole.recent.front; cut = same_order ∙ whole.recent.cut }
+
+    pub grown_finger : MatchOption pool.finger ⊤ (λ f. slice_get (nodes_on new f.channel (order_of pool.head.index pool.count new)) f.place ≡ Some f.node.index)
+    grown_finger =
+        finger_kept pool.finger _ _ (λ f at.
+        ap (λ l. slice_get l f.place) (ap (λ o. nodes_on new f.channel o) same_order ∙ same_nodes_on pool.store new f.channel (order_in pool) same_item) ∙ at)
+        whole.finger
 
     pub grown_counted : IsCounted pool.counts.items (length pool.heads.items) (order_of pool.head.index pool.count new) new
     grown_counted =

@@ -21,3 +21,5 @@ pub mod Put
 pub mod Take
 pub mod Grown
 pub mod Dropped
+pub mod Finger
+pub mod Pointing

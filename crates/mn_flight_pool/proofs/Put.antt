@@ -1,7 +1,7 @@
 -- A whole pool takes an item.
 use Rattle.std.proofs.Common.{◌≡◌, ◌<◌, ◌≤◌, ◌+◌, ℕ, zero, suc, List, [], ◌∷◌, ◌++◌, length, Option, Some, None, IsSome, inl, inr, refl, sym, ap, ◌∙◌}
 use Rattle.std.proofs.Common.{subst, arith, append_assoc, length-append, get_or}
-use Rattle.std.specs.Prelude.{slice_get, slice_index_or, slice_set}
+use Rattle.std.specs.Prelude.{◌==◌, cond, MatchOption, ⊤, slice_get, slice_index_or, slice_set}
 use Rattle.std.specs.List.{All, AllByRecursion}
 use Rattle.std.proofs.lemmas.List.{map-append}
 use Rattle.mn_flight.specs.declared.Item.{Item}
@@ -17,9 +17,10 @@ use Rattle.mn_flight_pool.specs.declared.node.Place.{Place}
 use Rattle.mn_flight_pool.specs.declared.tick.Tick.{Tick}
 use Rattle.mn_flight_pool.specs.declared.node.Node.{Node}
 use Rattle.mn_flight_pool.specs.declared.node.Pair.TheVariants.{Channel, Due}
-use Rattle.mn_flight_pool.proofs.Entered.{three_there, p_there}
+use Rattle.mn_flight_pool.proofs.Entered.{three_there, p_there, nodes_then}
+use Rattle.mn_flight_pool.proofs.Finger.{finger_kept, get_more}
 use Rattle.mn_flight_pool.proofs.Held.{held_pushed, items_pushed, order_then}
-use Rattle.mn_flight_pool.proofs.PastDue.{alike_link, held_alike, order_alike, items_kept}
+use Rattle.mn_flight_pool.proofs.PastDue.{alike_link, held_alike, nodes_alike, order_alike, items_kept}
 use Rattle.mn_flight_pool.proofs.Counted.{counted_entered, counted_alike}
 use Rattle.mn_flight_pool.proofs.DueEntered.{due_entered, due_three, stand, then}
 use Rattle.mn_flight_pool.proofs.Items.{item_member, fewer_kept}
@@ -179,6 +180,21 @@ module _ {T : Type 0} (pool : Pool T) (whole : IsWhole pool) where
                   ∙ append_assoc whole.recent.front (ptrs pool.recent.items) (node.index ∷ [])
                   ∙ ap (λ l. whole.recent.front ++ l) (sym (ap (λ l. ptrs l) e ∙ ptrs_push pool.recent.items node));
             }
+
+            nodes_four : (c : ℕ) → nodes_on four c (order_of pool.head.index (pool.count + 1) four) ≡
+                nodes_on pool.store c (order_in pool) ++ cond (x.channel == c) (node.index ∷ []) []
+            nodes_four c =
+                ap (λ o. nodes_on four c o) order_four ∙ nodes_alike three four (alike_link node.index last three) c (order_in pool ++ node.index ∷ [])
+                ∙ nodes_then pool.head.index (ptrs pool.heads.items) (ptrs front) (order_in pool) node.index pool.store held_cut.linked x first.index at c
+
+            pub put_finger : MatchOption pool.finger ⊤
+                (λ f. slice_get (nodes_on two f.channel (order_of pool.head.index (pool.count + 1) two)) f.place ≡ Some f.node.index)
+            put_finger =
+                finger_kept pool.finger _ _ (λ f there.
+                ap (λ c. slice_get (nodes_on c f.channel (order_of pool.head.index (pool.count + 1) c)) f.place) is
+                ∙ ap (λ l. slice_get l f.place) (nodes_four f.channel)
+                ∙ get_more (nodes_on pool.store f.channel (order_in pool)) (cond (x.channel == f.channel) (node.index ∷ []) []) f.place f.node.index there)
+                whole.finger
 
             pub put_counted : (counts : List ℕ) → counts ≡ slice_set pool.counts.items x.channel (get_or pool.counts.items x.channel 0 + 1) →
                 IsCounted counts (length pool.heads.items) (order_of pool.head.index (pool.count + 1) two) two

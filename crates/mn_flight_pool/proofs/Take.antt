@@ -1,23 +1,25 @@
 -- A whole pool gives an item out, and its node is free.
-use Rattle.std.proofs.Common.{◌≡◌, ◌<◌, ◌-◌, ℕ, zero, suc, cond, List, [], ◌∷◌, ◌++◌, length, Option, Some, None, IsSome, refl, sym, ap, ◌∙◌, subst, arith}
+use Rattle.std.proofs.Common.{◌≡◌, ◌<◌, ◌-◌, ℕ, zero, suc, true, false, Bool, cond, List, [], ◌∷◌, ◌++◌, length, Option, Some, None, IsSome, refl, sym, ap, ◌∙◌, subst, arith}
 use Rattle.std.proofs.Common.{length-append, get_or, eq-eqb}
-use Rattle.std.specs.Prelude.{slice_get, slice_set}
+use Rattle.std.specs.Prelude.{◌==◌, slice_get, slice_set}
+use Rattle.std.specs.List.{IsDistinct}
 use Rattle.std.proofs.lemmas.Option.{same_Some}
 use Rattle.mn_flight.specs.declared.Item.{Item}
 use Rattle.mn_flight.specs.Flying.{without}
 use Rattle.mn_flight.proofs.Members as members
-use Rattle.mn_flight_pool.specs.Cells.{value_at}
+use Rattle.mn_flight_pool.specs.Cells.{same_place, value_at}
 use Rattle.mn_flight_pool.specs.Rings.{IsIn, IsRing, item_at, next_of, prev_of, unlink}
 use Rattle.mn_flight_pool.specs.ByDue.{IsByDue, ticks_left}
-use Rattle.mn_flight_pool.specs.Pool.{items_in, nodes_on, order_of, trace, left, IsHeld, IsLinked}
+use Rattle.mn_flight_pool.specs.Pool.{is_on, items_in, nodes_on, order_of, trace, left, IsHeld, IsLinked}
 use Rattle.mn_flight_pool.specs.Whole.{ptrs, dues_of, order_in, items_of, IsWhole, IsCounted}
 use Rattle.mn_flight_pool.specs.declared.pool.Pool.{Pool}
 use Rattle.mn_flight_pool.specs.declared.tick.Tick.{Tick}
 use Rattle.mn_flight_pool.specs.declared.node.Node.{Node}
 use Rattle.mn_flight_pool.specs.declared.node.Pair.TheVariants.{Number, Channel, Due}
-use Rattle.mn_flight_pool.proofs.Left.{nodes_before}
+use Rattle.mn_flight_pool.proofs.Finger.{kept_before, distinct_nodes}
+use Rattle.mn_flight_pool.proofs.Left.{nodes_before, nodes_then}
 use Rattle.mn_flight_pool.proofs.Held.{held_left, items_without, order_after}
-use Rattle.mn_flight_pool.proofs.PastDue.{alike_unlink, held_alike, order_alike, items_kept}
+use Rattle.mn_flight_pool.proofs.PastDue.{alike_unlink, held_alike, nodes_alike, order_alike, items_kept}
 use Rattle.mn_flight_pool.proofs.Counted.{counted_left, counted_alike, some_counted}
 use Rattle.mn_flight_pool.proofs.DueLeft as dues
 use Rattle.mn_flight_pool.proofs.Items.{item_member}
@@ -172,6 +174,31 @@ module _ {T : Type 0} (pool : Pool T) (whole : IsWhole pool) (p : ℕ) (i : IsIn
             (items_kept pool.store mid (alike_unlink p pool.store) head heads free (suc n)
             (subst (λ m. IsHeld head heads free m pool.store) count_is whole.held)
             ∙ ap (λ m. items_in pool.store (order_of head m pool.store)) (sym count_is)))
+
+        -- what stands before it on a channel stays at its place
+        pub take_before : (c m k q : ℕ) → slice_get (nodes_on pool.store c (order_in pool)) m ≡ Some p →
+            slice_get (nodes_on pool.store c (order_in pool)) k ≡ Some q → k < m → slice_get (nodes_on two c (order_of head n two)) k ≡ Some q
+        take_before c m k q e f h = ap (λ z. slice_get (nodes_on z c (order_of head n z)) k) is ∙ ap (λ l. slice_get l k) nodes_two ∙ by (x.channel == c) nodes_old
+          where
+            nodes_two : nodes_on (left p mid) c (order_of head n (left p mid)) ≡ nodes_on pool.store c us ++ nodes_on pool.store c vs
+            nodes_two =
+                ap (λ o. nodes_on (left p mid) c o) order_two ∙ nodes_then head heads free us p vs mid linked_mid x first holds_mid first_at.1 c
+                ∙ ap (λ l. l ++ nodes_on mid c vs) (nodes_alike pool.store mid (alike_unlink p pool.store) c us)
+                ∙ ap (λ l. nodes_on pool.store c us ++ l) (nodes_alike pool.store mid (alike_unlink p pool.store) c vs)
+
+            nodes_old : nodes_on pool.store c (order_in pool) ≡
+                nodes_on pool.store c us ++ cond (x.channel == c) (p ∷ nodes_on pool.store c vs) (nodes_on pool.store c vs)
+            nodes_old = ap (λ o. nodes_on pool.store c o) cut.2 ∙ nodes_before head heads free us p vs pool.store linked x first holds first_at.1 c
+
+            distinct : IsDistinct same_place (nodes_on pool.store c (order_in pool))
+            distinct = distinct_nodes (λ r. is_on c (item_at pool.store r)) head (order_in pool) whole.held.linked.number.apart
+
+            by : (b : Bool) → nodes_on pool.store c (order_in pool) ≡ nodes_on pool.store c us ++ cond b (p ∷ nodes_on pool.store c vs) (nodes_on pool.store c vs) →
+                slice_get (nodes_on pool.store c us ++ nodes_on pool.store c vs) k ≡ Some q
+            by true old =
+                kept_before (nodes_on pool.store c us) (nodes_on pool.store c vs) p m k q (subst (λ l. IsDistinct same_place l) old distinct)
+                (ap (λ l. slice_get l m) (sym old) ∙ e) (ap (λ l. slice_get l k) (sym old) ∙ f) h
+            by false old = ap (λ l. slice_get l k) (sym old) ∙ f
 
         pub take_counted : (counts : List ℕ) → counts ≡ slice_set pool.counts.items x.channel (get_or pool.counts.items x.channel 0 - 1) →
             IsCounted counts (length pool.heads.items) (order_of head n two) two

@@ -39,24 +39,25 @@ module _ {T : Type 0} (pair : Pair) (cells : List (Node T)) (s : ℕ) (ps : List
       let cut = in_cut x ps j in
       subst (λ l. IsIn (prev_of pair cells x) (s ∷ l)) (sym cut.2) (ring_sides pair cells s cut.0 x cut.1 (subst (λ l. IsRing pair cells s l) cut.2 ring)).0
 
-  forth_in : (n : ℕ) → IsIn (steps_of (next_of pair cells) s n) (s ∷ ps)
-  forth_in zero = inl refl
-  forth_in (suc n) = ring_next (steps_of (next_of pair cells) s n) (forth_in n)
+  module _ (x : ℕ) (i : IsIn x (s ∷ ps)) where
+    forth_in : (n : ℕ) → IsIn (steps_of (next_of pair cells) x n) (s ∷ ps)
+    forth_in zero = i
+    forth_in (suc n) = ring_next (steps_of (next_of pair cells) x n) (forth_in n)
 
-  back_in : (n : ℕ) → IsIn (steps_of (prev_of pair cells) s n) (s ∷ ps)
-  back_in zero = inl refl
-  back_in (suc n) = ring_prev (steps_of (prev_of pair cells) s n) (back_in n)
+    back_in : (n : ℕ) → IsIn (steps_of (prev_of pair cells) x n) (s ∷ ps)
+    back_in zero = i
+    back_in (suc n) = ring_prev (steps_of (prev_of pair cells) x n) (back_in n)
 
-  -- each step comes to a node
-  pub forth_there : (n : ℕ) (p : ℕ) → p ≡ steps_of (next_of pair cells) s n → IsSome (value_at p cells)
-  forth_there n p e =
-      subst (λ q. IsSome (value_at q cells)) (sym e)
-      (all_in (λ q. IsSome (value_at q cells)) (s ∷ ps) (steps_of (next_of pair cells) s n) ring.there (forth_in n))
+    -- each step comes to a node
+    pub forth_there : (n : ℕ) (p : ℕ) → p ≡ steps_of (next_of pair cells) x n → IsSome (value_at p cells)
+    forth_there n p e =
+        subst (λ q. IsSome (value_at q cells)) (sym e)
+        (all_in (λ q. IsSome (value_at q cells)) (s ∷ ps) (steps_of (next_of pair cells) x n) ring.there (forth_in n))
 
-  pub back_there : (n : ℕ) (p : ℕ) → p ≡ steps_of (prev_of pair cells) s n → IsSome (value_at p cells)
-  back_there n p e =
-      subst (λ q. IsSome (value_at q cells)) (sym e)
-      (all_in (λ q. IsSome (value_at q cells)) (s ∷ ps) (steps_of (prev_of pair cells) s n) ring.there (back_in n))
+    pub back_there : (n : ℕ) (p : ℕ) → p ≡ steps_of (prev_of pair cells) x n → IsSome (value_at p cells)
+    back_there n p e =
+        subst (λ q. IsSome (value_at q cells)) (sym e)
+        (all_in (λ q. IsSome (value_at q cells)) (s ∷ ps) (steps_of (prev_of pair cells) x n) ring.there (back_in n))
 
   -- so many steps forth come to the node at that place
   pub forth_at : (n : ℕ) → n < length ps → slice_get ps n ≡ Some (steps_of (next_of pair cells) s (suc n))

@@ -10,7 +10,7 @@ use Rattle.mn_flight.specs.Earliest.{earliest}
 use Rattle.mn_flight_pool.specs.Cells.{value_at}
 use Rattle.mn_flight_pool.specs.Rings.{IsIn, IsRing, item_at, next_of, prev_of}
 use Rattle.mn_flight_pool.specs.Pool.{nodes_on, steps_of}
-use Rattle.mn_flight_pool.specs.Whole.{AreLast, ptrs, dues_of, order_in, items_of, IsWhole}
+use Rattle.mn_flight_pool.specs.Whole.{AreLast, ptrs, dues_of, order_in, items_of, IsPlaced, IsWhole}
 use Rattle.mn_flight_pool.specs.declared.pool.Pool.{Pool}
 use Rattle.mn_flight_pool.specs.declared.node.Place.{Place}
 use Rattle.mn_flight_pool.specs.declared.node.Pair.TheVariants.{Number, Channel, Due}
@@ -68,13 +68,14 @@ module _ {T : Type 0} (pool : Pool T) (whole : IsWhole pool) where
   count_none c h = sym (none_on (length pool.heads.items) c (items_of pool) flight (omega (arith, h, whole.counted.many)))
 
   -- the node at a place of its channel
-  placed : (c n : ℕ) (p : ℕ) → slice_get (nodes_on pool.store c (order_in pool)) n ≡ Some p →
-      IsIn p (order_in pool) × (item_at pool.store p ≡ slice_get (on_channel c (items_of pool)) n)
+  pub placed : (c n : ℕ) (p : ℕ) → IsPlaced pool c n p →
+      IsIn p (order_in pool) × (item_at pool.store p ≡ slice_get (on_channel c (items_of pool)) n) × IsPlaced pool c n p
   placed c n p e =
       let nodes = nodes_on pool.store c (order_in pool) in (
         (from_filter _ p (order_in pool) (in_at nodes n p e)).1,
         sym (item_placed pool.store nodes n p (held_on pool.store c (order_in pool) held_order) e)
             ∙ ap (λ l. slice_get l n) (items_on pool.store c (order_in pool)),
+        e,
       )
 
   module _ (c : ℕ) (f : Place) (below : c < length pool.heads.items) (read : f ≡ slice_index_or pool.heads.items c f) where
@@ -82,7 +83,7 @@ module _ {T : Type 0} (pool : Pool T) (whole : IsWhole pool) where
     channel_ring = whole.held.linked.channel c f.index (head_at pool.heads.items c f below read)
 
     pub forth_placed : (n : ℕ) (p : ℕ) → p ≡ steps_of (next_of Channel pool.store) f.index (n + 1) → n < length (on_channel c (items_of pool)) →
-        IsIn p (order_in pool) × (item_at pool.store p ≡ slice_get (on_channel c (items_of pool)) n)
+        IsIn p (order_in pool) × (item_at pool.store p ≡ slice_get (on_channel c (items_of pool)) n) × IsPlaced pool c n p
     forth_placed n p e h =
         let below : n < length (nodes_on pool.store c (order_in pool)) = omega (arith, h, on_length c) in
         let steps : n + 1 ≡ suc n = omega arith in
@@ -91,7 +92,7 @@ module _ {T : Type 0} (pool : Pool T) (whole : IsWhole pool) where
 
     pub back_placed : (n count : ℕ) (p : ℕ) → p ≡ steps_of (prev_of Channel pool.store) f.index (count - n) →
         count ≡ length (on_channel c (items_of pool)) → n < count →
-        IsIn p (order_in pool) × (item_at pool.store p ≡ slice_get (on_channel c (items_of pool)) n)
+        IsIn p (order_in pool) × (item_at pool.store p ≡ slice_get (on_channel c (items_of pool)) n) × IsPlaced pool c n p
     back_placed n count p e m h =
         let nodes = nodes_on pool.store c (order_in pool) in
         let cut = place_cut n nodes (omega (arith, h, m, on_length c)) in

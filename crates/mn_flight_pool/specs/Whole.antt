@@ -1,5 +1,5 @@
 -- What a pool keeps between two calls, and the items that it holds.
-use Rattle.std.specs.Prelude.{◌≡◌, ◌≤◌, ◌<◌, ◌+◌, ◌++◌, ℕ, List, length, map, slice_index, vec_len}
+use Rattle.std.specs.Prelude.{◌≡◌, ◌≤◌, ◌<◌, ◌+◌, ◌++◌, ℕ, List, length, map, slice_get, slice_index, Some, MatchOption, ⊤, vec_len}
 use Rattle.std.specs.Vec.{vec_capacity}
 use Rattle.mn_flight.specs.declared.Item.{Item}
 use Rattle.mn_flight_pool.specs.Rings.{next_of}
@@ -36,6 +36,10 @@ module _ {T : Type 0} where
   abbrev pub items_of : Pool T → List (Item T)
   items_of pool = items_in pool.store (order_in pool)
 
+  -- this node stands at this place, from 0, among those of the channel
+  abbrev pub IsPlaced : Pool T → ℕ → ℕ → ℕ → Type 0
+  IsPlaced pool channel place node = slice_get (nodes_on pool.store channel (order_in pool)) place ≡ Some node
+
   pub record IsWhole (pool : Pool T) : Type 0 where
     pub held : IsHeld pool.head.index (ptrs pool.heads.items) (ptrs pool.free.items) pool.count pool.store
     pub counted : IsCounted pool.counts.items (length pool.heads.items) (order_in pool) pool.store
@@ -44,3 +48,4 @@ module _ {T : Type 0} where
     pub ticks_room : pool.count + vec_len pool.free ≤ vec_capacity pool.ticks
     pub recent : AreLast (order_in pool) (ptrs pool.recent.items)
     pub recent_room : pool.count + vec_len pool.free ≤ vec_capacity pool.recent
+    pub finger : MatchOption pool.finger ⊤ (λ finger. IsPlaced pool finger.channel finger.place finger.node.index)

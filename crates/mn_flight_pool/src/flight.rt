@@ -69,8 +69,7 @@ impl<T: Drop> Flight<T> for PoolFlight<T> {
     }
 
     fn take(&mut self, channel: u32, place: u32) -> Option<Item<T>> {
-        let node = self.pool.node_on(channel, place)?;
-        self.pool.take(node)
+        self.pool.take_at(channel, place)
     }
 
     fn first(&self, channel: u32) -> Option<&Item<T>> {

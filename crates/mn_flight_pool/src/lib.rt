@@ -1,8 +1,8 @@
-//! Items in flight, in nodes that are linked by raw pointers: the `Flight` of `mn_flight` that is fast at a million items.
+//! Items in flight, in nodes that name their neighbours by place: the `Flight` of `mn_flight` that is fast at a million items.
 //!
 //! Each node that holds an item stands in three rings: that of all items by number, that of its channel, and that of all
 //! items by due tick and number. A ring begins with a node that holds no item, so each node has a neighbour on either side,
-//! and no pointer is null or compared.
+//! and no place is compared.
 //!
 //! ```text
 //!            +--------------------------------------------------+
@@ -13,10 +13,10 @@
 //! ```
 //!
 //! Beside the ring by due tick stands a list of the due ticks in flight, ascending, each with its last node. So a push looks
-//! for its tick in that list, and takes no walk over what is due later. A node that comes free is kept and used again.
+//! for its tick in that list, and takes no walk over what is due later. A node that comes free is kept and used again. A finger
+//! stays on the node before that which was taken last by its place, so that places near it are walked to from there.
 //!
-//! - `arena`: values that stay where they lie, named by raw pointers; all that follows a pointer
-//! - `node`, `store`: a node with its pairs of pointers; all nodes, freed at the end
+//! - `node`, `store`: a node with its pairs of neighbours; all nodes, by their places
 //! - `walk`: steps along a ring
 //! - `moves`: a node enters or leaves the rings by number and of its channel
 //! - `tick`, `due`: the list of due ticks; a node enters or leaves the ring by due tick

@@ -18,6 +18,7 @@ returns-clause-whole g c =
       by_due = channel_by_due c.args.self.now c.requires.whole c.in_ok-first.first c.add.new.self added fresh c.requires.count c.lone.new.self c.lone.ensures;
       room = c.requires.whole.room;
       ticks_room = c.requires.whole.ticks_room;
+      finger = tt;
       recent = channel_recent c.args.self.now c.requires.whole c.in_ok-first.first c.add.new.self added fresh c.requires.count c.lone.new.self c.lone.ensures;
       recent_room = c.requires.whole.recent_room;
     }

@@ -18,6 +18,7 @@ returns-clause-whole g c =
           c.new-3.result.items c.new-3.ensures.items;
       room = omega (arith, c.new-4.ensures.len);
       ticks_room = omega (arith, c.new-4.ensures.len);
+      finger = tt;
       recent = none_last [] c.new-5.result.items c.new-5.ensures.items;
       recent_room = omega (arith, c.new-4.ensures.len);
     }

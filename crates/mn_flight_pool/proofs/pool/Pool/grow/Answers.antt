@@ -1,6 +1,6 @@
 use Rattle.std.proofs.Common.{◌≡◌, ◌++◌, ◌∷◌, [], arith}
 use Rattle.std.proofs.lemmas.Grind.{common_steps}
-use Rattle.mn_flight_pool.proofs.Grown.{grown_held, grown_items, grown_counted, grown_by_due, grown_recent}
+use Rattle.mn_flight_pool.proofs.Grown.{grown_held, grown_items, grown_counted, grown_by_due, grown_recent, grown_finger}
 use Rattle.mn_flight_pool.proofs.Whole.{recent_few}
 use Rattle.mn_flight_pool.proofs.pool.Pool.grow.Goals as goal
 
@@ -61,6 +61,7 @@ returns-clause-whole g c =
             c.reserve.ensures.len,
             c.len.ensures,
           );
+      finger = grown_finger c.args.self.now c.requires c.in_ok-node.node c.add.new.self added fresh;
       recent =
           let same : c.reserve-3.new.self.items ≡ c.args.self.now.recent.items = c.reserve-3.ensures.items in
           rw same (grown_recent c.args.self.now c.requires c.in_ok-node.node c.add.new.self added fresh);

@@ -1,12 +1,12 @@
-use Rattle.std.proofs.Common.{◌<◌, ◌≤◌, ◌+◌, ◌-◌, List, length, arith, ap, ◌∙◌, subst}
+use Rattle.std.proofs.Common.{◌<◌, ◌≤◌, ◌+◌, ◌-◌, List, length, inl, refl, arith, ap, ◌∙◌, subst}
 use Rattle.std.specs.Prelude.{slice_index_or}
 use Rattle.mn_flight.specs.Flying.{on_channel}
 use Rattle.mn_flight_pool.specs.Rings.{next_of, prev_of}
 use Rattle.mn_flight_pool.specs.Pool.{nodes_on, steps_of}
-use Rattle.mn_flight_pool.specs.Whole.{order_in, items_of}
+use Rattle.mn_flight_pool.specs.Whole.{order_in, items_of, IsPlaced}
 use Rattle.mn_flight_pool.specs.declared.node.Place.{Place}
 use Rattle.mn_flight_pool.specs.declared.node.Pair.TheVariants.{Channel}
-use Rattle.mn_flight_pool.proofs.Whole.{channel_ring, forth_placed, back_placed, past_end, no_channel}
+use Rattle.mn_flight_pool.proofs.Whole.{placed, channel_ring, forth_placed, back_placed, past_end, no_channel}
 use Rattle.mn_flight_pool.proofs.pool.Pool.node_on.Goals as goal
 
 pub returns-in_err-first : goal.returns-in_err-first
@@ -24,9 +24,11 @@ forth-requires g c =
     let at = c.in_ok-first.ensures.lookup.3 in
     let below : c.args.channel < length c.args.self.now.heads.items = subst (λ (l : List Place). c.args.channel < length l) c.deref.ensures.value at.0 in
     let read = at.1 c.in_ok-first.field-0.now ∙ ap (λ (l : List Place). slice_index_or l c.args.channel c.in_ok-first.field-0.now) c.deref.ensures.value in (
+      c.in_ok-first.field-0.now.index,
       nodes_on c.args.self.now.store c.args.channel (order_in c.args.self.now),
       channel_ring c.args.self.now c.requires c.args.channel
           c.in_ok-first.field-0.now below read,
+      inl refl,
     )
 
 pub returns-then-place-count-2 : goal.returns-then-place-count-2
@@ -44,9 +46,11 @@ back-requires g c =
     let at = c.in_ok-first.ensures.lookup.3 in
     let below : c.args.channel < length c.args.self.now.heads.items = subst (λ (l : List Place). c.args.channel < length l) c.deref.ensures.value at.0 in
     let read = at.1 c.in_ok-first.field-0.now ∙ ap (λ (l : List Place). slice_index_or l c.args.channel c.in_ok-first.field-0.now) c.deref.ensures.value in (
+      c.in_ok-first.field-0.now.index,
       nodes_on c.args.self.now.store c.args.channel (order_in c.args.self.now),
       channel_ring c.args.self.now c.requires c.args.channel
           c.in_ok-first.field-0.now below read,
+      inl refl,
     )
 
 pub returns : goal.returns
@@ -59,3 +63,8 @@ returns g c =
     (c.back.ensures
     ∙ ap (λ n. steps_of (prev_of Channel c.args.self.now.store) c.in_ok-first.field-0.now.index (c.count_on-count.result - n)) c.from-place.ensures)
     c.count_on-count.ensures there
+
+pub returns-in-Some : goal.returns-in-Some
+returns-in-Some g c =
+    placed c.args.self.now c.requires c.args.channel c.args.place c.in-Some.node.index
+    (subst (λ k. IsPlaced c.args.self.now c.args.channel k c.in-Some.node.index) c.from-place.ensures c.in-Some.ensures)

@@ -2,7 +2,7 @@ use Rattle.std.proofs.Common.{◌≡◌, ◌<◌, ◌≤◌, ◌+◌, ◌++◌, 
 use Rattle.std.specs.Prelude.{is_ok, slice_set}
 use Rattle.std.proofs.lemmas.Grind.{common_steps}
 use Rattle.mn_flight_pool.proofs.Put.{ticks_count, count_within, count_read, free_there, first_ring, node_in_one, last_in_one, next_in_one, put_held}
-use Rattle.mn_flight_pool.proofs.Put.{put_items, put_counted, put_by_due, put_recent}
+use Rattle.mn_flight_pool.proofs.Put.{put_items, put_counted, put_by_due, put_recent, put_finger}
 use Rattle.mn_flight_pool.proofs.Whole.{recent_few}
 use Rattle.mn_flight_pool.proofs.pool.Pool.put.Goals as goal
 
@@ -67,6 +67,8 @@ returns-in-Some-clause-whole g c =
           c.link_due.new.ticks.items c.link_due.ensures.ticks;
       room = omega (arith, c.requires.whole.room, c.in-Some.ensures.len, c.in-Some.ensures.capacity);
       ticks_room = omega (arith, c.requires.whole.ticks_room, c.in-Some.ensures.len, c.link_due.ensures.capacity);
+      finger = put_finger c.args.self.now c.requires.whole c.in-Some.node c.pop.new.self.items c.in-Some.ensures.items c.args.item c.index-first.result.now
+          below c.index-first.ensures c.requires.number c.enter.new.store c.enter.ensures c.link_due.new.store c.link_due.ensures.store;
       recent = put_recent c.args.self.now c.requires.whole c.in-Some.node c.pop.new.self.items c.in-Some.ensures.items c.args.item c.index-first.result.now
           below c.index-first.ensures c.requires.number c.enter.new.store c.enter.ensures c.link_due.new.store c.link_due.ensures.store
           c.push.new.self.items pushed;

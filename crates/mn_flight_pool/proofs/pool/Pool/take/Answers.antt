@@ -7,7 +7,7 @@ use Rattle.mn_flight_pool.specs.Whole.{ptrs}
 use Rattle.mn_flight_pool.specs.declared.node.Pair.TheVariants.{Due}
 use Rattle.mn_flight_pool.proofs.Put.{ptrs_push, count_read}
 use Rattle.mn_flight_pool.proofs.Take.{some_count, next_there, prev_there, no_item, same_item, below, some_on, number_ring, channel_ring, item_one}
-use Rattle.mn_flight_pool.proofs.Take.{take_held, take_items, take_counted, take_by_due}
+use Rattle.mn_flight_pool.proofs.Take.{take_held, take_items, take_counted, take_by_due, take_before}
 use Rattle.mn_flight_pool.proofs.Whole.{node_holds, items_count, none_last}
 use Rattle.mn_flight_pool.proofs.pool.Pool.take.Goals as goal
 
@@ -109,6 +109,7 @@ returns-clause-whole g c =
             some_count c.args.self.now c.requires.whole
                 c.args.node.index c.requires.node,
           );
+      finger = tt;
       recent = none_last _ c.clear.new.self.items c.clear.ensures.items;
       recent_room =
           omega (
@@ -145,3 +146,11 @@ returns-clause-length g c =
       some_count c.args.self.now c.requires.whole
           c.args.node.index c.requires.node,
     )
+
+pub returns-clause-before : goal.returns-clause-before
+returns-clause-before g c =
+    let same =
+    same_item c.args.self.now c.requires.whole c.args.node.index c.requires.node c.unlink_due.new.store c.unlink_due.ensures.store c.in_ok-due.field-0.now
+    c.in_ok-item.item c.in_ok-due.ensures.value c.in_ok-item.ensures.value in
+    take_before c.args.self.now c.requires.whole c.args.node.index c.requires.node c.in_ok-item.item same.0 c.unlink_due.new.store
+    c.unlink_due.ensures.store c.leave.new.store c.leave.ensures.left
