@@ -6,6 +6,7 @@ pub mod Growing
 pub mod Cutting
 pub mod Places
 pub mod Lost
+pub mod Spared
 pub mod Started
 pub mod Turned
 pub mod Ends

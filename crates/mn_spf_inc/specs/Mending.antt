@@ -4,11 +4,12 @@ use Rattle.std.specs.Prelude.{Contains, Option, Some, None, MatchBool, MatchOpti
 use Rattle.std.specs.declared.cmp.Reverse.{Reverse}
 use Rattle.std.specs.BinaryHeap.{heap_items}
 use Rattle.mn_wiring.specs.declared.links.LinkEnds.{LinkEnds}
+use Rattle.mn_wiring.specs.Wiring.{link}
 use Rattle.mn_base.specs.declared.numbers.LinkNo.{LinkNo}
 use Rattle.mn_base.specs.declared.numbers.NodeNo.{NodeNo}
 use Rattle.mn_linkdb.specs.Learned.{Learned}
 use Rattle.mn_linkdb.specs.PathTable.{PathTable, IsTable, dist_at, next_at, with_entries}
-use Rattle.mn_spf.specs.Ways.{goes, beyond, rank_at, AtMost, beats, rank_over}
+use Rattle.mn_spf.specs.Ways.{wiring_of, goes, beyond, rank_at, AtMost, beats, rank_over}
 use Rattle.mn_spf_inc.specs.declared.way.Way.{Way}
 use Rattle.mn_spf_inc.specs.declared.mend.Mend.{Mend}
 use Rattle.mn_spf_inc.specs.Ways.{rank_of, queued, way_over, way_at}
@@ -178,6 +179,14 @@ pub record IsCutting (v : Learned) (root : ℕ) (Late : ℕ → ℕ → Type 0) 
 -- how much can be lost: it falls with each node that is cut off or found to be held
 abbrev pub left : State → ℕ
 left s = 2 ^ 64 * reached s.table + length s.queue
+
+-- the way comes from a neighbour, over a link that is up
+pub record ComesOver (v : Learned) (root : ℕ) (t : PathTable) (way : Way) : Type 0 where
+  pub l : ℕ
+  pub near : Way
+  pub goes_on : goes v way.to l ≡ true
+  pub is_known : way_at t (beyond v way.to l) ≡ Some near
+  pub same : way_over root near (link (wiring_of v) l) ≡ way
 
 abbrev pub NoneLate : ℕ → ℕ → Type 0
 NoneLate node known = ⊥

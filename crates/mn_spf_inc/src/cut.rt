@@ -15,13 +15,14 @@ impl Mend {
     ghost use Rattle.mn_wiring.specs.Wiring.{link};
     ghost use Rattle.mn_spf.specs.Ways.{wiring_of};
     ghost use Rattle.mn_spf_inc.specs.Ways.{rank_of, way_at, way_over};
-    ghost use Rattle.mn_spf_inc.specs.Mending.{state_of, left, IsCutting, IsHeld, IsKnown, IsMended, NoneLate, OneLate, HeldOverEither, IsPassedOver};
+    ghost use Rattle.mn_spf_inc.specs.Mending.{state_of, left, IsCutting, IsHeld, IsKnown, IsMended, NoneLate, OneLate, HeldOverEither, IsPassedOver, ComesOver};
 
     /// Whether the way comes from this neighbour over this link.
     fn comes_from(&self, root: NodeNo, from: NodeNo, link: LinkEnds, way: Way) -> bool
         requires there { from.0 < length self.now.tree.dists }
         requires fits { (known : ℕ) → dist_at self.now.tree from.0 ≡ Some known → known + link.cost < 2 ^ 32 }
-        ensures { IsTrue result → (near : Way) × (way_at self.now.tree from.0 ≡ Some near) × (way_over root.0 near link ≡ way) }
+        ensures comes { IsTrue result → (near : Way) × (way_at self.now.tree from.0 ≡ Some near) × (way_over root.0 near link ≡ way) }
+        ensures found { (near : Way) → way_at self.now.tree from.0 ≡ Some near → way_over root.0 near link ≡ way → IsTrue result }
     {
         match self.known(from) {
             Some(near) => near.over(root, link) == way,
@@ -34,7 +35,8 @@ impl Mend {
         requires root { root.0 < net.now.nodes }
         requires cutting { IsCutting net.now root.0 (OneLate way.to) (state_of self.now) }
         requires known { IsKnown net.now root.0 self.now.tree way }
-        ensures { IsTrue result → IsHeld net.now root.0 self.now.tree way.to (rank_of way) }
+        ensures held { IsTrue result → IsHeld net.now root.0 self.now.tree way.to (rank_of way) }
+        ensures found { ComesOver net.now root.0 self.now.tree way → IsTrue result }
     {
         steps.tick();
         let node = NodeNo(way.to);
@@ -75,7 +77,7 @@ impl Mend {
         Ok(())
     }
 
-    /// Cuts off a node that was doubted, unless it is held.
+    /// Cuts off a node that was doubted, unless it is held. One whose way still comes from a neighbour stays as it is.
     fn examine<L: Ledger>(
         &mut self,
         net: &Net,
@@ -89,6 +91,8 @@ impl Mend {
         requires cutting { IsCutting net.now root.0 (OneLate way.to) (state_of self.old) }
         ensures cutting { OnOk result (IsCutting net.now root.0 NoneLate (state_of self.new)) }
         ensures less { OnOk result (left (state_of self.new) ≤ left (state_of self.old)) }
+        ensures spared { (known : Way) → way_at self.old.tree way.to ≡ Some known → ComesOver net.now root.0 self.old.tree known →
+            IsOk result × (self.new ≡ self.old) }
     {
         let Some(known) = self.known(NodeNo(way.to)) else {
             return Ok(());

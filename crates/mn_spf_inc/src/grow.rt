@@ -1,6 +1,8 @@
-ghost use Rattle.std.specs.Prelude.{◌≡◌, ◌≤◌, ◌<◌, [], true, length, All, OnOk};
+ghost use Rattle.std.specs.Prelude.{◌≡◌, ◌≤◌, ◌<◌, ◌+◌, [], true, List, length, All, OnOk};
 ghost use Rattle.mn_wiring.specs.Wiring.{is_up};
 ghost use Rattle.mn_linkdb.specs.Learned.{links_up};
+ghost use Rattle.mn_spf.specs.Ways.{AreLinksAt};
+ghost use Rattle.mn_spf_inc.specs.Nets.{all_up};
 
 use crate::mend::Mend;
 use crate::net::Net;
@@ -27,6 +29,8 @@ impl Mend {
         ensures growing { OnOk result (IsGrowing net.now root.0 NoRest (state_of self.new)) }
         ensures less { OnOk result (work (state_of self.new) ≤ work (state_of self.old)) }
         ensures cut { OnOk result (self.new.cut.items ≡ self.old.cut.items) }
+        ensures steps { OnOk result ((links : List LinkNo) × AreLinksAt (all_up net.now.nodes net.now.ends) way.to links ×
+            (steps.new ≡ steps.old + (1 + length links))) }
     {
         steps.tick();
         for number in net.links_at(NodeNo(way.to)) {

@@ -40,7 +40,7 @@ returns-then-is_held-clause-cutting g c =
     let k = known_way c.args.net.now c.args.root.0 c.args.self.now.tree c.args.way.to c.in-Some.known c.requires.there
     (c.requires.cutting.formed c.args.way.to c.requires.there) c.requires.cutting.root_cost (sym c.in-Some.ensures) in
     found_held c.args.net.now c.args.root.0 (state_of c.args.self.now) c.args.way.to c.requires.cutting c.in-Some.known k.0 k.1
-    (c.is_held.ensures c.if-is_held.true)
+    (c.is_held.ensures.held c.if-is_held.true)
 
 pub returns-in_default-clause-cutting : goal.returns-in_default-clause-cutting
 returns-in_default-clause-cutting g c =

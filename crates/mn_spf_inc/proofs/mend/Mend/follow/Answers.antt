@@ -1,4 +1,4 @@
-use Rattle.std.proofs.Common.{◌≡◌, ◌+◌, ◌<◌, true, length, get_or, refl, sym, ap, ◌∙◌, subst, arith}
+use Rattle.std.proofs.Common.{◌≡◌, ◌+◌, ◌<◌, true, length, get_or, refl, sym, ap, ◌∙◌, subst, arith, rules}
 use Rattle.mn_wiring.specs.declared.links.LinkEnds.{LinkEnds}
 use Rattle.mn_wiring.specs.Wiring.{link}
 use Rattle.mn_spf.specs.Ways.{wiring_of, goes}
@@ -22,6 +22,7 @@ loop-number-init g c =
           c.requires.known;
       less = omega arith;
       cut = refl;
+      steps = search rules;
     }
 
 pub up-requires : goal.up-requires
@@ -88,6 +89,7 @@ loop-number-preserved g c =
             known = subst (λ (m : Mend). IsKnown v root m.tree way) (sym w.self-is) o.1;
             less = omega (arith, o.2, c.loop-number.invariant.less, ap (λ (m : Mend). work (state_of m)) w.self-is);
             cut = ap (λ (m : Mend). m.cut.items) w.self-is ∙ o.3 ∙ c.loop-number.invariant.cut;
+            steps = search rules;
           })
       | else-up w ↦
           record {
@@ -97,6 +99,7 @@ loop-number-preserved g c =
             known = subst (λ (m : Mend). IsKnown v root m.tree way) (sym w.self-is) c.loop-number.invariant.known;
             less = omega (arith, c.loop-number.invariant.less, ap (λ (m : Mend). work (state_of m)) w.self-is);
             cut = ap (λ (m : Mend). m.cut.items) w.self-is ∙ c.loop-number.invariant.cut;
+            steps = search rules;
           }
     ]
 

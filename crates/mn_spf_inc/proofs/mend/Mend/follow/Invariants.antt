@@ -1,4 +1,4 @@
-use Rattle.std.proofs.Common.{◌≡◌, ◌≤◌}
+use Rattle.std.proofs.Common.{◌≡◌, ◌≤◌, ◌+◌}
 use Rattle.mn_spf_inc.specs.Mending.{state_of, work, IsGrowing, IsKnown, FromPlace}
 use Rattle.mn_spf_inc.proofs.mend.Mend.follow.Given as goal
 
@@ -9,4 +9,5 @@ invariant-loop-number g l = record {
   known : IsKnown l.net l.root.0 l.self.tree l.way;
   less : work (state_of l.self) ≤ work (state_of l.fn.self);
   cut : l.self.cut.items ≡ l.fn.self.cut.items;
+  steps : l.steps ≡ l.fn.steps + (1 + l.number-index);
 }

@@ -8,6 +8,7 @@ use Rattle.mn_spf_inc.specs.Mending.{state_of, OneLate}
 use Rattle.mn_spf_inc.proofs.Nets.{all_there}
 use Rattle.mn_spf_inc.proofs.Places.{place_goes, sum_fits_cut}
 use Rattle.mn_spf_inc.proofs.Lost.{held_from}
+use Rattle.mn_spf_inc.proofs.Spared.{over_none}
 use Rattle.mn_spf_inc.proofs.mend.Mend.is_held.Goals as goal
 
 pub up-requires : goal.up-requires
@@ -53,8 +54,8 @@ comes_from-requires-clause-fits g c = λ known e.
       ap (λ (e : LinkEnds). e.cost) c.link-link.ensures.value,
     )
 
-pub returns-then-comes_from : goal.returns-then-comes_from
-returns-then-comes_from g c = λ e.
+pub returns-then-comes_from-clause-held : goal.returns-then-comes_from-clause-held
+returns-then-comes_from-clause-held g c = λ e.
     let v = c.args.net.now in
     let at = c.links_at-number-items in
     let i = c.loop-number.number-index in
@@ -63,7 +64,14 @@ returns-then-comes_from g c = λ e.
     place_goes v c.args.way.to at.result.now at.ensures.links i l (record { 0 = 0 }) c.loop-number-test.true refl (sym c.up.ensures ∙ c.if-up.true) in
     let is : c.other_end.result.0 ≡ beyond v c.args.way.to l =
     c.other_end.ensures ∙ ap (λ (e : LinkEnds). other_end e c.args.way.to) c.link-link.ensures.value in
-    let k = c.comes_from.ensures c.if-comes_from.true in
+    let k = c.comes_from.ensures.comes c.if-comes_from.true in
     held_from v c.args.root.0 at.ensures.form.network (state_of c.args.self.now)
     (OneLate c.args.way.to) c.args.way k.0 l c.requires.cutting c.requires.known.there goes_on
     (ap (way_at c.args.self.now.tree) (sym is) ∙ k.1) (ap (way_over c.args.root.0 k.0) (sym c.link-link.ensures.value) ∙ k.2)
+
+pub returns-clause-found : goal.returns-clause-found
+returns-clause-found g c = λ comes.
+    let at = c.links_at-number-items in
+    absurd
+    (over_none c.args.net.now c.args.root.0 c.args.self.now.tree c.args.way at.result.now c.loop-number.number-index at.ensures.links
+    c.loop-number-test.false c.loop-number.invariant.none comes)
