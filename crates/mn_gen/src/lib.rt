@@ -9,14 +9,16 @@
 //!  n6 --- n5 --- n4
 //! ```
 //!
-//! - `topology`, `script`, `capture`: the three inputs; `shape`: which nodes, links and edges there are
+//! - `topology`, `script`, `capture`: the three inputs; `shape`: which nodes, links and edges there are; `laws`: what a reader makes of them
 #![tactic(auto)]
 
 mod capture;
+mod laws;
 mod script;
 mod shape;
 mod topology;
 
 pub use capture::capture_bytes;
+pub use laws::{capture_is_read, packets_are_good};
 pub use script::script_text;
 pub use topology::topology_text;
