@@ -1,6 +1,7 @@
 //! What became of each packet.
-ghost use Rattle.std.specs.Prelude.{◌≡◌, ◌≤◌, ◌<◌, ◌++◌, false, length, map, min, List, ℕ, OnOk, OnErr};
+ghost use Rattle.std.specs.Prelude.{◌≡◌, ◌≤◌, ◌<◌, ◌++◌, true, false, length, map, min, List, ℕ, OnOk, OnErr, Err};
 ghost use Rattle.mn_base.specs.Limits.{most_steps};
+ghost use Rattle.mn_edge.specs.declared.device.DeviceBad.TheVariants.{NoMemory};
 ghost use Rattle.mn_edge.specs.Faults.{Counted};
 ghost use Rattle.mn_ledger.specs.Ledger.{packets_of};
 ghost use Rattle.mn_lines.specs.Putting.{Puts, PutsPart};
@@ -89,6 +90,8 @@ pub fn put_packets<O: Sink>(
         (packets_of net.now.topology net.now.journal inputs).verdicts (packets_of net.now.topology net.now.journal inputs).paths)
         page.old (O.written out.old) (O.written out.new)) }
     ensures cause { Counted (O.faults out.old) (O.faults out.new) result }
+    ensures wants { net.now.failed ≡ true →
+        (result ≡ Err NoMemory) × (page.new ≡ page.old) × (out.new ≡ out.old) }
 {
     if !net.works() {
         return Err(DeviceBad::NoMemory);

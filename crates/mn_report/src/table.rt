@@ -1,5 +1,6 @@
 //! The tables that a script asks for.
-ghost use Rattle.std.specs.Prelude.{◌≡◌, true, false, List, ℕ, OnOk, OnErr};
+ghost use Rattle.std.specs.Prelude.{◌≡◌, true, false, List, ℕ, OnOk, OnErr, Err};
+ghost use Rattle.mn_edge.specs.declared.device.DeviceBad.TheVariants.{NoMemory};
 ghost use Rattle.mn_edge.specs.Faults.{Counted};
 ghost use Rattle.mn_script.specs.Lines.{command_fits, show_fits};
 ghost use Rattle.mn_script.specs.declared.command.Command.TheVariants as command;
@@ -66,6 +67,8 @@ pub fn put_table<O: Sink>(
     ensures part { OnErr result ((inputs : List (List ℕ)) → StandsFor net.now inputs →
         PutsPart (table_text net.now.topology net.now.journal inputs (packet_of packet.entry) table) page.old (O.written out.old) (O.written out.new)) }
     ensures cause { Counted (O.faults out.old) (O.faults out.new) result }
+    ensures wants { net.now.failed ≡ true →
+        (result ≡ Err NoMemory) × (page.new ≡ page.old) × (out.new ≡ out.old) }
 {
     if !net.works() {
         return Err(DeviceBad::NoMemory);

@@ -1,6 +1,7 @@
 //! What all packets come to.
-ghost use Rattle.std.specs.Prelude.{◌≡◌, ◌≤◌, ◌<◌, ◌++◌, false, length, take, List, ℕ, IfOk, OnOk, OnErr};
+ghost use Rattle.std.specs.Prelude.{◌≡◌, ◌≤◌, ◌<◌, ◌++◌, true, false, length, take, List, ℕ, IfOk, OnOk, OnErr, Err};
 ghost use Rattle.mn_base.specs.Limits.{most_steps};
+ghost use Rattle.mn_edge.specs.declared.device.DeviceBad.TheVariants.{NoMemory};
 ghost use Rattle.mn_edge.specs.Faults.{Counted};
 ghost use Rattle.mn_ledger.specs.Ledger.{packets_of};
 ghost use Rattle.mn_lines.specs.Lines.{total_line};
@@ -111,6 +112,8 @@ pub fn put_total<O: Sink>(
         PutsPart (total_line (totals_by net.now refused (packets_of net.now.topology net.now.journal inputs).verdicts))
         page.old (O.written out.old) (O.written out.new)) }
     ensures cause { Counted (O.faults out.old) (O.faults out.new) result }
+    ensures wants { net.now.failed ≡ true →
+        (result ≡ Err NoMemory) × (page.new ≡ page.old) × (out.new ≡ out.old) }
 {
     if !net.works() {
         return Err(DeviceBad::NoMemory);
