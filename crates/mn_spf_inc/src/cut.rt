@@ -1,4 +1,4 @@
-ghost use Rattle.std.specs.Prelude.{◌≡◌, ◌≢◌, ◌+◌, ◌^◌, ◌≤◌, ◌<◌, ℕ, [], length, Some, IsTrue, IsOk, OnOk};
+ghost use Rattle.std.specs.Prelude.{◌≡◌, ◌≢◌, ◌+◌, ◌^◌, ◌≤◌, ◌<◌, ℕ, List, [], length, Some, IsTrue, IsOk, OnOk};
 ghost use Rattle.std.specs.BinaryHeap.{heap_items, heap_len};
 ghost use Rattle.mn_linkdb.specs.PathTable.{dist_at};
 
@@ -13,7 +13,8 @@ use std::sync::ledger::Ledger;
 
 impl Mend {
     ghost use Rattle.mn_wiring.specs.Wiring.{link};
-    ghost use Rattle.mn_spf.specs.Ways.{wiring_of};
+    ghost use Rattle.mn_spf.specs.Ways.{wiring_of, AreLinksAt};
+    ghost use Rattle.mn_spf_inc.specs.Nets.{all_up};
     ghost use Rattle.mn_spf_inc.specs.Ways.{rank_of, way_at, way_over};
     ghost use Rattle.mn_spf_inc.specs.Mending.{state_of, left, IsCutting, IsHeld, IsKnown, IsMended, NoneLate, OneLate, HeldOverEither, IsPassedOver, ComesOver};
 
@@ -37,6 +38,7 @@ impl Mend {
         requires known { IsKnown net.now root.0 self.now.tree way }
         ensures held { IsTrue result → IsHeld net.now root.0 self.now.tree way.to (rank_of way) }
         ensures found { ComesOver net.now root.0 self.now.tree way → IsTrue result }
+        ensures steps { (links : List LinkNo) × AreLinksAt (all_up net.now.nodes net.now.ends) way.to links × (steps.new ≤ steps.old + (1 + length links)) }
     {
         steps.tick();
         let node = NodeNo(way.to);
@@ -66,6 +68,8 @@ impl Mend {
         requires not_root { way.to ≢ root.0 }
         ensures cutting { OnOk result (IsCutting net.now root.0 NoneLate (state_of self.new)) }
         ensures less { OnOk result (left (state_of self.new) ≤ left (state_of self.old)) }
+        ensures steps { OnOk result ((links : List LinkNo) × AreLinksAt (all_up net.now.nodes net.now.ends) way.to links ×
+            (steps.new ≡ steps.old + length links)) }
     {
         self.forget(NodeNo(way.to))?;
         for number in net.links_at(NodeNo(way.to)) {

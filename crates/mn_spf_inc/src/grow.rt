@@ -122,6 +122,8 @@ impl Mend {
         requires growing { IsGrowing net.now root.0 (IntoCutOr net.now self.old.cut.items node.0) (state_of self.old) }
         ensures growing { OnOk result (IsGrowing net.now root.0 (IntoCut net.now self.new.cut.items) (state_of self.new)) }
         ensures cut { OnOk result (self.new.cut.items ≡ self.old.cut.items) }
+        ensures steps { OnOk result ((links : List LinkNo) × AreLinksAt (all_up net.now.nodes net.now.ends) node.0 links ×
+            (steps.new ≡ steps.old + (1 + length links))) }
     {
         steps.tick();
         for number in net.links_at(node) {

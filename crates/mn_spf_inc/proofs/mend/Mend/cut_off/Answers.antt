@@ -1,4 +1,4 @@
-use Rattle.std.proofs.Common.{◌≡◌, ◌+◌, ◌<◌, true, length, get_or, refl, sym, ap, ◌∙◌, subst, arith}
+use Rattle.std.proofs.Common.{◌≡◌, ◌+◌, ◌<◌, true, length, get_or, refl, sym, ap, ◌∙◌, subst, arith, rules}
 use Rattle.std.specs.BinaryHeap.{heap_len}
 use Rattle.mn_wiring.specs.declared.links.LinkEnds.{LinkEnds}
 use Rattle.mn_wiring.specs.Wiring.{link}
@@ -33,6 +33,7 @@ loop-number-init g c =
           (forgotten v root s s' c.args.way c.requires.cutting c.requires.known c.requires.not_root c.in_ok-forget.ensures);
       reached = one_less v root s s' c.args.way c.requires.cutting c.requires.known c.requires.not_root c.in_ok-forget.ensures;
       queued = omega (arith, ap length c.in_ok-forget.ensures.queue, c.forget.new.self.queue.data.ok.0, c.args.self.now.queue.data.ok.0);
+      steps = search rules;
     }
 
 pub up-requires : goal.up-requires
@@ -107,6 +108,7 @@ loop-number-preserved g c =
               w.doubt.new.self.queue.data.ok.0,
               c.loop-number.self.queue.data.ok.0,
             );
+            steps = search rules;
           })
       | else-up w ↦
           record {
@@ -114,6 +116,7 @@ loop-number-preserved g c =
                 (held_down v root net way at.result.now s i l (record { 0 = 0 }) refl (sym c.up.ensures ∙ w.if-up.false) c.loop-number.invariant.cutting);
             reached = ap (λ (m : Mend). reached m.tree + 1) w.self-is ∙ c.loop-number.invariant.reached;
             queued = omega (arith, ap (λ (m : Mend). heap_len m.queue) w.self-is, c.loop-number.invariant.queued);
+            steps = search rules;
           }
     ]
 

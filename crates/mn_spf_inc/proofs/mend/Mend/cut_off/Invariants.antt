@@ -9,4 +9,5 @@ invariant-loop-number g l = record {
   cutting : IsCutting l.net l.root.0 (HeldBy l.net l.root.0 l.way l.number-items l.number-index) (state_of l.self);
   reached : reached l.self.tree + 1 ≡ reached l.fn.self.tree;
   queued : heap_len l.self.queue ≤ heap_len l.fn.self.queue + l.number-index;
+  steps : l.steps ≡ l.fn.steps + l.number-index;
 }

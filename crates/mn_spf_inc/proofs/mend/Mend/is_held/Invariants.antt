@@ -1,3 +1,4 @@
+use Rattle.std.proofs.Common.{◌≡◌, ◌+◌}
 use Rattle.mn_spf_inc.proofs.Spared.{AreNotOver}
 use Rattle.mn_spf_inc.proofs.mend.Mend.is_held.Given as goal
 
@@ -5,4 +6,5 @@ use Rattle.mn_spf_inc.proofs.mend.Mend.is_held.Given as goal
 abbrev pub invariant-loop-number : goal.invariant-loop-number
 invariant-loop-number g l = record {
   none : AreNotOver l.net l.root.0 l.self.tree l.way l.number-items l.number-index;
+  steps : l.steps ≡ l.fn.steps + (1 + l.number-index);
 }

@@ -1,4 +1,4 @@
-use Rattle.std.proofs.Common.{◌≡◌, ◌+◌, ◌<◌, true, length, get_or, refl, sym, ap, ◌∙◌, subst, arith}
+use Rattle.std.proofs.Common.{◌≡◌, ◌+◌, ◌<◌, true, length, get_or, refl, sym, ap, ◌∙◌, subst, arith, rules}
 use Rattle.mn_wiring.specs.declared.links.LinkEnds.{LinkEnds}
 use Rattle.mn_wiring.specs.Wiring.{link}
 use Rattle.mn_linkdb.specs.PathTable.{dist_at}
@@ -19,6 +19,7 @@ loop-number-init g c =
           cut_to_places c.args.net.now c.args.root.0 c.args.node.0 at.result.now c.args.self.now.cut.items
           (state_of c.args.self.now) at.ensures.links c.requires.growing;
       cut = refl;
+      steps = search rules;
     }
 
 pub up-requires : goal.up-requires
@@ -106,6 +107,7 @@ loop-number-preserved g c =
           record {
             growing = subst (λ (m : Mend). IsGrowing v root (IntoCutOrFrom v cut node at.result.now (i + 1)) (state_of m)) (sym w.self-is) k.0;
             cut = ap (λ (m : Mend). m.cut.items) w.self-is ∙ k.2 ∙ c.loop-number.invariant.cut;
+            steps = search rules;
           })
       | else-up w ↦
           record {
@@ -114,6 +116,7 @@ loop-number-preserved g c =
                 (cut_place_down v root node i l (record { 0 = 0 }) at.result.now cut s refl
                 (sym c.up.ensures ∙ w.if-up.false) c.loop-number.invariant.growing);
             cut = ap (λ (m : Mend). m.cut.items) w.self-is ∙ c.loop-number.invariant.cut;
+            steps = search rules;
           }
     ]
 
