@@ -1,5 +1,5 @@
 //! What a run keeps for its report.
-ghost use Rattle.std.specs.Prelude.{◌≡◌, ◌-◌, ◌+◌, ◌<◌, ◌++◌, ◌^◌, true, [], List, ℕ, Some, map, codes, IfOk, OnOk, OnErr};
+ghost use Rattle.std.specs.Prelude.{◌≡◌, ◌-◌, ◌+◌, ◌<◌, ◌++◌, ◌^◌, true, [], List, ℕ, Some, map, codes, Err, IfOk, OnOk, OnErr};
 ghost use Rattle.mn_script.specs.Lines.{command_fits};
 ghost use Rattle.mn_ledger.specs.Ledger.{packets_of};
 ghost use Rattle.mn_course.specs.Expansion.{sending_by};
@@ -9,6 +9,7 @@ ghost use Rattle.mn_net_now.specs.Now.{StandsFor};
 ghost use Rattle.mn_report.specs.Shown.{sending_of, shown_text};
 ghost use Rattle.mn_report.specs.Frames.{packet_of};
 ghost use Rattle.mn_perform.specs.Faults.{SinkBlamed};
+ghost use Rattle.mn_perform.specs.declared.ended.Fault.TheVariants.{NoMemory};
 ghost use Rattle.mn_perform.specs.Running.{line_text, Notes};
 ghost use Rattle.mn_perform.specs.Whole.{last_text};
 
@@ -122,6 +123,8 @@ impl Desk {
         ensures sendings { self.new.sendings ≡ self.old.sendings }
         ensures refused { self.new.refused ≡ self.old.refused }
         ensures cause { SinkBlamed (O.faults out.old) (O.faults out.new) result }
+        ensures wants { net.now.failed ≡ true →
+            (result ≡ Err NoMemory) × (self.new.page ≡ self.old.page) × (out.new ≡ out.old) }
     {
         put_table(out, &mut self.page, &mut self.line, net, table, packet)?;
         Ok(())
@@ -134,6 +137,8 @@ impl Desk {
         ensures part { OnErr result ((inputs : List (List ℕ)) → StandsFor net.now inputs →
             PutsPart (last_text net.now self.old Ended.All (packets_of net.now.topology net.now.journal inputs)) self.old.page (O.written out.old) (O.written out.new)) }
         ensures cause { SinkBlamed (O.faults out.old) (O.faults out.new) result }
+        ensures wants { net.now.failed ≡ true →
+            (result ≡ Err NoMemory) × (self.new.page ≡ self.old.page) × (out.new ≡ out.old) }
     {
         put_packets(out, &mut self.page, &mut self.line, net, &self.sendings)?;
         put_total(out, &mut self.page, &mut self.line, net, self.refused)?;
