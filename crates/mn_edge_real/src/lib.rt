@@ -7,11 +7,14 @@
 //!
 //! A program with thousands of files needs few descriptors: at most 64 files are open at a time, those that were
 //! used last, so that an append in the common case opens nothing. How far each file was told of is kept, so that
-//! one that was cut meanwhile isn't taken for one that ends there.
+//! one that was cut meanwhile isn't taken for one that ends there. The bytes of the last read are kept, up to 64 KiB, so
+//! that the same read, asked for again and again, calls the system once.
 #![tactic(auto)]
 
 mod fault; // which failures count, and what is kept of the last one
+mod last_read; // what the last read gave
 mod open_files; // the files that are open
+mod reads; // what reads gave
 mod shelf;
 mod sink;
 mod told; // how far files were told of

@@ -7,7 +7,7 @@ ghost use Rattle.mn_edge_real.specs.Ends.{end_of, untold};
 
 use crate::fault::{Call, Failure, counted};
 use crate::open_files::OpenFiles;
-use crate::told::Told;
+use crate::reads::Reads;
 use mn_edge::{DeviceBad, Shelf};
 use std::io;
 use std::io::{Error, ErrorKind};
@@ -17,7 +17,7 @@ use std::io::{Error, ErrorKind};
 pub struct HostShelf<'a> {
     rt: &'a HostRuntime,
     files: OpenFiles<'a>,
-    told: Told,
+    reads: Reads,
     failure: Option<Failure>,
     read_faults: u64,
     write_faults: u64,
@@ -28,7 +28,7 @@ impl<'a> HostShelf<'a> {
         HostShelf {
             rt,
             files: OpenFiles::new(rt),
-            told: Told::new(rt.alloc()),
+            reads: Reads::new(rt.alloc()),
             failure: None,
             read_faults: 0,
             write_faults: 0,
@@ -47,7 +47,8 @@ impl<'a> HostShelf<'a> {
         self.failure.as_ref()
     }
 
-    /// Reads, and keeps how far the file was told of. One that ends before that has lost bytes, which is an error.
+    /// Reads, and keeps how far the file was told of. One that ends before that has lost bytes, which is an error. The same
+    /// read, asked for again, is answered by what it gave.
     fn read(&mut self, name: &str, at: u64, buf: &mut [u8]) -> io::Result<usize>
         ensures told { IfOk result (λ n. end_of self.new name.now
             ≡ max (end_of self.old name.now) (min (at + n) (2 ^ 64 - 1))) }
@@ -55,11 +56,14 @@ impl<'a> HostShelf<'a> {
         ensures reads { self.new.read_faults ≡ self.old.read_faults }
         ensures writes { self.new.write_faults ≡ self.old.write_faults }
     {
+        if self.reads.repeat(name, at, buf) {
+            return Ok(buf.len());
+        }
         let count = self.files.read_at(name, at, buf)?;
-        if count == 0 && !buf.is_empty() && at < self.told.end(name) {
+        if count == 0 && !buf.is_empty() && at < self.reads.end(name) {
             return Err(Error::from(ErrorKind::UnexpectedEof));
         }
-        self.told.reach(name, at.saturating_add(count as u64))?;
+        self.reads.note(name, at, count, buf)?;
         Ok(count)
     }
 }
@@ -112,7 +116,7 @@ impl<'a> Shelf for HostShelf<'a> {
         // What this shelf says besides: the file's end is wherever it now is.
         ensures told { end_of self.new name.now ≡ 0 }
     {
-        self.told.forget(name);
+        self.reads.forget(name);
         match self.files.begin(name) {
             Ok(()) => Ok(()),
             Err(error) => {

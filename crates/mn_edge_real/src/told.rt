@@ -1,6 +1,6 @@
 //! How far files were told of.
 ghost use Rattle.std.specs.Prelude.{◌≡◌, ℕ, List, max, OnOk};
-ghost use Rattle.mn_edge_real.specs.Ends.{end_told};
+ghost use Rattle.mn_edge_real.specs.Reached.{end_told};
 
 use indexmap::IndexMap;
 use std::alloc::{AllocError, Global};
