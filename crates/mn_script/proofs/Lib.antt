@@ -5,3 +5,4 @@ pub mod FirstsOf
 pub mod Again
 pub mod Only
 pub mod Front
+pub mod Sendings

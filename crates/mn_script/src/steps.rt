@@ -233,13 +233,15 @@ fn tick_line(words: &[&[u8]]) -> Result<Step, ScriptRule>
     Ok(Step::Tick(ticks))
 }
 
-/// The step of a line, by its first word.
-#[tactic(auto, unfolding(crate::specs::Steps::step_line))]
+/// The step of a line, by its first word, of which `inject` is looked for before the others.
+#[tactic(auto, unfolding(crate::specs::Steps::step_line), using(crate::proofs::Sendings::sending_step))]
 pub(crate) fn step_line(topology: &Topology, words: &[&[u8]]) -> Result<Step, ScriptRule>
     ensures value { result ≡ step_line topology.now (texts words.now) }
     ensures fits { IfOk result (λ step. fits topology.now step ≡ true) }
 {
-    if is_word(words, 0, "link") {
+    if is_word(words, 0, "inject") {
+        inject_line(topology, words)
+    } else if is_word(words, 0, "link") {
         link_line(topology, words)
     } else if is_word(words, 0, "learn") {
         learn_line(topology, words)
@@ -257,8 +259,6 @@ pub(crate) fn step_line(topology: &Topology, words: &[&[u8]]) -> Result<Step, Sc
         export_line(topology, words)
     } else if is_word(words, 0, "site") {
         site_line(topology, words)
-    } else if is_word(words, 0, "inject") {
-        inject_line(topology, words)
     } else if is_word(words, 0, "carry") {
         carry_line(topology, words)
     } else if is_word(words, 0, "lose") {
