@@ -49,6 +49,7 @@ fn told_of_one(
 ) -> Result<Vec<Export>, AllocError>
     ensures told { IfOk result (λ exports. IfOk answer (λ export. exports.items ≡ those_of export)) }
     ensures asked { IsOk result → IsOk answer }
+    ensures none { answer ≡ Ok None → IsOk result }
 {
     let mut exports = Vec::new(alloc);
     match answer {
