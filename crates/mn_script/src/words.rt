@@ -45,6 +45,7 @@ pub fn line_words(alloc: Global, line: &[u8]) -> Result<Vec<&[u8]>, AllocError>
 }
 
 /// The word at `k`, from 0, and the empty text where there is none.
+#[inline(always)]
 pub fn word_at<'a>(words: &[&'a [u8]], k: usize) -> &'a [u8]
     ensures { result.now ≡ word_at (texts words.now) k }
 {
@@ -55,6 +56,7 @@ pub fn word_at<'a>(words: &[&'a [u8]], k: usize) -> &'a [u8]
 }
 
 /// Whether the word at `k`, from 0, is the text; none is the empty text.
+#[inline(always)]
 pub fn is_word(words: &[&[u8]], k: usize, text: &str) -> bool
     ensures { result ≡ is_word (texts words.now) k text.now }
 {
