@@ -1,5 +1,5 @@
 // The lines, appended to bytes.
-ghost use Rattle.std.specs.Prelude.{◌≡◌, ◌++◌, ◌∷◌, [], OnOk, OnErr, codes, take};
+ghost use Rattle.std.specs.Prelude.{◌≡◌, ◌+◌, ◌≤◌, ◌++◌, ◌∷◌, [], IfSome, OnOk, OnErr, codes, length, take};
 ghost use Rattle.mn_edge.specs.Written.{IsPrefix};
 ghost use Rattle.mn_lines.specs.Names.{names_of};
 ghost use Rattle.mn_lines.specs.Lines.{cause_text, packet_line, path_text, pieces_of, refused_line, sent_text, text, total_line, verdict_text, verdicts_text};
@@ -12,14 +12,54 @@ use mn_ledger::{Refused, Verdict};
 use mn_topo::Topology;
 use std::alloc::AllocError;
 
-/// Appends pieces, by an `Err` a first part of them.
+/// Copies a piece over bytes from a place on, and answers where it ends.
+#[inline(always)]
+fn lay(bytes: &mut [u8], at: usize, piece: &[u8]) -> usize
+    requires { at + length piece.now ≤ length bytes.old }
+    ensures end { result ≡ at + length piece.now }
+    ensures laid { take result bytes.new ≡ take at bytes.old ++ piece.now }
+{
+    let end = at + piece.len();
+    bytes[at..end].copy_from_slice(piece);
+    end
+}
+
+/// Copies pieces, one behind another, over as many bytes as they have.
+#[inline(always)]
+fn lay_all(bytes: &mut [u8], pieces: &[&[u8]])
+    requires { length bytes.old ≡ length (text (pieces_of pieces.now)) }
+    ensures { bytes.new ≡ text (pieces_of pieces.now) }
+{
+    let mut at = 0;
+    for piece in pieces {
+        at = lay(bytes, at, piece);
+    }
+}
+
+/// Where pieces end that begin at a place; none where no number tells it.
+#[inline(always)]
+fn end_of(from: usize, pieces: &[&[u8]]) -> Option<usize>
+    ensures { IfSome result (λ end. end ≡ from + length (text (pieces_of pieces.now))) }
+{
+    let mut end = from;
+    for piece in pieces {
+        end = end.checked_add(piece.len())?;
+    }
+    Some(end)
+}
+
+/// Appends pieces, for all of which room is made once; by an `Err` none of them.
+#[inline(always)]
 pub fn put_pieces(line: &mut Vec<u8>, pieces: &[&[u8]]) -> Result<(), AllocError>
     ensures ok { OnOk result (line.new.items ≡ line.old.items ++ text (pieces_of pieces.now)) }
     ensures begins { IsPrefix line.old.items line.new.items }
 {
-    for piece in pieces {
-        line.extend_from_slice(piece)?;
-    }
+    let before = line.len();
+    let Some(end) = end_of(before, pieces) else {
+        return Err(AllocError);
+    };
+    line.resize(end, 0)?;
+    lay_all(&mut line[before..], pieces);
     Ok(())
 }
 
