@@ -1,5 +1,5 @@
 //! From an entry to its line.
-ghost use Rattle.std.specs.Prelude.{◌≡◌, ◌<◌, ◌++◌, ◌∷◌, [], OnOk, OnErr, length, true, slice_index_or, codes, if◌then◌else◌};
+ghost use Rattle.std.specs.Prelude.{◌≡◌, ◌+◌, ◌<◌, ◌≤◌, ◌++◌, ◌∷◌, [], IfSome, OnOk, OnErr, length, take, true, slice_index_or, codes, if◌then◌else◌};
 ghost use Rattle.mn_wiring.specs.declared.links.Dir.TheVariants.{Forth};
 ghost use Rattle.mn_wiring.specs.Wiring.{sender, receiver};
 ghost use Rattle.mn_script.specs.Spelled.{node_text, vrf_text, site_text, from_text, to_text, step_words, damage_words};
@@ -22,15 +22,55 @@ use mn_topo::{Damage, JournalEntry, Step, Topology};
 use mn_wiring::Dir;
 use std::alloc::AllocError;
 
-/// Appends words, each after a space; an `Err` a first part of them.
+/// Copies a piece over bytes from a place on, and answers where it ends.
+#[inline(always)]
+fn lay(bytes: &mut [u8], at: usize, piece: &[u8]) -> usize
+    requires { at + length piece.now ≤ length bytes.old }
+    ensures end { result ≡ at + length piece.now }
+    ensures laid { take result bytes.new ≡ take at bytes.old ++ piece.now }
+{
+    let end = at + piece.len();
+    bytes[at..end].copy_from_slice(piece);
+    end
+}
+
+/// Copies words, each after a space, over as many bytes as they have.
+#[inline(always)]
+fn lay_all(bytes: &mut [u8], words: &[&[u8]])
+    requires { length bytes.old ≡ length (spaced (texts words.now)) }
+    ensures { bytes.new ≡ spaced (texts words.now) }
+{
+    let mut at = 0;
+    for word in words {
+        let begin = lay(bytes, at, b" ");
+        at = lay(bytes, begin, word);
+    }
+}
+
+/// Where words end that begin at a place, each after a space; none where no number tells it.
+#[inline(always)]
+fn end_of(from: usize, words: &[&[u8]]) -> Option<usize>
+    ensures { IfSome result (λ end. end ≡ from + length (spaced (texts words.now))) }
+{
+    let mut end = from;
+    for word in words {
+        end = end.checked_add(word.len())?.checked_add(1)?;
+    }
+    Some(end)
+}
+
+/// Appends words, each after a space, for all of which room is made once; an `Err` none of them.
+#[inline(always)]
 fn put_words(out: &mut Vec<u8>, words: &[&[u8]]) -> Result<(), AllocError>
     ensures ok { OnOk result (out.new.items ≡ out.old.items ++ spaced (texts words.now)) }
     ensures grew { Grew out.old.items out.new.items }
 {
-    for word in words {
-        out.push(b' ')?;
-        out.extend_from_slice(word)?;
-    }
+    let before = out.len();
+    let Some(end) = end_of(before, words) else {
+        return Err(AllocError);
+    };
+    out.resize(end, 0)?;
+    lay_all(&mut out[before..], words);
     Ok(())
 }
 
@@ -352,7 +392,8 @@ fn put_line(out: &mut Vec<u8>, topology: &Topology, entry: &JournalEntry) -> Res
     ensures grew { Grew out.old.items out.new.items }
 {
     put_text(out, topology, entry)?;
-    out.extend_from_slice(b"\n")
+    out.push(b'\n')?;
+    Ok(())
 }
 
 /// Appends the line of an entry: of its step, or of the damage that made it. An `Err` appends nothing.
