@@ -144,17 +144,13 @@ three_in file k tick head front packet is =
     ∙ joined_in file k head (front ++ packet)
     ∙ ap (λ l. only_in file (l ++ (front ++ packet)) k) (is ∙ ap (record_header tick) (sym (length-append front packet)))
 
--- the same three behind bytes, the last of them as far as the result tells
-pub record_put : {E : Type 0} (put : Result (Unit {0}) E) (tick : ℕ) (old head front packet a b new : List ℕ) →
-    head ≡ record_header tick (length front + length packet) → a ≡ old ++ head → b ≡ a ++ front → new ≡ cond (is_ok put) (b ++ packet) b →
+-- header, front and packet behind bytes
+pub record_put : {E : Type 0} (put : Result (Unit {0}) E) (tick : ℕ) (old head front packet new : List ℕ) →
+    head ≡ record_header tick (length front + length packet) → OnOk put (new ≡ old ++ (head ++ (front ++ packet))) →
     OnOk put (new ≡ old ++ record_of tick (front ++ packet))
-record_put (Err e) tick old head front packet a b new is one two three = tt
-record_put (Ok done) tick old head front packet a b new is one two three =
-    three
-    ∙ ap (λ l. l ++ packet) (two ∙ ap (λ l. l ++ front) one)
-    ∙ append_assoc (old ++ head) front packet
-    ∙ append_assoc old head (front ++ packet)
-    ∙ ap (λ l. old ++ (l ++ (front ++ packet))) (is ∙ ap (record_header tick) (sym (length-append front packet)))
+record_put (Err e) tick old head front packet new is put_is = tt
+record_put (Ok done) tick old head front packet new is put_is =
+    put_is ∙ ap (λ l. old ++ (l ++ (front ++ packet))) (is ∙ ap (record_header tick) (sym (length-append front packet)))
 
 pub framed_then : (a b : List (List ℕ)) (f g h : Option Files) → b ≡ a → Framed a f g → Framed b g h → Framed a f h
 framed_then a b f g h same one other = framed_both a f g h one (subst (λ n. Framed n g h) same other)

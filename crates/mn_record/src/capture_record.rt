@@ -4,6 +4,7 @@ ghost use Rattle.byteorder.specs.Endian.{little_bytes};
 ghost use Rattle.mn_pcap.specs.Format.{record_header, record_of};
 
 use byteorder::{ByteOrder, LittleEndian};
+use mn_lines::put_pieces;
 use std::alloc::AllocError;
 
 const RECORD_HEADER: usize = 16;
@@ -30,7 +31,7 @@ pub fn record_header(tick: u64, length: usize) -> [u8; RECORD_HEADER]
     fields
 }
 
-/// Appends the record of a packet of two parts that was seen at this tick, by an `Err` a first part of it.
+/// Appends the record of a packet of two parts that was seen at this tick.
 pub(crate) fn put_record(
     out: &mut Vec<u8>,
     tick: u64,
@@ -39,7 +40,6 @@ pub(crate) fn put_record(
 ) -> Result<(), AllocError>
     ensures written { OnOk result (out.new.items ≡ out.old.items ++ record_of tick (front.now ++ packet.now)) }
 {
-    out.extend_from_slice(&record_header(tick, front.len() + packet.len()))?;
-    out.extend_from_slice(front)?;
-    out.extend_from_slice(packet)
+    let header = record_header(tick, front.len() + packet.len());
+    put_pieces(out, &[&header[..], front, packet])
 }
